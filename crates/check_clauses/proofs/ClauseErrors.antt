@@ -9,7 +9,7 @@ use Rattle.check_faults.specs.Answers.{Answers}
 use Rattle.check_faults.specs.declared.error.TypeErr.{TypeErr}
 use Rattle.check_faults.specs.declared.error.TypeErr.TheVariants as err
 use Rattle.check_faults.specs.declared.rules.Rule.{Rule}
-use Rattle.vtl_cell.specs.Results.{◌>>=◌}
+use Rattle.vtl_lists.specs.Results.{◌>>=◌}
 
 pub refused : {A B X Y : Type 0} (v : A → B) (w : X → Y) (e : TypeErr) (m : Result B Rule) (f : B → Result Y Rule) → Answers v (Err e) m → Answers w (Err e) (m >>= f)
 refused v w (err.Broken rule) m f a = ap (λ r. r >>= f) a

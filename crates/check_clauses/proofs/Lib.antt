@@ -1,4 +1,3 @@
-pub use Rattle.check_operators.proofs.LiteralLemmas
 mod ClauseErrors
 pub mod ListLemmas
 pub mod OperandLemmas

@@ -1,7 +1,7 @@
 -- The clauses, behind the parts that are expressions. The clauses of a join's body see the operands of the join.
 use Rattle.std.specs.Prelude.{ℕ, List, [], ◌∷◌, ◌++◌, Option, option_and_then, Result, Ok, map}
 use Rattle.std.specs.Result.{result_ok}
-use Rattle.vtl_cell.specs.Settings.{Settings}
+use Rattle.vtl_decimal.specs.Settings.{Settings}
 use Rattle.vtl_cell.specs.Conversion.{as_kind}
 use Rattle.vtl_cell.specs.declared.cell.Cell.{Cell}
 use Rattle.vtl_cell.specs.declared.kind.Kind.{Kind}
@@ -17,7 +17,7 @@ use Rattle.vtl_tree.specs.declared.structure.Structure.{Structure}
 use Rattle.vtl_nodes.specs.Trees as nodes
 use Rattle.vtl_nodes.specs.Trees.{FormTree, NodeTree, node, structure_of}
 use Rattle.vtl_nodes.specs.declared.clauses.SubItem.{SubItem}
-use Rattle.vtl_cell.specs.Results.{◌>>=◌}
+use Rattle.vtl_lists.specs.Results.{◌>>=◌}
 use Rattle.check_faults.specs.declared.rules.Rule.{Rule}
 use Rattle.check_shapes.specs.Choices.{chosen}
 use Rattle.check_shapes.specs.Clauses.{pivot_form, rename_form, unpivot_form}
@@ -28,8 +28,8 @@ use Rattle.check_shapes.specs.declared.choices.Choice.TheVariants as choice
 use Rattle.check_shapes.specs.declared.names.Wanted.{Wanted}
 use Rattle.check_shapes.specs.declared.names.Wanted.TheVariants as wanted
 use Rattle.check_shapes.specs.declared.renaming.Renaming.{Renaming}
-use Rattle.check_operators.specs.Columns.{name_of}
-use Rattle.check_operators.specs.Literals.{kind_met, literal_cell, literal_kind, valued}
+use Rattle.check_values.specs.Columns.{name_of}
+use Rattle.check_values.specs.Literals.{kind_met, literal_cell, literal_kind, valued}
 use Rattle.check_operators.specs.Places.{name_written, written_by}
 use Rattle.check_operators.specs.Typed.{TypedTree, components_in, condition_in}
 use Rattle.check_operators.specs.declared.places.Joined.{Joined}

@@ -7,17 +7,17 @@ use Rattle.vtl_syntax.specs.declared.parts.Comp.{Comp}
 use Rattle.vtl_syntax.specs.declared.parts.Comp.TheVariants as comp
 use Rattle.vtl_syntax.specs.declared.word_groups.JoinKind.{JoinKind}
 use Rattle.vtl_tree.specs.declared.structure.Component.{Component}
-use Rattle.check_operators.specs.Joins as joins
-use Rattle.check_operators.specs.joins.Operand.{Operand}
+use Rattle.check_joins.specs.Joins as joins
+use Rattle.check_joins.specs.declared.joins.Operand.{Operand}
 use Rattle.vtl_nodes.specs.Trees as nodes
 use Rattle.vtl_nodes.specs.Trees.{NodeTree, OperandTree, operands_of, structure_of}
-use Rattle.vtl_cell.specs.Results.{◌>>=◌}
+use Rattle.vtl_lists.specs.Results.{◌>>=◌}
 use Rattle.check_faults.specs.Rules.{ruled}
 use Rattle.check_faults.specs.declared.rules.Rule.{Rule}
 use Rattle.check_faults.specs.declared.rules.Rule.TheVariants as rule
 use Rattle.check_shapes.specs.Names.{component_of, is_among}
 use Rattle.check_shapes.specs.declared.renaming.Renaming.{Renaming}
-use Rattle.check_operators.specs.Columns.{name_of}
+use Rattle.check_values.specs.Columns.{name_of}
 use Rattle.check_operators.specs.Typed.{TypedTree, components_in, dataset_in}
 use Rattle.check_operators.specs.declared.places.Joined.{Joined}
 use Rattle.check_clauses.specs.Clauses.{made_of, renamed_of}

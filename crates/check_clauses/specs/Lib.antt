@@ -1,11 +1,3 @@
-pub use Rattle.check_operators.specs.Groupings
-pub use Rattle.check_operators.specs.Literals
-pub use Rattle.check_operators.specs.Operators
-pub use Rattle.check_operators.specs.Places
-pub use Rattle.check_operators.specs.Sets
-pub use Rattle.check_operators.specs.Typed
-pub use Rattle.check_operators.specs.ValuesOperators
-pub use Rattle.check_operators.specs.declared.places
 pub mod Clauses
 pub mod JoinOperands
 pub mod JoinView

@@ -8,7 +8,7 @@ ghost use Rattle.check_faults.specs.Answers.{Answers};
 ghost use Rattle.vtl_syntax.specs.View.{expr_tree};
 ghost use Rattle.vtl_tree.specs.View.{comp_exp_of};
 ghost use Rattle.check_operators.specs.Typed.{boxed_tree, typed_tree};
-ghost use Rattle.check_operators.specs.Groupings.{grouping_choice as choice_by, grouping_names as names_by};
+ghost use Rattle.check_values.specs.Groupings.{grouping_choice as choice_by, grouping_names as names_by};
 ghost use Rattle.check_shapes.specs.Clauses.{aggr_form};
 ghost use Rattle.check_shapes.specs.Names.{is_among as among};
 ghost use Rattle.check_clauses.specs.Targets.{aggr_clause, aggr_name, call_in, grouped, is_aggregate, made_as, made_names, made_target, targets_in, with_made};
@@ -17,14 +17,14 @@ ghost use Rattle.check_clauses.specs.TargetsView.{AnswersLeft};
 use crate::Made;
 use crate::targets::role_of;
 use check_faults::{Rule, TypeErr, broken};
-use check_operators::{
-    Typed, grouping_choice, grouping_names, grouping_of, made_node, name_of as name,
-};
+use check_operators::{Typed, made_node};
 use check_shapes::Target;
+use check_values::{grouping_choice, grouping_names, grouping_of, name};
 use std::alloc::{AllocError, Global};
-use vtl_cell::{Kind, List, Txt};
+use vtl_cell::Kind;
 use vtl_nodes::{AggItems, AggSpec, AggTarget, Node, NodeForm};
 use vtl_syntax::{Comp, Expr, GroupPart, WrittenRole};
+use vtl_text::{List, Txt};
 use vtl_tree::{AggCall, CompExpr, Structure};
 
 fn is_target(name: &Txt, done: &[Made]) -> bool

@@ -12,12 +12,14 @@ ghost use Rattle.check_clauses.specs.TargetsView.{AnswersLeft, items_view};
 
 use crate::targets::role_of;
 use check_faults::{Rule, TypeErr, broken};
-use check_operators::{given_kind, kind, made_node, name_of as name};
+use check_operators::made_node;
 use check_shapes::{Target, component_of, is_identifier_name};
+use check_values::{given_kind, kind, name};
 use std::alloc::{AllocError, Global};
-use vtl_cell::{Kind, List, Txt};
+use vtl_cell::Kind;
 use vtl_nodes::{AnalyticSpec, CalcItem, CalcValue, Node, NodeForm};
 use vtl_syntax::{Comp, WrittenRole};
+use vtl_text::{List, Txt};
 use vtl_tree::{Component, Structure};
 
 fn is_target(name: &Txt, done: &[CalcItem]) -> bool

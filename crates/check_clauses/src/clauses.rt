@@ -11,9 +11,9 @@ use check_faults::TypeErr;
 use check_operators::{Joined, Typed, made_node, name_written, written_by};
 use check_shapes::{Choice, Wanted, choose, known};
 use std::alloc::Global;
-use vtl_cell::{List, Txt};
 use vtl_nodes::{Node, NodeForm};
 use vtl_syntax::{Keeping, Reference};
+use vtl_text::{List, Txt};
 use vtl_tree::{Component, share_structure};
 
 /// `filter`. The condition breaks `WrongKind` and `DatasetOrValue`.

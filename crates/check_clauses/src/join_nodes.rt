@@ -6,22 +6,22 @@ ghost use Rattle.vtl_nodes.specs.Trees.{operands_of};
 ghost use Rattle.vtl_nodes.specs.View.{operand_tree};
 ghost use Rattle.check_faults.specs.Answers.{Answers};
 ghost use Rattle.check_operators.specs.Typed.{boxed_tree};
-ghost use Rattle.check_operators.specs.Joins.{join_form};
-ghost use Rattle.check_operators.specs.Columns.{name_of};
+ghost use Rattle.check_joins.specs.Joins.{join_form};
+ghost use Rattle.check_values.specs.Columns.{name_of};
 ghost use Rattle.check_clauses.specs.Clauses.{made_of};
 ghost use Rattle.check_clauses.specs.JoinOperands.{is_left, joined_node, joined_of, last_naming, left_names, shape_of, using_names};
 ghost use Rattle.check_clauses.specs.JoinView.{operands_view};
 
 use crate::renames::renamed;
 use check_faults::TypeErr;
-use check_operators::{
-    Joined, Operand, held_names, join, last_renamings, made_node, name_of as name,
-};
+use check_joins::{Operand, held_names, join, last_renamings};
+use check_operators::{Joined, made_node};
 use check_shapes::{Renaming, component_of};
+use check_values::name;
 use std::alloc::{AllocError, Global};
-use vtl_cell::{List, Shared, Txt};
 use vtl_nodes::{JoinOperand, JoinSpec, Node, NodeForm};
 use vtl_syntax::{Comp, JoinKind};
+use vtl_text::{List, Shared, Txt};
 use vtl_tree::{Component, Structure, share_structure};
 
 fn shape_of(alloc: Global, operand: &JoinOperand) -> Result<Operand, AllocError>

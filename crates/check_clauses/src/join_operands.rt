@@ -12,9 +12,9 @@ ghost use Rattle.check_clauses.specs.TargetsView.{AnswersLeft};
 use check_faults::{Rule, TypeErr, broken};
 use check_operators::Typed;
 use std::alloc::Global;
-use vtl_cell::Txt;
 use vtl_nodes::JoinOperand;
 use vtl_syntax::{Comp, Expr};
+use vtl_text::Txt;
 
 /// An operand of a join that is typed, with its alias.
 #[derive(Drop)]

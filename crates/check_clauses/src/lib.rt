@@ -20,12 +20,6 @@ mod targets;
 
 pub use aggr_targets::{aggr, aggr_name, push_made};
 pub use calc_targets::{calc, calc_name, push_item};
-pub use check_operators::{
-    Joined, Place, Scope, Typed, binary_operator, check, check_spec, condition, constant,
-    difference, exists, function_operator, grouping, grouping_of, groups, in_aggregate,
-    literals_fit, member, member_inside, name, operator, points, regrouped, set, sets, takes,
-    unary_operator, written,
-};
 pub use clauses::{filter, keeping};
 pub use join_nodes::{joined, joined_node, last_naming};
 pub use join_operands::{Part, operands, push_part};

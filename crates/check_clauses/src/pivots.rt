@@ -4,12 +4,13 @@ ghost use Rattle.check_operators.specs.Typed.{boxed_tree};
 ghost use Rattle.check_clauses.specs.Clauses.{pivot_names, pivot_of, unpivot_of};
 
 use check_faults::TypeErr;
-use check_operators::{made_node, name_of as name};
+use check_operators::made_node;
 use check_shapes::{Wanted, known};
+use check_values::name;
 use std::alloc::Global;
-use vtl_cell::Txt;
 use vtl_nodes::{Node, NodeForm};
 use vtl_syntax::Comp;
+use vtl_text::Txt;
 use vtl_tree::Component;
 
 // The two names of `pivot`: an identifier and a measure.

@@ -19,12 +19,12 @@ use Rattle.vtl_syntax.specs.declared.parts.RenamePart.{RenamePart}
 use Rattle.vtl_syntax.specs.declared.word_groups.AggregateName.{AggregateName}
 use Rattle.vtl_syntax.specs.declared.word_groups.JoinKind.{JoinKind}
 use Rattle.vtl_nodes.specs.Trees.{NodeTree, OperandTree}
-use Rattle.vtl_cell.specs.Results.{◌>>=◌}
+use Rattle.vtl_lists.specs.Results.{◌>>=◌}
 use Rattle.check_faults.specs.declared.rules.Rule.{Rule}
-use Rattle.check_clauses.specs.Places.{Env, in_aggregate}
-use Rattle.check_clauses.specs.Typed.{TypedTree}
-use Rattle.check_clauses.specs.places.Joined.{Joined}
-use Rattle.check_clauses.specs.places.Place.{Place}
+use Rattle.check_operators.specs.Places.{Env, in_aggregate}
+use Rattle.check_operators.specs.Typed.{TypedTree}
+use Rattle.check_operators.specs.declared.places.Joined.{Joined}
+use Rattle.check_operators.specs.declared.places.Place.{Place}
 use Rattle.check_clauses.specs.JoinOperands.{PartTyped, joined_of, operands_in}
 use Rattle.check_expressions.specs.Typing.{filtered_join, grouped_of, has_exp, having_typed, join_end, maybe_typed, parts_typed, typed}
 use Rattle.check_expressions.specs.WalkView.{maybe_tree}

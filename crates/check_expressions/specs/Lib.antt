@@ -1,14 +1,2 @@
-pub use Rattle.check_clauses.specs.Clauses
-pub use Rattle.check_clauses.specs.JoinOperands
-pub use Rattle.check_clauses.specs.Operators
-pub use Rattle.check_clauses.specs.Places
-pub use Rattle.check_clauses.specs.Sets
-pub use Rattle.check_clauses.specs.Targets
-pub use Rattle.check_clauses.specs.Typed
-pub use Rattle.check_clauses.specs.declared.targets
-pub use Rattle.check_clauses.specs.places
-pub use Rattle.check_groups.specs.Aggregates
-pub use Rattle.check_groups.specs.Windowed
-pub use Rattle.check_groups.specs.declared.calls
 pub mod Typing
 pub mod WalkView

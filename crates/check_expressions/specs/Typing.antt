@@ -1,7 +1,7 @@
 -- The typing of expressions: parts in written order, operands before operators; the first part that breaks a rule is the fault.
 use Rattle.std.specs.Prelude.{Bool, true, false, ◌||◌, List, [], ◌∷◌, ◌++◌, Option, Some, None, Result, Ok, Err}
 use Rattle.std.specs.Option.{is_some}
-use Rattle.vtl_cell.specs.Settings.{Settings}
+use Rattle.vtl_decimal.specs.Settings.{Settings}
 use Rattle.vtl_cell.specs.declared.operator.ScalarOp.TheVariants as op
 use Rattle.vtl_syntax.specs.Trees as tree
 use Rattle.vtl_syntax.specs.Trees.{Calcs, ClauseTree, Exp, Exps, MaybeExp, MaybeTargets, Parts, TargetsTree}
@@ -17,20 +17,20 @@ use Rattle.vtl_syntax.specs.declared.word_groups.Retain.{Retain}
 use Rattle.vtl_syntax.specs.declared.word_groups.JoinKind.{JoinKind}
 use Rattle.vtl_tree.specs.CompExp.{CompExp}
 use Rattle.vtl_nodes.specs.Trees.{ItemTree, NodeTree, OperandTree, ValueTree, scalar}
-use Rattle.vtl_cell.specs.Results.{◌>>=◌}
-use Rattle.check_clauses.specs.Groupings.{grouping_of, grouping_typed}
+use Rattle.vtl_lists.specs.Results.{◌>>=◌}
+use Rattle.check_values.specs.Groupings.{grouping_of, grouping_typed}
 use Rattle.check_faults.specs.declared.rules.Rule.{Rule}
 use Rattle.check_faults.specs.declared.rules.Rule.TheVariants as rule
-use Rattle.check_clauses.specs.Literals.{literals_fit}
-use Rattle.check_clauses.specs.ValuesOperators.{exps_length, of_binary, of_function, of_unary, takes}
-use Rattle.check_clauses.specs.Operators.{operator_form, set_form}
-use Rattle.check_clauses.specs.Places.{Env, Written, at_groups, at_points, constant_form, in_aggregate, member_inside, name_typed, regrouped, written_typed}
-use Rattle.check_clauses.specs.Sets.{check_form, check_spec, difference_form, exists_form, member_of, sets_form}
-use Rattle.check_clauses.specs.Typed.{TypedTree, value, dataset, components_in, condition_in, dataset_in, value_in}
-use Rattle.check_clauses.specs.places.Inside.{Inside}
-use Rattle.check_clauses.specs.places.Joined.{Joined}
-use Rattle.check_clauses.specs.places.Place.{Place}
-use Rattle.check_clauses.specs.places.Place.TheVariants as place
+use Rattle.check_values.specs.Literals.{literals_fit}
+use Rattle.check_values.specs.Operators.{exps_length, of_binary, of_function, of_unary, takes}
+use Rattle.check_operators.specs.Operators.{operator_form, set_form}
+use Rattle.check_operators.specs.Places.{Env, Written, at_groups, at_points, constant_form, in_aggregate, member_inside, name_typed, regrouped, written_typed}
+use Rattle.check_operators.specs.Sets.{check_form, check_spec, difference_form, exists_form, member_of, sets_form}
+use Rattle.check_operators.specs.Typed.{TypedTree, value, dataset, components_in, condition_in, dataset_in, value_in}
+use Rattle.check_operators.specs.declared.places.Inside.{Inside}
+use Rattle.check_operators.specs.declared.places.Joined.{Joined}
+use Rattle.check_operators.specs.declared.places.Place.{Place}
+use Rattle.check_operators.specs.declared.places.Place.TheVariants as place
 use Rattle.check_groups.specs.Aggregates.{aggregate_node, count_call, aggregate_value}
 use Rattle.check_groups.specs.Windowed.{over_typed, target_typed}
 use Rattle.check_clauses.specs.Clauses.{filter_form, keeping_form, pivot_of, renaming_form, sub_form, unpivot_of}

@@ -11,5 +11,4 @@ mod join;
 mod value;
 mod walk;
 
-pub use check_clauses::{Place, Scope};
 pub use walk::typing;

@@ -5,16 +5,17 @@ ghost use Rattle.vtl_nodes.specs.View.{value_tree};
 ghost use Rattle.check_faults.specs.Answers.{Answers};
 ghost use Rattle.vtl_syntax.specs.Trees.{exps_of};
 ghost use Rattle.vtl_syntax.specs.View.{expr_tree};
-ghost use Rattle.check_clauses.specs.Operators.{operator_form};
-ghost use Rattle.check_clauses.specs.Typed.{typed_tree, typed_trees};
-ghost use Rattle.check_clauses.specs.Literals.{literals_fit};
-ghost use Rattle.check_clauses.specs.ValuesOperators.{exps_length, of_function, takes};
+ghost use Rattle.check_operators.specs.Operators.{operator_form};
+ghost use Rattle.check_operators.specs.Typed.{typed_tree, typed_trees};
+ghost use Rattle.check_values.specs.Literals.{literals_fit};
+ghost use Rattle.check_values.specs.Operators.{exps_length, of_function, takes};
 ghost use Rattle.check_expressions.specs.Typing.{scalar_value};
 
-use check_clauses::{Place, Typed, function_operator, literals_fit, operator, takes};
 use check_faults::TypeErr;
+use check_operators::{Place, Typed, operator};
+use check_values::{function_operator, literals_fit, takes};
 use std::alloc::{AllocError, Global};
-use vtl_cell::Profile;
+use vtl_decimal::Profile;
 use vtl_nodes::CalcValue;
 use vtl_syntax::{Expr, FunctionName};
 

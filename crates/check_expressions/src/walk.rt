@@ -6,9 +6,9 @@ ghost use Rattle.check_faults.specs.Answers.{Answers};
 ghost use Rattle.vtl_syntax.specs.Trees.{calcs_of, exps_of, maybe_targets, parts_of};
 ghost use Rattle.vtl_syntax.specs.View.{calc_tree, clause_tree, expr_tree, part_tree, targets_tree};
 ghost use Rattle.vtl_tree.specs.View.{comp_exp_of};
-ghost use Rattle.check_clauses.specs.Places.{at_groups, env_of, in_aggregate};
-ghost use Rattle.check_clauses.specs.Typed.{boxed_tree, dataset_in, typed_tree, typed_trees};
-ghost use Rattle.check_clauses.specs.places.Place.TheVariants as at;
+ghost use Rattle.check_operators.specs.Places.{at_groups, env_of, in_aggregate};
+ghost use Rattle.check_operators.specs.Typed.{boxed_tree, dataset_in, typed_tree, typed_trees};
+ghost use Rattle.check_operators.specs.declared.places.Place.TheVariants as at;
 ghost use Rattle.check_clauses.specs.JoinView.{operands_view, parts_view};
 ghost use Rattle.check_clauses.specs.TargetsView.{items_view};
 ghost use Rattle.check_expressions.specs.Typing.{aggrs_typed, calc_value, calcs_typed, check_typed, clause_typed, difference_typed, exists_typed, filter_step, filter_typed, filtered_join, grouped_of, has_exp, having_typed, join_end, maybe_typed, next_typed, operands_typed, over_operand, own_groups, parts_typed, targets_step, targets_typed, typed};
@@ -17,21 +17,25 @@ ghost use Rattle.check_expressions.specs.WalkView.{maybe_tree};
 use crate::join::{body_end, seen_by_body};
 use crate::value::{function, opened, scalar_value, with_operand};
 use check_clauses::{
-    Joined, Made, Part, Place, Scope, Typed, aggr, aggr_name, binary_operator, calc, calc_name,
-    check, check_spec, condition, constant, difference, exists, filter, grouping, grouping_of,
-    groups, in_aggregate, joined_node, keeping, member, member_inside, name,
-    operands as joined_operands, operator, pivot, points, push_item, push_made, push_part,
-    regrouped, renaming, set, sets, sub, unary_operator, unpivot, written,
+    Made, Part, aggr, aggr_name, calc, calc_name, filter, joined_node, keeping,
+    operands as joined_operands, pivot, push_item, push_made, push_part, renaming, sub, unpivot,
 };
 use check_faults::{Rule, TypeErr};
 use check_groups::{aggregate, aggregate_value, count_call, over, target};
+use check_operators::{
+    Joined, Place, Scope, Typed, check, check_spec, condition, constant, difference, exists,
+    groups, in_aggregate, member, member_inside, name, operator, points, regrouped, set, sets,
+    written,
+};
+use check_values::{binary_operator, grouping, grouping_of, unary_operator};
 use std::alloc::{AllocError, Global};
-use vtl_cell::{List, ScalarOp, Txt};
+use vtl_cell::ScalarOp;
 use vtl_nodes::{CalcItem, CalcValue, JoinOperand, Node};
 use vtl_syntax::{
     AggregateName, BasicOut, CalcPart, Clause, Comp, DifferenceName, ErrorPart, Expr, GroupPart,
     JoinKind, JoinPart, Keeping, RenamePart, Retain, Targets,
 };
+use vtl_text::{List, Txt};
 use vtl_tree::CompExpr;
 
 // One more operand after others.

@@ -1,7 +1,7 @@
 -- Analytic calls: of the measures of a data set, as a target of `calc`, and where they may not stand.
 use Rattle.std.specs.Prelude.{ℕ, ◌==◌, Bool, true, false, not, ◌&&◌, List, [], ◌∷◌, length, Option, Some, None, Result, Ok, Err, cond}
 use Rattle.std.specs.Option.{is_none, is_some}
-use Rattle.vtl_cell.specs.Settings.{Settings}
+use Rattle.vtl_decimal.specs.Settings.{Settings}
 use Rattle.vtl_cell.specs.declared.cell.Cell.{Cell}
 use Rattle.vtl_cell.specs.declared.cell.Cell.TheVariants as c
 use Rattle.vtl_cell.specs.declared.kind.Kind.{Kind}
@@ -24,16 +24,16 @@ use Rattle.vtl_nodes.specs.Trees.{NodeTree, ValueTree}
 use Rattle.vtl_nodes.specs.declared.calls.AnalyticOp.{AnalyticOp}
 use Rattle.vtl_nodes.specs.declared.calls.AnalyticOp.TheVariants as op
 use Rattle.vtl_nodes.specs.declared.calls.Window.{Window}
-use Rattle.vtl_cell.specs.Results.{◌>>=◌}
+use Rattle.vtl_lists.specs.Results.{◌>>=◌}
 use Rattle.check_faults.specs.Rules.{ruled}
 use Rattle.check_faults.specs.declared.rules.Rule.{Rule}
 use Rattle.check_faults.specs.declared.rules.Rule.TheVariants as rule
 use Rattle.check_shapes.specs.Measures.{Gives, measured_form}
 use Rattle.check_shapes.specs.declared.choices.Choice.TheVariants as choice
 use Rattle.check_shapes.specs.declared.measures.Outcome.TheVariants as outcome
-use Rattle.check_operators.specs.Kinds.{exp_kind}
-use Rattle.check_operators.specs.Literals.{literal_cell, literal_kind, met_beside, valued}
-use Rattle.check_operators.specs.Windows.{frame_alone, points_typed, window_typed}
+use Rattle.check_values.specs.Kinds.{exp_kind}
+use Rattle.check_values.specs.Literals.{literal_cell, literal_kind, met_beside, valued}
+use Rattle.check_values.specs.Windows.{frame_alone, points_typed, window_typed}
 use Rattle.check_operators.specs.Places.{columns_at, columns_in}
 use Rattle.check_operators.specs.Typed.{TypedTree, value, dataset, beside_kinds, components_in, made_of}
 use Rattle.check_operators.specs.declared.places.Place.{Place}

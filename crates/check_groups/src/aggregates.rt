@@ -9,20 +9,20 @@ ghost use Rattle.vtl_nodes.specs.View.{form_tree};
 ghost use Rattle.check_shapes.specs.Measures.{measured_form};
 ghost use Rattle.vtl_tree.specs.View.{comp_exp_of};
 ghost use Rattle.check_operators.specs.Typed.{boxed_tree, typed_tree};
-ghost use Rattle.check_operators.specs.Groupings.{grouping_choice, grouping_names};
+ghost use Rattle.check_values.specs.Groupings.{grouping_choice, grouping_names};
 ghost use Rattle.check_groups.specs.Aggregates.{agg_kind, aggregate_node, count_call, group_call, group_call_by, is_group, is_misused, of_measure, outcome_of, outside_rule, aggregate_value};
 
 use crate::arguments::{operand_name, share_name};
 use crate::kinds::{agg_kind, aggregate_kind, count_kind};
 use check_faults::{Rule, TypeErr, broken};
-use check_operators::{
-    Inside, Place, Typed, grouping_choice, grouping_names, grouping_of, kind, made_of,
-};
+use check_operators::{Inside, Place, Typed, made_of};
 use check_shapes::{Operator, Outcome, measured};
+use check_values::{grouping_choice, grouping_names, grouping_of, kind};
 use std::alloc::Global;
-use vtl_cell::{Kind, List, Txt};
+use vtl_cell::Kind;
 use vtl_nodes::{AggItems, AggSpec, Node, NodeForm};
 use vtl_syntax::{AggregateName, Expr, GroupPart};
+use vtl_text::{List, Txt};
 use vtl_tree::{AggCall, CompExpr, Structure};
 
 fn group_call(function: AggregateName, component: Option<Txt>, kind: Kind) -> Typed

@@ -8,8 +8,8 @@ ghost use Rattle.check_groups.specs.Aggregates.{column_name, is_component, opera
 
 use check_operators::written_in;
 use std::alloc::AllocError;
-use vtl_cell::Txt;
 use vtl_syntax::Expr;
+use vtl_text::Txt;
 use vtl_tree::CompExpr;
 
 // A component, with or without an alias, and nothing else.

@@ -16,11 +16,13 @@ use crate::calls::suits;
 use crate::over_kinds::{is_rank, is_unfit_over};
 use crate::over_nodes::given_structure;
 use check_faults::{Rule, TypeErr, broken};
-use check_operators::{Place, Typed, kind};
+use check_operators::{Place, Typed};
+use check_values::kind;
 use std::alloc::Global;
-use vtl_cell::{Profile, Txt};
+use vtl_decimal::Profile;
 use vtl_nodes::{AnalyticCall, AnalyticOp, CalcValue, Window};
 use vtl_syntax::Expr;
+use vtl_text::Txt;
 use vtl_tree::CompExpr;
 
 fn operand_exp(call: &Expr) -> Option<&Expr>

@@ -5,11 +5,13 @@ ghost use Rattle.vtl_syntax.specs.View.{expr_tree};
 ghost use Rattle.check_groups.specs.Windowed.{call_typed, default_typed, is_ordered, is_unframed, of_aggregate, of_shift, of_window, shift_call, suits, window_needed};
 
 use check_faults::TypeErr;
-use check_operators::{literal, literal_kind, met_beside, point_count as points};
+use check_values::{literal, literal_kind, met_beside, points};
 use std::alloc::Global;
-use vtl_cell::{Cell, Kind, Profile, Txt};
+use vtl_cell::{Cell, Kind};
+use vtl_decimal::Profile;
 use vtl_nodes::{AnalyticOp, Window};
 use vtl_syntax::{AggregateName, Expr, Literal, ShiftName, ValueWindowName};
+use vtl_text::Txt;
 
 /// What an analytic call asks of its window.
 #[derive(Clone, Copy, Debug, PartialEq, Eq)]

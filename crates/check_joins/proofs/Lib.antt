@@ -1,2 +1,1 @@
-pub use Rattle.check_shapes.proofs.Twins
 mod Containing

@@ -11,8 +11,8 @@ use crate::joins::{check_using, go_together, is_cross, is_misused, reference, ta
 use check_faults::{Rule, TypeErr, broken};
 use check_shapes::{Renaming, component_of, is_identifier, push_identifiers, shaped};
 use std::alloc::{AllocError, Global};
-use vtl_cell::{Txt, concat};
 use vtl_syntax::JoinKind;
+use vtl_text::{Txt, concat};
 use vtl_tree::{Component, MAX_COMPONENTS, Structure, share_codes};
 
 fn is_held(kind: JoinKind, component: &Component) -> bool

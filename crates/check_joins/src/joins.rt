@@ -14,8 +14,8 @@ use check_shapes::{
     Compared, agree, component_of, contains, is_among, is_identifier, is_identifier_name,
 };
 use std::alloc::{AllocError, Global};
-use vtl_cell::Txt;
 use vtl_syntax::JoinKind;
+use vtl_text::Txt;
 use vtl_tree::{Component, Role, Structure};
 
 /// An operand of a join.

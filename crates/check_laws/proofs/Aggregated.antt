@@ -3,12 +3,12 @@ use Rattle.std.proofs.Common.{◌≡◌, ℕ, suc, ◌+◌, Bool, true, false, c
 use Rattle.std.specs.List.{AllByRecursion, filter}
 use Rattle.std.specs.Option.{IfSome, is_none}
 use Rattle.std.specs.Prelude.{IsSome, option_and_then, unwrap_or}
-use Rattle.vtl_cell.specs.Apart.{all_apart}
-use Rattle.vtl_cell.specs.Settings.{Settings}
+use Rattle.vtl_lists.specs.Apart.{all_apart}
+use Rattle.vtl_decimal.specs.Settings.{Settings}
 use Rattle.vtl_cell.specs.declared.kind.Kind.{Kind}
 use Rattle.vtl_cell.specs.declared.kind.Kind.TheVariants as k
 use Rattle.vtl_cell.specs.declared.operator.AggKind.{AggKind}
-use Rattle.vtl_cell.proofs.Aparts.{apart_parts}
+use Rattle.vtl_lists.proofs.Aparts.{apart_parts}
 use Rattle.vtl_syntax.specs.Trees.{Exp}
 use Rattle.vtl_syntax.specs.declared.parts.Comp.{Comp}
 use Rattle.vtl_syntax.specs.declared.parts.GroupPart.{GroupPart}
@@ -25,27 +25,27 @@ use Rattle.vtl_tree.specs.declared.expression.AggCall.{AggCall}
 use Rattle.vtl_tree.specs.declared.structure.Component.{Component}
 use Rattle.vtl_tree.specs.declared.structure.Role.TheVariants as role
 use Rattle.vtl_tree.specs.declared.structure.Structure.{Structure}
-use Rattle.vtl_meaning.specs.AggregateKinds as kinds
-use Rattle.vtl_meaning.specs.AggregateShapes as shapes
-use Rattle.vtl_meaning.specs.AggregateShapes.{IsTypedAggregate, given_of}
-use Rattle.vtl_meaning.specs.Choices.{chosen, is_chosen, is_identifier}
-use Rattle.vtl_meaning.specs.Clauses.{aggr_form, target_component}
-use Rattle.vtl_meaning.specs.Columns.{kind_named, place_of}
-use Rattle.vtl_meaning.specs.Groupings.{choice_of, grouping_choice, grouping_names, grouping_of, grouping_typed}
+use Rattle.vtl_cell.specs.AggregateKinds as kinds
+use Rattle.vtl_aggregates.specs.Shapes as shapes
+use Rattle.vtl_aggregates.specs.Shapes.{IsTypedAggregate, given_of}
+use Rattle.check_shapes.specs.Choices.{chosen, is_chosen, is_identifier}
+use Rattle.check_shapes.specs.Clauses.{aggr_form, target_component}
+use Rattle.check_shapes.specs.Columns.{kind_named, place_of}
+use Rattle.check_values.specs.Groupings.{choice_of, grouping_choice, grouping_names, grouping_of, grouping_typed}
 use Rattle.vtl_meaning.specs.Made.{Aggregates, IsColumnAt, IsGroupCondition, IsGrouped, IsTypedInGroups}
-use Rattle.vtl_meaning.specs.Measures.{any_unmet, given_measures, measured_form, measured_tests, measures, namesake, paired}
-use Rattle.vtl_meaning.specs.Names.{all_known, component_of, is_among}
-use Rattle.vtl_meaning.specs.Shape.{shaped}
+use Rattle.check_shapes.specs.Measures.{any_unmet, given_measures, measured_form, measured_tests, measures, namesake, paired}
+use Rattle.check_shapes.specs.Names.{all_known, component_of, is_among}
+use Rattle.check_shapes.specs.Shape.{shaped}
 use Rattle.vtl_meaning.specs.Shapes.{IsShaped}
-use Rattle.vtl_meaning.specs.Trees.{AggTree}
-use Rattle.vtl_meaning.specs.choices.Choice.TheVariants as choice
-use Rattle.vtl_meaning.specs.names.Wanted.TheVariants as wanted
-use Rattle.vtl_meaning.specs.specifications.AggItems.TheVariants as items
-use Rattle.vtl_meaning.proofs.GroupShaped.{fits}
-use Rattle.vtl_check.specs.Aggregates.{agg_kind, of_measure, outcome_of}
-use Rattle.vtl_check.specs.Targets.{call_in, is_aggregate, made_as, made_target, role_of, targets_in, with_made}
-use Rattle.vtl_check.specs.Typed.{value}
-use Rattle.vtl_check.specs.targets.Made.{Made}
+use Rattle.vtl_nodes.specs.Trees.{AggTree}
+use Rattle.check_shapes.specs.declared.choices.Choice.TheVariants as choice
+use Rattle.check_shapes.specs.declared.names.Wanted.TheVariants as wanted
+use Rattle.vtl_nodes.specs.declared.specifications.AggItems.TheVariants as items
+use Rattle.vtl_aggregates.proofs.Shaped.{fits}
+use Rattle.check_groups.specs.Aggregates.{agg_kind, of_measure, outcome_of}
+use Rattle.check_clauses.specs.Targets.{call_in, is_aggregate, made_as, made_target, role_of, targets_in, with_made}
+use Rattle.check_operators.specs.Typed.{value}
+use Rattle.check_clauses.specs.declared.targets.Made.{Made}
 use Rattle.check_laws.specs.Gives.{Gives}
 use Rattle.check_laws.proofs.Columns.{IsFound, all-found, at-found, name-found, of-columns, same-refl, same-symm}
 use Rattle.check_laws.proofs.Lists as lists

@@ -1,9 +1,9 @@
 -- Typing depends only on the structures of the names that are read.
 use Rattle.std.proofs.Common.{◌≡◌, ℕ, ◌+◌, Bool, true, false, cond, ◌||◌, ◌&&◌, List, [], ◌∷◌, ◌++◌, Option, Some, None, is_some, option_map, Result, Ok, Err, refl, sym, subst, ap, ◌∙◌}
 use Rattle.std.specs.Map.{lookup}
-use Rattle.vtl_cell.specs.Settings.{Settings}
+use Rattle.vtl_decimal.specs.Settings.{Settings}
 use Rattle.vtl_cell.specs.declared.operator.ScalarOp.TheVariants as op
-use Rattle.vtl_cell.specs.Results.{◌>>=◌}
+use Rattle.vtl_lists.specs.Results.{◌>>=◌}
 use Rattle.check_faults.specs.Rules.{ruled}
 use Rattle.check_faults.specs.declared.rules.Rule.{Rule}
 use Rattle.check_faults.specs.declared.rules.Rule.TheVariants as rule
@@ -16,25 +16,25 @@ use Rattle.vtl_syntax.specs.declared.word_groups.AggregateName.{AggregateName}
 use Rattle.vtl_tree.specs.Structure.{same_name}
 use Rattle.vtl_tree.specs.Structures.{Named, has_name}
 use Rattle.vtl_tree.specs.declared.structure.Structure.{Structure}
-use Rattle.vtl_meaning.specs.Trees.{ItemTree, NodeTree, structure_of}
-use Rattle.vtl_meaning.specs.Groupings.{grouping_of, grouping_typed}
-use Rattle.vtl_meaning.specs.ValuesLiterals.{literals_fit}
-use Rattle.vtl_meaning.specs.ValuesOperators.{exps_length, of_binary, of_function, of_unary, takes}
-use Rattle.vtl_check.specs.Operators.{operator_form, set_form}
-use Rattle.vtl_check.specs.Places.{Env, Written, at_groups, at_points, in_aggregate, known_by, member_inside, member_written, name_typed, regrouped}
-use Rattle.vtl_check.specs.Sets.{check_form, check_spec, difference_form, exists_form, member_of, sets_form}
-use Rattle.vtl_check.specs.Typed.{TypedTree, value, dataset, components_in, condition_in, dataset_in}
-use Rattle.vtl_check.specs.places.Inside.{Inside}
-use Rattle.vtl_check.specs.places.Joined.{Joined}
-use Rattle.vtl_check.specs.places.Place.{Place}
-use Rattle.vtl_check.specs.places.Place.TheVariants as place
-use Rattle.vtl_check.specs.Aggregates.{aggregate_node, count_call, aggregate_value}
-use Rattle.vtl_check.specs.Windowed.{over_typed}
-use Rattle.vtl_check.specs.Clauses.{filter_form}
-use Rattle.vtl_check.specs.JoinOperands.{PartTyped, joined_node, joined_of, operands_in, with_part}
-use Rattle.vtl_check.specs.Targets.{aggr_clause, aggr_name, calc_clause, calc_name, with_item, with_made}
-use Rattle.vtl_check.specs.targets.Made.{Made}
-use Rattle.vtl_check.specs.Typing.{Having, aggrs_typed, as_dataset, behind, body_end, calc_value, calcs_typed, clause_typed, filter_step, filtered_join, grouped_of, has_exp, having_typed, join_end, maybe_typed, operands_typed, or_component, over_operand, own_groups, parts_typed, targets_step, targets_typed, typed}
+use Rattle.vtl_nodes.specs.Trees.{ItemTree, NodeTree, structure_of}
+use Rattle.check_values.specs.Groupings.{grouping_of, grouping_typed}
+use Rattle.check_values.specs.Literals.{literals_fit}
+use Rattle.check_values.specs.Operators.{exps_length, of_binary, of_function, of_unary, takes}
+use Rattle.check_operators.specs.Operators.{operator_form, set_form}
+use Rattle.check_operators.specs.Places.{Env, Written, at_groups, at_points, in_aggregate, known_by, member_inside, member_written, name_typed, regrouped}
+use Rattle.check_operators.specs.Sets.{check_form, check_spec, difference_form, exists_form, member_of, sets_form}
+use Rattle.check_operators.specs.Typed.{TypedTree, value, dataset, components_in, condition_in, dataset_in}
+use Rattle.check_operators.specs.declared.places.Inside.{Inside}
+use Rattle.check_operators.specs.declared.places.Joined.{Joined}
+use Rattle.check_operators.specs.declared.places.Place.{Place}
+use Rattle.check_operators.specs.declared.places.Place.TheVariants as place
+use Rattle.check_groups.specs.Aggregates.{aggregate_node, count_call, aggregate_value}
+use Rattle.check_groups.specs.Windowed.{over_typed}
+use Rattle.check_clauses.specs.Clauses.{filter_form}
+use Rattle.check_clauses.specs.JoinOperands.{PartTyped, joined_node, joined_of, operands_in, with_part}
+use Rattle.check_clauses.specs.Targets.{aggr_clause, aggr_name, calc_clause, calc_name, with_item, with_made}
+use Rattle.check_clauses.specs.declared.targets.Made.{Made}
+use Rattle.check_expressions.specs.Typing.{Having, aggrs_typed, as_dataset, behind, body_end, calc_value, calcs_typed, clause_typed, filter_step, filtered_join, grouped_of, has_exp, having_typed, join_end, maybe_typed, operands_typed, or_component, over_operand, own_groups, parts_typed, targets_step, targets_typed, typed}
 use Rattle.vtl_check.specs.Checked.{env_over}
 use Rattle.vtl_check.specs.Count.{count}
 use Rattle.vtl_check.specs.Script.{assigned, at, is_too_much, script_typed, transformations_typed, value_typed, with_result}

@@ -3,9 +3,9 @@ use Rattle.std.proofs.Common.{◌≡◌, ℕ, Bool, true, false, cond, not, List
 use Rattle.std.specs.List.{AllByRecursion, filter}
 use Rattle.std.specs.Option.{IfSome, option_map_or}
 use Rattle.std.specs.Prelude.{option_and_then, unwrap_or}
-use Rattle.vtl_cell.specs.Apart.{all_apart}
-use Rattle.vtl_cell.specs.Results.{◌>>=◌}
-use Rattle.vtl_cell.specs.Settings.{Settings}
+use Rattle.vtl_lists.specs.Apart.{all_apart}
+use Rattle.vtl_lists.specs.Results.{◌>>=◌}
+use Rattle.vtl_decimal.specs.Settings.{Settings}
 use Rattle.vtl_cell.specs.declared.kind.Kind.{Kind}
 use Rattle.vtl_cell.specs.declared.kind.Kind.TheVariants as k
 use Rattle.check_faults.specs.Rules.{Tests, ruled}
@@ -20,35 +20,35 @@ use Rattle.vtl_tree.specs.declared.structure.Component.{Component}
 use Rattle.vtl_tree.specs.declared.structure.Role.{Role}
 use Rattle.vtl_tree.specs.declared.structure.Role.TheVariants as role
 use Rattle.vtl_tree.specs.declared.structure.Structure.{Structure}
-use Rattle.vtl_meaning.specs.AnalyticShapes as shapes
-use Rattle.vtl_meaning.specs.AnalyticShapes.{IsMadeBy, IsTakenItem, IsTypedAnalytic, given_of, taken, takes, tree_kind}
-use Rattle.vtl_meaning.specs.Choices.{chosen, is_identifier_name}
-use Rattle.vtl_meaning.specs.Clauses.{calc_form, calculated, is_new, target_component}
-use Rattle.vtl_meaning.specs.Columns.{column_named, kind_named, place_of}
-use Rattle.vtl_meaning.specs.Kinds.{exp_kind, given_kind}
-use Rattle.vtl_meaning.specs.KindsLiterals as literals
+use Rattle.vtl_windows.specs.Shapes as shapes
+use Rattle.vtl_windows.specs.Shapes.{IsMadeBy, IsTakenItem, IsTypedAnalytic, given_of, taken, takes, tree_kind}
+use Rattle.check_shapes.specs.Choices.{chosen, is_identifier_name}
+use Rattle.check_shapes.specs.Clauses.{calc_form, calculated, is_new, target_component}
+use Rattle.check_shapes.specs.Columns.{column_named, kind_named, place_of}
+use Rattle.check_values.specs.Kinds.{exp_kind, given_kind}
+use Rattle.vtl_cell.specs.Literals as literals
 use Rattle.vtl_meaning.specs.Made.{IsColumnAt, IsTyped, IsValueOver, IsWindowOver, IsWindowed}
-use Rattle.vtl_meaning.specs.Measures.{any_unmet, given_measure, given_measures, is_measure, measured_tests, measures, namesake, paired}
-use Rattle.vtl_meaning.specs.Names.{component_of}
-use Rattle.vtl_meaning.specs.Shape.{shaped}
+use Rattle.check_shapes.specs.Measures.{any_unmet, given_measure, given_measures, is_measure, measured_tests, measures, namesake, paired}
+use Rattle.check_shapes.specs.Names.{component_of}
+use Rattle.check_shapes.specs.Shape.{shaped}
 use Rattle.vtl_meaning.specs.Shapes.{IsShaped}
-use Rattle.vtl_meaning.specs.Trees as nodes
-use Rattle.vtl_meaning.specs.Trees.{ItemTree, ValueTree}
-use Rattle.vtl_meaning.specs.calls.AnalyticCall.{AnalyticCall}
-use Rattle.vtl_meaning.specs.calls.AnalyticOp.{AnalyticOp}
-use Rattle.vtl_meaning.specs.calls.AnalyticOp.TheVariants as op
-use Rattle.vtl_meaning.specs.calls.Window.{Window}
-use Rattle.vtl_meaning.specs.choices.Choice.TheVariants as choice
-use Rattle.vtl_meaning.specs.measures.Outcome.TheVariants as outcome
-use Rattle.vtl_meaning.specs.targets.Target.{Target}
-use Rattle.vtl_meaning.proofs.AnalyticShaped.{fits}
+use Rattle.vtl_nodes.specs.Trees as nodes
+use Rattle.vtl_nodes.specs.Trees.{ItemTree, ValueTree}
+use Rattle.vtl_nodes.specs.declared.calls.AnalyticCall.{AnalyticCall}
+use Rattle.vtl_nodes.specs.declared.calls.AnalyticOp.{AnalyticOp}
+use Rattle.vtl_nodes.specs.declared.calls.AnalyticOp.TheVariants as op
+use Rattle.vtl_nodes.specs.declared.calls.Window.{Window}
+use Rattle.check_shapes.specs.declared.choices.Choice.TheVariants as choice
+use Rattle.check_shapes.specs.declared.measures.Outcome.TheVariants as outcome
+use Rattle.check_shapes.specs.declared.targets.Target.{Target}
+use Rattle.vtl_windows.proofs.Shaped.{fits}
 use Rattle.vtl_meaning.proofs.Profiles.{value_gives}
 use Rattle.vtl_meaning.proofs.ValueKinds.{value_is_of}
-use Rattle.vtl_check.specs.Targets.{component_kind, target_of, value_kind}
-use Rattle.vtl_check.specs.Windowed as windowed
-use Rattle.vtl_check.specs.Windowed.{given_structure, is_misplaced, or_count, over_kind, over_structure, suits}
-use Rattle.vtl_check.specs.calls.Call.{Call}
-use Rattle.vtl_check.specs.calls.Needed.{Needed}
+use Rattle.check_clauses.specs.Targets.{component_kind, target_of, value_kind}
+use Rattle.check_groups.specs.Windowed as windowed
+use Rattle.check_groups.specs.Windowed.{given_structure, is_misplaced, or_count, over_kind, over_structure, suits}
+use Rattle.check_groups.specs.declared.calls.Call.{Call}
+use Rattle.check_groups.specs.declared.calls.Needed.{Needed}
 use Rattle.check_laws.specs.Gives.{Gives}
 use Rattle.check_laws.proofs.Aggregated.{found-at, found-within}
 use Rattle.check_laws.proofs.Columns.{at-found}

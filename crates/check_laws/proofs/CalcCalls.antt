@@ -1,28 +1,28 @@
 -- Analytic calls as targets of `calc`.
 use Rattle.std.proofs.Common.{◌≡◌, ℕ, Bool, true, false, cond, not, List, [], ◌∷◌, Option, Some, None, is_some, Err, refl}
 use Rattle.std.specs.Option.{IfSome}
-use Rattle.vtl_cell.specs.Settings.{Settings}
+use Rattle.vtl_decimal.specs.Settings.{Settings}
 use Rattle.check_faults.specs.declared.rules.Rule.TheVariants as rule
 use Rattle.vtl_syntax.specs.Trees.{Exp}
 use Rattle.vtl_tree.specs.CompExp.{CompExp}
 use Rattle.vtl_tree.specs.Structure.{columns_of}
 use Rattle.vtl_tree.specs.declared.structure.Structure.{Structure}
-use Rattle.vtl_meaning.specs.Kinds.{exp_kind}
+use Rattle.check_values.specs.Kinds.{exp_kind}
 use Rattle.vtl_meaning.specs.Shapes.{IsShaped}
-use Rattle.vtl_meaning.specs.Trees as nodes
-use Rattle.vtl_meaning.specs.Trees.{NodeTree, ValueTree, structure_of}
-use Rattle.vtl_meaning.specs.calls.AnalyticOp.{AnalyticOp}
-use Rattle.vtl_meaning.specs.calls.AnalyticOp.TheVariants as op
-use Rattle.vtl_meaning.specs.calls.Window.{Window}
-use Rattle.vtl_check.specs.Aggregates.{column_name, is_component}
-use Rattle.vtl_check.specs.Places.{at_points}
-use Rattle.vtl_check.specs.Typed.{TypedTree, value, dataset, components_in}
-use Rattle.vtl_check.specs.Windowed as windowed
-use Rattle.vtl_check.specs.Windowed.{argument, call_of, call_tree, is_rank, is_unfit_over, operand_exp, over_kind, over_parts, rank_call, suits, target_form, target_typed}
-use Rattle.vtl_check.specs.calls.Call.{Call}
-use Rattle.vtl_check.specs.places.Joined.{Joined}
-use Rattle.vtl_check.specs.places.Place.{Place}
-use Rattle.vtl_check.specs.places.Place.TheVariants as place
+use Rattle.vtl_nodes.specs.Trees as nodes
+use Rattle.vtl_nodes.specs.Trees.{NodeTree, ValueTree, structure_of}
+use Rattle.vtl_nodes.specs.declared.calls.AnalyticOp.{AnalyticOp}
+use Rattle.vtl_nodes.specs.declared.calls.AnalyticOp.TheVariants as op
+use Rattle.vtl_nodes.specs.declared.calls.Window.{Window}
+use Rattle.check_groups.specs.Aggregates.{column_name, is_component}
+use Rattle.check_operators.specs.Places.{at_points}
+use Rattle.check_operators.specs.Typed.{TypedTree, value, dataset, components_in}
+use Rattle.check_groups.specs.Windowed as windowed
+use Rattle.check_groups.specs.Windowed.{argument, call_of, call_tree, is_rank, is_unfit_over, operand_exp, over_kind, over_parts, rank_call, suits, target_form, target_typed}
+use Rattle.check_groups.specs.declared.calls.Call.{Call}
+use Rattle.check_operators.specs.declared.places.Joined.{Joined}
+use Rattle.check_operators.specs.declared.places.Place.{Place}
+use Rattle.check_operators.specs.declared.places.Place.TheVariants as place
 use Rattle.check_laws.specs.Gives.{Gives}
 use Rattle.check_laws.proofs.Analyzed.{IsCallOver, component-call, rank-call}
 use Rattle.check_laws.proofs.GroupValues.{IsOperand}

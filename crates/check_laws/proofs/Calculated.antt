@@ -6,24 +6,24 @@ use Rattle.std.proofs.lemmas.List.Elements.{filter-append}
 use Rattle.std.specs.List.{AllByRecursion, filter, find}
 use Rattle.std.specs.Option.{option_map_or}
 use Rattle.std.specs.Prelude.{unwrap_or}
-use Rattle.vtl_cell.specs.Settings.{Settings}
-use Rattle.vtl_cell.specs.Apart.{all_apart}
-use Rattle.vtl_cell.proofs.Aparts.{apart_parts}
+use Rattle.vtl_decimal.specs.Settings.{Settings}
+use Rattle.vtl_lists.specs.Apart.{all_apart}
+use Rattle.vtl_lists.proofs.Aparts.{apart_parts}
 use Rattle.vtl_tree.specs.Structure.{columns_of, names_of, same_name, same_role}
 use Rattle.vtl_tree.specs.Structures.{structure_of}
 use Rattle.vtl_tree.specs.declared.structure.Component.{Component}
 use Rattle.vtl_tree.specs.declared.structure.Role.{Role}
 use Rattle.vtl_tree.specs.declared.structure.Role.TheVariants as role
 use Rattle.vtl_tree.specs.declared.structure.Structure.{Structure}
-use Rattle.vtl_meaning.specs.Trees.{ItemTree}
-use Rattle.vtl_meaning.specs.Choices.{is_identifier, is_identifier_name}
-use Rattle.vtl_meaning.specs.Clauses.{calc_form, calculated, is_new, retargeted, target_component}
-use Rattle.vtl_meaning.specs.Clauses as clauses
-use Rattle.vtl_meaning.specs.Measures.{made}
-use Rattle.vtl_meaning.specs.Names.{component_of}
-use Rattle.vtl_meaning.specs.targets.Target.{Target}
-use Rattle.vtl_meaning.specs.Kinds.{exp_kind}
-use Rattle.vtl_meaning.specs.Columns.{column_named}
+use Rattle.vtl_nodes.specs.Trees.{ItemTree}
+use Rattle.check_shapes.specs.Choices.{is_identifier, is_identifier_name}
+use Rattle.check_shapes.specs.Clauses.{calc_form, calculated, is_new, retargeted, target_component}
+use Rattle.check_shapes.specs.Clauses as clauses
+use Rattle.check_shapes.specs.Measures.{made}
+use Rattle.check_shapes.specs.Names.{component_of}
+use Rattle.check_shapes.specs.declared.targets.Target.{Target}
+use Rattle.check_values.specs.Kinds.{exp_kind}
+use Rattle.check_shapes.specs.Columns.{column_named}
 use Rattle.vtl_meaning.specs.Made.{IsCalculated, IsTyped}
 use Rattle.vtl_meaning.specs.Operators.{calculated_exp, target_named, value_exp}
 use Rattle.vtl_meaning.specs.Shapes.{IsShaped, calculated_components, target_of}

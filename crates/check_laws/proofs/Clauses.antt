@@ -3,13 +3,13 @@ use Rattle.std.proofs.Common.{◌≡◌, ℕ, Bool, true, false, cond, not, List
 use Rattle.std.specs.List.{AllByRecursion, list_any}
 use Rattle.std.specs.Option.{IfSome}
 use Rattle.std.specs.Prelude.{unwrap_or}
-use Rattle.vtl_cell.specs.Settings.{Settings}
-use Rattle.vtl_cell.specs.Apart.{all_apart}
+use Rattle.vtl_decimal.specs.Settings.{Settings}
+use Rattle.vtl_lists.specs.Apart.{all_apart}
 use Rattle.vtl_cell.specs.Kinds.{is_of}
 use Rattle.vtl_cell.specs.ScalarKinds.{meets}
 use Rattle.vtl_cell.specs.declared.kind.Kind.{Kind}
 use Rattle.vtl_cell.specs.declared.kind.Kind.TheVariants as k
-use Rattle.vtl_cell.specs.Results.{◌>>=◌}
+use Rattle.vtl_lists.specs.Results.{◌>>=◌}
 use Rattle.check_faults.specs.declared.rules.Rule.{Rule}
 use Rattle.check_faults.specs.declared.rules.Rule.TheVariants as rule
 use Rattle.vtl_syntax.specs.declared.parts.Comp.{Comp}
@@ -29,28 +29,28 @@ use Rattle.vtl_tree.specs.declared.structure.Component.{Component}
 use Rattle.vtl_tree.specs.declared.structure.Role.{Role}
 use Rattle.vtl_tree.specs.declared.structure.Role.TheVariants as role
 use Rattle.vtl_tree.specs.declared.structure.Structure.{Structure}
-use Rattle.vtl_meaning.specs.Trees as nodes
-use Rattle.vtl_meaning.specs.Trees.{FormTree, ItemTree, NodeTree, ValueTree, structure_of}
-use Rattle.vtl_meaning.specs.clauses.SubItem.{SubItem}
-use Rattle.vtl_meaning.specs.Choices.{chosen, is_identifier_name}
-use Rattle.vtl_meaning.specs.Clauses.{aggr_form, calc_form, pivot_form, rename_form, target_tests, unpivot_form}
-use Rattle.vtl_meaning.specs.Names.{known}
-use Rattle.vtl_meaning.specs.Shape.{shaped}
-use Rattle.vtl_meaning.specs.choices.Choice.TheVariants as choice
-use Rattle.vtl_meaning.specs.names.Wanted.{Wanted}
-use Rattle.vtl_meaning.specs.names.Wanted.TheVariants as wanted
-use Rattle.vtl_meaning.specs.renaming.Renaming.{Renaming}
-use Rattle.vtl_meaning.specs.ValuesColumns.{name_of}
-use Rattle.vtl_meaning.specs.Groupings.{grouping_choice, grouping_names}
-use Rattle.vtl_meaning.specs.Kinds.{exp_kind}
-use Rattle.vtl_meaning.specs.ValuesLiterals.{kind_met, literal_cell, literal_kind, valued}
-use Rattle.vtl_check.specs.Places.{Env, at_points, columns_in, name_written, written_by}
-use Rattle.vtl_check.specs.Typed.{TypedTree, value, dataset, components_in, condition_in}
-use Rattle.vtl_check.specs.places.Joined.{Joined}
-use Rattle.vtl_check.specs.places.Place.TheVariants as place
-use Rattle.vtl_check.specs.Clauses.{cell_as, filter_form, kept_of, keeping_form, made_of, name_known, names_typed, pivot_names, pivot_of, references_in, renamed_of, renaming_form, renamings_typed, sub_form, sub_item, sub_known, sub_names, sub_of, sub_value, subs_typed, unpivot_of}
-use Rattle.vtl_check.specs.Targets.{aggr_clause, aggr_tree, calc_clause, calc_name, is_analytic, is_analytic_value, item_names, item_of, made_target, role_of, target_of, value_kind}
-use Rattle.vtl_check.specs.targets.Made.{Made}
+use Rattle.vtl_nodes.specs.Trees as nodes
+use Rattle.vtl_nodes.specs.Trees.{FormTree, ItemTree, NodeTree, ValueTree, structure_of}
+use Rattle.vtl_nodes.specs.declared.clauses.SubItem.{SubItem}
+use Rattle.check_shapes.specs.Choices.{chosen, is_identifier_name}
+use Rattle.check_shapes.specs.Clauses.{aggr_form, calc_form, pivot_form, rename_form, target_tests, unpivot_form}
+use Rattle.check_shapes.specs.Names.{known}
+use Rattle.check_shapes.specs.Shape.{shaped}
+use Rattle.check_shapes.specs.declared.choices.Choice.TheVariants as choice
+use Rattle.check_shapes.specs.declared.names.Wanted.{Wanted}
+use Rattle.check_shapes.specs.declared.names.Wanted.TheVariants as wanted
+use Rattle.check_shapes.specs.declared.renaming.Renaming.{Renaming}
+use Rattle.check_values.specs.Columns.{name_of}
+use Rattle.check_values.specs.Groupings.{grouping_choice, grouping_names}
+use Rattle.check_values.specs.Kinds.{exp_kind}
+use Rattle.check_values.specs.Literals.{kind_met, literal_cell, literal_kind, valued}
+use Rattle.check_operators.specs.Places.{Env, at_points, columns_in, name_written, written_by}
+use Rattle.check_operators.specs.Typed.{TypedTree, value, dataset, components_in, condition_in}
+use Rattle.check_operators.specs.declared.places.Joined.{Joined}
+use Rattle.check_operators.specs.declared.places.Place.TheVariants as place
+use Rattle.check_clauses.specs.Clauses.{cell_as, filter_form, kept_of, keeping_form, made_of, name_known, names_typed, pivot_names, pivot_of, references_in, renamed_of, renaming_form, renamings_typed, sub_form, sub_item, sub_known, sub_names, sub_of, sub_value, subs_typed, unpivot_of}
+use Rattle.check_clauses.specs.Targets.{aggr_clause, aggr_tree, calc_clause, calc_name, is_analytic, is_analytic_value, item_names, item_of, made_target, role_of, target_of, value_kind}
+use Rattle.check_clauses.specs.declared.targets.Made.{Made}
 use Rattle.vtl_meaning.specs.Made.{IsCalculated, IsFiltered, IsGroupCondition, IsGrouped, IsLeft, IsMade, IsPivoted, IsRenamed, IsSub, IsTyped, IsUnpivoted, IsWindowed}
 use Rattle.vtl_meaning.specs.Operators.{value_exp}
 use Rattle.vtl_meaning.specs.Reaches.{IsNearValue}

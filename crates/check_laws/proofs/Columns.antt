@@ -4,16 +4,16 @@ use Rattle.std.proofs.lemmas.Bool.{false≢true}
 use Rattle.std.specs.Cmp.Lexicographic.{bytes_decides, nat_list_eq_equiv}
 use Rattle.std.specs.List.{AllByRecursion, filter, list_any}
 use Rattle.std.specs.Option.{option_map_or}
-use Rattle.vtl_cell.specs.Apart.{all_apart}
-use Rattle.vtl_cell.proofs.Aparts.{apart_parts}
+use Rattle.vtl_lists.specs.Apart.{all_apart}
+use Rattle.vtl_lists.proofs.Aparts.{apart_parts}
 use Rattle.vtl_cell.specs.declared.kind.Kind.TheVariants as k
 use Rattle.vtl_tree.specs.Structure.{IsStructure, columns_of, names_of, of_role, same_name, same_role}
 use Rattle.vtl_tree.specs.declared.structure.Component.{Component}
 use Rattle.vtl_tree.specs.declared.structure.Role.{Role}
 use Rattle.vtl_tree.specs.declared.structure.Role.TheVariants as role
 use Rattle.vtl_tree.specs.declared.structure.Structure.{Structure}
-use Rattle.vtl_meaning.specs.Names.{component_of, is_among}
-use Rattle.vtl_meaning.specs.Columns.{kind_named, place_of}
+use Rattle.check_shapes.specs.Names.{component_of, is_among}
+use Rattle.check_shapes.specs.Columns.{kind_named, place_of}
 use Rattle.vtl_meaning.specs.Made.{IsColumnAt}
 use Rattle.check_laws.proofs.Lists as lists
 

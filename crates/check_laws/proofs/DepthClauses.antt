@@ -2,10 +2,10 @@
 use Rattle.std.proofs.Common.{◌≤◌, ℕ, Bool, true, false, cond, not, List, [], ◌∷◌, ◌++◌, map, Option, Some, None, Result, Ok}
 use Rattle.std.specs.List.{AllByRecursion, list_any}
 use Rattle.std.specs.Option.{IfSome}
-use Rattle.vtl_cell.specs.Settings.{Settings}
+use Rattle.vtl_decimal.specs.Settings.{Settings}
 use Rattle.vtl_cell.specs.ScalarKinds.{meets}
 use Rattle.vtl_cell.specs.declared.kind.Kind.TheVariants as k
-use Rattle.vtl_cell.specs.Results.{◌>>=◌}
+use Rattle.vtl_lists.specs.Results.{◌>>=◌}
 use Rattle.check_faults.specs.declared.rules.Rule.{Rule}
 use Rattle.check_faults.specs.declared.rules.Rule.TheVariants as rule
 use Rattle.vtl_syntax.specs.Trees as tree
@@ -19,23 +19,23 @@ use Rattle.vtl_syntax.specs.declared.parts.SubPart.{SubPart}
 use Rattle.vtl_syntax.specs.declared.word_groups.JoinKind.{JoinKind}
 use Rattle.vtl_tree.specs.CompExp.{CompExp}
 use Rattle.vtl_tree.specs.declared.structure.Structure.{Structure}
-use Rattle.vtl_meaning.specs.Nodes.{nodes_in, operand_nodes}
-use Rattle.vtl_meaning.specs.Trees as nodes
-use Rattle.vtl_meaning.specs.Trees.{NodeTree, OperandTree, ValueTree, operands_of, structure_of}
-use Rattle.vtl_meaning.specs.Clauses.{calc_form, pivot_form}
-use Rattle.vtl_meaning.specs.names.Wanted.TheVariants as wanted
-use Rattle.vtl_meaning.specs.renaming.Renaming.{Renaming}
-use Rattle.vtl_meaning.specs.ValuesColumns.{name_of}
-use Rattle.vtl_meaning.specs.Kinds.{exp_kind}
-use Rattle.vtl_check.specs.Typed.{TypedTree, value, dataset, components_in, condition_in, dataset_in}
-use Rattle.vtl_check.specs.places.Joined.{Joined}
-use Rattle.vtl_check.specs.places.Place.{Place}
-use Rattle.vtl_check.specs.Clauses.{filter_form, kept_of, keeping_form, keeping_tree, made_of, names_typed, pivot_names, pivot_of, references_in, renamed_of, renaming_form, sub_form, sub_of, subs_typed, unpivot_of}
-use Rattle.vtl_check.specs.JoinOperands.{PartTyped, joined_node, last_naming, left_names, new_alias, operand_in, operands_in, using_names, with_part}
-use Rattle.vtl_check.specs.Targets.{aggr_clause, aggr_tree, calc_clause, is_analytic, target_of}
-use Rattle.vtl_check.specs.Typing.{as_dataset, body_end, calc_value, keeping_step, last_step, renaming_step, scalar_value}
-use Rattle.vtl_check.specs.Windowed.{target_typed}
-use Rattle.vtl_check.specs.targets.Made.{Made}
+use Rattle.vtl_nodes.specs.Nodes.{nodes_in, operand_nodes}
+use Rattle.vtl_nodes.specs.Trees as nodes
+use Rattle.vtl_nodes.specs.Trees.{NodeTree, OperandTree, ValueTree, operands_of, structure_of}
+use Rattle.check_shapes.specs.Clauses.{calc_form, pivot_form}
+use Rattle.check_shapes.specs.declared.names.Wanted.TheVariants as wanted
+use Rattle.check_shapes.specs.declared.renaming.Renaming.{Renaming}
+use Rattle.check_values.specs.Columns.{name_of}
+use Rattle.check_values.specs.Kinds.{exp_kind}
+use Rattle.check_operators.specs.Typed.{TypedTree, value, dataset, components_in, condition_in, dataset_in}
+use Rattle.check_operators.specs.declared.places.Joined.{Joined}
+use Rattle.check_operators.specs.declared.places.Place.{Place}
+use Rattle.check_clauses.specs.Clauses.{filter_form, kept_of, keeping_form, keeping_tree, made_of, names_typed, pivot_names, pivot_of, references_in, renamed_of, renaming_form, sub_form, sub_of, subs_typed, unpivot_of}
+use Rattle.check_clauses.specs.JoinOperands.{PartTyped, joined_node, last_naming, left_names, new_alias, operand_in, operands_in, using_names, with_part}
+use Rattle.check_clauses.specs.Targets.{aggr_clause, aggr_tree, calc_clause, is_analytic, target_of}
+use Rattle.check_expressions.specs.Typing.{as_dataset, body_end, calc_value, keeping_step, last_step, renaming_step, scalar_value}
+use Rattle.check_groups.specs.Windowed.{target_typed}
+use Rattle.check_clauses.specs.declared.targets.Made.{Made}
 use Rattle.check_laws.specs.Gives.{Gives}
 use Rattle.check_laws.proofs.DepthBounds.{AreNodesUpTo, IsItemUpTo, IsNodeUpTo, IsTreeUpTo, IsUpTo, IsValueUpTo, beside, calculated-up, clause-up, items-up, node-up, option-up}
 use Rattle.check_laws.proofs.Groups.{IsAnalytic, target-analytic}

@@ -2,10 +2,10 @@
 use Rattle.std.proofs.Common.{◌≤◌, ℕ, suc, Bool, true, false, cond, List, [], ◌∷◌, ◌++◌, map, Option, Some, None, option_map, is_none, not, Result, Ok, Err, arith}
 use Rattle.std.specs.List.{AllByRecursion}
 use Rattle.std.specs.Map.{lookup}
-use Rattle.vtl_cell.specs.Settings.{Settings}
+use Rattle.vtl_decimal.specs.Settings.{Settings}
 use Rattle.vtl_cell.specs.declared.operator.ScalarOp.{ScalarOp}
-use Rattle.vtl_cell.specs.Results.{◌>>=◌}
-use Rattle.vtl_meaning.specs.KindsOperators.{kind_by_operands}
+use Rattle.vtl_lists.specs.Results.{◌>>=◌}
+use Rattle.vtl_cell.specs.OperatorKinds.{kind_by_operands}
 use Rattle.check_faults.specs.Rules.{ruled}
 use Rattle.check_faults.specs.declared.rules.Rule.{Rule}
 use Rattle.check_faults.specs.declared.rules.Rule.TheVariants as rule
@@ -19,20 +19,20 @@ use Rattle.vtl_tree.specs.Structure.{same_name}
 use Rattle.vtl_tree.specs.View.{comp_exps_of}
 use Rattle.vtl_tree.specs.declared.structure.Component.{Component}
 use Rattle.vtl_tree.specs.declared.structure.Structure.{Structure}
-use Rattle.vtl_meaning.specs.Nodes.{nodes_in}
-use Rattle.vtl_meaning.specs.Trees.{NodeTree, choose, measures, named, pair, structure_of}
-use Rattle.vtl_meaning.specs.Names.{is_among}
-use Rattle.vtl_meaning.specs.Calls.{call_form, call_kind, or_null}
-use Rattle.vtl_meaning.specs.ValuesColumns.{column_from, column_typed, name_of}
-use Rattle.vtl_meaning.specs.Kinds.{exp_kind}
-use Rattle.vtl_meaning.specs.ValuesLiterals.{constant_cell, constant_typed, valued}
-use Rattle.vtl_check.specs.Operators.{Operands, if_placed, membership, no_operands, on_choice, on_datasets, on_measures, on_operands, on_pair, operator_form, parted, set_form, with_operand, with_value}
-use Rattle.vtl_check.specs.Places.{Env, Written, alone, component_typed, constant_form, known_by, member_inside, member_written, name_typed, written_typed}
-use Rattle.vtl_check.specs.Typed.{TypedTree, value, dataset, of_value}
-use Rattle.vtl_check.specs.places.Inside.{Inside}
-use Rattle.vtl_check.specs.places.Place.{Place}
-use Rattle.vtl_check.specs.places.Place.TheVariants as place
-use Rattle.vtl_check.specs.Typing.{behind, or_component}
+use Rattle.vtl_nodes.specs.Nodes.{nodes_in}
+use Rattle.vtl_nodes.specs.Trees.{NodeTree, choose, measures, named, pair, structure_of}
+use Rattle.check_shapes.specs.Names.{is_among}
+use Rattle.check_values.specs.Calls.{call_form, call_kind, or_null}
+use Rattle.check_values.specs.Columns.{column_from, column_typed, name_of}
+use Rattle.check_values.specs.Kinds.{exp_kind}
+use Rattle.check_values.specs.Literals.{constant_cell, constant_typed, valued}
+use Rattle.check_operators.specs.Operators.{Operands, if_placed, membership, no_operands, on_choice, on_datasets, on_measures, on_operands, on_pair, operator_form, parted, set_form, with_operand, with_value}
+use Rattle.check_operators.specs.Places.{Env, Written, alone, component_typed, constant_form, known_by, member_inside, member_written, name_typed, written_typed}
+use Rattle.check_operators.specs.Typed.{TypedTree, value, dataset, of_value}
+use Rattle.check_operators.specs.declared.places.Inside.{Inside}
+use Rattle.check_operators.specs.declared.places.Place.{Place}
+use Rattle.check_operators.specs.declared.places.Place.TheVariants as place
+use Rattle.check_expressions.specs.Typing.{behind, or_component}
 use Rattle.check_laws.specs.Gives.{Gives}
 use Rattle.check_laws.proofs.DepthBounds.{AreNodesUpTo, AreUpTo, IsNodeUpTo, IsTreeUpTo, IsUpTo, beside, call-up, dataset-up, measured-up, node-up, nodes-raised, pair-up, some-tree, tree-raised}
 use Rattle.check_laws.proofs.Lists as lists

@@ -1,7 +1,7 @@
 -- The nodes of a typed script are no deeper than its deepest statement.
 use Rattle.std.proofs.Common.{◌≤◌, ◌+◌, ℕ, suc, List, [], ◌∷◌, ◌++◌, subst, arith}
 use Rattle.std.specs.List.{AllByRecursion}
-use Rattle.vtl_cell.specs.Results.{◌>>=◌}
+use Rattle.vtl_lists.specs.Results.{◌>>=◌}
 use Rattle.check_faults.specs.Rules.{ruled}
 use Rattle.check_faults.specs.declared.rules.Rule.TheVariants as rule
 use Rattle.vtl_syntax.specs.Depth.{deepest, depth_limit, exp_depth, statement_depth}
@@ -9,14 +9,14 @@ use Rattle.vtl_syntax.specs.Trees as tree
 use Rattle.vtl_syntax.specs.Trees.{Exp, ScriptTree}
 use Rattle.vtl_syntax.specs.Written.{AreWritten, IsWritten}
 use Rattle.vtl_tree.specs.Structures.{has_name}
-use Rattle.vtl_meaning.specs.Trees.{NodeTree}
-use Rattle.vtl_check.specs.Places.{Env}
-use Rattle.vtl_check.specs.places.Place.TheVariants as place
+use Rattle.vtl_nodes.specs.Trees.{NodeTree}
+use Rattle.check_operators.specs.Places.{Env}
+use Rattle.check_operators.specs.declared.places.Place.TheVariants as place
 use Rattle.vtl_check.specs.Checked.{IsTyped, TypedScript, env_over, nodes_of, tree_of}
 use Rattle.vtl_check.specs.Count.{count}
 use Rattle.vtl_check.specs.Script.{assigned, is_too_much, transformations_typed, value_typed, with_result}
 use Rattle.vtl_check.specs.Transformations.{transformations_from}
-use Rattle.vtl_check.specs.Typing.{typed}
+use Rattle.check_expressions.specs.Typing.{typed}
 use Rattle.check_laws.specs.Depths.{node_depth}
 use Rattle.check_laws.specs.Gives.{Gives}
 use Rattle.check_laws.proofs.DepthBounds.{IsNodeUpTo, deepest-below, node-depth}

@@ -3,9 +3,9 @@ use Rattle.std.proofs.Common.{◌≤◌, ℕ, suc, Bool, true, false, cond, List
 use Rattle.std.specs.List.{AllByRecursion}
 use Rattle.std.specs.Option.{IfSome, is_some}
 use Rattle.std.specs.Prelude.{option_to_list, unwrap_or}
-use Rattle.vtl_cell.specs.Settings.{Settings}
+use Rattle.vtl_decimal.specs.Settings.{Settings}
 use Rattle.vtl_cell.specs.declared.kind.Kind.{Kind}
-use Rattle.vtl_cell.specs.Results.{◌>>=◌}
+use Rattle.vtl_lists.specs.Results.{◌>>=◌}
 use Rattle.check_faults.specs.Rules.{ruled}
 use Rattle.check_faults.specs.declared.rules.Rule.{Rule}
 use Rattle.check_faults.specs.declared.rules.Rule.TheVariants as rule
@@ -21,24 +21,24 @@ use Rattle.vtl_syntax.specs.declared.word_groups.SetOpName.{SetOpName}
 use Rattle.vtl_syntax.specs.declared.word_groups.SetOpName.TheVariants as set
 use Rattle.vtl_tree.specs.CompExp.{CompExp}
 use Rattle.vtl_tree.specs.declared.structure.Structure.{Structure}
-use Rattle.vtl_meaning.specs.Nodes.{maybe_nodes, nodes_in}
-use Rattle.vtl_meaning.specs.Trees as nodes
-use Rattle.vtl_meaning.specs.Trees.{NodeTree, maybe_node, nodes_of, structure_of}
-use Rattle.vtl_meaning.specs.calls.Window.{Window}
-use Rattle.vtl_meaning.specs.specifications.CheckSpec.{CheckSpec}
-use Rattle.vtl_meaning.specs.Pairs as pairs
-use Rattle.vtl_meaning.specs.ValuesColumns.{name_of}
-use Rattle.vtl_meaning.specs.Groupings.{grouping_typed}
-use Rattle.vtl_meaning.specs.Kinds.{exp_kind}
-use Rattle.vtl_check.specs.Places.{at_groups}
-use Rattle.vtl_check.specs.Sets.{check_form, datasets_behind, datasets_in, difference_form, difference_tree, exists_form, imbalance_in, member_of, set_of, set_tree, sets_form, structures_in}
-use Rattle.vtl_check.specs.Typed.{TypedTree, value, dataset, components_in, dataset_in, made_of}
-use Rattle.vtl_check.specs.places.Place.{Place}
-use Rattle.vtl_check.specs.places.Place.TheVariants as place
-use Rattle.vtl_check.specs.Aggregates.{aggregate_kind, aggregate_node, aggregate_tree, aggregate_value, count_call, count_kind, group_call, group_call_by, is_misused, operand_name}
-use Rattle.vtl_check.specs.Typing.{Having, grouped_of, own_groups}
-use Rattle.vtl_check.specs.Windowed.{given_structure, or_count, over_dataset, over_form, over_node, over_typed}
-use Rattle.vtl_check.specs.calls.Call.{Call}
+use Rattle.vtl_nodes.specs.Nodes.{maybe_nodes, nodes_in}
+use Rattle.vtl_nodes.specs.Trees as nodes
+use Rattle.vtl_nodes.specs.Trees.{NodeTree, maybe_node, nodes_of, structure_of}
+use Rattle.vtl_nodes.specs.declared.calls.Window.{Window}
+use Rattle.vtl_nodes.specs.declared.specifications.CheckSpec.{CheckSpec}
+use Rattle.check_shapes.specs.Pairs as pairs
+use Rattle.check_values.specs.Columns.{name_of}
+use Rattle.check_values.specs.Groupings.{grouping_typed}
+use Rattle.check_values.specs.Kinds.{exp_kind}
+use Rattle.check_operators.specs.Places.{at_groups}
+use Rattle.check_operators.specs.Sets.{check_form, datasets_behind, datasets_in, difference_form, difference_tree, exists_form, imbalance_in, member_of, set_of, set_tree, sets_form, structures_in}
+use Rattle.check_operators.specs.Typed.{TypedTree, value, dataset, components_in, dataset_in, made_of}
+use Rattle.check_operators.specs.declared.places.Place.{Place}
+use Rattle.check_operators.specs.declared.places.Place.TheVariants as place
+use Rattle.check_groups.specs.Aggregates.{aggregate_kind, aggregate_node, aggregate_tree, aggregate_value, count_call, count_kind, group_call, group_call_by, is_misused, operand_name}
+use Rattle.check_expressions.specs.Typing.{Having, grouped_of, own_groups}
+use Rattle.check_groups.specs.Windowed.{given_structure, or_count, over_dataset, over_form, over_node, over_typed}
+use Rattle.check_groups.specs.declared.calls.Call.{Call}
 use Rattle.check_laws.specs.Depths.{argument_depth}
 use Rattle.check_laws.specs.Gives.{Gives}
 use Rattle.check_laws.proofs.DepthBounds.{AreNodesUpTo, IsNodeUpTo, IsTreeUpTo, IsUpTo, all-beside, beside, dataset-up, node-up, option-up, some-tree, tree-raised}

@@ -3,27 +3,27 @@ use Rattle.std.proofs.Common.{◌≤◌, ◌-◌, ℕ, true, ◌||◌, List, [],
 use Rattle.std.specs.List.{AllByRecursion}
 use Rattle.std.specs.Option.{IfSome, is_some}
 use Rattle.vtl_cell.specs.declared.operator.ScalarOp.TheVariants as op
-use Rattle.vtl_cell.specs.Results.{◌>>=◌}
+use Rattle.vtl_lists.specs.Results.{◌>>=◌}
 use Rattle.check_faults.specs.declared.rules.Rule.TheVariants as rule
 use Rattle.vtl_syntax.specs.Depth.{calcs_depth, clause_depth, exp_depth, exps_depth, maybe_depth, maybe_targets_depth, parts_depth, targets_depth}
 use Rattle.vtl_syntax.specs.Trees as tree
 use Rattle.vtl_syntax.specs.Trees.{Calcs, ClauseTree, Exp, Exps, MaybeExp, MaybeTargets, Parts, TargetsTree}
-use Rattle.vtl_meaning.specs.Trees.{ItemTree, NodeTree}
-use Rattle.vtl_meaning.specs.Groupings.{grouping_of, grouping_typed}
-use Rattle.vtl_meaning.specs.ValuesOperators.{exps_length, of_binary, of_function, of_unary, takes}
-use Rattle.vtl_meaning.specs.ValuesLiterals.{literals_fit}
-use Rattle.vtl_check.specs.Operators.{operator_form}
-use Rattle.vtl_check.specs.Places.{Env, at_groups, at_points, in_aggregate}
-use Rattle.vtl_check.specs.Sets.{check_form, check_spec, difference_form, exists_form, member_of, sets_form}
-use Rattle.vtl_check.specs.Typed.{TypedTree, components_in, condition_in, dataset_in}
-use Rattle.vtl_check.specs.places.Joined.{Joined}
-use Rattle.vtl_check.specs.places.Place.{Place}
-use Rattle.vtl_check.specs.places.Place.TheVariants as place
-use Rattle.vtl_check.specs.Clauses.{filter_form}
-use Rattle.vtl_check.specs.JoinOperands.{PartTyped, joined_node, joined_of, operands_in, with_part}
-use Rattle.vtl_check.specs.Targets.{aggr_clause, calc_clause, calc_name, item_of, with_item}
-use Rattle.vtl_check.specs.Typing.{aggrs_typed, as_dataset, behind, body_end, calc_value, calcs_typed, clause_typed, filter_step, filtered_join, grouped_of, has_exp, having_typed, join_end, maybe_typed, operands_typed, over_operand, parts_typed, targets_step, targets_typed, typed}
-use Rattle.vtl_check.specs.Windowed.{over_typed}
+use Rattle.vtl_nodes.specs.Trees.{ItemTree, NodeTree}
+use Rattle.check_values.specs.Groupings.{grouping_of, grouping_typed}
+use Rattle.check_values.specs.Operators.{exps_length, of_binary, of_function, of_unary, takes}
+use Rattle.check_values.specs.Literals.{literals_fit}
+use Rattle.check_operators.specs.Operators.{operator_form}
+use Rattle.check_operators.specs.Places.{Env, at_groups, at_points, in_aggregate}
+use Rattle.check_operators.specs.Sets.{check_form, check_spec, difference_form, exists_form, member_of, sets_form}
+use Rattle.check_operators.specs.Typed.{TypedTree, components_in, condition_in, dataset_in}
+use Rattle.check_operators.specs.declared.places.Joined.{Joined}
+use Rattle.check_operators.specs.declared.places.Place.{Place}
+use Rattle.check_operators.specs.declared.places.Place.TheVariants as place
+use Rattle.check_clauses.specs.Clauses.{filter_form}
+use Rattle.check_clauses.specs.JoinOperands.{PartTyped, joined_node, joined_of, operands_in, with_part}
+use Rattle.check_clauses.specs.Targets.{aggr_clause, calc_clause, calc_name, item_of, with_item}
+use Rattle.check_expressions.specs.Typing.{aggrs_typed, as_dataset, behind, body_end, calc_value, calcs_typed, clause_typed, filter_step, filtered_join, grouped_of, has_exp, having_typed, join_end, maybe_typed, operands_typed, over_operand, parts_typed, targets_step, targets_typed, typed}
+use Rattle.check_groups.specs.Windowed.{over_typed}
 use Rattle.check_laws.specs.Gives.{Gives}
 use Rattle.check_laws.proofs.DepthBounds.{IsItemUpTo, IsNodeUpTo, IsTreeUpTo, IsUpTo, IsValueUpTo}
 use Rattle.check_laws.proofs.DepthClauses.{IsOperandUpTo, IsPartUpTo, aggr-up, calc-up, condition-up, end-up, filter-up, joined-up, keeping-up, operands-up, part-up, pivot-up, renaming-up, sub-up, target-up, tree-step, unpivot-up}

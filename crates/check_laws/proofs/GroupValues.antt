@@ -2,7 +2,7 @@
 use Rattle.std.proofs.Common.{◌≡◌, ℕ, Bool, true, false, cond, not, ◌||◌, List, [], ◌∷◌, Option, Some, None, is_none, Result, Ok, Err, refl, sym, ap, ◌∙◌, subst, true≢false}
 use Rattle.std.proofs.lemmas.Bool.{false≢true}
 use Rattle.std.specs.Option.{IfSome, is_some, option_map}
-use Rattle.vtl_cell.specs.Settings.{Settings}
+use Rattle.vtl_decimal.specs.Settings.{Settings}
 use Rattle.vtl_cell.specs.declared.kind.Kind.{Kind}
 use Rattle.check_faults.specs.declared.rules.Rule.{Rule}
 use Rattle.check_faults.specs.declared.rules.Rule.TheVariants as rule
@@ -15,19 +15,19 @@ use Rattle.vtl_tree.specs.CompExp as exp
 use Rattle.vtl_tree.specs.CompExp.{CompExp}
 use Rattle.vtl_tree.specs.Structure.{names_of}
 use Rattle.vtl_tree.specs.declared.structure.Component.{Component}
-use Rattle.vtl_meaning.specs.AggregateKinds as kinds
-use Rattle.vtl_meaning.specs.Kinds.{exp_kind}
+use Rattle.vtl_cell.specs.AggregateKinds as kinds
+use Rattle.check_values.specs.Kinds.{exp_kind}
 use Rattle.vtl_meaning.specs.Made.{Aggregates}
-use Rattle.vtl_meaning.specs.Names.{is_among}
-use Rattle.vtl_meaning.specs.ValuesColumns.{column_typed, name_of}
-use Rattle.vtl_check.specs.Aggregates.{agg_kind, aggregate_kind, aggregate_value, column_name, count_call, count_kind, group_call, group_call_by, is_component, operand_name}
-use Rattle.vtl_check.specs.Places.{Env, Written, alone, component_typed, in_aggregate, name_written, with_alias, written_in, written_typed}
-use Rattle.vtl_check.specs.Typed.{TypedTree, value, dataset, of_value}
-use Rattle.vtl_check.specs.Typing.{maybe_typed, over_operand, typed}
-use Rattle.vtl_check.specs.Windowed.{operand_exp}
-use Rattle.vtl_check.specs.places.Inside.{Inside}
-use Rattle.vtl_check.specs.places.Place.{Place}
-use Rattle.vtl_check.specs.places.Place.TheVariants as place
+use Rattle.check_shapes.specs.Names.{is_among}
+use Rattle.check_values.specs.Columns.{column_typed, name_of}
+use Rattle.check_groups.specs.Aggregates.{agg_kind, aggregate_kind, aggregate_value, column_name, count_call, count_kind, group_call, group_call_by, is_component, operand_name}
+use Rattle.check_operators.specs.Places.{Env, Written, alone, component_typed, in_aggregate, name_written, with_alias, written_in, written_typed}
+use Rattle.check_operators.specs.Typed.{TypedTree, value, dataset, of_value}
+use Rattle.check_expressions.specs.Typing.{maybe_typed, over_operand, typed}
+use Rattle.check_groups.specs.Windowed.{operand_exp}
+use Rattle.check_operators.specs.declared.places.Inside.{Inside}
+use Rattle.check_operators.specs.declared.places.Place.{Place}
+use Rattle.check_operators.specs.declared.places.Place.TheVariants as place
 use Rattle.check_laws.specs.Gives.{Gives}
 use Rattle.check_laws.specs.WellTyped.{IsTypedIn, IsWellTyped}
 use Rattle.check_laws.proofs.Steps.{after, anything, tested-then, then, weaker}

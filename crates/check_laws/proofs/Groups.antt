@@ -1,29 +1,29 @@
 -- Aggregates and analytic calls.
 use Rattle.std.proofs.Common.{ℕ, Bool, true, false, cond, not, List, [], ◌∷◌, map, Option, Some, None, Err, refl}
 use Rattle.std.specs.Option.{IfSome}
-use Rattle.vtl_cell.specs.Settings.{Settings}
+use Rattle.vtl_decimal.specs.Settings.{Settings}
 use Rattle.check_faults.specs.Rules.{ruled}
 use Rattle.check_faults.specs.declared.rules.Rule.TheVariants as rule
 use Rattle.vtl_syntax.specs.Trees.{Exp}
 use Rattle.vtl_syntax.specs.declared.parts.GroupPart.{GroupPart}
 use Rattle.vtl_syntax.specs.declared.word_groups.AggregateName.{AggregateName}
 use Rattle.vtl_tree.specs.CompExp.{CompExp}
-use Rattle.vtl_meaning.specs.Trees as nodes
-use Rattle.vtl_meaning.specs.Trees.{NodeTree, ValueTree, structure_of}
-use Rattle.vtl_meaning.specs.calls.AnalyticOp.{AnalyticOp}
-use Rattle.vtl_meaning.specs.calls.AnalyticOp.TheVariants as analytic
-use Rattle.vtl_meaning.specs.calls.Window.{Window}
-use Rattle.vtl_meaning.specs.Measures.{measured_form, measures}
-use Rattle.vtl_meaning.specs.Groupings.{grouping_choice, grouping_names}
-use Rattle.vtl_meaning.specs.Kinds.{exp_kind}
-use Rattle.vtl_check.specs.Places.{Env, columns_in}
-use Rattle.vtl_check.specs.Typed.{TypedTree, value, dataset, components_in}
-use Rattle.vtl_check.specs.places.Place.{Place}
-use Rattle.vtl_check.specs.places.Place.TheVariants as place
-use Rattle.vtl_check.specs.Aggregates.{aggregate_node, aggregate_tree, of_measure, outcome_of}
-use Rattle.vtl_check.specs.Windowed as windowed
-use Rattle.vtl_check.specs.Windowed.{argument, call_of, call_tree, is_unfit_over, or_count, over_dataset, over_form, over_node, over_parts, over_structure, over_typed, rank_call, suits, target_form, target_typed}
-use Rattle.vtl_check.specs.calls.Call.{Call}
+use Rattle.vtl_nodes.specs.Trees as nodes
+use Rattle.vtl_nodes.specs.Trees.{NodeTree, ValueTree, structure_of}
+use Rattle.vtl_nodes.specs.declared.calls.AnalyticOp.{AnalyticOp}
+use Rattle.vtl_nodes.specs.declared.calls.AnalyticOp.TheVariants as analytic
+use Rattle.vtl_nodes.specs.declared.calls.Window.{Window}
+use Rattle.check_shapes.specs.Measures.{measured_form, measures}
+use Rattle.check_values.specs.Groupings.{grouping_choice, grouping_names}
+use Rattle.check_values.specs.Kinds.{exp_kind}
+use Rattle.check_operators.specs.Places.{Env, columns_in}
+use Rattle.check_operators.specs.Typed.{TypedTree, value, dataset, components_in}
+use Rattle.check_operators.specs.declared.places.Place.{Place}
+use Rattle.check_operators.specs.declared.places.Place.TheVariants as place
+use Rattle.check_groups.specs.Aggregates.{aggregate_node, aggregate_tree, of_measure, outcome_of}
+use Rattle.check_groups.specs.Windowed as windowed
+use Rattle.check_groups.specs.Windowed.{argument, call_of, call_tree, is_unfit_over, or_count, over_dataset, over_form, over_node, over_parts, over_structure, over_typed, rank_call, suits, target_form, target_typed}
+use Rattle.check_groups.specs.declared.calls.Call.{Call}
 use Rattle.vtl_meaning.specs.Made.{IsGroupCondition, IsGrouped, IsMade, IsWindowed}
 use Rattle.vtl_meaning.specs.Reaches.{IsNear}
 use Rattle.vtl_meaning.specs.Shapes.{IsShaped}

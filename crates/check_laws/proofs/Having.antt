@@ -1,20 +1,20 @@
 -- The condition of groups.
 use Rattle.std.proofs.Common.{◌≡◌, true, not, [], ◌∷◌, Some, Result, Ok, Err}
 use Rattle.std.specs.Option.{IfSome}
-use Rattle.vtl_cell.specs.Results.{◌>>=◌}
+use Rattle.vtl_lists.specs.Results.{◌>>=◌}
 use Rattle.vtl_cell.specs.ScalarKinds.{meets}
-use Rattle.vtl_cell.specs.Settings.{Settings}
+use Rattle.vtl_decimal.specs.Settings.{Settings}
 use Rattle.vtl_cell.specs.declared.kind.Kind.TheVariants as k
 use Rattle.check_faults.specs.declared.rules.Rule.{Rule}
 use Rattle.check_faults.specs.declared.rules.Rule.TheVariants as rule
 use Rattle.vtl_syntax.specs.Trees as tree
 use Rattle.vtl_syntax.specs.Trees.{MaybeExp}
 use Rattle.vtl_tree.specs.CompExp.{CompExp}
-use Rattle.vtl_meaning.specs.Kinds.{exp_kind}
-use Rattle.vtl_check.specs.Places.{Env}
-use Rattle.vtl_check.specs.Typed.{TypedTree, value, dataset, condition_in}
-use Rattle.vtl_check.specs.Typing.{having_typed, maybe_typed, typed}
-use Rattle.vtl_check.specs.places.Place.{Place}
+use Rattle.check_values.specs.Kinds.{exp_kind}
+use Rattle.check_operators.specs.Places.{Env}
+use Rattle.check_operators.specs.Typed.{TypedTree, value, dataset, condition_in}
+use Rattle.check_expressions.specs.Typing.{having_typed, maybe_typed, typed}
+use Rattle.check_operators.specs.declared.places.Place.{Place}
 use Rattle.check_laws.specs.Gives.{Gives}
 use Rattle.check_laws.specs.WellTyped.{IsValueAt, IsWellTyped}
 use Rattle.check_laws.proofs.Steps.{tested, then}

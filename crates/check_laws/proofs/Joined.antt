@@ -6,9 +6,9 @@ use Rattle.std.proofs.lemmas.List.Elements.{filter-append}
 use Rattle.std.proofs.lemmas.List.Folds.{find_at, list_all-map}
 use Rattle.std.proofs.lemmas.Option.{slice_get-map}
 use Rattle.std.specs.List.{AllByRecursion, filter, find, list_all, list_any}
-use Rattle.vtl_cell.proofs.Aparts.{apart_parts}
-use Rattle.vtl_cell.specs.Apart.{all_apart}
-use Rattle.vtl_cell.specs.Results.{◌>>=◌}
+use Rattle.vtl_lists.proofs.Aparts.{apart_parts}
+use Rattle.vtl_lists.specs.Apart.{all_apart}
+use Rattle.vtl_lists.specs.Results.{◌>>=◌}
 use Rattle.vtl_syntax.specs.declared.word_groups.JoinKind.{JoinKind}
 use Rattle.vtl_syntax.specs.declared.word_groups.JoinKind.TheVariants as join
 use Rattle.vtl_tree.specs.Structure.{names_of, of_role, same_name, same_role}
@@ -19,14 +19,14 @@ use Rattle.vtl_tree.specs.declared.structure.Role.TheVariants as role
 use Rattle.vtl_tree.specs.declared.structure.Structure.{Structure}
 use Rattle.check_faults.specs.Rules.{Tests, ruled}
 use Rattle.check_faults.specs.declared.rules.Rule.TheVariants as rule
-use Rattle.vtl_meaning.specs.Joins as joins
-use Rattle.vtl_meaning.specs.Joins.{agrees, all_go_with, all_own, clashes, go_together, go_with, goes_with, held_names, is_cross, is_exactly, is_misused, is_part, join_form, join_tests, joined, joined_components, joined_identifiers, own, reference, structures_of, taken, using_form}
-use Rattle.vtl_meaning.specs.joins.Operand.{Operand}
-use Rattle.vtl_meaning.specs.Choices.{is_identifier}
-use Rattle.vtl_meaning.specs.Operands.{agreed_identifiers}
-use Rattle.vtl_meaning.specs.Pairs.{contains}
-use Rattle.vtl_meaning.specs.Shape.{shaped}
-use Rattle.vtl_meaning.specs.Columns.{identifiers_of}
+use Rattle.check_joins.specs.Joins as joins
+use Rattle.check_joins.specs.Joins.{agrees, all_go_with, all_own, clashes, go_together, go_with, goes_with, held_names, is_cross, is_exactly, is_misused, is_part, join_form, join_tests, joined, joined_components, joined_identifiers, own, reference, structures_of, taken, using_form}
+use Rattle.check_joins.specs.declared.joins.Operand.{Operand}
+use Rattle.check_shapes.specs.Choices.{is_identifier}
+use Rattle.check_shapes.specs.Operands.{agreed_identifiers}
+use Rattle.check_shapes.specs.Pairs.{contains}
+use Rattle.check_shapes.specs.Shape.{shaped}
+use Rattle.check_shapes.specs.Columns.{identifiers_of}
 use Rattle.vtl_meaning.specs.Joined.{contains_all, reference_place}
 use Rattle.vtl_meaning.specs.Made.{AreAmong, GoTogether, HasIdentifiers, IsJoined, component_kinds, kinds_of_all}
 use Rattle.vtl_meaning.specs.Shapes.{IsJoinedFrom, IsShaped}

@@ -2,8 +2,8 @@
 use Rattle.std.proofs.Common.{◌≡◌, ℕ, true, false, List, [], ◌∷◌, ◌++◌, map, Option, Ok, refl, sym, ap, ◌∙◌, subst}
 use Rattle.std.proofs.lemmas.List.{map-append}
 use Rattle.std.specs.List.{AllByRecursion}
-use Rattle.vtl_cell.specs.Apart.{all_apart}
-use Rattle.vtl_cell.specs.Results.{◌>>=◌}
+use Rattle.vtl_lists.specs.Apart.{all_apart}
+use Rattle.vtl_lists.specs.Results.{◌>>=◌}
 use Rattle.vtl_syntax.specs.Trees.{Exp}
 use Rattle.vtl_syntax.specs.declared.parts.Comp.{Comp}
 use Rattle.vtl_syntax.specs.declared.word_groups.JoinKind.{JoinKind}
@@ -12,16 +12,16 @@ use Rattle.vtl_tree.specs.Structure.{same_name}
 use Rattle.vtl_tree.specs.declared.structure.Structure.{Structure}
 use Rattle.check_faults.specs.Rules.{ruled}
 use Rattle.check_faults.specs.declared.rules.Rule.TheVariants as rule
-use Rattle.vtl_meaning.specs.Joins as joins
-use Rattle.vtl_meaning.specs.joins.Operand.{Operand}
-use Rattle.vtl_meaning.specs.Names.{is_among}
-use Rattle.vtl_meaning.specs.Trees as nodes
-use Rattle.vtl_meaning.specs.Trees.{NodeTree, OperandTree, operands_of}
-use Rattle.vtl_check.specs.Places.{Env}
-use Rattle.vtl_check.specs.Typed.{TypedTree, components_in, dataset_in}
-use Rattle.vtl_check.specs.places.Joined.{Joined}
-use Rattle.vtl_check.specs.places.Place.TheVariants as place
-use Rattle.vtl_check.specs.JoinOperands.{PartTyped, alias_of, aliases_in, joined_node, last_naming, left_names, new_alias, operand_in, operands_in, shape_of, using_names, with_part}
+use Rattle.check_joins.specs.Joins as joins
+use Rattle.check_joins.specs.declared.joins.Operand.{Operand}
+use Rattle.check_shapes.specs.Names.{is_among}
+use Rattle.vtl_nodes.specs.Trees as nodes
+use Rattle.vtl_nodes.specs.Trees.{NodeTree, OperandTree, operands_of}
+use Rattle.check_operators.specs.Places.{Env}
+use Rattle.check_operators.specs.Typed.{TypedTree, components_in, dataset_in}
+use Rattle.check_operators.specs.declared.places.Joined.{Joined}
+use Rattle.check_operators.specs.declared.places.Place.TheVariants as place
+use Rattle.check_clauses.specs.JoinOperands.{PartTyped, alias_of, aliases_in, joined_node, last_naming, left_names, new_alias, operand_in, operands_in, shape_of, using_names, with_part}
 use Rattle.vtl_meaning.specs.Made as made
 use Rattle.vtl_meaning.specs.Made.{AreMadeOperands, IsJoined, IsMade}
 use Rattle.vtl_meaning.specs.Shapes.{IsJoinedFrom, IsShaped}

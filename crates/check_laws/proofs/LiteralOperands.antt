@@ -6,7 +6,7 @@ use Rattle.std.specs.Prelude.{ℤ, pos}
 use Rattle.vtl_cell.specs.declared.cell.Cell.TheVariants as c
 use Rattle.vtl_cell.specs.declared.operator.ScalarOp.{ScalarOp}
 use Rattle.vtl_cell.specs.declared.operator.ScalarOp.TheVariants as op
-use Rattle.vtl_cell.specs.Results.{◌>>=◌}
+use Rattle.vtl_lists.specs.Results.{◌>>=◌}
 use Rattle.check_faults.specs.declared.rules.Rule.{Rule}
 use Rattle.vtl_syntax.specs.Trees as tree
 use Rattle.vtl_syntax.specs.Trees.{Exp, Exps}
@@ -15,18 +15,18 @@ use Rattle.vtl_syntax.specs.declared.parts.Numeral.TheVariants as numeral
 use Rattle.vtl_syntax.specs.declared.word_groups.FunctionName.{FunctionName}
 use Rattle.vtl_syntax.specs.declared.word_groups.FunctionName.TheVariants as function
 use Rattle.vtl_syntax.specs.declared.word_groups.UnaryOp.TheVariants as sign
-use Rattle.vtl_meaning.specs.KindsLiterals.{integer_written, largest_place, lies_between}
+use Rattle.vtl_cell.specs.Literals.{integer_written, largest_place, lies_between}
 use Rattle.vtl_tree.specs.CompExp.{CompExp, CompExps, call, column, const, aggregate}
 use Rattle.vtl_tree.specs.View.{comp_exps_of}
-use Rattle.vtl_meaning.specs.ValuesLiterals as written
-use Rattle.vtl_meaning.specs.ValuesLiterals.{lies_in, literals_fit, second_passes, third_passes, valued}
-use Rattle.vtl_meaning.specs.ValuesOperators.{of_function}
-use Rattle.vtl_check.specs.Operators.{operator_form}
-use Rattle.vtl_check.specs.Places.{Env}
-use Rattle.vtl_check.specs.Typed.{TypedTree, value, dataset, of_value}
-use Rattle.vtl_check.specs.places.Place.{Place}
-use Rattle.vtl_check.specs.places.Place.TheVariants as place
-use Rattle.vtl_check.specs.Typing.{behind as one_behind, operands_typed, typed}
+use Rattle.check_values.specs.Literals as written
+use Rattle.check_values.specs.Literals.{lies_in, literals_fit, second_passes, third_passes, valued}
+use Rattle.check_values.specs.Operators.{of_function}
+use Rattle.check_operators.specs.Operators.{operator_form}
+use Rattle.check_operators.specs.Places.{Env}
+use Rattle.check_operators.specs.Typed.{TypedTree, value, dataset, of_value}
+use Rattle.check_operators.specs.declared.places.Place.{Place}
+use Rattle.check_operators.specs.declared.places.Place.TheVariants as place
+use Rattle.check_expressions.specs.Typing.{behind as one_behind, operands_typed, typed}
 use Rattle.vtl_meaning.specs.Literals.{are_digits, are_literals, behind, first_passes, is_integer, most_digits}
 use Rattle.check_laws.specs.Gives.{Gives}
 use Rattle.check_laws.proofs.Operators.{AreFit, values_in}

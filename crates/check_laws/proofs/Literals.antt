@@ -6,12 +6,12 @@ use Rattle.std.specs.List.{AllByRecursion}
 use Rattle.std.specs.Option.{IfSome}
 use Rattle.std.specs.Prelude.{◌==◌, chars, encode_utf8_all, nat_lt, unsigned_abs, ℤ, neg_ℤ}
 use Rattle.std.specs.Result.{IsOk, result_ok}
-use Rattle.vtl_cell.specs.Numeral.{Numeral, denominator, integer_of, number_spelled, numeral_of, numerator, signed}
-use Rattle.vtl_cell.specs.Range.{fit_integer, fit_number}
-use Rattle.vtl_cell.specs.Settings.{Settings}
-use Rattle.vtl_cell.specs.number.Fault.{Fault}
-use Rattle.vtl_cell.specs.number.Fault.TheVariants.{Range}
-use Rattle.vtl_cell.specs.Results.{◌>>=◌}
+use Rattle.vtl_decimal.specs.Numeral.{Numeral, denominator, integer_of, number_spelled, numeral_of, numerator, signed}
+use Rattle.vtl_decimal.specs.Range.{fit_integer, fit_number}
+use Rattle.vtl_decimal.specs.Settings.{Settings}
+use Rattle.vtl_decimal.specs.declared.number.Fault.{Fault}
+use Rattle.vtl_decimal.specs.declared.number.Fault.TheVariants.{Range}
+use Rattle.vtl_lists.specs.Results.{◌>>=◌}
 use Rattle.check_faults.specs.Rules.{ruled}
 use Rattle.check_faults.specs.declared.rules.Rule.TheVariants as rule
 use Rattle.vtl_cell.specs.Conversion.{as_kind}
@@ -32,8 +32,8 @@ use Rattle.vtl_syntax.specs.declared.parts.Numeral.{Numeral as Written}
 use Rattle.vtl_syntax.specs.declared.word_groups.CastKind.{CastKind}
 use Rattle.vtl_syntax.specs.declared.word_groups.CastKind.TheVariants as cast
 use Rattle.vtl_tree.specs.CompExp.{const}
-use Rattle.vtl_meaning.specs.ValuesLiterals.{cast_kind, constant_cell, constant_typed, kind_met, literal_cell, literal_kind, members_typed, numeral_cell, numeral_kind, set_typed, shared_beside, shared_or, valued}
-use Rattle.vtl_meaning.specs.KindsLiterals.{integer_written, is_null_kind, written}
+use Rattle.check_values.specs.Literals.{cast_kind, constant_cell, constant_typed, kind_met, literal_cell, literal_kind, members_typed, numeral_cell, numeral_kind, set_typed, shared_beside, shared_or, valued}
+use Rattle.vtl_cell.specs.Literals.{integer_written, is_null_kind, written}
 use Rattle.vtl_tree.specs.declared.structure.Component.{Component}
 use Rattle.vtl_time.specs.Days.{read_day_of}
 use Rattle.vtl_time.specs.Periods.{read_period_of}

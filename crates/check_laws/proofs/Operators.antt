@@ -4,7 +4,7 @@ use Rattle.std.proofs.lemmas.Bool.{eqb-true, false≢true}
 use Rattle.std.proofs.lemmas.List.{append-nil}
 use Rattle.std.specs.List.{AllByRecursion}
 use Rattle.std.specs.Prelude.{◌==◌}
-use Rattle.vtl_cell.specs.Settings.{Settings}
+use Rattle.vtl_decimal.specs.Settings.{Settings}
 use Rattle.vtl_cell.specs.Kinds.{is_null}
 use Rattle.vtl_cell.specs.Profile.{IsOfProfile}
 use Rattle.vtl_cell.specs.ScalarKinds.{common_kind, is_set_of, kinds_of, truth_of_alike, truth_of_set}
@@ -13,7 +13,7 @@ use Rattle.vtl_cell.specs.declared.kind.Kind.{Kind}
 use Rattle.vtl_cell.specs.declared.kind.Kind.TheVariants as k
 use Rattle.vtl_cell.specs.declared.operator.ScalarOp.{ScalarOp}
 use Rattle.vtl_cell.specs.declared.operator.ScalarOp.TheVariants as op
-use Rattle.vtl_cell.specs.Results.{◌>>=◌}
+use Rattle.vtl_lists.specs.Results.{◌>>=◌}
 use Rattle.check_faults.specs.declared.rules.Rule.{Rule}
 use Rattle.check_faults.specs.declared.rules.Rule.TheVariants as rule
 use Rattle.vtl_syntax.specs.declared.parts.Literal.{Literal}
@@ -22,17 +22,17 @@ use Rattle.vtl_tree.specs.Structure.{columns_of}
 use Rattle.vtl_tree.specs.View.{comp_exps_of}
 use Rattle.vtl_tree.specs.declared.structure.Component.{Component}
 use Rattle.vtl_tree.specs.declared.structure.Structure.{Structure}
-use Rattle.vtl_meaning.specs.Trees.{FormTree, NodeTree, choose, measures, pair, structure_of}
-use Rattle.vtl_meaning.specs.Measures.{any_unmet, measured_form}
-use Rattle.vtl_meaning.specs.Pairs as pairs
-use Rattle.vtl_meaning.specs.choices.Choice.TheVariants as choice
-use Rattle.vtl_meaning.specs.Calls.{call_form}
-use Rattle.vtl_meaning.specs.ValuesLiterals.{set_typed}
-use Rattle.vtl_check.specs.Operators.{Operands, between_values, by_operands, first_fits, given_structure, if_placed, is_binary, is_choice, membership, no_operands, of_two, on_choice, on_datasets, on_measures, on_operands, on_pair, operator_form, outcome_of, parted, set_form, takes_dataset, with_operand, with_value}
-use Rattle.vtl_check.specs.Typed.{TypedTree, value, dataset, beside_kinds, components_in, made_of}
-use Rattle.vtl_check.specs.Places.{Env}
-use Rattle.vtl_check.specs.places.Place.{Place}
-use Rattle.vtl_check.specs.places.Place.TheVariants as place
+use Rattle.vtl_nodes.specs.Trees.{FormTree, NodeTree, choose, measures, pair, structure_of}
+use Rattle.check_shapes.specs.Measures.{any_unmet, measured_form}
+use Rattle.check_shapes.specs.Pairs as pairs
+use Rattle.check_shapes.specs.declared.choices.Choice.TheVariants as choice
+use Rattle.check_values.specs.Calls.{call_form}
+use Rattle.check_values.specs.Literals.{set_typed}
+use Rattle.check_operators.specs.Operators.{Operands, between_values, by_operands, first_fits, given_structure, if_placed, is_binary, is_choice, membership, no_operands, of_two, on_choice, on_datasets, on_measures, on_operands, on_pair, operator_form, outcome_of, parted, set_form, takes_dataset, with_operand, with_value}
+use Rattle.check_operators.specs.Typed.{TypedTree, value, dataset, beside_kinds, components_in, made_of}
+use Rattle.check_operators.specs.Places.{Env}
+use Rattle.check_operators.specs.declared.places.Place.{Place}
+use Rattle.check_operators.specs.declared.places.Place.TheVariants as place
 use Rattle.vtl_meaning.specs.Literals.{HasLiterals, all_pass, are_literals, is_member}
 use Rattle.vtl_meaning.specs.Made.{IsChoice, IsMade, IsMadeForm, IsMeasured, IsPaired, IsTyped}
 use Rattle.vtl_meaning.specs.Shapes as shapes

@@ -4,15 +4,15 @@ use Rattle.std.specs.List.{filter}
 use Rattle.check_faults.specs.Rules.{ruled}
 use Rattle.vtl_tree.specs.declared.structure.Component.{Component}
 use Rattle.vtl_tree.specs.declared.structure.Structure.{Structure}
-use Rattle.vtl_meaning.specs.Choices.{chosen}
-use Rattle.vtl_meaning.specs.Clauses.{calc_form, calculated, is_new, target_component}
-use Rattle.vtl_meaning.specs.Measures.{Gives as GivesKind, given_measures, measured_form, measured_tests}
-use Rattle.vtl_meaning.specs.Operands.{agreed_identifiers}
-use Rattle.vtl_meaning.specs.Pairs.{check_form, check_measures, check_tests}
-use Rattle.vtl_meaning.specs.Shape.{shaped}
-use Rattle.vtl_meaning.specs.choices.Choice.{Choice}
-use Rattle.vtl_meaning.specs.measures.Outcome.{Outcome}
-use Rattle.vtl_meaning.specs.targets.Target.{Target}
+use Rattle.check_shapes.specs.Choices.{chosen}
+use Rattle.check_shapes.specs.Clauses.{calc_form, calculated, is_new, target_component}
+use Rattle.check_shapes.specs.Measures.{Gives as GivesKind, given_measures, measured_form, measured_tests}
+use Rattle.check_shapes.specs.Operands.{agreed_identifiers}
+use Rattle.check_shapes.specs.Pairs.{check_form, check_measures, check_tests}
+use Rattle.check_shapes.specs.Shape.{shaped}
+use Rattle.check_shapes.specs.declared.choices.Choice.{Choice}
+use Rattle.check_shapes.specs.declared.measures.Outcome.{Outcome}
+use Rattle.check_shapes.specs.declared.targets.Target.{Target}
 use Rattle.vtl_meaning.specs.Shapes.{IsShaped}
 use Rattle.check_laws.specs.Gives.{Gives}
 use Rattle.check_laws.proofs.Shapes.{any-shaped, shaped-gives}

@@ -3,8 +3,8 @@ use Rattle.std.proofs.Common.{◌≡◌, ℕ, Bool, true, false, cond, ◌&&◌,
 use Rattle.std.specs.Int.RustNames.{int_le}
 use Rattle.std.specs.Option.{option_map_or}
 use Rattle.std.specs.Prelude.{ℤ, pos, negsuc}
-use Rattle.vtl_cell.specs.Results.{◌>>=◌}
-use Rattle.vtl_cell.specs.Settings.{Settings}
+use Rattle.vtl_lists.specs.Results.{◌>>=◌}
+use Rattle.vtl_decimal.specs.Settings.{Settings}
 use Rattle.vtl_cell.specs.declared.cell.Cell.{Cell}
 use Rattle.vtl_cell.specs.declared.kind.Kind.{Kind}
 use Rattle.check_faults.specs.declared.rules.Rule.TheVariants as rule
@@ -23,17 +23,17 @@ use Rattle.vtl_syntax.specs.declared.word_groups.Side.{Side}
 use Rattle.vtl_syntax.specs.declared.word_groups.Side.TheVariants as side
 use Rattle.vtl_syntax.specs.declared.word_groups.ValueWindowName.{ValueWindowName}
 use Rattle.vtl_syntax.specs.declared.word_groups.ValueWindowName.TheVariants as window
-use Rattle.vtl_meaning.specs.KindsLiterals.{integer_written, longest_reach}
+use Rattle.vtl_cell.specs.Literals.{integer_written, longest_reach}
 use Rattle.vtl_tree.specs.declared.structure.Component.{Component}
-use Rattle.vtl_meaning.specs.calls.Frame.{Frame}
-use Rattle.vtl_meaning.specs.calls.Window.{Window}
-use Rattle.vtl_meaning.specs.TypedWindows.{bound_typed, frame_alone, frame_typed, or_none, order_typed, partition_typed, points_at, points_in, points_typed, window_typed}
-use Rattle.vtl_check.specs.Typed.{TypedTree}
-use Rattle.vtl_check.specs.places.Place.{Place}
-use Rattle.vtl_check.specs.places.Place.TheVariants as place
-use Rattle.vtl_check.specs.Windowed.{call_typed, default_typed, kinds_beside, of_aggregate, of_shift, of_window, or_count, over_columns, over_of, over_parts, over_window, shift_call}
-use Rattle.vtl_check.specs.calls.Call.{Call}
-use Rattle.vtl_check.specs.calls.Needed.TheVariants as needed
+use Rattle.vtl_nodes.specs.declared.calls.Frame.{Frame}
+use Rattle.vtl_nodes.specs.declared.calls.Window.{Window}
+use Rattle.check_values.specs.Windows.{bound_typed, frame_alone, frame_typed, or_none, order_typed, partition_typed, points_at, points_in, points_typed, window_typed}
+use Rattle.check_operators.specs.Typed.{TypedTree}
+use Rattle.check_operators.specs.declared.places.Place.{Place}
+use Rattle.check_operators.specs.declared.places.Place.TheVariants as place
+use Rattle.check_groups.specs.Windowed.{call_typed, default_typed, kinds_beside, of_aggregate, of_shift, of_window, or_count, over_columns, over_of, over_parts, over_window, shift_call}
+use Rattle.check_groups.specs.declared.calls.Call.{Call}
+use Rattle.check_groups.specs.declared.calls.Needed.TheVariants as needed
 use Rattle.vtl_meaning.specs.Reaches.{IsNear, is_near, is_near_bound, is_near_frame, is_near_operator, is_near_window}
 use Rattle.check_laws.specs.Gives.{Gives}
 use Rattle.check_laws.proofs.Steps.{after, then}

@@ -5,10 +5,10 @@ use Rattle.std.proofs.lemmas.List.{append-nil}
 use Rattle.std.specs.List.{AllByRecursion, list_all}
 use Rattle.std.specs.Map.{keys_of, lookup}
 use Rattle.std.specs.Prelude.{nat_le}
-use Rattle.vtl_cell.specs.Settings.{Settings}
-use Rattle.vtl_cell.specs.Apart.{all_apart}
-use Rattle.vtl_cell.specs.Words.{is_component_name}
-use Rattle.vtl_cell.specs.Results.{◌>>=◌}
+use Rattle.vtl_decimal.specs.Settings.{Settings}
+use Rattle.vtl_lists.specs.Apart.{all_apart}
+use Rattle.vtl_text.specs.Words.{is_component_name}
+use Rattle.vtl_lists.specs.Results.{◌>>=◌}
 use Rattle.check_faults.specs.Rules.{ruled}
 use Rattle.check_faults.specs.declared.rules.Rule.{Rule}
 use Rattle.check_faults.specs.declared.rules.Rule.TheVariants as rule
@@ -18,11 +18,11 @@ use Rattle.vtl_tree.specs.Structures.{AreStructures, Named, codes_fit, has_name,
 use Rattle.vtl_tree.proofs.StructuresLemmas.{not_found}
 use Rattle.vtl_tree.specs.declared.structure.Component.{Component}
 use Rattle.vtl_tree.specs.declared.structure.Structure.{Structure}
-use Rattle.vtl_meaning.specs.Trees.{NodeTree, structure_of}
-use Rattle.vtl_check.specs.Places.{Env}
-use Rattle.vtl_check.specs.Typed.{dataset_in}
-use Rattle.vtl_check.specs.places.Place.TheVariants as place
-use Rattle.vtl_check.specs.Typing.{typed}
+use Rattle.vtl_nodes.specs.Trees.{NodeTree, structure_of}
+use Rattle.check_operators.specs.Places.{Env}
+use Rattle.check_operators.specs.Typed.{dataset_in}
+use Rattle.check_operators.specs.declared.places.Place.TheVariants as place
+use Rattle.check_expressions.specs.Typing.{typed}
 use Rattle.vtl_check.specs.Checked.{IsTyped, TypedScript, env_over, nodes_of, tree_of}
 use Rattle.vtl_check.specs.Count.{count}
 use Rattle.vtl_check.specs.Names.{names_in}
@@ -32,7 +32,7 @@ use Rattle.vtl_check.proofs.KnownLemmas.{has_name-lookup}
 use Rattle.vtl_meaning.specs.Made.{IsMade}
 use Rattle.vtl_meaning.specs.Shapes.{IsShaped}
 use Rattle.check_laws.specs.Gives.{Gives}
-use Rattle.vtl_meaning.specs.Nodes.{nodes_in}
+use Rattle.vtl_nodes.specs.Nodes.{nodes_in}
 use Rattle.check_laws.specs.Scripts.{AreMadeFrom, AreReadFrom}
 use Rattle.check_laws.specs.WellTyped.{AreShaped, IsWellTyped}
 use Rattle.check_laws.proofs.Columns.{same-true}

@@ -3,8 +3,8 @@ use Rattle.std.proofs.Common.{◌≡◌, List, [], ◌∷◌, ◌++◌, Option, 
 use Rattle.std.specs.List.{AllByRecursion}
 use Rattle.std.specs.Option.{IfSome}
 use Rattle.std.specs.Prelude.{option_to_list, unwrap_or}
-use Rattle.vtl_cell.specs.Settings.{Settings}
-use Rattle.vtl_cell.specs.Results.{◌>>=◌}
+use Rattle.vtl_decimal.specs.Settings.{Settings}
+use Rattle.vtl_lists.specs.Results.{◌>>=◌}
 use Rattle.check_faults.specs.declared.rules.Rule.{Rule}
 use Rattle.vtl_syntax.specs.declared.parts.Comp.{Comp}
 use Rattle.vtl_syntax.specs.declared.word_groups.DifferenceName.{DifferenceName}
@@ -15,19 +15,19 @@ use Rattle.vtl_syntax.specs.declared.word_groups.SetOpName.{SetOpName}
 use Rattle.vtl_syntax.specs.declared.word_groups.SetOpName.TheVariants as set
 use Rattle.vtl_tree.specs.Structures.{Named}
 use Rattle.vtl_tree.specs.declared.structure.Structure.{Structure}
-use Rattle.vtl_meaning.specs.Trees as nodes
-use Rattle.vtl_meaning.specs.Trees.{NodeTree, NodeTrees, maybe_node, nodes_of, structure_of}
-use Rattle.vtl_meaning.specs.specifications.CheckSpec.{CheckSpec}
-use Rattle.vtl_meaning.specs.Choices.{choice_form}
-use Rattle.vtl_meaning.specs.Pairs as pairs
-use Rattle.vtl_meaning.specs.choices.Choice.TheVariants as choice
-use Rattle.vtl_meaning.specs.names.Wanted.TheVariants as wanted
-use Rattle.vtl_meaning.specs.ValuesColumns.{name_of}
-use Rattle.vtl_check.specs.Places.{Env}
-use Rattle.vtl_check.specs.Sets.{check_form, datasets_behind, datasets_in, difference_form, difference_tree, exists_form, imbalance_in, member_of, set_of, set_structure, set_tree, sets_form, structures_in}
-use Rattle.vtl_check.specs.Typed.{TypedTree, value, dataset, components_in, dataset_in, made_of}
-use Rattle.vtl_check.specs.places.Place.{Place}
-use Rattle.vtl_check.specs.places.Place.TheVariants as place
+use Rattle.vtl_nodes.specs.Trees as nodes
+use Rattle.vtl_nodes.specs.Trees.{NodeTree, NodeTrees, maybe_node, nodes_of, structure_of}
+use Rattle.vtl_nodes.specs.declared.specifications.CheckSpec.{CheckSpec}
+use Rattle.check_shapes.specs.Choices.{choice_form}
+use Rattle.check_shapes.specs.Pairs as pairs
+use Rattle.check_shapes.specs.declared.choices.Choice.TheVariants as choice
+use Rattle.check_shapes.specs.declared.names.Wanted.TheVariants as wanted
+use Rattle.check_values.specs.Columns.{name_of}
+use Rattle.check_operators.specs.Places.{Env}
+use Rattle.check_operators.specs.Sets.{check_form, datasets_behind, datasets_in, difference_form, difference_tree, exists_form, imbalance_in, member_of, set_of, set_structure, set_tree, sets_form, structures_in}
+use Rattle.check_operators.specs.Typed.{TypedTree, value, dataset, components_in, dataset_in, made_of}
+use Rattle.check_operators.specs.declared.places.Place.{Place}
+use Rattle.check_operators.specs.declared.places.Place.TheVariants as place
 use Rattle.vtl_meaning.specs.Made.{AreCombined, AreMade, IsCombined, IsExistence, IsLeft, IsMade, IsMadeMaybe, node_structures}
 use Rattle.vtl_meaning.specs.Shapes.{IsChosen, IsShaped}
 use Rattle.check_laws.specs.Gives.{Gives}

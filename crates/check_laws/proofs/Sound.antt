@@ -6,7 +6,7 @@ use Rattle.vtl_cell.specs.ScalarKinds.{meets}
 use Rattle.vtl_cell.specs.declared.kind.Kind.TheVariants as k
 use Rattle.vtl_cell.specs.declared.operator.ScalarOp.{ScalarOp}
 use Rattle.vtl_cell.specs.declared.operator.ScalarOp.TheVariants as op
-use Rattle.vtl_cell.specs.Results.{◌>>=◌}
+use Rattle.vtl_lists.specs.Results.{◌>>=◌}
 use Rattle.check_faults.specs.declared.rules.Rule.{Rule}
 use Rattle.check_faults.specs.declared.rules.Rule.TheVariants as rule
 use Rattle.vtl_syntax.specs.Trees as tree
@@ -23,30 +23,30 @@ use Rattle.vtl_syntax.specs.declared.word_groups.UnaryOp.{UnaryOp}
 use Rattle.vtl_syntax.specs.declared.word_groups.UnaryOp.TheVariants as one_sign
 use Rattle.vtl_syntax.specs.declared.word_groups.WrittenRole.{WrittenRole}
 use Rattle.vtl_tree.specs.CompExp.{CompExp, CompExps}
-use Rattle.vtl_meaning.specs.Trees as nodes
-use Rattle.vtl_meaning.specs.Trees.{ItemTree, NodeTree, ValueTree, structure_of}
-use Rattle.vtl_meaning.specs.Groupings.{grouping_of, grouping_typed}
-use Rattle.vtl_meaning.specs.ValuesOperators.{exps_length, of_binary, of_function, of_unary, takes}
-use Rattle.vtl_meaning.specs.ValuesLiterals.{literals_fit}
-use Rattle.vtl_meaning.specs.Clauses.{target_tests}
-use Rattle.vtl_meaning.specs.ValuesColumns.{name_of}
-use Rattle.vtl_check.specs.Operators.{operator_form, set_form}
-use Rattle.vtl_check.specs.Places.{Env, Written, at_groups, at_points, columns_in, in_aggregate, member_inside, member_written}
-use Rattle.vtl_check.specs.Sets.{check_form, check_spec, difference_form, exists_form, member_of, sets_form}
-use Rattle.vtl_check.specs.Typed.{TypedTree, value, dataset, components_in, dataset_in}
-use Rattle.vtl_check.specs.places.Inside.{Inside}
-use Rattle.vtl_check.specs.places.Joined.{Joined}
-use Rattle.vtl_check.specs.places.Place.{Place}
-use Rattle.vtl_check.specs.places.Place.TheVariants as place
-use Rattle.vtl_check.specs.Aggregates.{aggregate_node, count_call, aggregate_value}
-use Rattle.vtl_check.specs.Windowed.{operand_exp, over_typed, target_typed}
-use Rattle.vtl_check.specs.Clauses.{filter_form}
-use Rattle.vtl_check.specs.JoinOperands.{PartTyped, joined_node, joined_of, operands_in, with_part}
-use Rattle.vtl_check.specs.Targets.{aggr_clause, aggr_name, calc_clause, calc_name, item_names, with_item, with_made}
-use Rattle.vtl_check.specs.targets.Made.{Made}
-use Rattle.vtl_check.specs.Typing.{Having, aggrs_typed, as_dataset, behind, body_end, calc_value, calcs_typed, clause_typed, filter_step, filtered_join, grouped_of, has_exp, having_typed, join_end, keeping_step, last_step, maybe_typed, operands_typed, or_component, over_operand, own_groups, parts_typed, renaming_step, scalar_value, targets_step, targets_typed, typed}
+use Rattle.vtl_nodes.specs.Trees as nodes
+use Rattle.vtl_nodes.specs.Trees.{ItemTree, NodeTree, ValueTree, structure_of}
+use Rattle.check_values.specs.Groupings.{grouping_of, grouping_typed}
+use Rattle.check_values.specs.Operators.{exps_length, of_binary, of_function, of_unary, takes}
+use Rattle.check_values.specs.Literals.{literals_fit}
+use Rattle.check_shapes.specs.Clauses.{target_tests}
+use Rattle.check_values.specs.Columns.{name_of}
+use Rattle.check_operators.specs.Operators.{operator_form, set_form}
+use Rattle.check_operators.specs.Places.{Env, Written, at_groups, at_points, columns_in, in_aggregate, member_inside, member_written}
+use Rattle.check_operators.specs.Sets.{check_form, check_spec, difference_form, exists_form, member_of, sets_form}
+use Rattle.check_operators.specs.Typed.{TypedTree, value, dataset, components_in, dataset_in}
+use Rattle.check_operators.specs.declared.places.Inside.{Inside}
+use Rattle.check_operators.specs.declared.places.Joined.{Joined}
+use Rattle.check_operators.specs.declared.places.Place.{Place}
+use Rattle.check_operators.specs.declared.places.Place.TheVariants as place
+use Rattle.check_groups.specs.Aggregates.{aggregate_node, count_call, aggregate_value}
+use Rattle.check_groups.specs.Windowed.{operand_exp, over_typed, target_typed}
+use Rattle.check_clauses.specs.Clauses.{filter_form}
+use Rattle.check_clauses.specs.JoinOperands.{PartTyped, joined_node, joined_of, operands_in, with_part}
+use Rattle.check_clauses.specs.Targets.{aggr_clause, aggr_name, calc_clause, calc_name, item_names, with_item, with_made}
+use Rattle.check_clauses.specs.declared.targets.Made.{Made}
+use Rattle.check_expressions.specs.Typing.{Having, aggrs_typed, as_dataset, behind, body_end, calc_value, calcs_typed, clause_typed, filter_step, filtered_join, grouped_of, has_exp, having_typed, join_end, keeping_step, last_step, maybe_typed, operands_typed, or_component, over_operand, own_groups, parts_typed, renaming_step, scalar_value, targets_step, targets_typed, typed}
 use Rattle.vtl_meaning.specs.Literals.{are_literals}
-use Rattle.vtl_meaning.specs.Kinds.{exp_kind}
+use Rattle.check_values.specs.Kinds.{exp_kind}
 use Rattle.vtl_meaning.specs.Made.{IsMade, IsTypedInGroups}
 use Rattle.vtl_meaning.specs.Shapes.{IsShaped}
 use Rattle.check_laws.specs.Gives.{ArePassed, Gives}

@@ -4,7 +4,7 @@ use Rattle.std.specs.List.{list_all}
 use Rattle.std.specs.Option.{option_and_then, option_map_or}
 use Rattle.std.specs.Prelude.{nat_eq}
 use Rattle.vtl_cell.specs.Kinds.{same_kind}
-use Rattle.vtl_cell.specs.Results.{◌>>=◌}
+use Rattle.vtl_lists.specs.Results.{◌>>=◌}
 use Rattle.vtl_cell.specs.declared.kind.Kind.{Kind}
 use Rattle.vtl_tree.specs.Structure.{columns_of}
 use Rattle.vtl_tree.specs.Structures.{structure_of}
@@ -13,15 +13,15 @@ use Rattle.vtl_tree.specs.declared.structure.Role.TheVariants as role
 use Rattle.vtl_tree.specs.declared.structure.Structure.{Structure}
 use Rattle.check_faults.specs.Rules.{ruled}
 use Rattle.check_faults.specs.declared.rules.Rule.TheVariants as rule
-use Rattle.vtl_meaning.specs.Choices.{chosen, is_identifier}
-use Rattle.vtl_meaning.specs.Clauses.{are_unlike, code_measure, first_kind, has_no_name, names_column, pivot_codes, pivot_components, pivot_form, unpivot_form}
-use Rattle.vtl_meaning.specs.Measures.{made, measures}
-use Rattle.vtl_meaning.specs.Names.{component_of, known}
-use Rattle.vtl_meaning.specs.Shape.{shaped}
-use Rattle.vtl_meaning.specs.choices.Choice.TheVariants as choice
-use Rattle.vtl_meaning.specs.names.Wanted.TheVariants as wanted
-use Rattle.vtl_meaning.proofs.Twins.{kinds-same}
-use Rattle.vtl_meaning.specs.Columns.{identifiers_of, kind_named, place_of}
+use Rattle.check_shapes.specs.Choices.{chosen, is_identifier}
+use Rattle.check_shapes.specs.Clauses.{are_unlike, code_measure, first_kind, has_no_name, names_column, pivot_codes, pivot_components, pivot_form, unpivot_form}
+use Rattle.check_shapes.specs.Measures.{made, measures}
+use Rattle.check_shapes.specs.Names.{component_of, known}
+use Rattle.check_shapes.specs.Shape.{shaped}
+use Rattle.check_shapes.specs.declared.choices.Choice.TheVariants as choice
+use Rattle.check_shapes.specs.declared.names.Wanted.TheVariants as wanted
+use Rattle.check_shapes.proofs.Twins.{kinds-same}
+use Rattle.check_shapes.specs.Columns.{identifiers_of, kind_named, place_of}
 use Rattle.vtl_meaning.specs.Made.{IsColumnAt, IsPivoted, IsUnpivoted, component_kinds}
 use Rattle.vtl_meaning.specs.Shapes.{IsShaped}
 use Rattle.vtl_meaning.specs.Turned.{codes_of, other_identifiers}

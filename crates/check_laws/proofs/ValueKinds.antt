@@ -7,12 +7,12 @@ use Rattle.vtl_syntax.specs.Trees.{Exp}
 use Rattle.vtl_tree.specs.CompExp.{CompExp}
 use Rattle.vtl_tree.specs.DataSet.{is_point}
 use Rattle.vtl_tree.specs.Value.{value as value_of}
-use Rattle.vtl_meaning.specs.Kinds.{exp_kind}
-use Rattle.vtl_check.specs.Places.{Env}
-use Rattle.vtl_check.specs.Typed.{value}
-use Rattle.vtl_check.specs.places.Inside.{Inside}
-use Rattle.vtl_check.specs.places.Place.TheVariants as place
-use Rattle.vtl_check.specs.Typing.{typed}
+use Rattle.check_values.specs.Kinds.{exp_kind}
+use Rattle.check_operators.specs.Places.{Env}
+use Rattle.check_operators.specs.Typed.{value}
+use Rattle.check_operators.specs.declared.places.Inside.{Inside}
+use Rattle.check_operators.specs.declared.places.Place.TheVariants as place
+use Rattle.check_expressions.specs.Typing.{typed}
 use Rattle.vtl_meaning.proofs.ValueKinds.{value_is_of}
 use Rattle.vtl_meaning.specs.Made.{IsTyped}
 use Rattle.check_laws.specs.WellTyped.{AreShaped, IsTypedIn, IsWellTyped}

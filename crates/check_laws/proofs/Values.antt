@@ -3,12 +3,12 @@ use Rattle.std.proofs.Common.{◌≡◌, ℕ, suc, ◌+◌, Bool, true, false, c
 use Rattle.std.specs.List.{AllByRecursion}
 use Rattle.std.specs.Map.{lookup}
 use Rattle.std.specs.Option.{option_map_or}
-use Rattle.vtl_cell.specs.Settings.{Settings}
+use Rattle.vtl_decimal.specs.Settings.{Settings}
 use Rattle.vtl_cell.specs.ScalarKinds.{kinds_of}
 use Rattle.vtl_cell.specs.declared.kind.Kind.{Kind}
 use Rattle.vtl_cell.specs.declared.kind.Kind.TheVariants as k
 use Rattle.vtl_cell.specs.declared.operator.ScalarOp.{ScalarOp}
-use Rattle.vtl_cell.specs.Results.{◌>>=◌}
+use Rattle.vtl_lists.specs.Results.{◌>>=◌}
 use Rattle.check_faults.specs.declared.rules.Rule.{Rule}
 use Rattle.check_faults.specs.declared.rules.Rule.TheVariants as rule
 use Rattle.vtl_syntax.specs.declared.parts.Comp.{Comp}
@@ -20,18 +20,18 @@ use Rattle.vtl_tree.specs.Structures.{Named}
 use Rattle.vtl_tree.specs.View.{comp_exps_of}
 use Rattle.vtl_tree.specs.declared.structure.Component.{Component}
 use Rattle.vtl_tree.specs.declared.structure.Structure.{Structure}
-use Rattle.vtl_meaning.specs.Names.{component_of, is_among}
-use Rattle.vtl_meaning.specs.Calls.{call_form, call_kind, or_null}
-use Rattle.vtl_meaning.specs.ValuesColumns.{column_from, column_typed, name_of}
-use Rattle.vtl_meaning.specs.Columns.{column_named, kind_named, place_of}
-use Rattle.vtl_meaning.specs.Kinds.{exp_kind}
-use Rattle.vtl_meaning.specs.KindsOperators.{kind_by_operands}
-use Rattle.vtl_meaning.specs.ValuesLiterals.{constant_typed}
-use Rattle.vtl_check.specs.Places.{Env, Written, alone, component_typed, constant_form, known_by, name_typed, name_written, written_typed}
-use Rattle.vtl_check.specs.Typed.{TypedTree, value, dataset, of_value}
-use Rattle.vtl_check.specs.places.Inside.{Inside}
-use Rattle.vtl_check.specs.places.Place.{Place}
-use Rattle.vtl_check.specs.places.Place.TheVariants as place
+use Rattle.check_shapes.specs.Names.{component_of, is_among}
+use Rattle.check_values.specs.Calls.{call_form, call_kind, or_null}
+use Rattle.check_values.specs.Columns.{column_from, column_typed, name_of}
+use Rattle.check_shapes.specs.Columns.{column_named, kind_named, place_of}
+use Rattle.check_values.specs.Kinds.{exp_kind}
+use Rattle.vtl_cell.specs.OperatorKinds.{kind_by_operands}
+use Rattle.check_values.specs.Literals.{constant_typed}
+use Rattle.check_operators.specs.Places.{Env, Written, alone, component_typed, constant_form, known_by, name_typed, name_written, written_typed}
+use Rattle.check_operators.specs.Typed.{TypedTree, value, dataset, of_value}
+use Rattle.check_operators.specs.declared.places.Inside.{Inside}
+use Rattle.check_operators.specs.declared.places.Place.{Place}
+use Rattle.check_operators.specs.declared.places.Place.TheVariants as place
 use Rattle.vtl_meaning.specs.Literals.{HasLiterals}
 use Rattle.vtl_meaning.specs.Made.{IsColumnAt, IsMade, IsTyped, IsTypedInGroups}
 use Rattle.vtl_meaning.specs.Shapes.{IsShaped}

@@ -5,9 +5,9 @@ use Rattle.std.specs.List.{AllByRecursion, list_any}
 use Rattle.std.specs.Option.{IfSome}
 use Rattle.vtl_cell.specs.Kinds.{is_null, is_of, kind_of}
 use Rattle.vtl_cell.specs.Profile.{IsOfProfile}
-use Rattle.vtl_cell.specs.Results.{◌>>=◌}
+use Rattle.vtl_lists.specs.Results.{◌>>=◌}
 use Rattle.vtl_cell.specs.ScalarKinds.{meets}
-use Rattle.vtl_cell.specs.Settings.{Settings}
+use Rattle.vtl_decimal.specs.Settings.{Settings}
 use Rattle.vtl_cell.specs.declared.cell.Cell.{Cell}
 use Rattle.vtl_cell.specs.declared.cell.Cell.TheVariants as c
 use Rattle.vtl_cell.specs.declared.kind.Kind.{Kind}
@@ -27,28 +27,28 @@ use Rattle.vtl_syntax.specs.declared.word_groups.ValueWindowName.{ValueWindowNam
 use Rattle.vtl_syntax.specs.declared.word_groups.ValueWindowName.TheVariants as window
 use Rattle.vtl_tree.specs.Structure.{same_name}
 use Rattle.vtl_tree.specs.declared.structure.Component.{Component}
-use Rattle.vtl_meaning.specs.AggregateKinds.{number_of, sum_kind}
-use Rattle.vtl_meaning.specs.AggregateKinds as kinds
-use Rattle.vtl_meaning.specs.AnalyticShapes.{default_in, takes}
-use Rattle.vtl_meaning.specs.Columns.{place_of}
-use Rattle.vtl_meaning.specs.Kinds.{given_kind}
-use Rattle.vtl_meaning.specs.KindsLiterals.{is_null_kind}
+use Rattle.vtl_cell.specs.AggregateKinds.{number_of, sum_kind}
+use Rattle.vtl_cell.specs.AggregateKinds as kinds
+use Rattle.vtl_windows.specs.Shapes.{default_in, takes}
+use Rattle.check_shapes.specs.Columns.{place_of}
+use Rattle.check_values.specs.Kinds.{given_kind}
+use Rattle.vtl_cell.specs.Literals.{is_null_kind}
 use Rattle.vtl_meaning.specs.Made.{IsColumnAt, IsNamedColumn, is_suited}
-use Rattle.vtl_meaning.specs.Names.{component_of}
-use Rattle.vtl_meaning.specs.TypedWindows.{frame_alone, frame_typed, is_known, key_of, key_typed, name_form, or_none, order_typed, partition_typed, points_typed, window_typed}
-use Rattle.vtl_meaning.specs.ValuesColumns.{name_of}
-use Rattle.vtl_meaning.specs.ValuesLiterals.{beside_all, literal_cell, literal_kind, stands_beside, valued}
-use Rattle.vtl_meaning.specs.calls.AnalyticOp.{AnalyticOp}
-use Rattle.vtl_meaning.specs.calls.AnalyticOp.TheVariants as op
-use Rattle.vtl_meaning.specs.calls.OrderKey.{OrderKey}
-use Rattle.vtl_meaning.specs.calls.Window.{Window}
-use Rattle.vtl_check.specs.Typed.{TypedTree}
-use Rattle.vtl_check.specs.Windowed.{call_typed, default_typed, is_rank, kinds_beside, of_aggregate, of_shift, of_window, over_columns, over_kind, over_of, over_parts, over_window, shift_call, suits, window_needed}
-use Rattle.vtl_check.specs.calls.Call.{Call}
-use Rattle.vtl_check.specs.calls.Needed.{Needed}
-use Rattle.vtl_check.specs.calls.Needed.TheVariants as needed
-use Rattle.vtl_check.specs.places.Place.{Place}
-use Rattle.vtl_check.specs.places.Place.TheVariants as place
+use Rattle.check_shapes.specs.Names.{component_of}
+use Rattle.check_values.specs.Windows.{frame_alone, frame_typed, is_known, key_of, key_typed, name_form, or_none, order_typed, partition_typed, points_typed, window_typed}
+use Rattle.check_values.specs.Columns.{name_of}
+use Rattle.check_values.specs.Literals.{beside_all, literal_cell, literal_kind, stands_beside, valued}
+use Rattle.vtl_nodes.specs.declared.calls.AnalyticOp.{AnalyticOp}
+use Rattle.vtl_nodes.specs.declared.calls.AnalyticOp.TheVariants as op
+use Rattle.vtl_nodes.specs.declared.calls.OrderKey.{OrderKey}
+use Rattle.vtl_nodes.specs.declared.calls.Window.{Window}
+use Rattle.check_operators.specs.Typed.{TypedTree}
+use Rattle.check_groups.specs.Windowed.{call_typed, default_typed, is_rank, kinds_beside, of_aggregate, of_shift, of_window, over_columns, over_kind, over_of, over_parts, over_window, shift_call, suits, window_needed}
+use Rattle.check_groups.specs.declared.calls.Call.{Call}
+use Rattle.check_groups.specs.declared.calls.Needed.{Needed}
+use Rattle.check_groups.specs.declared.calls.Needed.TheVariants as needed
+use Rattle.check_operators.specs.declared.places.Place.{Place}
+use Rattle.check_operators.specs.declared.places.Place.TheVariants as place
 use Rattle.check_laws.specs.Gives.{Gives}
 use Rattle.check_laws.proofs.Columns.{at-place, kind-found}
 use Rattle.check_laws.proofs.Lists as lists

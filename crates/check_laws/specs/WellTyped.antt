@@ -1,14 +1,14 @@
 -- What typing gives at a place: values that are typed over its columns or its groups, and nodes that are made.
 use Rattle.std.specs.Prelude.{ℕ, List, [], Option, Some, None}
 use Rattle.std.specs.List.{AllByRecursion}
-use Rattle.vtl_cell.specs.Settings.{Settings}
+use Rattle.vtl_decimal.specs.Settings.{Settings}
 use Rattle.vtl_tree.specs.CompExp.{CompExp}
 use Rattle.vtl_tree.specs.Structures.{Named}
 use Rattle.vtl_tree.specs.declared.structure.Component.{Component}
-use Rattle.vtl_check.specs.Places.{Env}
-use Rattle.vtl_check.specs.Typed.{TypedTree, value, dataset}
-use Rattle.vtl_check.specs.places.Place.{Place}
-use Rattle.vtl_check.specs.places.Place.TheVariants as place
+use Rattle.check_operators.specs.Places.{Env}
+use Rattle.check_operators.specs.Typed.{TypedTree, value, dataset}
+use Rattle.check_operators.specs.declared.places.Place.{Place}
+use Rattle.check_operators.specs.declared.places.Place.TheVariants as place
 use Rattle.vtl_meaning.specs.Made.{IsMade, IsTyped, IsTypedInGroups}
 use Rattle.vtl_meaning.specs.Shapes.{IsShaped}
 

@@ -14,4 +14,3 @@ pub use laws::{
     nodes_are_made_over_what_they_read, typed_scripts_are_made, typed_trees_are_no_deeper,
     typed_values_are_of_their_kind, typing_depends_on_what_is_read, typing_is_sound,
 };
-pub use vtl_check::{CheckErr, Checked, check, defines_rulesets, read_names};

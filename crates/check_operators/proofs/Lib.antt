@@ -1,2 +1,1 @@
-pub use Rattle.check_values.proofs.LiteralLemmas
 pub mod OperatorLemmas

@@ -1,7 +1,7 @@
 -- Operators on whole data sets.
 use Rattle.std.specs.Prelude.{ℕ, List, [], ◌∷◌, ◌++◌, Option, Some, None, Result, Ok, Err, map, ℤ}
 use Rattle.std.specs.Prelude.{option_to_list, unwrap_or}
-use Rattle.vtl_cell.specs.Settings.{Settings}
+use Rattle.vtl_decimal.specs.Settings.{Settings}
 use Rattle.vtl_syntax.specs.declared.parts.ErrorPart.{ErrorPart}
 use Rattle.vtl_syntax.specs.declared.word_groups.BasicOut.{BasicOut}
 use Rattle.vtl_syntax.specs.declared.word_groups.BasicOut.TheVariants as out
@@ -15,7 +15,7 @@ use Rattle.vtl_syntax.specs.declared.parts.Comp.{Comp}
 use Rattle.vtl_tree.specs.declared.structure.Structure.{Structure}
 use Rattle.vtl_nodes.specs.Trees.{FormTree, NodeTree, NodeTrees, nodes_of, structure_of, member, union, intersect, set_diff, sym_diff, exists_in, check, maybe_node}
 use Rattle.vtl_nodes.specs.declared.specifications.CheckSpec.{CheckSpec}
-use Rattle.vtl_cell.specs.Results.{◌>>=◌}
+use Rattle.vtl_lists.specs.Results.{◌>>=◌}
 use Rattle.check_faults.specs.declared.rules.Rule.{Rule}
 use Rattle.check_faults.specs.declared.rules.Rule.TheVariants as rule
 use Rattle.check_shapes.specs.Choices.{choice_form}

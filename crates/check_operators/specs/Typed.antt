@@ -11,7 +11,7 @@ use Rattle.vtl_tree.specs.declared.structure.Structure.{Structure}
 use Rattle.vtl_nodes.specs.Trees.{FormTree, NodeTree, node, structure_of}
 use Rattle.vtl_nodes.specs.View.{node_tree}
 use Rattle.vtl_nodes.specs.declared.nodes.Node.{Node}
-use Rattle.vtl_cell.specs.Results.{◌>>=◌}
+use Rattle.vtl_lists.specs.Results.{◌>>=◌}
 use Rattle.check_faults.specs.Rules.{ruled}
 use Rattle.check_faults.specs.declared.rules.Rule.{Rule}
 use Rattle.check_faults.specs.declared.rules.Rule.TheVariants as rule

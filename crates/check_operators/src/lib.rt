@@ -17,12 +17,6 @@ mod set_operators;
 mod typed;
 mod written_names;
 
-pub use check_joins::{Operand, held_names, join, last_renamings};
-pub use check_values::{
-    binary_operator, frame_alone, function_operator, given_kind, grouping, grouping_choice,
-    grouping_names, grouping_of, kind, kind_met, literal, literal_kind, literals_fit, met_beside,
-    name as name_of, points as point_count, takes, unary_operator, window,
-};
 pub use operators::{operator, set};
 pub use places::{Inside, Joined, Place, columns_at, groups, in_aggregate, points, regrouped};
 pub use scope::{Scope, name};

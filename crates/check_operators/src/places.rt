@@ -8,9 +8,9 @@ ghost use Rattle.check_operators.specs.Places.{at_groups, at_points, columns_at,
 
 use check_joins::Operand;
 use std::alloc::{AllocError, Global};
-use vtl_cell::{List, Shared, Txt};
 use vtl_nodes::Node;
 use vtl_syntax::JoinKind;
+use vtl_text::{List, Shared, Txt};
 use vtl_tree::{Component, Structure, share_component};
 
 /// Where an expression stands.

@@ -12,9 +12,10 @@ use check_faults::{Rule, TypeErr};
 use check_shapes::is_among;
 use check_values::{column, name as name_of};
 use std::alloc::Global;
-use vtl_cell::{ByName, List, Profile, Txt};
+use vtl_decimal::Profile;
 use vtl_nodes::NodeForm;
 use vtl_syntax::Comp;
+use vtl_text::{ByName, List, Txt};
 use vtl_tree::{CompExpr, Structure, share_structure};
 
 /// How numbers are read, and the data sets that are known: the declared ones, and then the results so far.

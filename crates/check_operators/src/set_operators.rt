@@ -17,9 +17,11 @@ use check_faults::{Rule, TypeErr};
 use check_shapes::{Choice, Wanted, choose_known, exists_in, set_operator};
 use check_values::name;
 use std::alloc::{AllocError, Global};
-use vtl_cell::{Profile, Txt, integer_written};
+use vtl_cell::integer_written;
+use vtl_decimal::Profile;
 use vtl_nodes::{CheckSpec, Node, NodeForm};
 use vtl_syntax::{BasicOut, Comp, DifferenceName, ErrorPart, Retain, SetOpName};
+use vtl_text::Txt;
 use vtl_tree::Structure;
 
 fn member_structure(alloc: Global, name: &Txt, structure: &Structure) -> Result<Structure, TypeErr>

@@ -11,8 +11,9 @@ use check_faults::{Rule, TypeErr};
 use check_joins::member;
 use check_values::{constant as constant_value, name};
 use std::alloc::Global;
-use vtl_cell::{Profile, Txt};
+use vtl_decimal::Profile;
 use vtl_syntax::{Comp, Constant, Expr, Reference};
+use vtl_text::Txt;
 
 /// A component as it is written.
 #[derive(Clone, Copy)]

@@ -5,7 +5,7 @@ use Rattle.vtl_tree.specs.Structure.{same_role}
 use Rattle.vtl_tree.specs.declared.structure.Role.TheVariants as role
 use Rattle.vtl_tree.specs.declared.structure.Component.{Component}
 use Rattle.check_shapes.specs.Names.{all_known, component_of, is_among}
-use Rattle.vtl_tree.specs.Results.{◌>>=◌}
+use Rattle.vtl_lists.specs.Results.{◌>>=◌}
 use Rattle.check_faults.specs.declared.rules.Rule.{Rule}
 use Rattle.check_shapes.specs.Shape.{shaped}
 use Rattle.check_shapes.specs.declared.names.Wanted.{Wanted}

@@ -2,10 +2,10 @@
 use Rattle.std.specs.Prelude.{ℕ, Bool, not, ◌||◌, ◌++◌, List, [], ◌∷◌, Option, Some, None, Result, Ok, Err, map, filter, find, length, nat_eq, is_none, if◌then◌else◌}
 use Rattle.std.specs.List.{list_any, list_all}
 use Rattle.std.specs.Prelude.{unwrap_or}
-use Rattle.vtl_tree.specs.Kinds.{same_kind}
-use Rattle.vtl_tree.specs.kind.Kind.{Kind}
-use Rattle.vtl_tree.specs.kind.Kind.TheVariants as k
-use Rattle.vtl_tree.specs.Words.{is_component_name}
+use Rattle.vtl_cell.specs.Kinds.{same_kind}
+use Rattle.vtl_cell.specs.declared.kind.Kind.{Kind}
+use Rattle.vtl_cell.specs.declared.kind.Kind.TheVariants as k
+use Rattle.vtl_text.specs.Words.{is_component_name}
 use Rattle.vtl_tree.specs.Structure.{names_of, same_name}
 use Rattle.vtl_tree.specs.declared.structure.Role.TheVariants as role
 use Rattle.vtl_tree.specs.declared.structure.Component.{Component}
@@ -13,7 +13,7 @@ use Rattle.vtl_tree.specs.declared.structure.Structure.{Structure}
 use Rattle.check_shapes.specs.Choices.{chosen, is_identifier_name}
 use Rattle.check_shapes.specs.Measures.{made, measures}
 use Rattle.check_shapes.specs.Names.{component_of, is_among, known}
-use Rattle.vtl_tree.specs.Results.{◌>>=◌}
+use Rattle.vtl_lists.specs.Results.{◌>>=◌}
 use Rattle.check_faults.specs.Rules.{ruled, Tests}
 use Rattle.check_faults.specs.declared.rules.Rule.{Rule}
 use Rattle.check_faults.specs.declared.rules.Rule.TheVariants as rule

@@ -2,8 +2,8 @@
 use Rattle.std.specs.Prelude.{ℕ, ◌+◌, ◌++◌, List, map}
 use Rattle.std.specs.List.{position_or_len}
 use Rattle.std.specs.Option.{option_map_or}
-use Rattle.vtl_tree.specs.kind.Kind.{Kind}
-use Rattle.vtl_tree.specs.kind.Kind.TheVariants as k
+use Rattle.vtl_cell.specs.declared.kind.Kind.{Kind}
+use Rattle.vtl_cell.specs.declared.kind.Kind.TheVariants as k
 use Rattle.vtl_tree.specs.CompExp.{CompExp, column}
 use Rattle.vtl_tree.specs.Structure.{of_role, same_name}
 use Rattle.vtl_tree.specs.declared.structure.Component.{Component}

@@ -3,9 +3,9 @@ use Rattle.std.specs.Prelude.{ℕ, Bool, true, false, not, ◌&&◌, ◌||◌, L
 use Rattle.std.specs.List.{list_any, list_all}
 use Rattle.std.specs.Cmp.Lexicographic.{pointwise}
 use Rattle.std.specs.Option.{option_map_or}
-use Rattle.vtl_tree.specs.Kinds.{same_kind}
-use Rattle.vtl_tree.specs.ScalarKinds.{meets}
-use Rattle.vtl_tree.specs.kind.Kind.{Kind}
+use Rattle.vtl_cell.specs.Kinds.{same_kind}
+use Rattle.vtl_cell.specs.ScalarKinds.{meets}
+use Rattle.vtl_cell.specs.declared.kind.Kind.{Kind}
 use Rattle.vtl_tree.specs.Structure.{same_name, same_role}
 use Rattle.vtl_tree.specs.declared.structure.Role.{Role}
 use Rattle.vtl_tree.specs.declared.structure.Role.TheVariants as role

@@ -1,14 +1,14 @@
 -- Operators on several data sets.
 use Rattle.std.specs.Prelude.{Bool, true, false, not, ◌&&◌, ◌||◌, ◌++◌, List, [], ◌∷◌, Some, Result, filter, map, length, codes, nat_eq, if◌then◌else◌}
 use Rattle.std.specs.List.{list_any, list_all}
-use Rattle.vtl_tree.specs.kind.Kind.TheVariants as k
+use Rattle.vtl_cell.specs.declared.kind.Kind.TheVariants as k
 use Rattle.vtl_tree.specs.declared.structure.Role.TheVariants as role
 use Rattle.vtl_tree.specs.declared.structure.Component.{Component}
 use Rattle.vtl_tree.specs.declared.structure.Structure.{Structure}
 use Rattle.check_shapes.specs.Choices.{is_identifier}
 use Rattle.check_shapes.specs.Measures.{Gives, any_unmet, bool_var, given_measures, is_miscounted, made, measures}
 use Rattle.check_shapes.specs.Operands.{agree, agreed_identifiers, all_agree, all_meet, has_one_measure, is_there, is_within}
-use Rattle.vtl_tree.specs.Results.{◌>>=◌}
+use Rattle.vtl_lists.specs.Results.{◌>>=◌}
 use Rattle.check_faults.specs.Rules.{ruled, Tests}
 use Rattle.check_faults.specs.declared.rules.Rule.{Rule}
 use Rattle.check_faults.specs.declared.rules.Rule.TheVariants as rule

@@ -8,7 +8,8 @@ use crate::names::{component_of, is_among};
 use crate::{Wanted, check_names, shaped};
 use check_faults::TypeErr;
 use std::alloc::{AllocError, Global};
-use vtl_tree::{Component, Role, Structure, Txt, is_same_role, share_component};
+use vtl_text::Txt;
+use vtl_tree::{Component, Role, Structure, is_same_role, share_component};
 
 /// Which components of an operand stay, by names that are listed.
 #[derive(Clone, Copy, Debug, PartialEq, Eq)]

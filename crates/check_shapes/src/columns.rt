@@ -3,7 +3,9 @@ ghost use Rattle.std.specs.Prelude.{◌≡◌, ◌≤◌, length};
 ghost use Rattle.vtl_tree.specs.Shown.{shown};
 ghost use Rattle.check_shapes.specs.Columns.{kind_named, place_of};
 
-use vtl_tree::{Component, Kind, Txt};
+use vtl_cell::Kind;
+use vtl_text::Txt;
+use vtl_tree::Component;
 
 /// The place of the column of this name, or their number where there is none.
 pub fn place_of(columns: &[&Component], name: &Txt) -> usize

@@ -6,7 +6,9 @@ ghost use Rattle.check_shapes.specs.Columns.{column_behind, column_named};
 
 use crate::columns::{kind_named, place_of};
 use std::alloc::{AllocError, Global};
-use vtl_tree::{AggCall, CompExpr, Component, Txt, clone_cell};
+use vtl_cell::clone_cell;
+use vtl_text::Txt;
+use vtl_tree::{AggCall, CompExpr, Component};
 
 fn copied_name(name: &Option<Txt>) -> Result<Option<Txt>, AllocError>
     ensures { IfOk result (λ copy. copy ≡ name.now) }

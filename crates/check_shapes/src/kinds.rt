@@ -1,8 +1,8 @@
 // The kinds that operands may have.
 ghost use Rattle.std.specs.Prelude.{◌≡◌};
-ghost use Rattle.vtl_tree.specs.ScalarKinds.{meets};
+ghost use Rattle.vtl_cell.specs.ScalarKinds.{meets};
 
-use vtl_tree::{Kind, is_same_kind};
+use vtl_cell::{Kind, is_same_kind};
 
 /// Whether an operand of a kind may stand where another is wanted.
 pub(crate) fn meets(wanted: Kind, given: Kind) -> bool

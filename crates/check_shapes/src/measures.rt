@@ -11,12 +11,14 @@ use crate::names::component_of;
 use crate::{Choice, shaped};
 use check_faults::{Rule, TypeErr, broken};
 use std::alloc::{AllocError, Global};
-use vtl_tree::{Component, Kind, Role, Structure, Txt, is_same_role, share_component};
+use vtl_cell::Kind;
+use vtl_text::Txt;
+use vtl_tree::{Component, Role, Structure, is_same_role, share_component};
 
 /// An operator on measures, by the kinds that it takes and gives.
 pub trait Operator {
     ghost use Rattle.std.specs.Prelude.{Option};
-    ghost use Rattle.vtl_tree.specs.kind.Kind.{Kind as KindOf};
+    ghost use Rattle.vtl_cell.specs.declared.kind.Kind.{Kind as KindOf};
 
     /// From the kinds of a measure and of its namesake, the kind that is given, or none.
     ghost gives: { Self → KindOf → KindOf → Option KindOf };

@@ -6,7 +6,8 @@ ghost use Rattle.check_faults.specs.Rules.{ruled};
 ghost use Rattle.check_shapes.specs.Names.{all_known, component_of, is_among, known, serves};
 
 use check_faults::{Rule, TypeErr, broken};
-use vtl_tree::{Component, Role, Txt, is_same_role};
+use vtl_text::Txt;
+use vtl_tree::{Component, Role, is_same_role};
 
 /// The role that a place asks of a component.
 #[derive(Clone, Copy, Debug, PartialEq, Eq)]

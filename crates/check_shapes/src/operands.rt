@@ -10,9 +10,9 @@ use crate::kinds::meets;
 use crate::measures::is_measure;
 use crate::names::component_of;
 use std::alloc::{AllocError, Global};
-use vtl_tree::{
-    Component, Kind, Role, Shared, Structure, Txt, is_same_kind, is_same_role, share_component,
-};
+use vtl_cell::{Kind, is_same_kind};
+use vtl_text::{Shared, Txt};
+use vtl_tree::{Component, Role, Structure, is_same_role, share_component};
 
 /// How components of two operands are compared.
 #[derive(Clone, Copy, Debug, PartialEq, Eq)]

@@ -17,7 +17,8 @@ use crate::operands::{
 use crate::{Operator, Outcome, shaped};
 use check_faults::{Rule, TypeErr, broken};
 use std::alloc::{AllocError, Global};
-use vtl_tree::{Component, Kind, Role, Structure};
+use vtl_cell::Kind;
+use vtl_tree::{Component, Role, Structure};
 
 /// Whether the identifiers of the first structure contain those of the second.
 pub fn contains(all: &Structure, some: &Structure) -> bool

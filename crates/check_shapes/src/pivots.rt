@@ -1,7 +1,7 @@
 // The clauses `pivot` and `unpivot`.
 ghost use Rattle.std.specs.List.{list_all};
 ghost use Rattle.std.specs.Prelude.{◌≡◌, ◌++◌, IfOk, OnOk, map};
-ghost use Rattle.vtl_tree.specs.Kinds.{same_kind};
+ghost use Rattle.vtl_cell.specs.Kinds.{same_kind};
 ghost use Rattle.check_faults.specs.Answers.{Answers};
 ghost use Rattle.check_shapes.specs.Clauses.{are_unlike, code_measure, first_kind, has_no_name, names_column, pivot_codes, pivot_components, pivot_form, unpivot_form};
 ghost use Rattle.check_shapes.specs.Measures.{measures};
@@ -13,7 +13,9 @@ use crate::shape::names_of;
 use crate::{Choice, Wanted, shaped};
 use check_faults::{Rule, TypeErr, broken};
 use std::alloc::{AllocError, Global};
-use vtl_tree::{Component, Kind, Role, Shared, Structure, Txt, is_component_name, is_same_kind};
+use vtl_cell::{Kind, is_same_kind};
+use vtl_text::{Shared, Txt, is_component_name};
+use vtl_tree::{Component, Role, Structure};
 
 fn has_no_name(texts: &[Txt]) -> bool
     ensures { result ≡ has_no_name texts.now }

@@ -6,7 +6,8 @@ ghost use Rattle.check_shapes.specs.Clauses.{new_name, rename_form, renamed};
 use crate::shaped;
 use check_faults::TypeErr;
 use std::alloc::{AllocError, Global};
-use vtl_tree::{Component, Structure, Txt, share_codes};
+use vtl_text::Txt;
+use vtl_tree::{Component, Structure, share_codes};
 
 /// `from to to`
 #[derive(Debug)]

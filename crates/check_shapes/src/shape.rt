@@ -10,7 +10,9 @@ ghost use Rattle.check_shapes.specs.Shape.{shaped};
 
 use check_faults::{Rule, TypeErr, broken};
 use std::alloc::{AllocError, Global};
-use vtl_tree::{Component, Kind, List, MAX_COMPONENTS, Structure, Txt, are_distinct};
+use vtl_cell::Kind;
+use vtl_text::{List, Txt, are_distinct};
+use vtl_tree::{Component, MAX_COMPONENTS, Structure};
 
 fn is_null(kind: Kind) -> bool
     ensures { result ≡ is_null_kind kind }

@@ -11,7 +11,9 @@ use crate::names::{component_of, is_among};
 use crate::{Choice, shaped};
 use check_faults::{Rule, TypeErr, broken};
 use std::alloc::{AllocError, Global};
-use vtl_tree::{Component, Kind, Role, Structure, Txt, share_component};
+use vtl_cell::Kind;
+use vtl_text::Txt;
+use vtl_tree::{Component, Role, Structure, share_component};
 
 /// A target of `calc` or `aggr`, with the kind of its value.
 #[derive(Debug, Drop)]

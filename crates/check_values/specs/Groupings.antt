@@ -5,7 +5,7 @@ use Rattle.vtl_syntax.specs.declared.word_groups.GroupKind.{GroupKind}
 use Rattle.vtl_syntax.specs.declared.word_groups.GroupKind.TheVariants as group
 use Rattle.vtl_tree.specs.Structure.{names_of}
 use Rattle.vtl_tree.specs.declared.structure.Component.{Component}
-use Rattle.vtl_cell.specs.Results.{◌>>=◌}
+use Rattle.vtl_lists.specs.Results.{◌>>=◌}
 use Rattle.check_faults.specs.declared.rules.Rule.{Rule}
 use Rattle.check_shapes.specs.Choices.{chosen}
 use Rattle.check_shapes.specs.Names.{all_known}

@@ -1,7 +1,7 @@
 -- The values of literals, and their kinds.
 use Rattle.std.specs.Prelude.{ℤ, pos, Bool, true, not, ◌&&◌, ◌||◌, List, [], ◌∷◌, ◌++◌, Option, Some, None, if◌then◌else◌, Result, Ok, Err}
 use Rattle.std.specs.List.{list_all}
-use Rattle.vtl_cell.specs.Settings.{Settings}
+use Rattle.vtl_decimal.specs.Settings.{Settings}
 use Rattle.vtl_cell.specs.ScalarKinds.{meets, shared_kind}
 use Rattle.vtl_cell.specs.Literals.{integer_cell, integer_written, is_null_kind, largest_place, lies_between, number_cell, with_sign, written}
 use Rattle.vtl_cell.specs.declared.cell.Cell.{Cell}
@@ -22,7 +22,7 @@ use Rattle.vtl_syntax.specs.declared.word_groups.FunctionName.{FunctionName}
 use Rattle.vtl_syntax.specs.declared.word_groups.FunctionName.TheVariants as function
 use Rattle.vtl_syntax.specs.declared.word_groups.UnaryOp.TheVariants as sign
 use Rattle.vtl_tree.specs.CompExp.{CompExp, const}
-use Rattle.vtl_cell.specs.Results.{◌>>=◌}
+use Rattle.vtl_lists.specs.Results.{◌>>=◌}
 use Rattle.check_faults.specs.Rules.{ruled}
 use Rattle.check_faults.specs.declared.rules.Rule.{Rule}
 use Rattle.check_faults.specs.declared.rules.Rule.TheVariants as rule

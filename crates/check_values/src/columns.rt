@@ -8,8 +8,8 @@ ghost use Rattle.check_values.specs.Columns.{column_typed, name_of};
 
 use check_faults::{Rule, TypeErr};
 use std::alloc::AllocError;
-use vtl_cell::Txt;
 use vtl_syntax::Comp;
+use vtl_text::Txt;
 use vtl_tree::{CompExpr, Component};
 
 /// The name of a component.

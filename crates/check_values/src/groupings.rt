@@ -10,8 +10,8 @@ use crate::name;
 use check_faults::TypeErr;
 use check_shapes::{Choice, Wanted, check_names, is_chosen};
 use std::alloc::{AllocError, Global};
-use vtl_cell::{List, Txt};
 use vtl_syntax::{Comp, GroupKind, GroupPart};
+use vtl_text::{List, Txt};
 use vtl_tree::Component;
 
 fn choice_of(kind: GroupKind) -> Choice

@@ -10,10 +10,12 @@ ghost use Rattle.vtl_cell.specs.Literals.{integer_written, is_null_kind};
 use check_faults::{Rule, TypeErr, broken};
 use std::alloc::{AllocError, Global};
 use vtl_cell::{
-    Cell, Kind, LARGEST_PLACE, List, Profile, integer_cell, integer_written, is_null_kind,
-    lies_between, meets, number_cell, shared_kind, with_sign, written,
+    Cell, Kind, LARGEST_PLACE, integer_cell, integer_written, is_null_kind, lies_between, meets,
+    number_cell, shared_kind, with_sign, written,
 };
+use vtl_decimal::Profile;
 use vtl_syntax::{CastKind, Constant, Expr, FunctionName, Literal, Numeral, UnaryOp};
+use vtl_text::List;
 use vtl_tree::CompExpr;
 
 fn numeral_kind(numeral: &Numeral) -> Kind

@@ -9,9 +9,11 @@ ghost use Rattle.check_values.specs.Windows.{bound_typed, frame_alone, frame_typ
 use crate::name;
 use check_faults::{Rule, TypeErr};
 use std::alloc::{AllocError, Global};
-use vtl_cell::{LONGEST_REACH, List, Profile, Txt, integer_written};
+use vtl_cell::{LONGEST_REACH, integer_written};
+use vtl_decimal::Profile;
 use vtl_nodes::{Bound, Frame, OrderKey, Window};
 use vtl_syntax::{Comp, DataPoints, Direction, Limit, OrderPart, OverPart, Side};
+use vtl_text::{List, Txt};
 use vtl_tree::Component;
 
 fn is_known(name: &Txt, columns: &[Component]) -> bool

@@ -9,7 +9,7 @@ use Rattle.std.proofs.lemmas.Fmt.{IsAscii-decimal}
 use Rattle.std.proofs.lemmas.Str.{IsUtf8-from_ascii, chars-IsAscii}
 use Rattle.vtl_decimal.specs.Written.{behind_point, last_digits, number_text, shortest_digits}
 use Rattle.vtl_decimal.proofs.WritingLemmas.{length-last_digits}
-use Rattle.vtl_cell.specs.Settings.{Settings}
+use Rattle.vtl_decimal.specs.Settings.{Settings}
 use Rattle.rules_to_sql.specs.Constants.{decimal_text, some_digit}
 use Rattle.rules_to_sql.proofs.WrittenNumbers.{number_ascii}
 

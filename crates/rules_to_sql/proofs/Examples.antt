@@ -6,8 +6,8 @@ use Rattle.grammar_forms.specs.Written.{run}
 use Rattle.vtl_decimal.specs.Written.{last_digits, shortest_digits}
 use Rattle.vtl_decimal.proofs.WritingLemmas.{decimal_last}
 use Rattle.vtl_time.specs.declared.periods.Frequency.TheVariants.{Quarter}
-use Rattle.vtl_cell.specs.Settings.{Settings}
-use Rattle.vtl_cell.specs.settings.Rounding.TheVariants.{HalfUp}
+use Rattle.vtl_decimal.specs.Settings.{Settings}
+use Rattle.vtl_decimal.specs.declared.settings.Rounding.TheVariants.{HalfUp}
 use Rattle.vtl_cell.specs.declared.cell.Cell.TheVariants as c
 use Rattle.vtl_cell.specs.declared.kind.Kind.TheVariants as k
 use Rattle.vtl_cell.specs.declared.operator.AggKind.TheVariants as agg

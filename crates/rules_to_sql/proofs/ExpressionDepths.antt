@@ -1,7 +1,7 @@
 -- An expression is in SQL at most one deeper than in VTL: a negative constant stands behind a sign.
 use Rattle.std.proofs.Common.{suc, pos, negsuc, ◌≤◌, Bool, true, false, List, arith}
 use Rattle.std.specs.Prelude.{max, Option, Some, None}
-use Rattle.vtl_cell.specs.Settings.{Settings}
+use Rattle.vtl_decimal.specs.Settings.{Settings}
 use Rattle.vtl_cell.specs.declared.cell.Cell.{Cell}
 use Rattle.vtl_cell.specs.declared.cell.Cell.TheVariants as c
 use Rattle.vtl_cell.specs.declared.operator.AggKind.{AggKind}
@@ -9,7 +9,7 @@ use Rattle.vtl_cell.specs.declared.operator.ScalarOp.{ScalarOp}
 use Rattle.vtl_cell.specs.declared.operator.ScalarOp.TheVariants as op
 use Rattle.vtl_tree.specs.CompExp as comp
 use Rattle.vtl_tree.specs.CompExp.{CompExp, CompExps, no_comp_exps, comp_exp}
-use Rattle.vtl_backend.specs.Depths.{argument_depth, comp_depth, comps_depth}
+use Rattle.check_laws.specs.Depths.{argument_depth, comp_depth, comps_depth}
 use Rattle.sql_tree.specs.Formed.{exp_depth, exps_depth, is_binary, is_unary}
 use Rattle.sql_tree.specs.Trees as tree
 use Rattle.sql_tree.specs.Trees.{Exps, Text}

@@ -13,7 +13,7 @@ use Rattle.vtl_decimal.proofs.DigitLemmas.{all_are_digits}
 use Rattle.vtl_decimal.proofs.WrittenLemmas.{text_spelled}
 use Rattle.vtl_cell.specs.Held.{IsHeld}
 use Rattle.vtl_cell.specs.Profile.{IsOfProfile}
-use Rattle.vtl_cell.specs.Settings.{Settings}
+use Rattle.vtl_decimal.specs.Settings.{Settings}
 use Rattle.vtl_cell.specs.declared.cell.Cell.{Cell}
 use Rattle.vtl_cell.specs.declared.cell.Cell.TheVariants as c
 use Rattle.sql_lexer.specs.Spelling.{IsDecimal, IsDigits}

@@ -1,15 +1,15 @@
 -- An expression has in SQL the form that the grammar spells.
 use Rattle.std.proofs.Common.{ℕ, ◌≤◌, refl, sym, subst, arith}
-use Rattle.vtl_cell.specs.Settings.{Settings}
+use Rattle.vtl_decimal.specs.Settings.{Settings}
 use Rattle.vtl_cell.specs.declared.kind.Kind.{Kind}
 use Rattle.vtl_cell.specs.declared.operator.ScalarOp.{ScalarOp}
 use Rattle.vtl_tree.specs.CompExp as comp
 use Rattle.vtl_tree.specs.CompExp.{CompExp, CompExps, no_comp_exps, comp_exp}
 use Rattle.vtl_tree.specs.declared.expression.AggCall.{AggCall}
-use Rattle.vtl_backend.specs.Literals.{HasLiterals}
+use Rattle.vtl_meaning.specs.Literals.{HasLiterals}
 use Rattle.sql_tree.specs.Formed.{EachFormed, Formed, IsColumn}
 use Rattle.sql_tree.specs.Trees.{Text}
-use Rattle.vtl_backend.specs.Made.{AreTypedOver, IsTypedOver}
+use Rattle.vtl_meaning.specs.Made.{AreTypedOver, IsTypedOver}
 use Rattle.rules_to_sql.specs.Held.{AllHoldValues, HoldsValues}
 use Rattle.rules_to_sql.specs.ToSql.{Naming, aggregate_to_sql, all_to_sql, members_behind, to_sql}
 use Rattle.rules_to_sql.proofs.FormedConstants.{const_formed}

@@ -1,7 +1,7 @@
 -- An expression has in SQL the kind that it has in VTL.
 use Rattle.std.proofs.Common.{◌≡◌, ℕ, [], ◌∷◌, ◌++◌, Some, refl, ap, ◌∙◌}
 use Rattle.vtl_cell.specs.ScalarKinds.{common_kind}
-use Rattle.vtl_cell.specs.Settings.{Settings}
+use Rattle.vtl_decimal.specs.Settings.{Settings}
 use Rattle.vtl_cell.specs.declared.kind.Kind.{Kind}
 use Rattle.vtl_cell.specs.declared.kind.Kind.TheVariants as k
 use Rattle.vtl_cell.specs.declared.operator.ScalarOp.{ScalarOp}
@@ -9,8 +9,8 @@ use Rattle.vtl_cell.specs.declared.operator.ScalarOp.TheVariants as op
 use Rattle.vtl_tree.specs.CompExp as comp
 use Rattle.vtl_tree.specs.CompExp.{CompExp, CompExps, no_comp_exps, comp_exp}
 use Rattle.vtl_tree.specs.declared.expression.AggCall.{AggCall}
-use Rattle.vtl_backend.specs.Kinds.{exp_kind}
-use Rattle.vtl_backend.specs.Made.{AreTypedOver, IsTypedOver, kinds_in as comp_kinds}
+use Rattle.check_values.specs.Kinds.{exp_kind}
+use Rattle.vtl_meaning.specs.Made.{AreTypedOver, IsTypedOver, kinds_in as comp_kinds}
 use Rattle.sql_tree.specs.Trees.{Text}
 use Rattle.sql_check_parts.specs.Kinds.{kind_in, kinds_in, operator_kind}
 use Rattle.sql_check_parts.specs.Scopes.{Scope, found, or_null}

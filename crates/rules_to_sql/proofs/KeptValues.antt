@@ -4,7 +4,7 @@ use Rattle.vtl_cell.specs.Conversion.{as_kind}
 use Rattle.vtl_cell.specs.Outcome.{Outcome, after}
 use Rattle.vtl_cell.specs.Outcomes.{branch, first_chosen}
 use Rattle.vtl_cell.specs.Row.{Row}
-use Rattle.vtl_cell.specs.Settings.{Settings}
+use Rattle.vtl_decimal.specs.Settings.{Settings}
 use Rattle.vtl_cell.specs.declared.cell.Cell.{Cell}
 use Rattle.vtl_cell.specs.declared.cell.Cell.TheVariants as c
 use Rattle.vtl_cell.specs.declared.kind.Kind.{Kind}
@@ -15,15 +15,15 @@ use Rattle.vtl_tree.specs.CompExp as comp
 use Rattle.vtl_tree.specs.CompExp.{CompExp, CompExps, no_comp_exps, comp_exp}
 use Rattle.vtl_tree.specs.Value as points
 use Rattle.vtl_tree.specs.declared.expression.AggCall.{AggCall}
-use Rattle.vtl_backend.specs.Literals.{HasLiterals}
-use Rattle.vtl_backend.specs.Made.{AreTypedOver, IsTypedOver, kinds_in as comp_kinds}
+use Rattle.vtl_meaning.specs.Literals.{HasLiterals}
+use Rattle.vtl_meaning.specs.Made.{AreTypedOver, IsTypedOver, kinds_in as comp_kinds}
 use Rattle.sql_tree.specs.Formed.{is_binary, is_function, is_unary}
 use Rattle.sql_tree.specs.Trees.{Exp, Text}
 use Rattle.sql_check_parts.specs.Kinds.{kind_in, kinds_in, operator_kind}
 use Rattle.sql_check_parts.specs.Scopes.{found, or_null}
 use Rattle.sql_meaning.specs.Outcomes.{operated}
 use Rattle.sql_meaning.specs.Values.{View, cell_at, literal_cell, value, values}
-use Rattle.vtl_backend.specs.GroupExpressions.{value_over, values_over}
+use Rattle.vtl_aggregates.specs.Expressions.{value_over, values_over}
 use Rattle.rules_to_sql.specs.Held.{AllHoldValues, HoldsValues}
 use Rattle.rules_to_sql.specs.ToSql.{Naming, aggregate_to_sql, all_to_sql, members_behind, members_to_sql, to_sql}
 use Rattle.rules_to_sql.proofs.KeptKinds.{KindsStay, call_kind, kinds_stay}

@@ -1,7 +1,7 @@
 -- Operands that have to be literals are literals in SQL, in the same intervals.
 use Rattle.std.proofs.Common.{◌≡◌, ℕ, ℤ, pos, negsuc, true, ◌&&◌, Some, refl, ap, ◌∙◌, arith}
 use Rattle.std.proofs.lemmas.Bool.{and_parts}
-use Rattle.vtl_cell.specs.Settings.{Settings}
+use Rattle.vtl_decimal.specs.Settings.{Settings}
 use Rattle.vtl_cell.specs.declared.cell.Cell.TheVariants as c
 use Rattle.vtl_cell.specs.declared.kind.Kind.{Kind}
 use Rattle.vtl_cell.specs.declared.operator.ScalarOp.{ScalarOp}
@@ -10,11 +10,11 @@ use Rattle.vtl_cell.specs.Literals.{largest_place, lies_between}
 use Rattle.vtl_tree.specs.CompExp as comp
 use Rattle.vtl_tree.specs.CompExp.{CompExp, CompExps, no_comp_exps, comp_exp}
 use Rattle.vtl_tree.specs.declared.expression.AggCall.{AggCall}
-use Rattle.vtl_backend.specs.Literals as vtl
-use Rattle.vtl_backend.specs.Literals.{HasLiterals, is_integer}
+use Rattle.vtl_meaning.specs.Literals as vtl
+use Rattle.vtl_meaning.specs.Literals.{HasLiterals, is_integer}
 use Rattle.sql_tree.specs.Trees.{Text}
 use Rattle.sql_check_parts.specs.Literals.{are_digits, integer_in, is_size, literals_fit}
-use Rattle.vtl_backend.specs.Made.{AreTypedOver, IsTypedOver}
+use Rattle.vtl_meaning.specs.Made.{AreTypedOver, IsTypedOver}
 use Rattle.rules_to_sql.specs.ToSql.{Naming, all_to_sql, to_sql}
 use Rattle.rules_to_sql.proofs.WrittenConstants.{integer_there}
 

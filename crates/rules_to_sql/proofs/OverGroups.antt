@@ -9,8 +9,8 @@ use Rattle.std.proofs.lemmas.Slice.Eq.{bytes_eq-Decides}
 use Rattle.vtl_cell.specs.Groups as cells
 use Rattle.vtl_cell.specs.Outcome.{Outcome, after, faults_by, unless}
 use Rattle.vtl_cell.specs.Row.{Row, column_of}
-use Rattle.vtl_cell.specs.Settings.{Settings}
-use Rattle.vtl_cell.specs.Texts.{same_text}
+use Rattle.vtl_decimal.specs.Settings.{Settings}
+use Rattle.vtl_text.specs.Texts.{same_text}
 use Rattle.vtl_cell.specs.declared.cell.Cell.{Cell}
 use Rattle.vtl_cell.specs.declared.kind.Kind.{Kind}
 use Rattle.vtl_cell.specs.declared.operator.AggKind.{AggKind}
@@ -18,11 +18,11 @@ use Rattle.vtl_cell.specs.AggregateKinds.{aggregate_kind}
 use Rattle.vtl_tree.specs.CompExp.{CompExp}
 use Rattle.vtl_tree.specs.declared.expression.AggCall.{AggCall}
 use Rattle.vtl_tree.specs.declared.structure.Component.{Component}
-use Rattle.vtl_backend.specs.Kinds.{exp_kind}
-use Rattle.vtl_backend.specs.Columns.{kind_named, place_of}
+use Rattle.check_values.specs.Kinds.{exp_kind}
+use Rattle.check_shapes.specs.Columns.{kind_named, place_of}
 use Rattle.sql_tree.specs.Formed.{Formed}
 use Rattle.sql_tree.specs.Trees.{Text}
-use Rattle.sql_meaning.specs.Fits.{Fits}
+use Rattle.sql_check_laws.specs.Fits.{Fits}
 use Rattle.sql_check_parts.specs.Expressions.{site}
 use Rattle.sql_check_parts.specs.Kinds.{kind_in}
 use Rattle.sql_check_parts.specs.Scopes.{ColumnName, Grouping, Scope, Tables, column_name, column_order, found, grouping_of, is_among, is_grouped_by, or_null}
@@ -30,8 +30,8 @@ use Rattle.sql_check_parts.proofs.Grouped.{is_column_among, is_in_group}
 use Rattle.sql_meaning.specs.Outcomes.{all_values}
 use Rattle.sql_meaning.specs.Tables.{Base}
 use Rattle.sql_meaning.specs.Values.{at_groups, place_in, same_column, value}
-use Rattle.vtl_backend.specs.Made.{Aggregates, IsGroupedColumn, IsTypedInGroups}
-use Rattle.vtl_backend.specs.GroupExpressions.{aggregated, value_at_group}
+use Rattle.vtl_meaning.specs.Made.{Aggregates, IsGroupedColumn, IsTypedInGroups}
+use Rattle.vtl_aggregates.specs.Expressions.{aggregated, value_at_group}
 use Rattle.rules_to_sql.specs.Held.{HoldsValues}
 use Rattle.rules_to_sql.specs.Names.{AreNamesFormed, Names}
 use Rattle.rules_to_sql.specs.ToSql.{aggregate_to_sql, group_columns, of_source, to_sql}

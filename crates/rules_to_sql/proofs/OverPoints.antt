@@ -3,7 +3,7 @@ use Rattle.std.proofs.Common.{◌≡◌, ℕ, ◌≤◌, List, ◌∷◌, None, 
 use Rattle.std.specs.Prelude.{is_some}
 use Rattle.vtl_cell.specs.Outcome.{Outcome}
 use Rattle.vtl_cell.specs.Row.{Row, column_of}
-use Rattle.vtl_cell.specs.Settings.{Settings}
+use Rattle.vtl_decimal.specs.Settings.{Settings}
 use Rattle.vtl_cell.specs.declared.cell.Cell.{Cell}
 use Rattle.vtl_cell.specs.declared.cell.Cell.TheVariants as c
 use Rattle.vtl_cell.specs.declared.kind.Kind.{Kind}
@@ -11,17 +11,17 @@ use Rattle.vtl_tree.specs.CompExp.{CompExp, CompExps, column, const, call, aggre
 use Rattle.vtl_tree.specs.Value as points
 use Rattle.vtl_tree.specs.declared.expression.AggCall.{AggCall}
 use Rattle.vtl_tree.specs.declared.structure.Component.{Component}
-use Rattle.vtl_backend.specs.Kinds.{exp_kind}
-use Rattle.vtl_backend.specs.Made.{AreTyped, AreTypedOver, IsColumnAt, IsTyped, IsTypedOver}
+use Rattle.check_values.specs.Kinds.{exp_kind}
+use Rattle.vtl_meaning.specs.Made.{AreTyped, AreTypedOver, IsColumnAt, IsTyped, IsTypedOver}
 use Rattle.sql_tree.specs.Formed.{Formed}
 use Rattle.sql_tree.specs.Trees.{Text}
-use Rattle.sql_meaning.specs.Fits.{Fits}
+use Rattle.sql_check_laws.specs.Fits.{Fits}
 use Rattle.sql_check_parts.specs.Expressions.{site}
 use Rattle.sql_check_parts.specs.Kinds.{kind_in}
 use Rattle.sql_check_parts.specs.Scopes.{Scope, Tables}
 use Rattle.sql_meaning.specs.Tables.{Base}
 use Rattle.sql_meaning.specs.Values.{at_rows, value}
-use Rattle.vtl_backend.specs.GroupExpressions.{value_over, values_over}
+use Rattle.vtl_aggregates.specs.Expressions.{value_over, values_over}
 use Rattle.rules_to_sql.specs.Held.{HoldsValues}
 use Rattle.rules_to_sql.specs.Names.{AreNamesFormed, Names}
 use Rattle.rules_to_sql.specs.ToSql.{Naming, to_sql}

@@ -9,13 +9,13 @@ use Rattle.vtl_cell.specs.declared.kind.Kind.TheVariants as k
 use Rattle.vtl_cell.specs.declared.operator.ScalarOp.{ScalarOp}
 use Rattle.vtl_cell.specs.declared.operator.ScalarOp.TheVariants as op
 use Rattle.vtl_tree.specs.CompExp.{CompExp, CompExps, no_comp_exps, comp_exp}
-use Rattle.vtl_backend.specs.Kinds.{exp_kind}
-use Rattle.vtl_backend.specs.Made.{kinds_in}
+use Rattle.check_values.specs.Kinds.{exp_kind}
+use Rattle.vtl_meaning.specs.Made.{kinds_in}
 use Rattle.sql_tree.specs.Formed.{is_binary, is_function, is_unary}
 use Rattle.sql_tree.specs.Trees.{Exps}
 use Rattle.sql_tree.specs.declared.parts.Literal.{Literal}
-use Rattle.sql_meaning.specs.Operators.{is_short_replace}
-use Rattle.sql_meaning.proofs.LawsOperatorKinds.{counted_as_given, kind_as_counted}
+use Rattle.sql_check_laws.specs.Operators.{is_short_replace}
+use Rattle.sql_check_laws.proofs.OperatorKinds.{counted_as_given, kind_as_counted}
 use Rattle.sql_check_parts.specs.Kinds.{operator_kind}
 use Rattle.rules_to_sql.specs.ToSql.{operator_to_sql, placed}
 

@@ -24,13 +24,13 @@ use Rattle.vtl_cell.specs.Profile.{IsOfProfile}
 use Rattle.vtl_cell.specs.Reading.{reads}
 use Rattle.vtl_cell.specs.Row.{Row}
 use Rattle.vtl_cell.specs.ScalarArithmetic.{integer, negation_of}
-use Rattle.vtl_cell.specs.Settings.{Settings}
+use Rattle.vtl_decimal.specs.Settings.{Settings}
 use Rattle.vtl_cell.specs.declared.cell.Cell.{Cell}
 use Rattle.vtl_cell.specs.declared.cell.Cell.TheVariants as c
 use Rattle.vtl_cell.specs.declared.kind.Kind.TheVariants as k
 use Rattle.vtl_cell.proofs.Texts.{day_reads_back, integer_reads_back, period_reads_back}
 use Rattle.vtl_cell.specs.Literals.{integer_cell, integer_written, with_sign, written}
-use Rattle.sql_meaning.specs.Fits.{Fits}
+use Rattle.sql_check_laws.specs.Fits.{Fits}
 use Rattle.sql_check_parts.specs.Expressions.{Site}
 use Rattle.sql_check_parts.specs.Kinds.{kind_in}
 use Rattle.sql_check_parts.specs.Literals.{literal_kind, literal_value}

@@ -5,7 +5,7 @@ use Rattle.std.specs.Fmt.{decimal}
 use Rattle.vtl_decimal.specs.Written.{shortest_digits}
 use Rattle.vtl_time.specs.Days.{day_text}
 use Rattle.vtl_time.specs.Periods.{period_text}
-use Rattle.vtl_cell.specs.Settings.{Settings}
+use Rattle.vtl_decimal.specs.Settings.{Settings}
 use Rattle.vtl_cell.specs.declared.cell.Cell.{Cell}
 use Rattle.vtl_cell.specs.declared.cell.Cell.TheVariants as c
 use Rattle.vtl_cell.specs.declared.operator.ScalarOp.TheVariants as op

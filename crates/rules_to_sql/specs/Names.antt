@@ -2,7 +2,7 @@
 use Rattle.std.specs.Prelude.{◌≡◌, ℕ, List, Some}
 use Rattle.vtl_cell.specs.declared.kind.Kind.{Kind}
 use Rattle.vtl_tree.specs.declared.structure.Component.{Component}
-use Rattle.vtl_backend.specs.Made.{IsColumnAt}
+use Rattle.vtl_meaning.specs.Made.{IsColumnAt}
 use Rattle.sql_tree.specs.Formed.{IsColumn}
 use Rattle.sql_tree.specs.Trees.{Text}
 use Rattle.sql_check_parts.specs.Scopes.{Scope, found}

@@ -4,7 +4,7 @@ ghost use Rattle.rules_to_sql.specs.Aliases.{alias_at, naming};
 
 use sql_tree::Column;
 use std::alloc::AllocError;
-use vtl_cell::Txt;
+use vtl_text::Txt;
 
 /// The aliases of the sources of a select, of one or of two.
 #[derive(Clone, Copy)]

@@ -7,7 +7,8 @@ ghost use Rattle.rules_to_sql.specs.Constants.{const_to_sql, literal_to_sql, sig
 use crate::texts::{day_digits, integer_digits, number_digits, period_digits, same_text};
 use sql_tree::{Constant, Literal, Numeral, SqlExpr};
 use std::alloc::{AllocError, Global};
-use vtl_cell::{Cell, Profile, ScalarOp};
+use vtl_cell::{Cell, ScalarOp};
+use vtl_decimal::Profile;
 
 // A number, behind a sign where it is negative.
 #[tactic(auto, using(crate::proofs::Views::views))]

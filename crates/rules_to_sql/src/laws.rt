@@ -1,22 +1,22 @@
 // Laws of translated expressions: over the points of a select's sources, and over groups of one source.
 ghost use Rattle.std.specs.Prelude.{◌≡◌, ◌≤◌, suc, List, None, Some};
 ghost use Rattle.vtl_cell.specs.Row.{Row};
-ghost use Rattle.vtl_cell.specs.Settings.{Settings};
+ghost use Rattle.vtl_decimal.specs.Settings.{Settings};
 ghost use Rattle.vtl_tree.specs.CompExp.{CompExp};
 ghost use Rattle.vtl_tree.specs.Value as points;
 ghost use Rattle.vtl_tree.specs.declared.structure.Component.{Component};
-ghost use Rattle.vtl_backend.specs.Depths.{comp_depth};
-ghost use Rattle.vtl_backend.specs.Kinds.{exp_kind};
-ghost use Rattle.vtl_backend.specs.Made.{IsTyped, IsTypedInGroups};
+ghost use Rattle.check_laws.specs.Depths.{comp_depth};
+ghost use Rattle.check_values.specs.Kinds.{exp_kind};
+ghost use Rattle.vtl_meaning.specs.Made.{IsTyped, IsTypedInGroups};
 ghost use Rattle.sql_tree.specs.Formed.{Formed, exp_depth};
 ghost use Rattle.sql_tree.specs.Trees.{Text};
-ghost use Rattle.sql_meaning.specs.Fits.{Fits};
+ghost use Rattle.sql_check_laws.specs.Fits.{Fits};
 ghost use Rattle.sql_check_parts.specs.Expressions.{site};
 ghost use Rattle.sql_check_parts.specs.Kinds.{kind_in};
 ghost use Rattle.sql_check_parts.specs.Scopes.{Scope, Tables, grouping_of};
 ghost use Rattle.sql_meaning.specs.Tables.{Base};
 ghost use Rattle.sql_meaning.specs.Values.{at_groups, at_rows, value};
-ghost use Rattle.vtl_backend.specs.GroupExpressions.{value_at_group};
+ghost use Rattle.vtl_aggregates.specs.Expressions.{value_at_group};
 ghost use Rattle.rules_to_sql.specs.Held.{HoldsValues};
 ghost use Rattle.rules_to_sql.specs.Names.{AreNamesFormed, Names};
 ghost use Rattle.rules_to_sql.specs.ToSql.{Naming, group_columns, of_source, to_sql};

@@ -21,4 +21,3 @@ pub use laws::{
     depths_grow_by_one, kinds_stay, translations_are_formed, translations_fit, values_stay,
 };
 pub use translation::comp_to_sql;
-pub use vtl_backend::{Backend, Checked, RunErr, check, defines_rulesets, is_built};

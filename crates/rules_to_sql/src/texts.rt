@@ -8,8 +8,8 @@ ghost use Rattle.rules_to_sql.specs.Constants.{decimal_text};
 
 use std::alloc::{AllocError, Global};
 use std::str;
-use vtl_cell::{Profile, Txt};
-use vtl_decimal::{Dec, abs, write, write_whole};
+use vtl_decimal::{Dec, Profile, abs, write, write_whole};
+use vtl_text::Txt;
 use vtl_time::{Day, Period, write_day, write_period};
 
 // The text of characters of ASCII.

@@ -13,7 +13,9 @@ use crate::constants::{const_to_sql, literal_to_sql};
 use crate::forms::{CallForm, form_at};
 use sql_tree::{Branch, Constant, Literal, SqlExpr};
 use std::alloc::{AllocError, Global};
-use vtl_cell::{AggKind, List, Profile, ScalarOp, Txt};
+use vtl_cell::{AggKind, ScalarOp};
+use vtl_decimal::Profile;
+use vtl_text::{List, Txt};
 use vtl_tree::CompExpr;
 
 // ---- operators on operands that are in SQL

@@ -3,9 +3,9 @@ use Rattle.std.proofs.Common.{◌≡◌, ℕ, true, ◌&&◌, List, [], ◌∷�
 use Rattle.std.specs.List.{list_all}
 use Rattle.std.proofs.lemmas.Bool.{and_parts}
 use Rattle.vtl_cell.specs.Outcome.{DivZero, Fault, Range}
-use Rattle.vtl_cell.specs.Perm.{Perm, chain}
+use Rattle.vtl_lists.specs.Perm.{Perm, chain}
 use Rattle.vtl_cell.proofs.Keys.{window_order}
-use Rattle.vtl_cell.proofs.Sorts.{Perm-sorted_by}
+use Rattle.vtl_lists.proofs.Sorts.{Perm-sorted_by}
 use Rattle.vtl_rows.specs.Named.{NamedTables}
 use Rattle.vtl_rows.specs.Tables.{Listed}
 use Rattle.vtl_tree.specs.Environment.{DataSet}
@@ -15,25 +15,25 @@ use Rattle.vtl_nodes.specs.Trees.{NodeTree}
 use Rattle.sql_tree.specs.Texts.{IsScript as IsSpelled}
 use Rattle.sql_engine.specs.Exported.{entry_column}
 use Rattle.sql_engine.specs.InputTables.{rows_given}
-use Rattle.sql_engine.specs.Scripts.{script_value}
-use Rattle.vtl_to_sql.specs.Checked.{TypedScript, nodes_of, tree_of}
-use Rattle.vtl_to_sql.specs.BackendInputs.{AreInRange, AreInputs, environment_of, inputs_of}
-use Rattle.vtl_to_sql.specs.Made.{AreMadeStatements}
-use Rattle.vtl_to_sql.specs.Meaning.{AreDataSets, Outputs, is_built, known_in}
-use Rattle.vtl_to_sql.specs.RulesToSqlRuns.{Runs, ShowAll, ShowMeaning, Tells, script_meaning}
-use Rattle.vtl_to_sql.specs.BackendStatements.{is_script_built, statements_of, with_nodes}
-use Rattle.vtl_to_sql.specs.TableOf.{column_for}
-use Rattle.vtl_to_sql.specs.BackendTables.{Shows}
-use Rattle.vtl_to_sql.specs.Transformations.{Transformation, transformations}
-use Rattle.vtl_to_sql.specs.error.RunErr.{RunErr}
-use Rattle.vtl_to_sql.specs.error.RunErr.TheVariants as err
+use Rattle.sql_meaning.specs.Scripts.{script_value}
+use Rattle.vtl_check.specs.Checked.{TypedScript, nodes_of, tree_of}
+use Rattle.vtl_backend.specs.Inputs.{AreInRange, AreInputs, environment_of, inputs_of}
+use Rattle.vtl_meaning.specs.Made.{AreMadeStatements}
+use Rattle.vtl_meaning.specs.Meaning.{AreDataSets, Outputs, is_built, known_in}
+use Rattle.vtl_backend.specs.Runs.{Runs, ShowAll, ShowMeaning, Tells, script_meaning}
+use Rattle.vtl_backend.specs.Statements.{is_script_built, statements_of, with_nodes}
+use Rattle.vtl_sets.specs.TableOf.{column_for}
+use Rattle.vtl_backend.specs.Tables.{Shows}
+use Rattle.vtl_check.specs.Transformations.{Transformation, transformations}
+use Rattle.vtl_backend.specs.declared.error.RunErr.{RunErr}
+use Rattle.vtl_backend.specs.declared.error.RunErr.TheVariants as err
 use Rattle.vtl_to_sql.specs.Conditions.{IsScript}
 use Rattle.vtl_to_sql.specs.Exports.{exported, exported_as}
 use Rattle.vtl_to_sql.specs.Runs.{entries}
 use Rattle.vtl_to_sql.specs.Scripts.{script_for}
 use Rattle.vtl_to_sql.proofs.Exact.{set_turned}
 use Rattle.vtl_to_sql.proofs.TranslatedScripts.{all_made, script_means}
-use Rattle.vtl_to_sql.proofs.ScriptsKept.{meaning_kept}
+use Rattle.vtl_meaning.proofs.ScriptsKept.{meaning_kept}
 use Rattle.sql_back.specs.TextRuns.{CanRun, RunsText, ShowsAs, TellsText}
 use Rattle.sql_back.specs.Texts.{IsTextOf}
 use Rattle.sql_back.proofs.InputTables.{are_read, are_sets, inputs_ranged, inputs_there, sets_known}

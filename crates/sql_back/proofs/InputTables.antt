@@ -5,10 +5,10 @@ use Rattle.std.specs.List.{AllByRecursion}
 use Rattle.std.specs.Map.{lookup}
 use Rattle.std.specs.Option.{option_map_or}
 use Rattle.vtl_cell.specs.Row.{Row}
-use Rattle.vtl_cell.specs.Settings.{Settings}
-use Rattle.vtl_cell.specs.Texts.{same_text}
+use Rattle.vtl_decimal.specs.Settings.{Settings}
+use Rattle.vtl_text.specs.Texts.{same_text}
 use Rattle.vtl_cell.specs.declared.kind.Kind.{Kind}
-use Rattle.vtl_cell.proofs.Perms.{Perm-same}
+use Rattle.vtl_lists.proofs.Perms.{Perm-same}
 use Rattle.vtl_rows.specs.Named.{NamedTables, table_of}
 use Rattle.vtl_rows.specs.Tables.{Listed, column_kinds}
 use Rattle.vtl_tree.specs.DataSet.{AreOfProfile, IsDataSet, is_point}
@@ -20,13 +20,13 @@ use Rattle.sql_tree.specs.Trees as tree
 use Rattle.sql_tree.specs.Trees.{StatementTree, Text}
 use Rattle.sql_tree.specs.declared.statements.SqlInput.{SqlInput}
 use Rattle.sql_engine.specs.InputTables.{AreInputsInRange, HaveInputTables, IsInputTable, rows_given}
-use Rattle.sql_engine.specs.Scripts.{rows_read}
-use Rattle.sql_engine.specs.Tables.{HasTable, RowsFit, column_entry, kinds_of, rows_of}
-use Rattle.sql_engine.specs.TypingStatements.{input_columns}
-use Rattle.vtl_to_sql.specs.BackendInputs.{Holds, input_of as data_set_in, rows_named}
-use Rattle.vtl_to_sql.specs.Meaning.{AreDataSets, known_in}
-use Rattle.vtl_to_sql.specs.Profiles.{AllAreOfProfile}
-use Rattle.vtl_to_sql.specs.TableOf.{column_for}
+use Rattle.sql_meaning.specs.Scripts.{rows_read}
+use Rattle.sql_meaning.specs.Tables.{HasTable, RowsFit, column_entry, kinds_of, rows_of}
+use Rattle.sql_check_parts.specs.Statements.{input_columns}
+use Rattle.vtl_backend.specs.Inputs.{Holds, input_of as data_set_in, rows_named}
+use Rattle.vtl_meaning.specs.Meaning.{AreDataSets, known_in}
+use Rattle.vtl_meaning.specs.Profiles.{AllAreOfProfile}
+use Rattle.vtl_sets.specs.TableOf.{column_for}
 use Rattle.vtl_sets.proofs.TableLemmas.{point_fits}
 use Rattle.vtl_to_sql.specs.Exports.{AreRead}
 use Rattle.vtl_to_sql.specs.Runs.{entries}

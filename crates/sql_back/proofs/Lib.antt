@@ -1,20 +1,3 @@
-pub use Rattle.sql_engine.proofs.DeclaredInputs
-pub use Rattle.sql_engine.proofs.GivenColumns
-pub use Rattle.sql_engine.proofs.TypedStatements
-pub use Rattle.sql_parser.proofs.Texts
-pub use Rattle.vtl_to_sql.proofs.Givens
-pub use Rattle.vtl_to_sql.proofs.Inner
-pub use Rattle.vtl_to_sql.proofs.InputData
-pub use Rattle.vtl_to_sql.proofs.OwnColumns
-pub use Rattle.vtl_to_sql.proofs.Places
-pub use Rattle.vtl_to_sql.proofs.ReadTables
-pub use Rattle.vtl_to_sql.proofs.Scripts
-pub use Rattle.vtl_to_sql.proofs.Sets
-pub use Rattle.vtl_to_sql.proofs.SetsFolds
-pub use Rattle.vtl_to_sql.proofs.Sound
-pub use Rattle.vtl_to_sql.proofs.Steps as TypingSteps
-pub use Rattle.vtl_to_sql.proofs.TypedScripts
-pub use Rattle.vtl_to_sql.proofs.WholeScript
 pub mod TextParts
 pub mod EngineRuns
 pub mod InputTables

@@ -1,9 +1,9 @@
 -- The text that spells a translation is a text for its script.
 use Rattle.std.proofs.Common.{◌≡◌, List, [], ◌∷◌, ◌++◌, map, Result, Ok, Err, refl, sym, ap, ◌∙◌, subst, ℕ}
 use Rattle.std.specs.Prelude.{IfOk, IsUtf8}
-use Rattle.vtl_cell.specs.Settings.{Settings}
+use Rattle.vtl_decimal.specs.Settings.{Settings}
 use Rattle.vtl_tree.specs.Structures.{Named}
-use Rattle.vtl_to_sql.specs.Meaning.{Statement}
+use Rattle.vtl_meaning.specs.Meaning.{Statement}
 use Rattle.sql_tree.specs.Formed.{PrintableScript}
 use Rattle.sql_tree.specs.Texts.{IsScript as IsSpelled}
 use Rattle.sql_tree.specs.Trees.{ScriptTree, StatementTree}

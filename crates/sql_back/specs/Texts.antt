@@ -1,17 +1,17 @@
 -- The text of a script in SQL.
 use Rattle.std.specs.Prelude.{◌≡◌, ℕ, List, [], ◌∷◌, map, Option, Some, IsUtf8}
-use Rattle.vtl_cell.specs.Settings.{Settings}
+use Rattle.vtl_decimal.specs.Settings.{Settings}
 use Rattle.vtl_tree.specs.Structures.{Named}
 use Rattle.sql_tree.specs.Texts.{IsScript}
 use Rattle.sql_tree.specs.Trees as tree
 use Rattle.sql_tree.specs.Trees.{ScriptTree, StatementTree}
 use Rattle.sql_tree.specs.declared.statements.SqlInput.{SqlInput}
-use Rattle.sql_engine.specs.Scripts.{Inputs, script_value}
-use Rattle.sql_engine.specs.TypingStatements.{IsTypedScript, script_settings}
-use Rattle.vtl_to_sql.specs.Checked.{TypedScript}
-use Rattle.vtl_to_sql.specs.BackendInputs.{inputs_of}
-use Rattle.vtl_to_sql.specs.Meaning.{Statement, meaning}
-use Rattle.vtl_to_sql.specs.BackendStatements.{statements_of}
+use Rattle.sql_meaning.specs.Scripts.{Inputs, script_value}
+use Rattle.sql_check_parts.specs.Statements.{IsTypedScript, script_settings}
+use Rattle.vtl_check.specs.Checked.{TypedScript}
+use Rattle.vtl_backend.specs.Inputs.{inputs_of}
+use Rattle.vtl_meaning.specs.Meaning.{Statement, meaning}
+use Rattle.vtl_backend.specs.Statements.{statements_of}
 use Rattle.vtl_to_sql.specs.Exports.{exported_as}
 use Rattle.vtl_to_sql.specs.Inputs.{AreTaken, sets_read}
 use Rattle.vtl_to_sql.specs.Scripts.{input_of}

@@ -4,8 +4,9 @@ ghost use Rattle.sql_back.specs.Texts.{HasTextOf};
 
 use crate::{TextEngine, text_of};
 use std::alloc::Global;
+use vtl_backend::{Backend, RunErr};
+use vtl_check::Checked;
 use vtl_rows::{Inputs, Outputs};
-use vtl_to_sql::{Backend, Checked, RunErr};
 
 /// The back end that hands the text of a script to an engine.
 #[derive(Drop)]

@@ -16,8 +16,5 @@ mod texts;
 
 pub use backend::SqlBack;
 pub use bundled::Bundled;
-pub use sql_engine::{RunErr, SqlChecked, SqlTypeErr, check, run, structure_of};
-pub use sql_parser::{SqlErr, parse};
 pub use text_engine::TextEngine;
 pub use texts::text_of;
-pub use vtl_index::Steps;

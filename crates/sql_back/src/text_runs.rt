@@ -9,15 +9,16 @@ ghost use Rattle.sql_engine.specs.Runs.{RunsAsMade};
 ghost use Rattle.sql_back.specs.Engines.{same_error};
 ghost use Rattle.sql_back.specs.TextRuns.{CanRun, RunsText};
 
-use sql_engine::{RunErr as EngineErr, SqlChecked, run_as_made};
+use sql_check::SqlChecked;
+use sql_engine::{RunErr as EngineErr, run_as_made};
 use sql_parser::{SqlErr, parse};
 use sql_tree::SqlScript;
 use std::alloc::{AllocError, Global};
 use std::marker::Brand;
 use std::sync::ledger::{Blank, Ledger};
+use vtl_backend::RunErr;
 use vtl_index::Steps;
 use vtl_rows::{Inputs, Outputs};
-use vtl_to_sql::RunErr;
 
 // The script that a text spells.
 fn script_of(alloc: Global, text: &str) -> Result<SqlScript, AllocError>

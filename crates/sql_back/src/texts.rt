@@ -1,15 +1,16 @@
 // The text of a typed script.
 ghost use Rattle.std.specs.Prelude.{◌≡◌, IfOk, true, string_bytes};
 ghost use Rattle.sql_tree.specs.Texts.{IsScript as IsSpelled};
-ghost use Rattle.vtl_to_sql.specs.BackendInputs.{inputs_of};
-ghost use Rattle.vtl_to_sql.specs.BackendStatements.{is_script_built, statements_of};
+ghost use Rattle.vtl_backend.specs.Inputs.{inputs_of};
+ghost use Rattle.vtl_backend.specs.Statements.{is_script_built, statements_of};
 ghost use Rattle.vtl_to_sql.specs.Conditions.{IsScript};
 ghost use Rattle.vtl_to_sql.specs.Scripts.{script_for};
 ghost use Rattle.sql_back.specs.Texts.{IsTextOf};
 
 use sql_print::print;
 use std::alloc::{AllocError, Global};
-use vtl_to_sql::{Checked, translate};
+use vtl_check::Checked;
+use vtl_to_sql::translate;
 
 /// The text of a script in SQL: it spells the script's translation and no other, which breaks no rule, reads the same
 /// data sets and means the same. It takes a script of forms that are evaluated so far, and fails only if memory runs

@@ -4,11 +4,11 @@ use Rattle.std.specs.Map.{keys_of}
 use Rattle.std.specs.Prelude.{nat_lt, zip}
 use Rattle.std.specs.List.{list_any}
 use Rattle.std.specs.Option.{is_none}
-use Rattle.vtl_cell.specs.Words.{is_word}
+use Rattle.vtl_text.specs.Words.{is_word}
 use Rattle.std.proofs.lemmas.Bool.Decides.{eqb_tells}
 use Rattle.std.proofs.lemmas.Str.{length-le-encodes}
-use Rattle.vtl_cell.specs.Settings.{Settings}
-use Rattle.vtl_cell.specs.settings.Rounding.{Rounding}
+use Rattle.vtl_decimal.specs.Settings.{Settings}
+use Rattle.vtl_decimal.specs.declared.settings.Rounding.{Rounding}
 use Rattle.vtl_cell.specs.declared.kind.Kind.{Kind}
 use Rattle.vtl_cell.specs.Literals.{lies_between}
 use Rattle.sql_tree.specs.Trees as tree

@@ -1,8 +1,8 @@
 -- What the program tells of statements and scripts.
 use Rattle.std.specs.Prelude.{◌≡◌, ℕ, Bool, true, false, not, List, IsSome, Option, Some, None, option_map, Result, Ok, Err}
 use Rattle.std.specs.Map.{keys_of}
-use Rattle.vtl_cell.specs.Settings.{Settings}
-use Rattle.vtl_cell.specs.settings.Rounding.{Rounding}
+use Rattle.vtl_decimal.specs.Settings.{Settings}
+use Rattle.vtl_decimal.specs.declared.settings.Rounding.{Rounding}
 use Rattle.sql_tree.specs.Trees.{StatementTree, Text}
 use Rattle.sql_tree.specs.View.{script_tree}
 use Rattle.sql_tree.specs.declared.statements.InputColumn.{InputColumn}

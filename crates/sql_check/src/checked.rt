@@ -11,7 +11,7 @@ use crate::settings::settings;
 use sql_tree::SqlScript;
 use std::alloc::Global;
 use std::marker::Model;
-use vtl_cell::Profile;
+use vtl_decimal::Profile;
 
 /// A script that is formed and typed, with the profile of its SET.
 #[derive(Drop)]

@@ -2,7 +2,7 @@
 ghost use Rattle.std.specs.Prelude.{◌≡◌, ◌||◌, not, IfOk};
 ghost use Rattle.std.specs.Map.{keys_of};
 ghost use Rattle.std.specs.Option.{option_copied};
-ghost use Rattle.vtl_cell.specs.Words.{is_word};
+ghost use Rattle.vtl_text.specs.Words.{is_word};
 ghost use Rattle.sql_check_parts.specs.Rules.{least};
 ghost use Rattle.sql_check_parts.specs.Scopes.{is_among};
 ghost use Rattle.sql_check_parts.specs.Statements.{export_breaks, order_fits};
@@ -12,7 +12,7 @@ use crate::inputs::names_fit;
 use sql_check_parts::{Columns, SqlRule, Test, least_broken};
 use sql_tree::SqlExport;
 use std::alloc::{AllocError, Global};
-use vtl_cell::{ByName, Txt, is_word};
+use vtl_text::{ByName, Txt, is_word};
 
 fn order_fits(alloc: Global, columns: Option<&Columns>, order: &[Txt]) -> Result<bool, AllocError>
     ensures { IfOk result (λ b. b ≡ order_fits (option_copied columns.entry) order.now) }

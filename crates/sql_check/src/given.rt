@@ -5,7 +5,7 @@ ghost use Rattle.sql_check.specs.Answers.{given_view};
 
 use sql_check_parts::Tables;
 use std::alloc::Global;
-use vtl_cell::ByName;
+use vtl_text::ByName;
 
 /// The tables that statements have given, and the names of those that they have exported.
 #[derive(Drop)]

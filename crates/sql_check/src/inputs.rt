@@ -4,7 +4,7 @@ ghost use Rattle.std.specs.Map.{keys_of};
 ghost use Rattle.std.specs.Option.{is_none};
 ghost use Rattle.std.specs.Prelude.{◌≡◌, ◌||◌, ◌++◌, ◌∷◌, [], ℕ, List, filter, length, nat_lt, not, IfOk, OnOk, map};
 ghost use Rattle.vtl_cell.specs.declared.kind.Kind.{Kind};
-ghost use Rattle.vtl_cell.specs.Words.{is_word};
+ghost use Rattle.vtl_text.specs.Words.{is_word};
 ghost use Rattle.sql_check_parts.specs.Rules.{least};
 ghost use Rattle.sql_check_parts.specs.Scopes.{is_among, is_empty, repeats, value_among};
 ghost use Rattle.sql_check_parts.specs.Statements.{codes_fit, input_breaks, input_columns, is_taken, is_text, most_input_columns, names_fit};
@@ -14,7 +14,8 @@ ghost use Rattle.sql_check.specs.Answers.{is_wanted};
 use sql_check_parts::{Columns, SqlRule, Tables, Test, least_broken, repeats};
 use sql_tree::{InputColumn, SqlInput};
 use std::alloc::{AllocError, Global};
-use vtl_cell::{ByName, Kind, Txt, is_word};
+use vtl_cell::Kind;
+use vtl_text::{ByName, Txt, is_word};
 
 // The names of a key, to be looked up.
 fn key_set(alloc: Global, key: &[Txt]) -> Result<ByName<()>, AllocError>

@@ -9,7 +9,7 @@ use crate::statements::statement;
 use sql_check_parts::SqlRule;
 use sql_tree::{SqlScript, Statement};
 use std::alloc::{AllocError, Global};
-use vtl_cell::Profile;
+use vtl_decimal::Profile;
 
 fn statements_fault(
     alloc: Global,

@@ -4,7 +4,9 @@ ghost use Rattle.vtl_cell.specs.Literals.{lies_between};
 ghost use Rattle.sql_check_parts.specs.Statements.{scale_of, scale_written};
 ghost use Rattle.sql_check.specs.Answers.{Sets};
 
-use vtl_cell::{Profile, Rounding, Txt, integer_written, lies_between};
+use vtl_cell::{integer_written, lies_between};
+use vtl_decimal::{Profile, Rounding};
+use vtl_text::Txt;
 
 // The profile of scale 0, by which the digits of a scale are read.
 fn plain() -> Profile

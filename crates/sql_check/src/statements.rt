@@ -14,7 +14,8 @@ use sql_check_parts::{Columns, SqlRule, Test, least_broken, lesser};
 use sql_check_queries::query;
 use sql_tree::{SqlCreate, SqlExport, SqlInput, Statement};
 use std::alloc::{AllocError, Global};
-use vtl_cell::{Profile, Txt};
+use vtl_decimal::Profile;
+use vtl_text::Txt;
 
 // Puts the table of a statement after the others. It fails only if memory runs out.
 fn put(given: &mut SoFar, name: &Txt, columns: Option<Columns>) -> Result<(), AllocError>

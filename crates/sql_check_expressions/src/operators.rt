@@ -18,7 +18,8 @@ use sql_check_parts::{
 };
 use sql_tree::{Equality, Source};
 use std::alloc::{AllocError, Global};
-use vtl_cell::{Kind, List, ScalarOp};
+use vtl_cell::{Kind, ScalarOp};
+use vtl_text::List;
 
 // What is known after parts with a fault.
 pub(crate) fn behind(before: Option<SqlRule>, own: Told) -> Told

@@ -4,7 +4,7 @@ ghost use Rattle.sql_check_parts.specs.Expressions.{site};
 
 use sql_check_parts::{Scope, Tables};
 use std::marker::Model;
-use vtl_cell::Profile;
+use vtl_decimal::Profile;
 
 /// Where expressions stand: the profile, the tables before the statement, and the sources that may be named.
 #[derive(Drop)]

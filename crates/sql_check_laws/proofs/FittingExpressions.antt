@@ -1,7 +1,7 @@
 -- An expression breaks no rule exactly where it fits, form by form; conditions and windows likewise.
 use Rattle.std.proofs.Common.{◌≡◌, false, ◌∷◌, [], map, Some, None, refl}
 use Rattle.std.specs.Prelude.{Option, is_some}
-use Rattle.vtl_cell.specs.Settings.{Settings}
+use Rattle.vtl_decimal.specs.Settings.{Settings}
 use Rattle.vtl_cell.specs.ScalarKinds.{common_kind, meets}
 use Rattle.vtl_cell.specs.declared.kind.Kind.TheVariants as k
 use Rattle.vtl_cell.specs.declared.operator.ScalarOp.TheVariants as op

@@ -1,5 +1,3 @@
-pub use Rattle.sql_check_parts.proofs.Grouped
-pub use Rattle.sql_check_parts.proofs.Places
 pub mod BothWays
 pub mod FittingExpressions
 pub mod TypedSelects

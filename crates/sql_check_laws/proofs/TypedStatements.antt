@@ -5,9 +5,9 @@ use Rattle.std.specs.List.{list_any}
 use Rattle.std.specs.Map.{keys_of}
 use Rattle.std.specs.Option.{is_none}
 use Rattle.grammar_forms.specs.Written.{Each}
-use Rattle.vtl_cell.specs.Settings.{Settings}
-use Rattle.vtl_cell.specs.Words.{is_word}
-use Rattle.vtl_cell.specs.settings.Rounding.{Rounding}
+use Rattle.vtl_decimal.specs.Settings.{Settings}
+use Rattle.vtl_text.specs.Words.{is_word}
+use Rattle.vtl_decimal.specs.declared.settings.Rounding.{Rounding}
 use Rattle.vtl_cell.specs.Literals.{lies_between}
 use Rattle.sql_tree.specs.Formed.{FormedScript, IsStatement}
 use Rattle.sql_tree.specs.Grammar.{most_levels}

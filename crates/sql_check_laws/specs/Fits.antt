@@ -1,7 +1,7 @@
 -- Which expressions, conditions and windows fit their place: the rules read positively, one line a form.
 use Rattle.std.specs.Prelude.{◌≡◌, true, false, not, ◌&&◌, ◌∷◌, [], map, Option, Some, None, IsSome, is_some}
 use Rattle.std.specs.List.{AllByRecursion}
-use Rattle.vtl_cell.specs.Settings.{Settings}
+use Rattle.vtl_decimal.specs.Settings.{Settings}
 use Rattle.vtl_cell.specs.ScalarKinds.{common_kind, meets}
 use Rattle.vtl_cell.specs.declared.kind.Kind.TheVariants as k
 use Rattle.vtl_cell.specs.declared.operator.ScalarOp.TheVariants as op

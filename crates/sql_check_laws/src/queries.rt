@@ -1,7 +1,7 @@
 // Laws of selects and queries.
 ghost use Rattle.std.specs.List.{AllByRecursion};
 ghost use Rattle.std.specs.Prelude.{◌≡◌, ◌≤◌, ◌∷◌, [], length};
-ghost use Rattle.vtl_cell.specs.Settings.{Settings};
+ghost use Rattle.vtl_decimal.specs.Settings.{Settings};
 ghost use Rattle.sql_tree.specs.Formed.{IsQuery};
 ghost use Rattle.sql_tree.specs.Grammar.{most_levels};
 ghost use Rattle.sql_tree.specs.Trees.{QueryTree, SelectTree};

@@ -1,7 +1,7 @@
 // Laws of statements and scripts.
 ghost use Rattle.std.specs.Prelude.{◌≡◌, ◌∷◌, ◌++◌, [], true, pos, List, fold, map};
-ghost use Rattle.vtl_cell.specs.Settings.{Settings};
-ghost use Rattle.vtl_cell.specs.settings.Rounding.{Rounding};
+ghost use Rattle.vtl_decimal.specs.Settings.{Settings};
+ghost use Rattle.vtl_decimal.specs.declared.settings.Rounding.{Rounding};
 ghost use Rattle.vtl_cell.specs.Literals.{lies_between};
 ghost use Rattle.sql_tree.specs.Formed.{FormedScript, IsInput, IsStatement};
 ghost use Rattle.sql_tree.specs.Grammar.{most_levels};

@@ -4,10 +4,10 @@ use Rattle.std.specs.Map.{keys_of}
 use Rattle.std.specs.Prelude.{zip}
 use Rattle.std.proofs.lemmas.List.{take_more}
 use Rattle.std.proofs.lemmas.Map.Made.{keys_of-map_values}
-use Rattle.vtl_cell.specs.Apart.{all_apart}
-use Rattle.vtl_cell.specs.Texts.{same_text}
+use Rattle.vtl_lists.specs.Apart.{all_apart}
+use Rattle.vtl_text.specs.Texts.{same_text}
 use Rattle.vtl_cell.specs.declared.kind.Kind.{Kind}
-use Rattle.vtl_cell.proofs.TextsApart.{apart_push, repeated}
+use Rattle.vtl_text.proofs.Apart.{apart_push, repeated}
 use Rattle.sql_check_parts.specs.Scopes.{Columns, is_among, repeats}
 use Rattle.sql_check_parts.specs.Told.{distinct_columns}
 

@@ -5,7 +5,7 @@ use Rattle.std.specs.Prelude.{option_and_then}
 use Rattle.std.proofs.lemmas.List.{length-map}
 use Rattle.std.proofs.lemmas.Map.Made.{lookup-map_values}
 use Rattle.sql_tree.specs.declared.parts.Column.{Column}
-use Rattle.vtl_cell.specs.Texts.{same_text}
+use Rattle.vtl_text.specs.Texts.{same_text}
 use Rattle.sql_tree.specs.Trees.{Text}
 use Rattle.sql_check_parts.specs.Scopes.{Named, Sources, each_value, found, numbered, placed, placed_from, row_of, value_among}
 

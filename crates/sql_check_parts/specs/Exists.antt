@@ -9,7 +9,7 @@ use Rattle.sql_tree.specs.declared.parts.Column.{Column}
 use Rattle.sql_tree.specs.declared.parts.Equality.{Equality}
 use Rattle.sql_tree.specs.declared.parts.Source.{Source}
 use Rattle.sql_check_parts.specs.Rules.{broken}
-use Rattle.vtl_cell.specs.Texts.{same_text}
+use Rattle.vtl_text.specs.Texts.{same_text}
 use Rattle.sql_check_parts.specs.Scopes.{Columns, Grouping, Scope, Tables, columns_of, found, inside, or_null}
 use Rattle.sql_check_parts.specs.Windows.{is_ungrouped}
 use Rattle.sql_check_parts.specs.declared.rules.SqlRule.{SqlRule}

@@ -1,7 +1,7 @@
 -- The kinds and the values of literals, and the operands that have to be literals.
 use Rattle.std.specs.Prelude.{ℤ, pos, Bool, true, false, ◌&&◌, Option, Some, None}
 use Rattle.std.specs.Option.{is_none}
-use Rattle.vtl_cell.specs.Settings.{Settings}
+use Rattle.vtl_decimal.specs.Settings.{Settings}
 use Rattle.vtl_cell.specs.declared.cell.Cell.{Cell}
 use Rattle.vtl_cell.specs.declared.cell.Cell.TheVariants as cell
 use Rattle.vtl_cell.specs.declared.kind.Kind.{Kind}

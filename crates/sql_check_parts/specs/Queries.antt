@@ -4,7 +4,7 @@ use Rattle.std.specs.Cmp.Lexicographic.{pointwise}
 use Rattle.std.specs.List.{flat_map, list_all, list_any}
 use Rattle.std.specs.Map.{keys_of}
 use Rattle.std.specs.Option.{is_none}
-use Rattle.vtl_cell.specs.Settings.{Settings}
+use Rattle.vtl_decimal.specs.Settings.{Settings}
 use Rattle.vtl_cell.specs.ScalarKinds.{shared_kind}
 use Rattle.vtl_cell.specs.declared.kind.Kind.{Kind}
 use Rattle.vtl_cell.specs.Literals.{is_null_kind}
@@ -14,7 +14,7 @@ use Rattle.sql_tree.specs.declared.parts.Source.{Source}
 use Rattle.sql_check_parts.specs.Expressions.{Site, breaks, condition_breaks, has_aggregate, site}
 use Rattle.sql_check_parts.specs.Kinds.{kind_in}
 use Rattle.sql_check_parts.specs.Rules.{broken}
-use Rattle.vtl_cell.specs.Texts.{same_text}
+use Rattle.vtl_text.specs.Texts.{same_text}
 use Rattle.sql_check_parts.specs.Scopes.{Columns, Grouping, Scope, Tables, columns_of, grouping_of, is_among, is_empty, or_null, repeats, with_source}
 use Rattle.sql_check_parts.specs.Windows.{column_breaks, window_breaks, window_kind}
 use Rattle.sql_check_parts.specs.declared.rules.SqlRule.{SqlRule}

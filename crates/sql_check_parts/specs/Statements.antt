@@ -4,10 +4,10 @@ use Rattle.std.specs.List.{list_any}
 use Rattle.std.specs.Map.{keys_of}
 use Rattle.std.specs.Option.{is_none}
 use Rattle.vtl_cell.specs.Literals.{integer_written, lies_between}
-use Rattle.vtl_cell.specs.Settings.{Settings}
-use Rattle.vtl_cell.specs.settings.Rounding.{Rounding}
-use Rattle.vtl_cell.specs.settings.Rounding.TheVariants as rounding
-use Rattle.vtl_cell.specs.Words.{is_word}
+use Rattle.vtl_decimal.specs.Settings.{Settings}
+use Rattle.vtl_decimal.specs.declared.settings.Rounding.{Rounding}
+use Rattle.vtl_decimal.specs.declared.settings.Rounding.TheVariants as rounding
+use Rattle.vtl_text.specs.Words.{is_word}
 use Rattle.vtl_cell.specs.declared.kind.Kind.{Kind}
 use Rattle.vtl_cell.specs.declared.kind.Kind.TheVariants as k
 use Rattle.sql_tree.specs.Trees as tree

@@ -5,7 +5,8 @@ ghost use Rattle.sql_check_parts.specs.Told.{distinct_columns};
 
 use std::alloc::{AllocError, Global};
 use std::marker::Model;
-use vtl_cell::{ByName, Kind, Txt, are_distinct};
+use vtl_cell::Kind;
+use vtl_text::{ByName, Txt, are_distinct};
 
 /// The columns of a table. A contract sees the list of their names with their kinds.
 #[derive(Drop)]

@@ -11,7 +11,8 @@ use crate::{Columns, Grouping, Scope, SqlRule, Tables, Test, least_broken, lesse
 use sql_tree::{Column, Equality, Source};
 use std::alloc::AllocError;
 use std::marker::Model;
-use vtl_cell::{Kind, Txt, is_same_kind};
+use vtl_cell::{Kind, is_same_kind};
+use vtl_text::Txt;
 
 // The source of EXISTS: its alias, and the columns of its table, if there is one.
 #[derive(Drop)]

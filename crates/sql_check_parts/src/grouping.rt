@@ -6,7 +6,7 @@ use sql_tree::Column;
 use std::alloc::{AllocError, Global};
 use std::collections::BTreeSet;
 use std::marker::Model;
-use vtl_cell::Txt;
+use vtl_text::Txt;
 
 /// The columns of GROUP BY. A contract sees the set of their aliases with their names. It goes by their order, so no
 /// choice of names makes a look-up longer than the logarithm of their number.

@@ -13,9 +13,10 @@ use crate::{SqlRule, Test, Told, least_broken};
 use sql_tree::{Constant, Literal, Numeral, SqlExpr};
 use std::alloc::{AllocError, Global};
 use vtl_cell::{
-    Cell, Kind, LARGEST_PLACE, Profile, ScalarOp, integer_cell, integer_written, lies_between,
-    number_cell, with_sign, written,
+    Cell, Kind, LARGEST_PLACE, ScalarOp, integer_cell, integer_written, lies_between, number_cell,
+    with_sign, written,
 };
+use vtl_decimal::Profile;
 
 fn numeral_kind(numeral: &Numeral) -> Kind
     ensures { result ≡ numeral_kind numeral.now }

@@ -13,9 +13,8 @@ ghost use Rattle.sql_check_parts.specs.Told.{IsTold};
 use crate::{Grouping, SqlRule, Test, Told, least_broken, literals_fit, or_null};
 use sql_tree::SqlExpr;
 use std::alloc::{AllocError, Global};
-use vtl_cell::{
-    AggKind, Kind, Profile, ScalarOp, aggregate_kind, common_kind, kind_by_operands, meets,
-};
+use vtl_cell::{AggKind, Kind, ScalarOp, aggregate_kind, common_kind, kind_by_operands, meets};
+use vtl_decimal::Profile;
 
 /// The kind that an operator gives for operands of these kinds, where they meet it.
 pub(crate) fn operator_kind(

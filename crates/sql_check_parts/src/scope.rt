@@ -2,7 +2,7 @@
 ghost use Rattle.std.specs.Map.{keys_of, lookup};
 ghost use Rattle.std.specs.Option.{option_copied};
 ghost use Rattle.std.specs.Prelude.{◌≡◌, [], IfOk, OnOk};
-ghost use Rattle.vtl_cell.specs.Texts.{same_text};
+ghost use Rattle.vtl_text.specs.Texts.{same_text};
 ghost use Rattle.sql_check_parts.specs.Scopes.{add_source, column_kind, found, is_among};
 ghost use Rattle.sql_check_parts.specs.Told.{IsTold};
 ghost use Rattle.sql_check_parts.specs.Windows.{column_breaks, is_ungrouped};
@@ -11,7 +11,8 @@ use crate::{Columns, Grouping, SqlRule, Test, Told, least_broken, or_null};
 use sql_tree::Column;
 use std::alloc::{AllocError, Global};
 use std::marker::Model;
-use vtl_cell::{ByName, Kind, Txt};
+use vtl_cell::Kind;
+use vtl_text::{ByName, Txt};
 
 /// The sources of a select from the left, by alias. A contract sees the list of the aliases with the columns of the
 /// tables.

@@ -7,7 +7,7 @@ ghost use Rattle.sql_check_parts.specs.Scopes.{columns_of, is_among};
 use crate::Columns;
 use std::alloc::{AllocError, Global};
 use std::marker::Model;
-use vtl_cell::{ByName, Txt};
+use vtl_text::{ByName, Txt};
 
 /// The tables that statements give. A contract sees the list of their names with their columns.
 #[derive(Drop)]

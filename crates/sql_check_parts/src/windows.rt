@@ -11,9 +11,10 @@ use crate::{Grouping, Scope, SqlRule, Test, Told, column, least_broken, lesser, 
 use sql_tree::{Bound, Column, Frame, Literal, ValueFunction, Window, WindowCall, WindowKey};
 use std::alloc::{AllocError, Global};
 use vtl_cell::{
-    Kind, LONGEST_REACH, Profile, Txt, aggregate_kind, integer_written, lies_between, meets,
-    number_of,
+    Kind, LONGEST_REACH, aggregate_kind, integer_written, lies_between, meets, number_of,
 };
+use vtl_decimal::Profile;
+use vtl_text::Txt;
 
 // ---- columns
 

@@ -1,7 +1,7 @@
 -- The names of a query that breaks no rule.
 use Rattle.std.proofs.Common.{◌≡◌, false, [], ◌∷◌, ◌++◌, None, refl}
 use Rattle.std.specs.List.{flat_map}
-use Rattle.vtl_cell.specs.Settings.{Settings}
+use Rattle.vtl_decimal.specs.Settings.{Settings}
 use Rattle.sql_tree.specs.Trees.{QueryTree}
 use Rattle.sql_check_parts.specs.Expressions.{site}
 use Rattle.sql_check_parts.specs.Queries.{groups_of, item_breaks, maybe_condition, names_of, parts_break, query_breaks, query_names, scope_of, select_breaks, shared_kinds, sources_break, union_breaks}

@@ -4,7 +4,7 @@ use Rattle.std.specs.Prelude.{Option}
 use Rattle.std.specs.List.{flat_map, list_all}
 use Rattle.std.proofs.Math.Bool.{and_assoc, and-true}
 use Rattle.std.proofs.lemmas.List.{drop_all, drop_more}
-use Rattle.vtl_cell.specs.Settings.{Settings}
+use Rattle.vtl_decimal.specs.Settings.{Settings}
 use Rattle.sql_tree.specs.Trees.{JoinTree}
 use Rattle.sql_check_parts.specs.Queries.{join_breaks, join_source, joins_break}
 use Rattle.sql_check_parts.specs.Rules.{least, lesser}

@@ -3,11 +3,11 @@ use Rattle.std.proofs.Common.{ℕ, ◌≡◌, ◌∙◌, length, map, true, ◌&
 use Rattle.std.specs.List.{flat_map, fold, list_all}
 use Rattle.std.proofs.lemmas.Bool.{and_from}
 use Rattle.std.proofs.lemmas.Slice.Eq.{bytes_eq-Decides}
-use Rattle.vtl_cell.specs.Settings.{Settings}
+use Rattle.vtl_decimal.specs.Settings.{Settings}
 use Rattle.sql_tree.specs.Trees.{QueryTree, SelectTree}
 use Rattle.sql_check_parts.specs.Queries.{beside, kinds_of, names_of, query_breaks, same_names, select_breaks, shared_kinds, union_breaks}
 use Rattle.sql_check_parts.specs.Rules.{least, lesser}
-use Rattle.vtl_cell.specs.Texts.{same_text}
+use Rattle.vtl_text.specs.Texts.{same_text}
 use Rattle.sql_check_parts.specs.Scopes.{Tables, or_null}
 use Rattle.sql_check_parts.proofs.Least.{least_append}
 use Rattle.sql_check_parts.proofs.QueryKinds.{as_many}

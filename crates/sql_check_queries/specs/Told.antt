@@ -2,7 +2,7 @@
 use Rattle.std.specs.Prelude.{◌≡◌, ◌∷◌, ◌||◌, ◌&&◌, [], Bool, true, not, List, Option, Some, map, length, nat_lt}
 use Rattle.std.specs.List.{fold, flat_map, list_all, list_any}
 use Rattle.std.specs.Option.{is_none}
-use Rattle.vtl_cell.specs.Settings.{Settings}
+use Rattle.vtl_decimal.specs.Settings.{Settings}
 use Rattle.vtl_cell.specs.declared.kind.Kind.{Kind}
 use Rattle.sql_tree.specs.Trees.{Text, ItemTree, QueryTree, SelectTree}
 use Rattle.sql_check_parts.specs.Expressions.{Site}

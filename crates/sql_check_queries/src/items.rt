@@ -9,7 +9,8 @@ use sql_check_expressions::{Site, expression};
 use sql_check_parts::{Grouping, SqlRule, Told, lesser, window};
 use sql_tree::{Item, ItemValue};
 use std::alloc::{AllocError, Global};
-use vtl_cell::{Kind, List, Txt};
+use vtl_cell::Kind;
+use vtl_text::{List, Txt};
 
 /// The kinds of items, and the least of the rules that they break.
 #[derive(Drop)]

@@ -8,7 +8,9 @@ use crate::unions::Union;
 use sql_check_parts::{SqlRule, Tables};
 use sql_tree::{Query, Select};
 use std::alloc::{AllocError, Global};
-use vtl_cell::{Kind, List, Profile, Txt};
+use vtl_cell::Kind;
+use vtl_decimal::Profile;
+use vtl_text::{List, Txt};
 
 /// The columns that a query gives, and the least of the rules that it breaks.
 #[derive(Drop)]

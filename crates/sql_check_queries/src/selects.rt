@@ -17,7 +17,9 @@ use sql_check_parts::{
 };
 use sql_tree::{Select, SqlExpr};
 use std::alloc::{AllocError, Global};
-use vtl_cell::{Kind, List, Profile, Txt};
+use vtl_cell::Kind;
+use vtl_decimal::Profile;
+use vtl_text::{List, Txt};
 
 /// The columns that a select gives, and the least of the rules that it breaks.
 #[derive(Drop)]

@@ -11,7 +11,7 @@ use sql_check_expressions::{Site, condition};
 use sql_check_parts::{Scope, SqlRule, Tables, Test, least_broken, lesser};
 use sql_tree::{Join, Select, Source};
 use std::alloc::{AllocError, Global};
-use vtl_cell::Profile;
+use vtl_decimal::Profile;
 
 /// The sources of a select, and the least of the rules that they break.
 #[derive(Drop)]

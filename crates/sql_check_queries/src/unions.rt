@@ -11,7 +11,8 @@ ghost use Rattle.sql_check_queries.specs.Told.{columns_breaks, IsFirst};
 use crate::selects::SelectTold;
 use sql_check_parts::{SqlRule, Test, least_broken, lesser, or_null};
 use std::alloc::{AllocError, Global};
-use vtl_cell::{Kind, List, Txt, is_null_kind, shared_kind};
+use vtl_cell::{Kind, is_null_kind, shared_kind};
+use vtl_text::{List, Txt};
 
 const MOST_COLUMNS: usize = 1_024;
 

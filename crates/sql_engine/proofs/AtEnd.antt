@@ -7,12 +7,12 @@ use Rattle.std.proofs.lemmas.List.{append-nil, map-append}
 use Rattle.vtl_lists.proofs.Perms.{Perm-sym}
 use Rattle.vtl_lists.proofs.Sorts.{Perm-sorted_by, sorted_by-Perm}
 use Rattle.vtl_cell.specs.Outcome.{Outcome}
-use Rattle.vtl_cell.specs.Perm.{Perm, chain}
-use Rattle.vtl_cell.specs.Results.{◌>>=◌}
+use Rattle.vtl_lists.specs.Perm.{Perm, chain}
+use Rattle.vtl_lists.specs.Results.{◌>>=◌}
 use Rattle.vtl_cell.specs.Row.{Row}
-use Rattle.vtl_cell.specs.Settings.{Settings}
+use Rattle.vtl_decimal.specs.Settings.{Settings}
 use Rattle.vtl_cell.specs.Sorted.{in_order}
-use Rattle.vtl_cell.specs.Texts.{same_text}
+use Rattle.vtl_text.specs.Texts.{same_text}
 use Rattle.vtl_cell.proofs.Keys.{window_order}
 use Rattle.vtl_rows.specs.Named.{NamedTables, table_of}
 use Rattle.vtl_rows.specs.Tables.{Listed}
@@ -20,14 +20,14 @@ use Rattle.vtl_rows.specs.declared.column.Column.{Column}
 use Rattle.sql_tree.specs.Trees as tree
 use Rattle.sql_tree.specs.Trees.{QueryTree, StatementTree, Text}
 use Rattle.sql_tree.specs.declared.statements.SqlExport.{SqlExport}
-use Rattle.sql_exec.specs.Queries.{query_columns}
-use Rattle.sql_exec.specs.Scopes.{Columns, Tables, columns_of}
-use Rattle.sql_exec.specs.TypingStatements.{Given, after, input_columns, nothing}
-use Rattle.sql_exec.specs.Statements.{AreTyped, IsOrder}
-use Rattle.sql_exec.specs.Scripts.{Data, Export, Inputs, Made, NamedFault, Table, and_table, base_of, created, export_of, input_table, no_table, nothing_made, or_named, sort_key, statement_made, statements_made, table_named, tables_in}
-use Rattle.sql_exec.specs.Selects.{query_value}
-use Rattle.sql_exec.specs.Tables.{column_entry, rows_of}
-use Rattle.sql_exec.specs.Held.{tables_held}
+use Rattle.sql_check_parts.specs.Queries.{query_columns}
+use Rattle.sql_check_parts.specs.Scopes.{Columns, Tables, columns_of}
+use Rattle.sql_check_parts.specs.Statements.{Given, after, input_columns, nothing}
+use Rattle.sql_check_laws.specs.Statements.{AreTyped, IsOrder}
+use Rattle.sql_meaning.specs.Scripts.{Data, Export, Inputs, Made, NamedFault, Table, and_table, base_of, created, export_of, input_table, no_table, nothing_made, or_named, sort_key, statement_made, statements_made, table_named, tables_in}
+use Rattle.sql_meaning.specs.Selects.{query_value}
+use Rattle.sql_meaning.specs.Tables.{column_entry, rows_of}
+use Rattle.sql_from.specs.Held.{tables_held}
 use Rattle.sql_engine.specs.Exported.{AreExported, entry_column, exported_of, exports_in, no_listed, ordered_by, shown}
 use Rattle.sql_engine.specs.Held.{HaveMade}
 use Rattle.sql_engine.specs.InputTables.{rows_given}

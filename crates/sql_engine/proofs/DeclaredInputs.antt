@@ -6,9 +6,9 @@ use Rattle.std.proofs.lemmas.List.{append-nil, length-map, map-append}
 use Rattle.std.proofs.lemmas.List.Sorted.{IsPermutation-filter_both}
 use Rattle.vtl_lists.proofs.Aparts.{all_apart-Perm}
 use Rattle.vtl_lists.proofs.Perms.{Perm-from_IsPermutation, Perm-map, Perm-sym, length-Perm}
-use Rattle.vtl_cell.specs.Apart.{all_apart}
-use Rattle.vtl_cell.specs.Perm.{Perm}
-use Rattle.vtl_cell.specs.Texts.{same_text}
+use Rattle.vtl_lists.specs.Apart.{all_apart}
+use Rattle.vtl_lists.specs.Perm.{Perm}
+use Rattle.vtl_text.specs.Texts.{same_text}
 use Rattle.vtl_rows.specs.Named.{NamedTables, table_of}
 use Rattle.vtl_rows.specs.Tables.{Listed, column_kinds}
 use Rattle.vtl_rows.specs.declared.column.Column.{Column}
@@ -19,11 +19,11 @@ use Rattle.vtl_sets.proofs.TableLemmas.{point_fits}
 use Rattle.sql_tree.specs.Trees.{Text}
 use Rattle.sql_tree.specs.declared.statements.InputColumn.{InputColumn}
 use Rattle.sql_tree.specs.declared.statements.SqlInput.{SqlInput}
-use Rattle.sql_exec.specs.TypingStatements as typing
-use Rattle.sql_exec.specs.TypingStatements.{in_table_order, input_columns, is_of_key}
-use Rattle.sql_exec.specs.Statements.{IsDeclared}
-use Rattle.sql_exec.specs.Tables.{HasTable, RowsFit, column_entry, kinds_of, rows_of}
-use Rattle.sql_exec.proofs.Lists.{under}
+use Rattle.sql_check_parts.specs.Statements as typing
+use Rattle.sql_check_parts.specs.Statements.{in_table_order, input_columns, is_of_key}
+use Rattle.sql_check_laws.specs.Statements.{IsDeclared}
+use Rattle.sql_meaning.specs.Tables.{HasTable, RowsFit, column_entry, kinds_of, rows_of}
+use Rattle.sql_meaning.proofs.Lists.{under}
 use Rattle.sql_engine.specs.InputTables.{IsInputTable}
 use Rattle.sql_engine.specs.Structures.{component_of, structure_of}
 

@@ -4,7 +4,7 @@ use Rattle.std.specs.Prelude.{option_map, unwrap_or}
 use Rattle.std.specs.Map.{keys_of, lookup}
 use Rattle.std.specs.Cmp.Lexicographic.{nat_list_eq_equiv}
 use Rattle.std.proofs.lemmas.List.{drop_more, map-append}
-use Rattle.vtl_cell.specs.Texts.{same_text}
+use Rattle.vtl_text.specs.Texts.{same_text}
 use Rattle.vtl_rows.specs.Named.{NamedTables, table_of}
 use Rattle.vtl_rows.specs.Tables.{Listed}
 use Rattle.sql_tree.specs.Trees as tree
@@ -12,9 +12,9 @@ use Rattle.sql_tree.specs.Trees.{StatementTree, Text}
 use Rattle.sql_tree.specs.View.{statement_tree}
 use Rattle.sql_tree.specs.declared.statements.SqlExport.{SqlExport}
 use Rattle.sql_tree.specs.declared.statements.Statement.{Statement}
-use Rattle.sql_exec.specs.Scopes.{columns_of, is_among}
-use Rattle.sql_exec.specs.Statements.{AreNames, IsOrder}
-use Rattle.sql_exec.specs.Held.{tables_held}
+use Rattle.sql_check_parts.specs.Scopes.{columns_of, is_among}
+use Rattle.sql_check_laws.specs.Statements.{AreNames, IsOrder}
+use Rattle.sql_from.specs.Held.{tables_held}
 use Rattle.sql_engine.specs.Exported.{AreExported, exported_of, exports_in, no_listed, placed_by}
 use Rattle.sql_engine.specs.declared.orders.RowOrder.{RowOrder}
 use Rattle.sql_engine.proofs.TableLookups.{columns_in, columns_looked, free_name, or_else, or_else_again, table_behind}

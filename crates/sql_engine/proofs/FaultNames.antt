@@ -6,7 +6,7 @@ use Rattle.std.proofs.lemmas.Str.{chars-encodes, encode_same, len_utf8_bounds, l
 use Rattle.std.proofs.lemmas.List.{take-append-drop}
 use Rattle.std.proofs.lemmas.Bool.{and_parts}
 use lib.Utf8.{encode, encodes, scalar, scalars}
-use Rattle.sql_exec.specs.Scripts.{dollar, fault_name}
+use Rattle.sql_meaning.specs.Scripts.{dollar, fault_name}
 
 add-one-first : {n : ℕ} → 1 + n ≡ suc n
 add-one-first = omega arith

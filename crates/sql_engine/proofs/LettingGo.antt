@@ -6,12 +6,12 @@ use Rattle.std.specs.Map.{keys_of}
 use Rattle.std.specs.Cmp.Lexicographic.{nat_list_eq_equiv}
 use Rattle.std.proofs.lemmas.Bool.{and_parts}
 use Rattle.std.proofs.lemmas.List.{map-append, reverse-append}
-use Rattle.vtl_cell.specs.Apart.{all_apart}
-use Rattle.vtl_cell.specs.Texts.{same_text}
+use Rattle.vtl_lists.specs.Apart.{all_apart}
+use Rattle.vtl_text.specs.Texts.{same_text}
 use Rattle.vtl_rows.specs.Named.{NamedTables, table_of}
 use Rattle.vtl_rows.specs.Tables.{Listed}
 use Rattle.sql_tree.specs.Trees.{Text}
-use Rattle.sql_exec.specs.Scopes.{is_among}
+use Rattle.sql_check_parts.specs.Scopes.{is_among}
 use Rattle.sql_engine.specs.Held.{let_go}
 use Rattle.sql_engine.proofs.TableLookups.{free_name}
 

@@ -1,5 +1,3 @@
-pub use Rattle.sql_exec.proofs.GivenColumns
-pub use Rattle.sql_exec.proofs.TypedStatements
 pub mod FaultNames
 pub mod OnlyRead
 pub mod Ordering

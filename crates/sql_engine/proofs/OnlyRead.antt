@@ -17,18 +17,18 @@ use Rattle.sql_tree.specs.declared.parts.Column.{Column}
 use Rattle.sql_tree.specs.declared.windows.Over.{Over}
 use Rattle.sql_tree.specs.declared.windows.WindowCall.{WindowCall}
 use Rattle.sql_tree.specs.declared.windows.WindowCall.TheVariants as call
-use Rattle.sql_exec.specs.Kinds.{kind_in}
-use Rattle.sql_exec.specs.Queries.{is_grouped, query_columns, scope_of}
-use Rattle.sql_exec.specs.Scopes.{Scope, row_of, with_source}
-use Rattle.sql_exec.specs.Exists.{inner_of}
-use Rattle.sql_exec.specs.Outcomes.{all_values, cell_or_null, operated, row_at, row_fault}
-use Rattle.sql_exec.specs.Tables.{Base, columns_named, kinds_of}
-use Rattle.sql_exec.specs.Values.{View, at_groups, at_rows, chosen, is_tied, literal_cell, null_test, place_in, set_operator, value, values}
-use Rattle.sql_exec.specs.From.{Joined, fault_at, first_of, holds, joined, joined_rows, kept_of, pairs, source_rows, with_join}
-use Rattle.sql_exec.specs.Groups.{keys_by, rows_with}
-use Rattle.sql_exec.specs.Orders.{with_rows}
-use Rattle.sql_exec.specs.Selects.{Wanted, appended, at_key, group_item, group_rows, having_fault, item_value, kept_keys, key_value, plain_rows, query_value, row_value, second_phase, select_value}
-use Rattle.sql_exec.specs.Windows.{Stand, call_value, keys_of, partition_of, partition_places, stand_in, told_apart}
+use Rattle.sql_check_parts.specs.Kinds.{kind_in}
+use Rattle.sql_check_parts.specs.Queries.{is_grouped, query_columns, scope_of}
+use Rattle.sql_check_parts.specs.Scopes.{Scope, row_of, with_source}
+use Rattle.sql_check_parts.specs.Exists.{inner_of}
+use Rattle.sql_meaning.specs.Outcomes.{all_values, cell_or_null, operated, row_at, row_fault}
+use Rattle.sql_meaning.specs.Tables.{Base, columns_named, kinds_of}
+use Rattle.sql_meaning.specs.Values.{View, at_groups, at_rows, chosen, is_tied, literal_cell, null_test, place_in, set_operator, value, values}
+use Rattle.sql_meaning.specs.From.{Joined, fault_at, first_of, holds, joined, joined_rows, kept_of, pairs, source_rows, with_join}
+use Rattle.sql_meaning.specs.Groups.{keys_by, rows_with}
+use Rattle.sql_meaning.specs.Orders.{with_rows}
+use Rattle.sql_meaning.specs.Selects.{Wanted, appended, at_key, group_item, group_rows, having_fault, item_value, kept_keys, key_value, plain_rows, query_value, row_value, second_phase, select_value}
+use Rattle.sql_meaning.specs.Windows.{Stand, call_value, keys_of, partition_of, partition_places, stand_in, told_apart}
 use Rattle.sql_engine.specs.Reads.{EachOfAll, EachOfBranches, EachOfItem, EachOfJoin, EachOfMaybe, EachOfQuery, EachOfSelect, EachOfValue, EachRead}
 
 -- ---- functions that agree on listed items

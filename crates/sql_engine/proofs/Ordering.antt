@@ -6,17 +6,17 @@ use Rattle.std.specs.Map.{keys_of}
 use Rattle.std.proofs.lemmas.List.{append-nil, length-map}
 use Rattle.std.proofs.lemmas.List.Sums.{position_or_len_is}
 use Rattle.vtl_cell.specs.Sorted.{rising}
-use Rattle.vtl_cell.specs.Texts.{same_text}
+use Rattle.vtl_text.specs.Texts.{same_text}
 use Rattle.vtl_rows.specs.Keys.{key_of, ordered}
 use Rattle.vtl_rows.specs.Tables.{Listed}
 use Rattle.vtl_rows.specs.declared.column.Column.{Column}
 use Rattle.vtl_rows.specs.declared.column.SortKey.{SortKey}
 use Rattle.sql_tree.specs.Trees.{Text}
-use Rattle.sql_exec.specs.Scopes.{Columns, value_among}
-use Rattle.sql_exec.specs.Statements.{AreNames}
-use Rattle.sql_exec.specs.Scripts.{sort_key}
-use Rattle.sql_exec.specs.Tables.{column_entry}
-use Rattle.sql_exec.proofs.Lists.{all_at, all_joined}
+use Rattle.sql_check_parts.specs.Scopes.{Columns, value_among}
+use Rattle.sql_check_laws.specs.Statements.{AreNames}
+use Rattle.sql_meaning.specs.Scripts.{sort_key}
+use Rattle.sql_meaning.specs.Tables.{column_entry}
+use Rattle.sql_meaning.proofs.Lists.{all_at, all_joined}
 use Rattle.vtl_rows.proofs.AllColumns.{all_columns_last}
 use Rattle.sql_engine.specs.Exported.{ordered_by}
 

@@ -2,15 +2,15 @@
 use Rattle.std.proofs.Common.{◌≡◌, List, [], ◌∷◌, ◌++◌, Option, Some, Ok, Err, sym, ap, ◌∙◌, subst}
 use Rattle.vtl_lists.proofs.Perms.{Perm-refl}
 use Rattle.vtl_cell.specs.Outcome.{DivZero, Outcome, Range}
-use Rattle.vtl_cell.specs.Perm.{Perm}
+use Rattle.vtl_lists.specs.Perm.{Perm}
 use Rattle.vtl_cell.specs.Row.{Row}
 use Rattle.vtl_rows.specs.Named.{NamedTables, table_of}
 use Rattle.vtl_rows.specs.Tables.{Listed}
 use Rattle.vtl_scalar.specs.declared.error.ScalarErr.{ScalarErr}
 use Rattle.sql_tree.specs.Trees.{Text}
-use Rattle.sql_exec.specs.Scopes.{Columns}
-use Rattle.sql_exec.specs.Scripts.{or_named}
-use Rattle.sql_exec.specs.Tables.{HasTable, rows_of}
+use Rattle.sql_check_parts.specs.Scopes.{Columns}
+use Rattle.sql_meaning.specs.Scripts.{or_named}
+use Rattle.sql_meaning.specs.Tables.{HasTable, rows_of}
 use Rattle.sql_exec.specs.Answers.{Gives}
 use Rattle.sql_engine.specs.Runs.{FaultIs, Faults}
 use Rattle.sql_engine.specs.Statements.{IsPut}

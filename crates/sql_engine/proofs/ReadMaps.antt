@@ -2,7 +2,7 @@
 use Rattle.std.proofs.Common.{Option, Some, None}
 use Rattle.sql_tree.specs.Trees as tree
 use Rattle.sql_tree.specs.Trees.{Branches, Exp, Exps, ItemTree, JoinTree, QueryTree, SelectTree, Text, ValueTree}
-use Rattle.sql_exec.proofs.Lists.{under}
+use Rattle.sql_meaning.proofs.Lists.{under}
 use Rattle.sql_engine.specs.Reads.{EachOfAll, EachOfBranches, EachOfJoin, EachOfMaybe, EachOfQuery, EachOfSelect, EachOfValue, EachRead}
 
 module _ {P Q : Text → Type 0} (f : (name : Text) → P name → Q name) where

@@ -5,14 +5,14 @@ use Rattle.std.specs.Map.{keys_of, lookup}
 use Rattle.std.proofs.lemmas.List.{map-append}
 use Rattle.vtl_lists.proofs.Perms.{AllByRecursion-Perm}
 use Rattle.vtl_text.proofs.Apart.{apart_push}
-use Rattle.vtl_cell.specs.Apart.{all_apart}
+use Rattle.vtl_lists.specs.Apart.{all_apart}
 use Rattle.vtl_cell.specs.Outcome.{DivZero, Fault, Outcome, Range}
 use Rattle.vtl_cell.specs.Outcomes.{Same}
-use Rattle.vtl_cell.specs.Perm.{Perm, chain}
-use Rattle.vtl_cell.specs.Results.{◌>>=◌}
+use Rattle.vtl_lists.specs.Perm.{Perm, chain}
+use Rattle.vtl_lists.specs.Results.{◌>>=◌}
 use Rattle.vtl_cell.specs.Row.{Row}
-use Rattle.vtl_cell.specs.Settings.{Settings}
-use Rattle.vtl_cell.specs.Texts.{same_text}
+use Rattle.vtl_decimal.specs.Settings.{Settings}
+use Rattle.vtl_text.specs.Texts.{same_text}
 use Rattle.vtl_cell.specs.declared.kind.Kind.{Kind}
 use Rattle.vtl_rows.specs.Named.{NamedTables, table_of}
 use Rattle.vtl_rows.specs.Tables.{Listed, column_kinds, fits_kinds}
@@ -23,19 +23,19 @@ use Rattle.sql_tree.specs.Grammar.{most_levels}
 use Rattle.sql_tree.specs.Trees as tree
 use Rattle.sql_tree.specs.Trees.{QueryTree, StatementTree, Text}
 use Rattle.sql_tree.specs.declared.statements.SqlInput.{SqlInput}
-use Rattle.sql_exec.specs.Queries.{query_columns}
-use Rattle.sql_exec.specs.Scopes.{Columns, Tables, is_among}
-use Rattle.sql_exec.specs.TypingStatements.{Given, after, input_columns, is_taken, nothing}
-use Rattle.sql_exec.specs.TypedSelects.{IsQueryTyped}
-use Rattle.sql_exec.specs.Statements.{AreTyped}
-use Rattle.sql_exec.specs.Profiles.{AreOfProfile, IsRowOfProfile}
-use Rattle.sql_exec.specs.Scripts.{Made, NamedFault, Table, and_table, base_of, created, export_of, fault_name, input_table, nothing_made, or_named, rows_read, statements_made, table_named}
-use Rattle.sql_exec.specs.Selects.{query_value}
-use Rattle.sql_exec.specs.Tables.{RowsFit, column_entry, kinds_of, rows_of}
-use Rattle.sql_exec.proofs.Lists.{under}
-use Rattle.sql_exec.proofs.Profiled.{query_are}
-use Rattle.sql_exec.proofs.QueryKinds.{query_fit}
-use Rattle.sql_exec.specs.Held.{base_held, tables_held}
+use Rattle.sql_check_parts.specs.Queries.{query_columns}
+use Rattle.sql_check_parts.specs.Scopes.{Columns, Tables, is_among}
+use Rattle.sql_check_parts.specs.Statements.{Given, after, input_columns, is_taken, nothing}
+use Rattle.sql_check_laws.specs.Selects.{IsQueryTyped}
+use Rattle.sql_check_laws.specs.Statements.{AreTyped}
+use Rattle.sql_meaning.specs.Profiles.{AreOfProfile, IsRowOfProfile}
+use Rattle.sql_meaning.specs.Scripts.{Made, NamedFault, Table, and_table, base_of, created, export_of, fault_name, input_table, nothing_made, or_named, rows_read, statements_made, table_named}
+use Rattle.sql_meaning.specs.Selects.{query_value}
+use Rattle.sql_meaning.specs.Tables.{RowsFit, column_entry, kinds_of, rows_of}
+use Rattle.sql_meaning.proofs.Lists.{under}
+use Rattle.sql_meaning.proofs.Profiled.{query_are}
+use Rattle.sql_meaning.proofs.QueryKinds.{query_fit}
+use Rattle.sql_from.specs.Held.{base_held, tables_held}
 use Rattle.sql_engine.specs.Exported.{exports_in}
 use Rattle.sql_engine.specs.Held.{HaveMade, MayLetGo, StandFor, let_go}
 use Rattle.sql_engine.specs.InputTables.{AreInputsInRange, HaveInputTables, rows_given}

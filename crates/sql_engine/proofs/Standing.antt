@@ -6,22 +6,22 @@ use Rattle.std.specs.Cmp.Lexicographic.{bytes_decides}
 use Rattle.std.proofs.lemmas.List.{map-append}
 use Rattle.vtl_lists.proofs.Perms.{Perm-refl}
 use Rattle.vtl_cell.specs.Outcomes.{Same}
-use Rattle.vtl_cell.specs.Perm.{Perm}
+use Rattle.vtl_lists.specs.Perm.{Perm}
 use Rattle.vtl_cell.specs.Row.{Row}
-use Rattle.vtl_cell.specs.Settings.{Settings}
-use Rattle.vtl_cell.specs.Texts.{same_text}
+use Rattle.vtl_decimal.specs.Settings.{Settings}
+use Rattle.vtl_text.specs.Texts.{same_text}
 use Rattle.vtl_rows.specs.Named.{NamedTables, table_of}
 use Rattle.vtl_rows.specs.Tables.{Listed, column_kinds}
 use Rattle.sql_tree.specs.Trees.{QueryTree, Text}
-use Rattle.sql_exec.specs.Scopes.{Tables, columns_of}
-use Rattle.sql_exec.specs.Orders.{with_rows}
-use Rattle.sql_exec.specs.Profiles.{AreOfProfile, IsLawful}
-use Rattle.sql_exec.specs.Scripts.{Data, Table, base_of, no_table, table_named, tables_in}
-use Rattle.sql_exec.specs.Selects.{query_value}
-use Rattle.sql_exec.specs.Tables.{Base, HasColumns, HasTable, RowsFit, rows_of}
-use Rattle.sql_exec.proofs.HeldTables.{held_fit}
-use Rattle.sql_exec.proofs.Orders as orders
-use Rattle.sql_exec.specs.Held.{base_held, tables_held}
+use Rattle.sql_check_parts.specs.Scopes.{Tables, columns_of}
+use Rattle.sql_meaning.specs.Orders.{with_rows}
+use Rattle.sql_meaning.specs.Profiles.{AreOfProfile, IsLawful}
+use Rattle.sql_meaning.specs.Scripts.{Data, Table, base_of, no_table, table_named, tables_in}
+use Rattle.sql_meaning.specs.Selects.{query_value}
+use Rattle.sql_meaning.specs.Tables.{Base, HasColumns, HasTable, RowsFit, rows_of}
+use Rattle.sql_meaning.proofs.HeldTables.{held_fit}
+use Rattle.sql_meaning.proofs.Orders as orders
+use Rattle.sql_from.specs.Held.{base_held, tables_held}
 use Rattle.sql_engine.specs.Held.{StandFor, let_go, without_rows}
 use Rattle.sql_engine.specs.Reads.{EachOfQuery}
 use Rattle.sql_engine.proofs.OnlyRead as only

@@ -2,13 +2,13 @@
 use Rattle.std.proofs.Common.{◌≡◌, Bool, true, false, cond, ◌||◌, [], ◌∷◌, ◌++◌, map, Option, Some, None, refl, ap}
 use Rattle.std.specs.Prelude.{option_map}
 use Rattle.std.specs.Map.{keys_of}
-use Rattle.vtl_cell.specs.Texts.{same_text}
+use Rattle.vtl_text.specs.Texts.{same_text}
 use Rattle.vtl_rows.specs.Named.{NamedTables, table_of}
 use Rattle.vtl_rows.specs.Tables.{Listed}
 use Rattle.sql_tree.specs.Trees.{Text}
-use Rattle.sql_exec.specs.Scopes.{Columns, columns_of, is_among}
-use Rattle.sql_exec.specs.Tables.{column_entry}
-use Rattle.sql_exec.specs.Held.{tables_held}
+use Rattle.sql_check_parts.specs.Scopes.{Columns, columns_of, is_among}
+use Rattle.sql_meaning.specs.Tables.{column_entry}
+use Rattle.sql_from.specs.Held.{tables_held}
 
 -- the first of two that is there
 abbrev pub or_else : {X : Type 0} → Option X → Option X → Option X

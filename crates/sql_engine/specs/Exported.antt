@@ -7,10 +7,10 @@ use Rattle.vtl_rows.specs.declared.column.Column.{Column}
 use Rattle.sql_tree.specs.Trees as tree
 use Rattle.sql_tree.specs.Trees.{StatementTree, Text}
 use Rattle.sql_tree.specs.declared.statements.SqlExport.{SqlExport}
-use Rattle.sql_exec.specs.Scopes.{Tables, columns_of, is_among}
-use Rattle.sql_exec.specs.Statements.{IsOrder}
-use Rattle.sql_exec.specs.Scripts.{Export, sort_key}
-use Rattle.sql_exec.specs.Tables.{column_entry}
+use Rattle.sql_check_parts.specs.Scopes.{Tables, columns_of, is_among}
+use Rattle.sql_check_laws.specs.Statements.{IsOrder}
+use Rattle.sql_meaning.specs.Scripts.{Export, sort_key}
+use Rattle.sql_meaning.specs.Tables.{column_entry}
 use Rattle.sql_engine.specs.declared.orders.RowOrder.{RowOrder}
 use Rattle.sql_engine.specs.declared.orders.RowOrder.TheVariants as by
 use Rattle.vtl_cell.specs.declared.kind.Kind.{Kind}

@@ -1,15 +1,15 @@
 -- The tables that a run holds.
 use Rattle.std.specs.Prelude.{◌≡◌, ◌⊎◌, Bool, true, List, [], fold, map, Result, Ok, Err, if◌then◌else◌}
-use Rattle.vtl_cell.specs.Perm.{Perm}
-use Rattle.vtl_cell.specs.Settings.{Settings}
+use Rattle.vtl_lists.specs.Perm.{Perm}
+use Rattle.vtl_decimal.specs.Settings.{Settings}
 use Rattle.vtl_rows.specs.Named.{NamedTables, table_of}
 use Rattle.vtl_rows.specs.Tables.{Listed}
 use Rattle.sql_tree.specs.Trees.{StatementTree, Text}
-use Rattle.sql_exec.specs.TypingStatements.{after, nothing}
-use Rattle.sql_exec.specs.Profiles.{AreOfProfile}
-use Rattle.sql_exec.specs.Scripts.{Data, Made, nothing_made, statements_made, table_named, tables_in}
-use Rattle.sql_exec.specs.Tables.{AreHeldFit, rows_of}
-use Rattle.sql_exec.specs.Held.{tables_held}
+use Rattle.sql_check_parts.specs.Statements.{after, nothing}
+use Rattle.sql_meaning.specs.Profiles.{AreOfProfile}
+use Rattle.sql_meaning.specs.Scripts.{Data, Made, nothing_made, statements_made, table_named, tables_in}
+use Rattle.sql_meaning.specs.Tables.{AreHeldFit, rows_of}
+use Rattle.sql_from.specs.Held.{tables_held}
 use Rattle.sql_engine.specs.InputTables.{rows_given}
 use Rattle.sql_engine.specs.LastReads.{EachExported}
 use Rattle.sql_engine.specs.Runs.{FaultIs}

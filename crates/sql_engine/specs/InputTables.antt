@@ -1,15 +1,15 @@
 -- The tables from which a run begins.
 use Rattle.std.specs.Prelude.{List, map}
 use Rattle.std.specs.List.{AllByRecursion}
-use Rattle.vtl_cell.specs.Settings.{Settings}
+use Rattle.vtl_decimal.specs.Settings.{Settings}
 use Rattle.vtl_rows.specs.Named.{NamedTables, table_of}
 use Rattle.sql_tree.specs.Trees as tree
 use Rattle.sql_tree.specs.Trees.{StatementTree}
 use Rattle.sql_tree.specs.declared.statements.SqlInput.{SqlInput}
-use Rattle.sql_exec.specs.TypingStatements.{input_columns}
-use Rattle.sql_exec.specs.Profiles.{AreOfProfile}
-use Rattle.sql_exec.specs.Scripts.{Inputs}
-use Rattle.sql_exec.specs.Tables.{HasTable, RowsFit, kinds_of, rows_of}
+use Rattle.sql_check_parts.specs.Statements.{input_columns}
+use Rattle.sql_meaning.specs.Profiles.{AreOfProfile}
+use Rattle.sql_meaning.specs.Scripts.{Inputs}
+use Rattle.sql_meaning.specs.Tables.{HasTable, RowsFit, kinds_of, rows_of}
 
 -- the rows of each
 abbrev pub rows_given : NamedTables → Inputs

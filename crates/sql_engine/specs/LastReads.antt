@@ -2,10 +2,10 @@
 use Rattle.std.specs.Prelude.{◌≡◌, ℕ, ◌+◌, Bool, true, false, ◌≤◌, List, [], ◌∷◌, nat_le, Option, Some, None}
 use Rattle.std.specs.List.{AllByRecursion}
 use Rattle.std.specs.Map.{lookup}
-use Rattle.vtl_cell.specs.Texts.{same_text}
+use Rattle.vtl_text.specs.Texts.{same_text}
 use Rattle.sql_tree.specs.Trees as tree
 use Rattle.sql_tree.specs.Trees.{StatementTree, Text}
-use Rattle.sql_exec.specs.Scopes.{Named}
+use Rattle.sql_check_parts.specs.Scopes.{Named}
 use Rattle.sql_engine.specs.Exported.{exports_in}
 use Rattle.sql_engine.specs.Reads.{EachOfQuery}
 

@@ -1,12 +1,12 @@
 -- What a run of a script gives.
 use Rattle.std.specs.Prelude.{◌≡◌, List, [], ◌∷◌, map, Result, Ok, Err}
 use Rattle.vtl_cell.specs.Outcome.{DivZero, Range}
-use Rattle.vtl_cell.specs.Perm.{Perm}
+use Rattle.vtl_lists.specs.Perm.{Perm}
 use Rattle.vtl_rows.specs.Named.{NamedTables}
 use Rattle.sql_tree.specs.Trees.{ScriptTree, Text}
 use Rattle.vtl_scalar.specs.declared.error.ScalarErr.{ScalarErr}
 use Rattle.vtl_scalar.specs.declared.error.ScalarErr.TheVariants as scalar
-use Rattle.sql_exec.specs.Scripts.{Export, NamedFault, fault_name, script_value}
+use Rattle.sql_meaning.specs.Scripts.{Export, NamedFault, fault_name, script_value}
 use Rattle.sql_engine.specs.Exported.{entry_column, shown}
 use Rattle.sql_engine.specs.InputTables.{rows_given}
 use Rattle.sql_engine.specs.declared.error.RunErr.{RunErr}

@@ -3,22 +3,22 @@ use Rattle.std.specs.Prelude.{◌≡◌, List, [], ◌∷◌, ◌++◌, map, Non
 use Rattle.vtl_cell.specs.Outcome.{Outcome}
 use Rattle.vtl_cell.specs.Outcomes.{Same}
 use Rattle.vtl_cell.specs.Row.{Row}
-use Rattle.vtl_cell.specs.Settings.{Settings}
+use Rattle.vtl_decimal.specs.Settings.{Settings}
 use Rattle.vtl_rows.specs.Named.{NamedTables, table_of}
 use Rattle.vtl_rows.specs.Tables.{Listed}
 use Rattle.sql_tree.specs.Formed.{IsQuery}
 use Rattle.sql_tree.specs.Grammar.{most_levels}
 use Rattle.sql_tree.specs.Trees as tree
 use Rattle.sql_tree.specs.Trees.{QueryTree, StatementTree, Text}
-use Rattle.sql_exec.specs.Queries.{query_columns}
-use Rattle.sql_exec.specs.Scopes.{Columns}
-use Rattle.sql_exec.specs.TypingStatements.{input_columns}
-use Rattle.sql_exec.specs.TypedSelects.{IsQueryTyped}
-use Rattle.sql_exec.specs.Profiles.{IsLawful}
-use Rattle.sql_exec.specs.Scripts.{or_named}
-use Rattle.sql_exec.specs.Selects.{query_value}
-use Rattle.sql_exec.specs.Tables.{HasTable, column_entry, rows_of}
-use Rattle.sql_exec.specs.Held.{base_held, tables_held}
+use Rattle.sql_check_parts.specs.Queries.{query_columns}
+use Rattle.sql_check_parts.specs.Scopes.{Columns}
+use Rattle.sql_check_parts.specs.Statements.{input_columns}
+use Rattle.sql_check_laws.specs.Selects.{IsQueryTyped}
+use Rattle.sql_meaning.specs.Profiles.{IsLawful}
+use Rattle.sql_meaning.specs.Scripts.{or_named}
+use Rattle.sql_meaning.specs.Selects.{query_value}
+use Rattle.sql_meaning.specs.Tables.{HasTable, column_entry, rows_of}
+use Rattle.sql_from.specs.Held.{base_held, tables_held}
 use Rattle.sql_engine.specs.Runs.{FaultIs}
 use Rattle.sql_engine.specs.declared.error.RunErr.{RunErr}
 use Rattle.sql_engine.specs.declared.error.RunErr.TheVariants as run

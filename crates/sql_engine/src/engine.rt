@@ -1,6 +1,6 @@
 // A run of a script.
 ghost use Rattle.sql_tree.specs.View.{script_tree};
-ghost use Rattle.sql_exec.specs.Scripts.{script_value};
+ghost use Rattle.sql_meaning.specs.Scripts.{script_value};
 ghost use Rattle.sql_engine.specs.InputTables.{AreInputsInRange, HaveInputTables, rows_given};
 ghost use Rattle.sql_engine.specs.Runs.{Runs, RunsAsMade, TellsExports};
 

@@ -1,6 +1,6 @@
 // How a run can fail.
 use std::alloc::{AllocError, AllocFailed};
-use vtl_cell::Txt;
+use vtl_text::Txt;
 
 /// Why a script gives no exports.
 #[derive(Debug, Drop)]

@@ -1,18 +1,18 @@
 // The tables that a script exports.
 ghost use Rattle.std.specs.Map.{lookup};
 ghost use Rattle.std.specs.Prelude.{◌≡◌, [], false, map, IfOk, IsSome, List, Some, ℕ};
-ghost use Rattle.vtl_cell.specs.Texts.{same_text};
+ghost use Rattle.vtl_text.specs.Texts.{same_text};
 ghost use Rattle.vtl_rows.specs.Named.{table_of};
 ghost use Rattle.sql_tree.specs.View.{statement_tree};
-ghost use Rattle.sql_exec.specs.Held.{tables_held};
+ghost use Rattle.sql_from.specs.Held.{tables_held};
 ghost use Rattle.sql_engine.specs.Exported.{AreExported, exported_of, exports_in};
 
 use crate::orders::{RowOrder, placed};
 use indexmap::IndexMap;
 use sql_tree::Statement;
 use std::alloc::{AllocError, Global};
-use vtl_cell::Txt;
 use vtl_rows::{Outputs, SharedTable, Tables};
+use vtl_text::Txt;
 
 // Tables by name, to be taken one by one.
 type Owned = IndexMap<Txt, SharedTable>;

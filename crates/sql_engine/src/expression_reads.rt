@@ -8,7 +8,7 @@ ghost use Rattle.sql_engine.specs.Reads.{EachOfAll, EachOfBranches, EachRead};
 use indexmap::IndexMap;
 use sql_tree::{Branch, SqlExpr};
 use std::alloc::AllocError;
-use vtl_cell::Txt;
+use vtl_text::Txt;
 
 /// For each table that statements read, the place of the last one that reads it.
 pub type LastReads = IndexMap<Txt, usize>;

@@ -1,12 +1,12 @@
 // The name that a fault tells.
 ghost use Rattle.std.specs.Prelude.{◌≡◌, IfOk, OnOk};
-ghost use Rattle.sql_exec.specs.Scripts.{fault_name};
+ghost use Rattle.sql_meaning.specs.Scripts.{fault_name};
 ghost use Rattle.sql_engine.specs.Runs.{Faults};
 
 use crate::RunErr;
-use sql_exec::ExecErr;
+use sql_from::ExecErr;
 use std::alloc::{AllocError, Global};
-use vtl_cell::Txt;
+use vtl_text::Txt;
 
 // The name of a table up to the first `$`.
 fn fault_name(alloc: Global, name: &Txt) -> Result<Txt, AllocError>

@@ -7,7 +7,7 @@ use crate::expression_reads::{LastReads, note};
 use crate::query_reads::note_query;
 use sql_tree::Statement;
 use std::alloc::{AllocError, Global};
-use vtl_cell::Txt;
+use vtl_text::Txt;
 
 fn note_create(statement: &Statement, last: &mut LastReads, place: usize) -> Result<(), AllocError>
     ensures { OnOk result (IsNoted place last.old.entries last.new.entries (λ P. EachCreated P (statement_tree statement.now))) }

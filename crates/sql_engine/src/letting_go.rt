@@ -1,16 +1,16 @@
 // Rows that no statement reads any more.
 ghost use Rattle.std.specs.Map.{keys_of};
 ghost use Rattle.std.specs.Prelude.{◌≡◌, IfOk, reverse, true, if◌then◌else◌};
-ghost use Rattle.vtl_cell.specs.Apart.{all_apart};
-ghost use Rattle.vtl_cell.specs.Texts.{same_text};
+ghost use Rattle.vtl_lists.specs.Apart.{all_apart};
+ghost use Rattle.vtl_text.specs.Texts.{same_text};
 ghost use Rattle.sql_engine.specs.Held.{MayLetGo, let_go, without_rows};
 ghost use Rattle.sql_engine.specs.LastReads.{is_read_from};
 
 use crate::expression_reads::LastReads;
 use crate::last_reads::is_read_from;
 use std::alloc::{AllocError, Global};
-use vtl_cell::Txt;
 use vtl_rows::{Column, SharedTable, Table, Tables};
+use vtl_text::Txt;
 
 // A table of the same columns.
 fn without_rows(alloc: Global, table: &Table) -> Result<Table, AllocError>

@@ -24,5 +24,4 @@ mod structures;
 pub use engine::{run, run_as_made};
 pub use error::RunErr;
 pub use laws::{inputs_are_data_sets, queries_depend_on_what_they_read};
-pub use sql_check::{SqlChecked, SqlTypeErr, check};
 pub use structures::structure_of;

@@ -3,16 +3,16 @@ ghost use Rattle.std.specs.Prelude.{◌≡◌, ◌<◌, ◌++◌, ◌∷◌, [],
 ghost use Rattle.std.specs.List.{position_or_len, range_with_len};
 ghost use Rattle.std.specs.Map.{keys_of};
 ghost use Rattle.vtl_cell.specs.Sorted.{rising};
-ghost use Rattle.vtl_cell.specs.Texts.{same_text};
+ghost use Rattle.vtl_text.specs.Texts.{same_text};
 ghost use Rattle.vtl_rows.specs.Keys.{key_of};
-ghost use Rattle.sql_exec.specs.Statements.{AreNames};
-ghost use Rattle.sql_exec.specs.Scripts.{sort_key};
-ghost use Rattle.sql_exec.specs.Tables.{column_entry};
+ghost use Rattle.sql_check_laws.specs.Statements.{AreNames};
+ghost use Rattle.sql_meaning.specs.Scripts.{sort_key};
+ghost use Rattle.sql_meaning.specs.Tables.{column_entry};
 ghost use Rattle.sql_engine.specs.Exported.{ordered_by, placed_by};
 
 use std::alloc::{AllocError, Global};
-use vtl_cell::Txt;
 use vtl_rows::{Column, SharedTable, SortKey, Table};
+use vtl_text::Txt;
 
 /// The order in which exports give their rows.
 #[derive(Clone, Copy)]

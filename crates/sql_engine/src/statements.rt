@@ -3,24 +3,25 @@ ghost use Rattle.std.specs.Prelude.{◌≡◌, ◌+◌, ◌≤◌, ◌∷◌, []
 ghost use Rattle.vtl_rows.specs.Named.{table_of};
 ghost use Rattle.sql_tree.specs.Trees.{SelectTree};
 ghost use Rattle.sql_tree.specs.View.{query_tree, statement_tree};
-ghost use Rattle.sql_exec.specs.Queries.{query_columns};
-ghost use Rattle.sql_exec.specs.TypingStatements.{input_columns};
-ghost use Rattle.sql_exec.specs.Selects.{query_value};
-ghost use Rattle.sql_exec.specs.Steps.{IsPlainJoin, most_steps};
-ghost use Rattle.sql_exec.specs.Tables.{HasTable, column_entry, rows_of};
+ghost use Rattle.sql_check_parts.specs.Queries.{query_columns};
+ghost use Rattle.sql_check_parts.specs.Statements.{input_columns};
+ghost use Rattle.sql_meaning.specs.Selects.{query_value};
+ghost use Rattle.sql_from.specs.Steps.{IsPlainJoin, most_steps};
+ghost use Rattle.sql_meaning.specs.Tables.{HasTable, column_entry, rows_of};
 ghost use Rattle.sql_exec.specs.Answers.{Gives};
-ghost use Rattle.sql_exec.specs.Held.{base_held, tables_held};
+ghost use Rattle.sql_from.specs.Held.{base_held, tables_held};
 ghost use Rattle.sql_engine.specs.Statements.{IsPut, MayQuery, MayRun, RunsStatement};
 ghost use Rattle.sql_tree.specs.Trees as tree;
 
 use crate::RunErr;
 use crate::faults::named;
-use sql_exec::{ExecErr, exec};
+use sql_exec::exec;
+use sql_from::ExecErr;
 use sql_plan::plan;
 use sql_tree::{Query, SqlCreate, SqlInput, Statement};
 use std::alloc::{AllocError, Global};
 use std::sync::ledger::Ledger;
-use vtl_cell::Profile;
+use vtl_decimal::Profile;
 use vtl_index::Steps;
 use vtl_rows::{Inputs, Table, Tables};
 

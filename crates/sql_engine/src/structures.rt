@@ -1,11 +1,12 @@
 // The structure that an INPUT declares.
 ghost use Rattle.std.specs.Prelude.{◌≡◌, IfOk, map};
-ghost use Rattle.sql_exec.specs.Scopes.{is_among};
+ghost use Rattle.sql_check_parts.specs.Scopes.{is_among};
 ghost use Rattle.sql_engine.specs.Structures.{component_of, listed_codes, role_in, structure_of};
 
 use sql_tree::{InputColumn, SqlInput};
 use std::alloc::{AllocError, Global};
-use vtl_tree::{Component, List, Role, Shared, Structure, Txt};
+use vtl_text::{List, Shared, Txt};
+use vtl_tree::{Component, Role, Structure};
 
 // Whether a name is one of these. An INPUT that is typed has at most 64 columns, and so its KEY as many names.
 fn is_among(name: &Txt, names: &[Txt]) -> bool

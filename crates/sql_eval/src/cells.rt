@@ -9,7 +9,8 @@ ghost use Rattle.sql_eval.specs.View.{placed_of};
 
 use crate::{Existence, Resolved};
 use std::alloc::{AllocError, Global};
-use vtl_cell::{AggKind, Cell, Profile};
+use vtl_cell::{AggKind, Cell};
+use vtl_decimal::Profile;
 use vtl_scalar::ScalarErr;
 
 /// What an expression is evaluated at: a row, whose cells are lent, the rows of its group, and the tables that EXISTS

@@ -6,7 +6,8 @@ ghost use Rattle.sql_meaning.specs.Values.{constant_cell, literal_cell};
 use sql_check_parts::{constant_value, literal_value};
 use sql_tree::{Constant, Literal};
 use std::alloc::{AllocError, Global};
-use vtl_cell::{Cell, Profile};
+use vtl_cell::Cell;
+use vtl_decimal::Profile;
 
 fn cell_or_null(value: Option<Cell>) -> Cell
     ensures { result ≡ unwrap_or value c.Null }

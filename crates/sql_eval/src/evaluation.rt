@@ -11,7 +11,8 @@ ghost use Rattle.sql_eval.specs.View.{branch_of, branches_of, placed_of, placeds
 
 use crate::{Cells, Resolved, ResolvedBranch};
 use std::alloc::Global;
-use vtl_cell::{Cell, Kind, Profile, ScalarOp, not3};
+use vtl_cell::{Cell, Kind, ScalarOp, not3};
+use vtl_decimal::Profile;
 use vtl_scalar::{
     Given, Members, ScalarErr, apply, first_chosen, given_of_kind, made_of_kind, truth,
     value_of_one, value_of_three, value_of_two,

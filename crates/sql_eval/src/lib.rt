@@ -26,5 +26,3 @@ pub use kinded::Kinded;
 pub use names::{Level, Names};
 pub use resolved::{Existence, Resolved, ResolvedBranch, Side, Tie};
 pub use resolving::resolve;
-pub use sql_check_parts::or_null;
-pub use sql_meaning::{Early, Plan};

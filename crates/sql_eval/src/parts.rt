@@ -2,7 +2,7 @@
 ghost use Rattle.std.specs.Prelude.{◌≡◌, ◌++◌, ◌∷◌, [], true, IfOk, List, Ok, map};
 ghost use Rattle.vtl_cell.specs.Row.{Row};
 ghost use Rattle.vtl_cell.specs.ScalarKinds.{common_kind};
-ghost use Rattle.vtl_cell.specs.Settings.{Settings};
+ghost use Rattle.vtl_decimal.specs.Settings.{Settings};
 ghost use Rattle.vtl_cell.specs.declared.cell.Cell.TheVariants as c;
 ghost use Rattle.vtl_cell.specs.declared.kind.Kind.TheVariants as k;
 ghost use Rattle.vtl_cell.specs.AggregateKinds.{aggregate_kind};
@@ -20,7 +20,8 @@ use crate::{Kinded, Resolved, ResolvedBranch};
 use sql_check_parts::{self, case, operator};
 use sql_tree::Literal;
 use std::alloc::{AllocError, Global};
-use vtl_cell::{AggKind, Cell, Kind, Profile, ScalarOp};
+use vtl_cell::{AggKind, Cell, Kind, ScalarOp};
+use vtl_decimal::Profile;
 use vtl_scalar::Members;
 
 /// An operator on operands. It fails only if memory runs out.

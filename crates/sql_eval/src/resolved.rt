@@ -1,7 +1,8 @@
 // Expressions whose names are resolved.
 
-use vtl_cell::{AggKind, Cell, Kind, ScalarOp, Txt};
+use vtl_cell::{AggKind, Cell, Kind, ScalarOp};
 use vtl_scalar::Members;
+use vtl_text::Txt;
 
 /// A side of an equality of EXISTS.
 #[derive(Clone, Copy, Debug, PartialEq, Eq)]

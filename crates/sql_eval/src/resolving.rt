@@ -1,6 +1,6 @@
 // Expressions of the dialect, resolved.
 ghost use Rattle.std.specs.Prelude.{◌≡◌, IfOk, Ok, map};
-ghost use Rattle.vtl_cell.specs.Settings.{Settings};
+ghost use Rattle.vtl_decimal.specs.Settings.{Settings};
 ghost use Rattle.vtl_cell.specs.declared.kind.Kind.TheVariants as k;
 ghost use Rattle.sql_tree.specs.Trees as tree;
 ghost use Rattle.sql_tree.specs.Trees.{exps_of};
@@ -18,7 +18,8 @@ use crate::{Kinded, Level, Names, Resolved};
 use sql_check_parts::{constant, or_null};
 use sql_tree::{Branch, Column, Constant, Equality, Literal, Source, SqlExpr};
 use std::alloc::{AllocError, Global};
-use vtl_cell::{AggKind, Kind, Profile, ScalarOp};
+use vtl_cell::{AggKind, Kind, ScalarOp};
+use vtl_decimal::Profile;
 
 /// An expression, resolved: over tables of these columns, whatever rows they have, it has at each row and group the
 /// value that the meaning gives the expression, and it has its kind. It fails only if memory runs out.

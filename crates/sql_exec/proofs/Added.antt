@@ -9,8 +9,8 @@ use Rattle.vtl_cell.specs.Row.{Row}
 use Rattle.vtl_scalar.specs.Answers.{AnswersBy}
 use Rattle.vtl_scalar.specs.declared.error.ScalarErr.{ScalarErr}
 use Rattle.vtl_scalar.specs.declared.error.ScalarErr.TheVariants as err
-use Rattle.sql_window.specs.Selects.{appended, rows_in}
-use Rattle.sql_window.proofs.UpToOrder.{faults_by-append, join_assoc, join_none}
+use Rattle.sql_meaning.specs.Selects.{appended, rows_in}
+use Rattle.sql_meaning.proofs.UpToOrder.{faults_by-append, join_assoc, join_none}
 use Rattle.sql_exec.specs.Outputs.{Adds, Sees, fault_seen}
 use Rattle.sql_exec.specs.declared.output.Output.{Output}
 

@@ -3,10 +3,10 @@ use Rattle.std.proofs.Common.{◌≡◌, ◌∙◌, ℕ, ◌+◌, ◌<◌, ◌�
 use Rattle.std.specs.Prelude.{◌==◌}
 use Rattle.std.specs.List.{list_any}
 use Rattle.sql_tree.specs.Trees.{QueryTree, SelectTree}
-use Rattle.sql_eval.specs.Plans.{Ways, indexed_in, is_indexed}
-use Rattle.sql_eval.specs.plan.Indexed.{Indexed}
-use Rattle.sql_window.specs.Steps.{IsPlainJoin, most_steps}
-use Rattle.sql_window.specs.Tables.{Base}
+use Rattle.sql_meaning.specs.Plans.{Ways, indexed_in, is_indexed}
+use Rattle.sql_meaning.specs.declared.plan.Indexed.{Indexed}
+use Rattle.sql_from.specs.Steps.{IsPlainJoin, most_steps}
+use Rattle.sql_meaning.specs.Tables.{Base}
 
 joins_listed : (xs : List Indexed) (n : ℕ) → list_any (λ j. j == n) (map (λ i. i.join) xs) ≡ is_indexed xs n
 joins_listed [] n = refl

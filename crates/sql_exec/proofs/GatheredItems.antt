@@ -7,7 +7,7 @@ use Rattle.vtl_cell.specs.Conversion.{as_kind}
 use Rattle.vtl_cell.specs.Kinds.{is_of, same_kind}
 use Rattle.vtl_cell.specs.Outcome.{Outcome, after, faults_by, join, unless}
 use Rattle.vtl_cell.specs.Row.{Row, column_of, same_row}
-use Rattle.vtl_cell.specs.Settings.{Settings}
+use Rattle.vtl_decimal.specs.Settings.{Settings}
 use Rattle.vtl_cell.specs.declared.cell.Cell.{Cell}
 use Rattle.vtl_cell.specs.declared.cell.Cell.TheVariants as c
 use Rattle.vtl_cell.specs.declared.kind.Kind.{Kind}
@@ -19,13 +19,13 @@ use Rattle.sql_tree.specs.View.{item_tree}
 use Rattle.sql_tree.specs.declared.parts.Column.{Column}
 use Rattle.sql_tree.specs.declared.statements.Item.{Item}
 use Rattle.sql_check_parts.proofs.Places.{found_placed}
-use Rattle.sql_window.specs.Outcomes.{row_at, row_fault}
-use Rattle.sql_window.specs.Scopes.{Scope, found, placed, row_of}
-use Rattle.sql_window.specs.Selects.{Wanted, item_value, plain_rows, row_value}
-use Rattle.sql_window.specs.Tables.{Base, RowsFit}
-use Rattle.sql_window.specs.Values.{at_rows, place_in}
-use Rattle.sql_window.specs.Windows.{told_apart}
-use Rattle.sql_eval.proofs.SourceKinds.{column_fits}
+use Rattle.sql_meaning.specs.Outcomes.{row_at, row_fault}
+use Rattle.sql_check_parts.specs.Scopes.{Scope, found, placed, row_of}
+use Rattle.sql_meaning.specs.Selects.{Wanted, item_value, plain_rows, row_value}
+use Rattle.sql_meaning.specs.Tables.{Base, RowsFit}
+use Rattle.sql_meaning.specs.Values.{at_rows, place_in}
+use Rattle.sql_meaning.specs.Windows.{told_apart}
+use Rattle.sql_meaning.proofs.SourceKinds.{column_fits}
 use Rattle.sql_exec.specs.Gathered.{AreColumnsAt, IsColumnAt}
 use Rattle.sql_exec.proofs.PlacedColumns.{place_within}
 use Rattle.sql_exec.proofs.PlainRows.{row_fault_same, row_same}

@@ -1,10 +1,3 @@
-pub use Rattle.sql_eval.proofs.GivenColumns
-pub use Rattle.sql_eval.proofs.TypedStatements
-pub use Rattle.sql_window.proofs.HeldTables
-pub use Rattle.sql_window.proofs.Lists
-pub use Rattle.sql_window.proofs.Orders
-pub use Rattle.sql_window.proofs.Profiled
-pub use Rattle.sql_window.proofs.QueryKinds
 pub mod Steps
 pub mod PlacedColumns
 pub mod RowItems

@@ -2,15 +2,15 @@
 use Rattle.std.proofs.Common.{◌≡◌, ℕ, ◌<◌, List, [], ◌∷◌, true, length, get_or, ap, ◌∙◌}
 use Rattle.vtl_cell.specs.Outcome.{unless}
 use Rattle.vtl_cell.specs.Row.{Row}
-use Rattle.vtl_cell.specs.Settings.{Settings}
+use Rattle.vtl_decimal.specs.Settings.{Settings}
 use Rattle.vtl_cell.specs.declared.kind.Kind.{Kind}
 use Rattle.vtl_rows.specs.Tables.{column_kinds, fits, fits_kinds}
 use Rattle.vtl_rows.specs.declared.column.Column.{Column}
-use Rattle.sql_window.specs.Outcomes.{row_at, row_fault}
-use Rattle.sql_window.specs.Selects.{Wanted, item_value}
-use Rattle.sql_window.specs.Held.{rows_held}
-use Rattle.sql_window.specs.Sources.{Sourced}
-use Rattle.sql_window.specs.Standing.{sight_of}
+use Rattle.sql_meaning.specs.Outcomes.{row_at, row_fault}
+use Rattle.sql_meaning.specs.Selects.{Wanted, item_value}
+use Rattle.sql_from.specs.Held.{rows_held}
+use Rattle.sql_from.specs.Sources.{Sourced}
+use Rattle.sql_from.specs.Standing.{sight_of}
 use Rattle.sql_exec.specs.Items.{HaveValuesOf, made_at_row, numbered_row, told_row}
 use Rattle.sql_exec.specs.declared.items.RowItem.{RowItem}
 use Rattle.sql_exec.proofs.PlainRows.{one_row, row_fault_same, row_same}

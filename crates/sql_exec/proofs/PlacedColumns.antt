@@ -10,11 +10,11 @@ use Rattle.sql_tree.specs.Trees as tree
 use Rattle.sql_tree.specs.declared.parts.Column.{Column}
 use Rattle.sql_tree.specs.declared.windows.Window.{Window}
 use Rattle.sql_check_parts.proofs.Places.{found_placed}
-use Rattle.sql_window.specs.Expressions.{Site}
-use Rattle.sql_window.specs.Scopes.{Scope, found, placed, row_of}
-use Rattle.sql_window.specs.TypedSelects.{IsValueTyped}
-use Rattle.sql_window.specs.Values.{place_in}
-use Rattle.sql_eval.proofs.Lists.{under}
+use Rattle.sql_check_parts.specs.Expressions.{Site}
+use Rattle.sql_check_parts.specs.Scopes.{Scope, found, placed, row_of}
+use Rattle.sql_check_laws.specs.Selects.{IsValueTyped}
+use Rattle.sql_meaning.specs.Values.{place_in}
+use Rattle.sql_meaning.proofs.Lists.{under}
 
 -- Past the end of the row any kind would stand there, and the column has one.
 pub place_within : (scope : Scope) (x : Column) → IsSome (found scope x) → place_in scope x < length (row_of scope)

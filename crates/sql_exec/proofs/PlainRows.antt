@@ -4,8 +4,8 @@ use Rattle.std.specs.List.{flat_map}
 use Rattle.vtl_cell.specs.Outcome.{Fault, Outcome, fault_in, faults_by, join, unless}
 use Rattle.vtl_cell.specs.Row.{Row}
 use Rattle.vtl_cell.specs.declared.cell.Cell.{Cell}
-use Rattle.sql_window.specs.Outcomes.{cell_or_null, row_at, row_fault}
-use Rattle.sql_window.specs.Selects.{appended, rows_in}
+use Rattle.sql_meaning.specs.Outcomes.{cell_or_null, row_at, row_fault}
+use Rattle.sql_meaning.specs.Selects.{appended, rows_in}
 use Rattle.sql_exec.proofs.Added.{fault_of_unless, neither_fault, unless_same}
 
 -- ---- one row after the other

@@ -12,19 +12,19 @@ use Rattle.vtl_rows.specs.Tables.{Listed, fits_kinds}
 use Rattle.vtl_scalar.specs.declared.error.ScalarErr.{ScalarErr}
 use Rattle.vtl_scalar.specs.declared.error.ScalarErr.TheVariants as err
 use Rattle.sql_tree.specs.Trees.{JoinTree, QueryTree, SelectTree}
-use Rattle.sql_eval.proofs.IndexedJoins.{index_same}
-use Rattle.sql_eval.proofs.Planned.{entries_here, equality_here, next_behind}
-use Rattle.sql_eval.specs.Plans.{IsAt, IsEqualityJoin, IsPlan, SelectStands, SelectsStand, Ways, early_at, early_in, indexed_in, is_indexed, planned_joins, planned_selects, planned_source, planned_source_rows, try_early, with_index}
-use Rattle.sql_eval.specs.plan.Early.{Early}
-use Rattle.sql_eval.specs.plan.Indexed.{Indexed}
-use Rattle.sql_window.specs.From.{Joined, first_of, kept_of, source_rows, with_join}
-use Rattle.sql_window.specs.Profiles.{AreOfProfile, IsLawful, IsRowOfProfile}
-use Rattle.sql_window.specs.Scopes.{row_of}
-use Rattle.sql_window.specs.Queries.{scope_of}
-use Rattle.sql_window.specs.Tables.{Base, RowsFit}
-use Rattle.sql_window.specs.Values.{at_rows}
-use Rattle.sql_window.proofs.Profiled.{sources_are}
-use Rattle.sql_window.proofs.SourceKinds.{source_rows_fit}
+use Rattle.sql_meaning.proofs.IndexedJoins.{index_same}
+use Rattle.sql_meaning.proofs.Planned.{entries_here, equality_here, next_behind}
+use Rattle.sql_meaning.specs.Plans.{IsAt, IsEqualityJoin, IsPlan, SelectStands, SelectsStand, Ways, early_at, early_in, indexed_in, is_indexed, planned_joins, planned_selects, planned_source, planned_source_rows, try_early, with_index}
+use Rattle.sql_meaning.specs.declared.plan.Early.{Early}
+use Rattle.sql_meaning.specs.declared.plan.Indexed.{Indexed}
+use Rattle.sql_meaning.specs.From.{Joined, first_of, kept_of, source_rows, with_join}
+use Rattle.sql_meaning.specs.Profiles.{AreOfProfile, IsLawful, IsRowOfProfile}
+use Rattle.sql_check_parts.specs.Scopes.{row_of}
+use Rattle.sql_check_parts.specs.Queries.{scope_of}
+use Rattle.sql_meaning.specs.Tables.{Base, RowsFit}
+use Rattle.sql_meaning.specs.Values.{at_rows}
+use Rattle.sql_meaning.proofs.Profiled.{sources_are}
+use Rattle.sql_meaning.proofs.SourceKinds.{source_rows_fit}
 use Rattle.sql_exec.specs.Answers.{Gives}
 use Rattle.sql_exec.specs.Parts.{HasRowsOf, IsPart, phase_of}
 

@@ -7,12 +7,12 @@ use Rattle.vtl_rows.specs.declared.column.Column.{Column}
 use Rattle.sql_tree.specs.Trees.{Text}
 use Rattle.sql_tree.specs.declared.parts.Source.{Source}
 use Rattle.sql_tree.specs.declared.statements.Item.{Item}
-use Rattle.sql_window.specs.Scopes.{with_source}
-use Rattle.sql_window.specs.TypedSelects.{IsSourceTyped}
-use Rattle.sql_window.specs.Tables.{column_entry}
-use Rattle.sql_window.specs.Held.{tables_held}
-use Rattle.sql_window.specs.Sources.{Sourced, scope_held, table_named}
-use Rattle.sql_window.proofs.Standing.{scope_more}
+use Rattle.sql_check_parts.specs.Scopes.{with_source}
+use Rattle.sql_check_laws.specs.Selects.{IsSourceTyped}
+use Rattle.sql_meaning.specs.Tables.{column_entry}
+use Rattle.sql_from.specs.Held.{tables_held}
+use Rattle.sql_from.specs.Sources.{Sourced, scope_held, table_named}
+use Rattle.sql_from.proofs.Standing.{scope_more}
 use Rattle.sql_exec.proofs.Steps.{zipped_more}
 
 -- ---- sources

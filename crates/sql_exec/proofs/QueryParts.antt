@@ -7,29 +7,29 @@ use Rattle.vtl_cell.specs.Conversion.{as_kind}
 use Rattle.vtl_cell.specs.Kinds.{is_of}
 use Rattle.vtl_cell.specs.Outcome.{Outcome, after}
 use Rattle.vtl_cell.specs.Row.{Row}
-use Rattle.vtl_cell.specs.Settings.{Settings}
+use Rattle.vtl_decimal.specs.Settings.{Settings}
 use Rattle.vtl_cell.specs.declared.cell.Cell.{Cell}
 use Rattle.vtl_cell.specs.declared.kind.Kind.{Kind}
 use Rattle.vtl_rows.specs.Tables.{fits_kinds}
 use Rattle.vtl_scalar.specs.KindLaws.{HasKind, IsOfKind}
 use Rattle.sql_tree.specs.Trees as tree
 use Rattle.sql_tree.specs.Trees.{ItemTree, QueryTree, SelectTree, ValueTree}
-use Rattle.sql_window.specs.Expressions.{Site, site}
-use Rattle.sql_window.specs.Queries as typing
-use Rattle.sql_window.specs.Queries.{is_grouped, item_kind, query_columns, scope_of, value_kind}
-use Rattle.sql_window.specs.Scopes.{Grouping, Scope, grouping_of, row_of}
-use Rattle.sql_window.specs.TypedSelects.{IsItemTyped, IsQueryTyped, IsSelectTyped, IsValueTyped}
-use Rattle.sql_window.specs.Selects.{Wanted, grouped_rows, item_value, plain_rows, row_value, second_phase}
-use Rattle.sql_window.specs.Outcomes.{cell_or_null, row_at}
-use Rattle.sql_window.specs.Tables.{Base, RowsFit, kinds_of}
-use Rattle.sql_window.specs.Values.{View, at_rows, place_in}
-use Rattle.sql_window.specs.Resolved.{AreLifted}
-use Rattle.sql_window.proofs.LiftedLemmas.{all_are_lifted}
-use Rattle.sql_eval.proofs.ExpressionKinds.{value_has}
-use Rattle.sql_eval.proofs.Lists.{under}
-use Rattle.sql_eval.proofs.OperatorKinds.{after_if, as_kind_is_of}
-use Rattle.sql_eval.proofs.SourceKinds.{null_is_of}
-use Rattle.sql_eval.proofs.WindowKinds.{sees_row, window_has}
+use Rattle.sql_check_parts.specs.Expressions.{Site, site}
+use Rattle.sql_check_parts.specs.Queries as typing
+use Rattle.sql_check_parts.specs.Queries.{is_grouped, item_kind, query_columns, scope_of, value_kind}
+use Rattle.sql_check_parts.specs.Scopes.{Grouping, Scope, grouping_of, row_of}
+use Rattle.sql_check_laws.specs.Selects.{IsItemTyped, IsQueryTyped, IsSelectTyped, IsValueTyped}
+use Rattle.sql_meaning.specs.Selects.{Wanted, grouped_rows, item_value, plain_rows, row_value, second_phase}
+use Rattle.sql_meaning.specs.Outcomes.{cell_or_null, row_at}
+use Rattle.sql_meaning.specs.Tables.{Base, RowsFit, kinds_of}
+use Rattle.sql_meaning.specs.Values.{View, at_rows, place_in}
+use Rattle.sql_groups.specs.Resolved.{AreLifted}
+use Rattle.sql_groups.proofs.LiftedLemmas.{all_are_lifted}
+use Rattle.sql_meaning.proofs.ExpressionKinds.{value_has}
+use Rattle.sql_meaning.proofs.Lists.{under}
+use Rattle.sql_meaning.proofs.OperatorKinds.{after_if, as_kind_is_of}
+use Rattle.sql_meaning.proofs.SourceKinds.{null_is_of}
+use Rattle.sql_meaning.proofs.WindowKinds.{sees_row, window_has}
 use Rattle.sql_exec.specs.Items.{HasCallKind, IsKindKnown}
 use Rattle.sql_exec.specs.Parts.{IsPart, MakesKinds}
 

@@ -5,7 +5,7 @@ use Rattle.std.proofs.lemmas.List.{get_or-map, map-append}
 use Rattle.vtl_cell.specs.Conversion.{as_kind}
 use Rattle.vtl_cell.specs.Outcome.{Outcome, after}
 use Rattle.vtl_cell.specs.Row.{Row}
-use Rattle.vtl_cell.specs.Settings.{Settings}
+use Rattle.vtl_decimal.specs.Settings.{Settings}
 use Rattle.vtl_cell.specs.declared.cell.Cell.{Cell}
 use Rattle.vtl_cell.specs.declared.cell.Cell.TheVariants as c
 use Rattle.vtl_cell.specs.declared.kind.Kind.{Kind}
@@ -14,12 +14,12 @@ use Rattle.sql_tree.specs.Trees.{Exp}
 use Rattle.sql_tree.specs.View.{item_tree, value_tree}
 use Rattle.sql_tree.specs.declared.statements.Item.{Item}
 use Rattle.sql_tree.specs.declared.windows.Window.{Window}
-use Rattle.sql_window.specs.Held.{rows_held, tables_held}
-use Rattle.sql_window.specs.Selects.{Wanted, item_value}
-use Rattle.sql_window.specs.Sources.{Sourced, scope_held}
-use Rattle.sql_window.specs.Standing.{sight_of}
-use Rattle.sql_window.specs.Values.{View, value}
-use Rattle.sql_window.specs.Windows.{told_apart, window_value}
+use Rattle.sql_from.specs.Held.{rows_held, tables_held}
+use Rattle.sql_meaning.specs.Selects.{Wanted, item_value}
+use Rattle.sql_from.specs.Sources.{Sourced, scope_held}
+use Rattle.sql_from.specs.Standing.{sight_of}
+use Rattle.sql_meaning.specs.Values.{View, value}
+use Rattle.sql_meaning.specs.Windows.{told_apart, window_value}
 use Rattle.sql_eval.specs.Resolves.{Resolves, sight}
 use Rattle.sql_eval.specs.declared.kinded.Kinded.{Kinded}
 use Rattle.sql_eval.specs.declared.names.Level.TheVariants as levels

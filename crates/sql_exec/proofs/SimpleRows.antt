@@ -5,7 +5,7 @@ use Rattle.std.proofs.lemmas.List.{drop_more, map-append}
 use Rattle.vtl_cell.specs.Conversion.{as_kind}
 use Rattle.vtl_cell.specs.Outcome.{Outcome, after, unless}
 use Rattle.vtl_cell.specs.Row.{Row, column_of, same_row}
-use Rattle.vtl_cell.specs.Settings.{Settings}
+use Rattle.vtl_decimal.specs.Settings.{Settings}
 use Rattle.vtl_cell.specs.declared.cell.Cell.{Cell}
 use Rattle.vtl_cell.specs.declared.kind.Kind.{Kind}
 use Rattle.vtl_rows.specs.Tables.{column_kinds, fits, fits_kinds}
@@ -15,12 +15,12 @@ use Rattle.sql_tree.specs.Trees.{ValueTree}
 use Rattle.sql_tree.specs.View.{item_tree}
 use Rattle.sql_tree.specs.declared.statements.Item.{Item}
 use Rattle.sql_tree.specs.declared.windows.Window.{Window}
-use Rattle.sql_window.specs.Outcomes.{row_at, row_fault}
-use Rattle.sql_window.specs.Scopes.{Scope, row_of}
-use Rattle.sql_window.specs.Selects.{Wanted, item_value, row_value}
-use Rattle.sql_window.specs.Tables.{Base, RowsFit}
-use Rattle.sql_window.specs.Values.{View, at_rows}
-use Rattle.sql_window.specs.Windows.{told_apart, window_value}
+use Rattle.sql_meaning.specs.Outcomes.{row_at, row_fault}
+use Rattle.sql_check_parts.specs.Scopes.{Scope, row_of}
+use Rattle.sql_meaning.specs.Selects.{Wanted, item_value, row_value}
+use Rattle.sql_meaning.specs.Tables.{Base, RowsFit}
+use Rattle.sql_meaning.specs.Values.{View, at_rows}
+use Rattle.sql_meaning.specs.Windows.{told_apart, window_value}
 use Rattle.sql_exec.specs.Gathered.{IsColumnAt}
 use Rattle.sql_exec.specs.ItemCells.{next_value, values_in}
 use Rattle.sql_exec.specs.Items.{told_row}

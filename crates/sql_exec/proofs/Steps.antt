@@ -4,7 +4,7 @@ use Rattle.std.specs.Prelude.{zip}
 use Rattle.std.specs.List.{AllByRecursion}
 use Rattle.std.proofs.lemmas.List.{map-append, take_more}
 use Rattle.vtl_cell.specs.Outcome.{Fault, faults_by, join}
-use Rattle.sql_window.proofs.UpToOrder.{faults_by-append, join_assoc, join_none}
+use Rattle.sql_meaning.proofs.UpToOrder.{faults_by-append, join_assoc, join_none}
 
 -- a fact along an equation
 pub along : {X : Type 0} {x y : X} → x ≡ y → (P : X → Type 0) → P x → P y

@@ -5,7 +5,7 @@ use Rattle.std.proofs.lemmas.List.{length-map}
 use Rattle.vtl_lists.proofs.Perms.{Perm-refl}
 use Rattle.vtl_cell.specs.Outcome.{DivZero, Fault, Outcome, Range, fault_in, join, unless}
 use Rattle.vtl_cell.specs.Outcomes.{Same}
-use Rattle.vtl_cell.specs.Perm.{Perm}
+use Rattle.vtl_lists.specs.Perm.{Perm}
 use Rattle.vtl_cell.specs.Row.{Row}
 use Rattle.vtl_cell.specs.declared.kind.Kind.{Kind}
 use Rattle.vtl_rows.specs.Tables.{Listed, column_kinds}
@@ -17,13 +17,13 @@ use Rattle.sql_tree.specs.Trees.{QueryTree, Text}
 use Rattle.sql_tree.specs.View.{item_tree, select_tree}
 use Rattle.sql_tree.specs.declared.statements.Item.{Item}
 use Rattle.sql_tree.specs.declared.statements.Select.{Select}
-use Rattle.sql_window.specs.Queries.{item_name, query_columns, query_names, shared_kinds}
-use Rattle.sql_window.specs.Scopes.{Columns, Tables, or_null}
-use Rattle.sql_window.proofs.TypingQueryKinds.{as_many}
-use Rattle.sql_window.specs.Selects.{rows_in}
-use Rattle.sql_window.specs.Tables.{column_entry, kinds_of}
-use Rattle.sql_window.proofs.SharedKinds.{named_kinds}
-use Rattle.sql_window.specs.Seen.{answer_of}
+use Rattle.sql_check_parts.specs.Queries.{item_name, query_columns, query_names, shared_kinds}
+use Rattle.sql_check_parts.specs.Scopes.{Columns, Tables, or_null}
+use Rattle.sql_check_parts.proofs.QueryKinds.{as_many}
+use Rattle.sql_meaning.specs.Selects.{rows_in}
+use Rattle.sql_meaning.specs.Tables.{column_entry, kinds_of}
+use Rattle.sql_meaning.proofs.SharedKinds.{named_kinds}
+use Rattle.sql_from.specs.Seen.{answer_of}
 use Rattle.sql_exec.specs.Answers.{Gives}
 use Rattle.sql_exec.specs.Outputs.{Adds, fault_seen}
 use Rattle.sql_exec.specs.declared.output.Output.{Output}

@@ -3,11 +3,11 @@ use Rattle.std.specs.Prelude.{◌≡◌, ◌<◌, ℕ, true, All, List, length, 
 use Rattle.vtl_cell.specs.Row.{Row, column_of}
 use Rattle.vtl_cell.specs.declared.kind.Kind.TheVariants as k
 use Rattle.vtl_rows.specs.Tables.{fits_kinds}
-use Rattle.sql_window.specs.Columns.{kinds_at}
-use Rattle.sql_window.specs.Scopes.{Scope, row_of}
-use Rattle.sql_window.specs.Selects.{Wanted, item_value}
-use Rattle.sql_window.specs.Tables.{Base}
-use Rattle.sql_window.specs.Values.{at_rows}
+use Rattle.sql_from.specs.Columns.{kinds_at}
+use Rattle.sql_check_parts.specs.Scopes.{Scope, row_of}
+use Rattle.sql_meaning.specs.Selects.{Wanted, item_value}
+use Rattle.sql_meaning.specs.Tables.{Base}
+use Rattle.sql_meaning.specs.Values.{at_rows}
 
 -- An item is of the kind of the column at a place of the rows of FROM, and its value at each row that fits is the cell there.
 pub record IsColumnAt (scope : Scope) (item : Wanted) (place : ℕ) : Type 0 where

@@ -3,16 +3,16 @@ use Rattle.std.specs.Prelude.{◌≡◌, ◌<◌, ℕ, IsSome, List, [], get_or,
 use Rattle.vtl_cell.specs.Conversion.{as_kind}
 use Rattle.vtl_cell.specs.Outcome.{Outcome, after}
 use Rattle.vtl_cell.specs.Row.{Row}
-use Rattle.vtl_cell.specs.Settings.{Settings}
+use Rattle.vtl_decimal.specs.Settings.{Settings}
 use Rattle.vtl_cell.specs.declared.cell.Cell.{Cell}
 use Rattle.vtl_cell.specs.declared.cell.Cell.TheVariants as c
 use Rattle.sql_tree.specs.Trees as tree
 use Rattle.sql_tree.specs.Trees.{ItemTree, Text, ValueTree}
 use Rattle.sql_check_parts.specs.Windows.{call_kind}
-use Rattle.sql_window.specs.Scopes.{Scope}
-use Rattle.sql_window.specs.Selects.{Wanted, item_value, row_value}
-use Rattle.sql_window.specs.Values.{View}
-use Rattle.sql_window.specs.Windows.{told_apart}
+use Rattle.sql_check_parts.specs.Scopes.{Scope}
+use Rattle.sql_meaning.specs.Selects.{Wanted, item_value, row_value}
+use Rattle.sql_meaning.specs.Values.{View}
+use Rattle.sql_meaning.specs.Windows.{told_apart}
 use Rattle.sql_eval.specs.Placed.{placed_value}
 use Rattle.sql_eval.specs.View.{placed_of}
 use Rattle.sql_exec.specs.declared.items.ItemValues.{ItemValues}

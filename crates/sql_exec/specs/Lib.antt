@@ -1,23 +1,3 @@
-pub use Rattle.sql_check_parts.specs.Exists
-pub use Rattle.sql_check_parts.specs.Kinds
-pub use Rattle.sql_check_parts.specs.Queries
-pub use Rattle.sql_check_parts.specs.Rules
-pub use Rattle.sql_check_parts.specs.Scopes
-pub use Rattle.sql_check_parts.specs.Statements as TypingStatements
-pub use Rattle.sql_eval.specs.Statements
-pub use Rattle.sql_eval.specs.TypedSelects
-pub use Rattle.sql_window.specs.Held
-pub use Rattle.sql_window.specs.From
-pub use Rattle.sql_window.specs.Groups
-pub use Rattle.sql_window.specs.Orders
-pub use Rattle.sql_window.specs.Outcomes
-pub use Rattle.sql_window.specs.Profiles
-pub use Rattle.sql_window.specs.Scripts
-pub use Rattle.sql_window.specs.Selects
-pub use Rattle.sql_window.specs.Steps
-pub use Rattle.sql_window.specs.Tables
-pub use Rattle.sql_window.specs.Values
-pub use Rattle.sql_window.specs.Windows
 pub mod Answers
 pub mod Gathered
 pub mod ItemCells

@@ -4,8 +4,8 @@ use Rattle.vtl_cell.specs.Outcome.{DivZero, Fault, Outcome, Range, fault_in, joi
 use Rattle.vtl_cell.specs.Row.{Row}
 use Rattle.vtl_scalar.specs.declared.error.ScalarErr.{ScalarErr}
 use Rattle.vtl_scalar.specs.declared.error.ScalarErr.TheVariants as err
-use Rattle.sql_window.specs.Seen.{seen_of}
-use Rattle.sql_window.specs.Selects.{rows_in}
+use Rattle.sql_from.specs.Seen.{seen_of}
+use Rattle.sql_meaning.specs.Selects.{rows_in}
 use Rattle.sql_exec.specs.declared.output.Output.{Output}
 
 abbrev pub fault_seen : Output → Option Fault

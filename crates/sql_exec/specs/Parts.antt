@@ -6,16 +6,16 @@ use Rattle.vtl_cell.specs.Row.{Row}
 use Rattle.vtl_cell.specs.declared.kind.Kind.{Kind}
 use Rattle.vtl_rows.specs.Tables.{fits_kinds}
 use Rattle.sql_tree.specs.Trees.{SelectTree}
-use Rattle.sql_eval.specs.Plans.{planned_source_rows}
-use Rattle.sql_eval.specs.plan.Early.{Early}
-use Rattle.sql_window.specs.From.{source_rows}
-use Rattle.sql_window.specs.Queries.{kinds_of, scope_of}
-use Rattle.sql_window.specs.Scopes.{Scope, row_of}
-use Rattle.sql_window.specs.TypedSelects.{IsSelectTyped}
-use Rattle.sql_window.specs.Selects.{second_phase}
-use Rattle.sql_window.specs.Tables.{Base, RowsFit}
-use Rattle.sql_window.specs.Values.{at_rows}
-use Rattle.sql_window.specs.Resolved.{AreLifted}
+use Rattle.sql_meaning.specs.Plans.{planned_source_rows}
+use Rattle.sql_meaning.specs.declared.plan.Early.{Early}
+use Rattle.sql_meaning.specs.From.{source_rows}
+use Rattle.sql_check_parts.specs.Queries.{kinds_of, scope_of}
+use Rattle.sql_check_parts.specs.Scopes.{Scope, row_of}
+use Rattle.sql_check_laws.specs.Selects.{IsSelectTyped}
+use Rattle.sql_meaning.specs.Selects.{second_phase}
+use Rattle.sql_meaning.specs.Tables.{Base, RowsFit}
+use Rattle.sql_meaning.specs.Values.{at_rows}
+use Rattle.sql_groups.specs.Resolved.{AreLifted}
 
 -- what is made at each row of FROM, among rows that fit, is of these kinds
 abbrev pub MakesKinds : Scope → List Kind → (List Row → Row × ℕ → Row) → Type 0

@@ -1,8 +1,8 @@
 -- Items that are columns and windows.
 use Rattle.std.specs.Prelude.{◌≡◌, List, [], ◌∷◌}
 use Rattle.sql_tree.specs.Trees as tree
-use Rattle.sql_window.specs.Scopes.{Scope}
-use Rattle.sql_window.specs.Selects.{Wanted}
+use Rattle.sql_check_parts.specs.Scopes.{Scope}
+use Rattle.sql_meaning.specs.Selects.{Wanted}
 use Rattle.sql_exec.specs.Gathered.{IsColumnAt}
 use Rattle.sql_exec.specs.declared.simple_items.SimpleItem.{SimpleItem}
 use Rattle.sql_exec.specs.declared.simple_items.SimpleItem.TheVariants as simple

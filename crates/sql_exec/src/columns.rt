@@ -2,20 +2,22 @@
 ghost use Rattle.std.specs.List.{AllByRecursion};
 ghost use Rattle.std.specs.Prelude.{◌≡◌, fold, length, map, zip, IfOk, OnOk};
 ghost use Rattle.sql_tree.specs.View.{item_tree, select_tree, value_tree};
-ghost use Rattle.sql_window.specs.Queries.{beside, item_kind, kinds_of, shared_kinds, value_kind};
-ghost use Rattle.sql_window.specs.Scopes.{or_null};
-ghost use Rattle.sql_window.specs.Tables.{column_entry};
-ghost use Rattle.sql_window.specs.Held.{tables_held};
-ghost use Rattle.sql_window.specs.TypedSelects.{IsSelectTyped};
+ghost use Rattle.sql_check_parts.specs.Queries.{beside, item_kind, kinds_of, shared_kinds, value_kind};
+ghost use Rattle.sql_check_parts.specs.Scopes.{or_null};
+ghost use Rattle.sql_meaning.specs.Tables.{column_entry};
+ghost use Rattle.sql_from.specs.Held.{tables_held};
+ghost use Rattle.sql_check_laws.specs.Selects.{IsSelectTyped};
 ghost use Rattle.sql_exec.specs.Items.{HasCallKind, IsKindKnown};
 
 use crate::window_kinds::window_kind;
+use sql_check_parts::or_null;
 use sql_check_queries::{all_some, join_source, share_kinds};
-use sql_eval::{Level, Names, or_null, resolve};
+use sql_eval::{Level, Names, resolve};
+use sql_from::Sources;
 use sql_tree::{Item, ItemValue, Select};
-use sql_window::Sources;
 use std::alloc::{AllocError, Global};
-use vtl_cell::{Kind, Profile};
+use vtl_cell::Kind;
+use vtl_decimal::Profile;
 use vtl_rows::{Column, Tables};
 
 // The kind of an item.

@@ -2,17 +2,17 @@
 ghost use Rattle.std.specs.Prelude.{◌≡◌, ◌<◌, length, map, zip, All, IfOk, IfSome, Ok, OnOk};
 ghost use Rattle.vtl_rows.specs.Tables.{cells_at, column_kinds};
 ghost use Rattle.sql_tree.specs.View.{item_tree};
-ghost use Rattle.sql_window.specs.Columns.{kinds_at};
-ghost use Rattle.sql_window.specs.Scopes.{row_of};
-ghost use Rattle.sql_window.specs.Sources.{scope_held};
-ghost use Rattle.sql_window.specs.Standing.{rows_for};
+ghost use Rattle.sql_from.specs.Columns.{kinds_at};
+ghost use Rattle.sql_check_parts.specs.Scopes.{row_of};
+ghost use Rattle.sql_from.specs.Sources.{scope_held};
+ghost use Rattle.sql_from.specs.Standing.{rows_for};
 ghost use Rattle.sql_exec.specs.Gathered.{AreColumnsAt, IsColumnAt};
 ghost use Rattle.sql_exec.specs.Outputs.{Adds};
 
 use crate::output::Output;
 use sql_eval::Names;
+use sql_from::TupleRows;
 use sql_tree::{Item, ItemValue, SqlExpr};
-use sql_window::TupleRows;
 use std::alloc::{AllocError, Global};
 use vtl_cell::{Kind, is_same_kind};
 use vtl_rows::{Column, Table, are_all};

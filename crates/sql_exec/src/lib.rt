@@ -18,4 +18,3 @@ mod simple_items;
 mod window_kinds;
 
 pub use queries::{exec, source_rows};
-pub use sql_window::ExecErr;

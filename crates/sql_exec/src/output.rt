@@ -3,8 +3,8 @@ ghost use Rattle.std.specs.Prelude.{◌≡◌, ◌<◌, ◌∷◌, [], true, Lis
 ghost use Rattle.vtl_cell.specs.Row.{Row};
 ghost use Rattle.vtl_cell.specs.Outcome.{unless};
 ghost use Rattle.vtl_rows.specs.Tables.{fits};
-ghost use Rattle.sql_window.specs.Outcomes.{row_at, row_fault};
-ghost use Rattle.sql_window.specs.Seen.{answer_of};
+ghost use Rattle.sql_meaning.specs.Outcomes.{row_at, row_fault};
+ghost use Rattle.sql_from.specs.Seen.{answer_of};
 ghost use Rattle.sql_exec.specs.ItemCells.{next_value, values_in};
 ghost use Rattle.sql_exec.specs.Items.{made_at_row};
 ghost use Rattle.sql_exec.specs.Outputs.{Adds, Sees, fault_seen};
@@ -12,9 +12,10 @@ ghost use Rattle.sql_exec.specs.Outputs.{Adds, Sees, fault_seen};
 use crate::item_cells::{ItemCells, push_across};
 use crate::items::{RowItem, push_items};
 use sql_eval::Cells;
-use sql_window::Seen;
+use sql_from::Seen;
 use std::alloc::{AllocError, Global};
-use vtl_cell::{Cell, Profile};
+use vtl_cell::Cell;
+use vtl_decimal::Profile;
 use vtl_rows::{Column, Table};
 use vtl_scalar::ScalarErr;
 

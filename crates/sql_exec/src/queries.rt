@@ -5,25 +5,26 @@ ghost use Rattle.sql_tree.specs.Formed.{IsQuery};
 ghost use Rattle.sql_tree.specs.Grammar.{most_levels};
 ghost use Rattle.sql_tree.specs.Trees.{SelectTree};
 ghost use Rattle.sql_tree.specs.View.{query_tree};
-ghost use Rattle.sql_eval.specs.Plans.{indexed_in, is_indexed};
-ghost use Rattle.sql_window.specs.Queries.{query_columns, scope_of};
-ghost use Rattle.sql_window.specs.TypedSelects.{IsQueryTyped};
-ghost use Rattle.sql_window.specs.From.{source_rows};
-ghost use Rattle.sql_window.specs.Profiles.{IsLawful};
-ghost use Rattle.sql_window.specs.Steps.{IsPlainJoin, most_steps};
-ghost use Rattle.sql_window.specs.Selects.{query_value};
-ghost use Rattle.sql_window.specs.Tables.{column_entry};
-ghost use Rattle.sql_window.specs.Columns.{source_columns};
-ghost use Rattle.sql_window.specs.Held.{base_held, tables_held};
+ghost use Rattle.sql_meaning.specs.Plans.{indexed_in, is_indexed};
+ghost use Rattle.sql_check_parts.specs.Queries.{query_columns, scope_of};
+ghost use Rattle.sql_check_laws.specs.Selects.{IsQueryTyped};
+ghost use Rattle.sql_meaning.specs.From.{source_rows};
+ghost use Rattle.sql_meaning.specs.Profiles.{IsLawful};
+ghost use Rattle.sql_from.specs.Steps.{IsPlainJoin, most_steps};
+ghost use Rattle.sql_meaning.specs.Selects.{query_value};
+ghost use Rattle.sql_meaning.specs.Tables.{column_entry};
+ghost use Rattle.sql_from.specs.Columns.{source_columns};
+ghost use Rattle.sql_from.specs.Held.{base_held, tables_held};
 ghost use Rattle.sql_exec.specs.Answers.{Gives};
 
 use crate::columns::{named_columns, query_kinds};
 use crate::output::Output;
 use crate::selects::add_selects;
-use sql_window::{ExecErr, Plan};
+use sql_from::ExecErr;
+use sql_meaning::Plan;
 use std::alloc::Global;
 use std::sync::ledger::Ledger;
-use vtl_cell::Profile;
+use vtl_decimal::Profile;
 use vtl_index::Steps;
 use vtl_rows::{Table, Tables};
 
@@ -79,5 +80,5 @@ pub fn source_rows<L: Ledger>(
     ensures rows { (s : SelectTree) → query_tree plan.now.query ≡ s ∷ [] → AnswersBy (λ t. t.rows) result (source_rows (base_held p.now tables.now) s) }
 {
     let selects = plan.query().selects.as_slice();
-    sql_window::source_rows(alloc, &selects[0], tables, p, steps)
+    sql_from::source_rows(alloc, &selects[0], tables, p, steps)
 }

@@ -2,7 +2,8 @@
 ghost use Rattle.std.specs.Prelude.{◌≡◌, IsSome};
 ghost use Rattle.sql_check_parts.specs.Windows.{call_kind, window_kind};
 
-use sql_eval::{Names, or_null};
+use sql_check_parts::or_null;
+use sql_eval::Names;
 use sql_tree::{ValueFunction, Window, WindowCall};
 use vtl_cell::{Kind, aggregate_kind, number_of};
 

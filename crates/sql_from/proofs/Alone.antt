@@ -6,8 +6,8 @@ use Rattle.std.proofs.lemmas.List.FromFn.{fill_by_all}
 use Rattle.vtl_rows.specs.Named.{NamedTables}
 use Rattle.vtl_rows.specs.Tables.{Listed, column_kinds}
 use Rattle.vtl_rows.specs.declared.column.Column.{Column}
-use Rattle.sql_eval.specs.Scopes.{row_of}
-use Rattle.sql_eval.specs.Tables.{column_entry}
+use Rattle.sql_check_parts.specs.Scopes.{row_of}
+use Rattle.sql_meaning.specs.Tables.{column_entry}
 use Rattle.sql_from.specs.Joins.{singles}
 use Rattle.sql_from.specs.Rows.{combined}
 use Rattle.sql_from.specs.Sources.{IsWide, parts_of, scope_held}

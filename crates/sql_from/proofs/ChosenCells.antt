@@ -10,7 +10,7 @@ use Rattle.vtl_rows.specs.Named.{NamedTables}
 use Rattle.vtl_rows.specs.Tables.{Listed, cells_at, column_kinds}
 use Rattle.vtl_rows.specs.declared.gather.Pick.{Pick}
 use Rattle.sql_tree.specs.Trees.{Text}
-use Rattle.sql_eval.specs.Scopes.{Columns, Scope, row_of}
+use Rattle.sql_check_parts.specs.Scopes.{Columns, Scope, row_of}
 use Rattle.sql_from.specs.Columns.{columns_below, kinds_at, source_columns}
 use Rattle.sql_from.specs.Rows.{combined, pick_for, picks_from}
 use Rattle.sql_from.specs.Sources.{parts_of, scope_held}

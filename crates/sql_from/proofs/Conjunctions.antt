@@ -9,7 +9,7 @@ use Rattle.vtl_cell.specs.Outcomes.{is_true}
 use Rattle.vtl_cell.specs.Row.{column_of}
 use Rattle.vtl_cell.specs.ScalarChoice.{on_truths, truth_in}
 use Rattle.vtl_cell.specs.ScalarComparison.{compared, truth}
-use Rattle.vtl_cell.specs.Settings.{Settings}
+use Rattle.vtl_decimal.specs.Settings.{Settings}
 use Rattle.vtl_cell.specs.declared.cell.Cell.{Cell}
 use Rattle.vtl_cell.specs.declared.cell.Cell.TheVariants as c
 use Rattle.vtl_cell.specs.declared.kind.Kind.{Kind}
@@ -19,8 +19,8 @@ use Rattle.vtl_rows.specs.Places.{row_at}
 use Rattle.sql_tree.specs.Trees as tree
 use Rattle.sql_tree.specs.Trees.{Exp}
 use Rattle.sql_tree.specs.declared.parts.Column.{Column}
-use Rattle.sql_eval.specs.Outcomes.{operated}
-use Rattle.sql_eval.specs.Values.{place_in}
+use Rattle.sql_meaning.specs.Outcomes.{operated}
+use Rattle.sql_meaning.specs.Values.{place_in}
 use Rattle.sql_from.specs.Joins.{with_number}
 use Rattle.sql_from.specs.Keys.{ArePaired, IsPairOf, all_paired, is_paired, last_of, row_in}
 use Rattle.sql_from.specs.Rows.{combined}

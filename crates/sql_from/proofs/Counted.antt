@@ -4,7 +4,7 @@ use Rattle.std.specs.List.{AllByRecursion}
 use Rattle.std.specs.Prelude.{fold, sum, nat_eq}
 use Rattle.std.proofs.lemmas.List.{length-map}
 use Rattle.vtl_cell.specs.Outcome.{Fault, join}
-use Rattle.vtl_cell.specs.Settings.{Settings}
+use Rattle.vtl_decimal.specs.Settings.{Settings}
 use Rattle.vtl_cell.specs.declared.operator.ScalarOp.TheVariants as op
 use Rattle.vtl_rows.specs.Gathered.{part_at}
 use Rattle.vtl_rows.specs.Named.{NamedTables}
@@ -12,14 +12,14 @@ use Rattle.sql_tree.specs.Trees as tree
 use Rattle.sql_tree.specs.Trees.{Exp, JoinTree, SelectTree}
 use Rattle.sql_tree.specs.declared.parts.Source.{Source}
 use Rattle.sql_tree.specs.declared.word_groups.JoinKind.{JoinKind}
-use Rattle.sql_eval.specs.From.{Joined, first_of, joined, with_join}
-use Rattle.sql_eval.specs.Expressions.{site}
-use Rattle.sql_eval.specs.Plans.{IsEqualityJoin, conjuncts, conjuncts_of, early_at, try_early}
-use Rattle.sql_eval.specs.Queries.{first_scope, join_source}
-use Rattle.sql_eval.specs.Scopes.{Scope, with_source}
-use Rattle.sql_eval.specs.Tables.{Base}
-use Rattle.sql_eval.specs.TypedSelects.{AreJoinsTyped, IsJoinCondition, IsSourceTyped}
-use Rattle.sql_eval.specs.plan.Early.{Early}
+use Rattle.sql_meaning.specs.From.{Joined, first_of, joined, with_join}
+use Rattle.sql_check_parts.specs.Expressions.{site}
+use Rattle.sql_meaning.specs.Plans.{IsEqualityJoin, conjuncts, conjuncts_of, early_at, try_early}
+use Rattle.sql_check_parts.specs.Queries.{first_scope, join_source}
+use Rattle.sql_check_parts.specs.Scopes.{Scope, with_source}
+use Rattle.sql_meaning.specs.Tables.{Base}
+use Rattle.sql_check_laws.specs.Selects.{AreJoinsTyped, IsJoinCondition, IsSourceTyped}
+use Rattle.sql_meaning.specs.declared.plan.Early.{Early}
 use Rattle.sql_from.specs.Asking.{asks, condition_asks}
 use Rattle.sql_from.specs.Held.{base_held, rows_held, tables_held}
 use Rattle.sql_from.specs.Joins.{joined_tuples, marks_of, pairs_fault}

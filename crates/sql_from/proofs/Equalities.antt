@@ -10,15 +10,15 @@ use Rattle.vtl_cell.specs.Order.{same_cell}
 use Rattle.vtl_cell.specs.Profile.{IsOfProfile}
 use Rattle.vtl_cell.specs.Row.{Row, column_of, same_row}
 use Rattle.vtl_cell.specs.ScalarArithmetic.{number, units}
-use Rattle.vtl_cell.specs.Settings.{Settings}
+use Rattle.vtl_decimal.specs.Settings.{Settings}
 use Rattle.vtl_cell.specs.declared.cell.Cell.{Cell}
 use Rattle.vtl_cell.specs.declared.cell.Cell.TheVariants as c
 use Rattle.vtl_cell.proofs.Cells.{same_cell-is, same_cell-refl}
 use Rattle.vtl_scalar.proofs.FaultLemmas.{integer_is_a_number}
 use Rattle.vtl_index.specs.RowKeys.{counted, has_null, key_at, key_cell, or_null}
 use Rattle.vtl_index.specs.declared.row_keys.KeyForm.TheVariants.{AsNumber}
-use Rattle.sql_eval.specs.Profiles.{IsRowOfProfile}
-use Rattle.sql_eval.proofs.Profiled.{cell_is}
+use Rattle.sql_meaning.specs.Profiles.{IsRowOfProfile}
+use Rattle.sql_meaning.proofs.Profiled.{cell_is}
 use Rattle.sql_from.specs.Keys.{all_paired, are_equal, as_number, asked_columns, is_paired, own_columns}
 use Rattle.sql_from.specs.declared.key_pairs.KeyPair.{KeyPair}
 

@@ -7,11 +7,11 @@ use Rattle.sql_tree.specs.Trees as tree
 use Rattle.sql_tree.specs.Trees.{Exp, JoinTree}
 use Rattle.sql_tree.specs.declared.word_groups.JoinKind.{JoinKind}
 use Rattle.sql_tree.specs.declared.word_groups.JoinKind.TheVariants as joining
-use Rattle.sql_eval.specs.From.{Joined, beside, holds, is_met, joined_by, nulls, or_alone, partners, partners_or_alone, unmet, with_join}
-use Rattle.sql_eval.specs.Plans.{try_early}
-use Rattle.sql_eval.specs.Scopes.{row_of, with_source}
-use Rattle.sql_eval.specs.Tables.{Base, columns_named}
-use Rattle.sql_eval.specs.Values.{View, at_rows}
+use Rattle.sql_meaning.specs.From.{Joined, beside, holds, is_met, joined_by, nulls, or_alone, partners, partners_or_alone, unmet, with_join}
+use Rattle.sql_meaning.specs.Plans.{try_early}
+use Rattle.sql_check_parts.specs.Scopes.{row_of, with_source}
+use Rattle.sql_meaning.specs.Tables.{Base, columns_named}
+use Rattle.sql_meaning.specs.Values.{View, at_rows}
 
 -- what is made of a part of a list
 fewer_made : {A C : Type 0} (f : A → List C) (keep : A → Bool) (xs : List A) → length (flat_map f (filter keep xs)) ≤ length (flat_map f xs)

@@ -4,7 +4,7 @@ use Rattle.std.specs.Prelude.{◌==◌, slice_get, slice_index}
 use Rattle.std.specs.List.{filter, list_any}
 use Rattle.vtl_cell.specs.Outcome.{Fault, faults_by, join}
 use Rattle.vtl_cell.specs.Row.{Row, same_row}
-use Rattle.vtl_cell.specs.Settings.{Settings}
+use Rattle.vtl_decimal.specs.Settings.{Settings}
 use Rattle.vtl_rows.specs.Gathered.{part_at}
 use Rattle.vtl_rows.specs.Places.{row_at}
 use Rattle.vtl_rows.specs.Tables.{Listed}
@@ -16,8 +16,8 @@ use Rattle.vtl_rows.specs.Named.{NamedTables, table_of}
 use Rattle.vtl_rows.proofs.Placed.{all_places}
 use Rattle.sql_tree.specs.Trees.{Exp}
 use Rattle.sql_eval.specs.Placed.{has_partner}
-use Rattle.sql_eval.specs.Tables.{rows_of}
-use Rattle.sql_eval.specs.Profiles.{AreOfProfile, IsLawful, IsRowOfProfile}
+use Rattle.sql_meaning.specs.Tables.{rows_of}
+use Rattle.sql_meaning.specs.Profiles.{AreOfProfile, IsLawful, IsRowOfProfile}
 use Rattle.sql_from.specs.Held.{IsHeld, base_held, rows_held}
 use Rattle.sql_from.specs.Joins.{Test, numbers_to, passes, with_number}
 use Rattle.sql_from.specs.Keys.{ArePaired, all_paired, asked_columns, last_of, linked_count, own_columns}

@@ -9,7 +9,7 @@ use Rattle.vtl_cell.specs.declared.cell.Cell.{Cell}
 use Rattle.vtl_cell.specs.Outcome.{Outcome}
 use Rattle.sql_tree.specs.declared.word_groups.JoinKind.{JoinKind}
 use Rattle.sql_tree.specs.declared.word_groups.JoinKind.TheVariants as joining
-use Rattle.sql_eval.specs.From.{is_met, or_alone}
+use Rattle.sql_meaning.specs.From.{is_met, or_alone}
 use Rattle.sql_from.specs.Joins.{added, ends_with, from_left, joined_tuples, keeps_left, keeps_right, numbers_to, passes, with_number}
 use Rattle.sql_from.proofs.Marks.{other_number, same_number}
 

@@ -4,7 +4,7 @@ use Rattle.std.specs.Prelude.{◌==◌}
 use Rattle.std.specs.List.{list_all, list_any}
 use Rattle.std.proofs.lemmas.List.Folds.{list_all-append, list_all_more}
 use Rattle.vtl_cell.specs.Row.{Row, column_of}
-use Rattle.vtl_cell.specs.Settings.{Settings}
+use Rattle.vtl_decimal.specs.Settings.{Settings}
 use Rattle.vtl_index.specs.RowIndex.{found_rows}
 use Rattle.vtl_index.specs.RowKeys.{key_at}
 use Rattle.vtl_index.specs.declared.row_keys.NullKeys.TheVariants.{NotFound}
@@ -13,8 +13,8 @@ use Rattle.vtl_rows.specs.Places.{row_at}
 use Rattle.vtl_rows.specs.Tables.{Listed}
 use Rattle.vtl_rows.proofs.Placed.{all_places}
 use Rattle.sql_eval.specs.Placed.{is_tied}
-use Rattle.sql_eval.specs.Profiles.{AreOfProfile, IsLawful}
-use Rattle.sql_eval.specs.Tables.{rows_of}
+use Rattle.sql_meaning.specs.Profiles.{AreOfProfile, IsLawful}
+use Rattle.sql_meaning.specs.Tables.{rows_of}
 use Rattle.sql_eval.specs.declared.resolved.Side.TheVariants as side
 use Rattle.sql_eval.specs.declared.resolved.Tie.{Tie}
 use Rattle.sql_from.specs.Held.{base_held, rows_held}

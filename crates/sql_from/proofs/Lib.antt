@@ -1,11 +1,3 @@
-pub use Rattle.sql_eval.proofs.ExpressionKinds
-pub use Rattle.sql_eval.proofs.Lists
-pub use Rattle.sql_eval.proofs.OperatorKinds
-pub use Rattle.sql_eval.proofs.Profiled
-pub use Rattle.sql_eval.proofs.SharedKinds
-pub use Rattle.sql_eval.proofs.SourceKinds
-pub use Rattle.sql_eval.proofs.UpToOrder
-pub use Rattle.sql_eval.proofs.WindowKinds
 pub mod Views
 pub mod Flats
 pub mod Joins

@@ -6,7 +6,7 @@ use Rattle.std.proofs.lemmas.List.Folds.{list_all-append}
 use Rattle.vtl_cell.specs.declared.operator.ScalarOp.TheVariants as op
 use Rattle.sql_tree.specs.Trees as tree
 use Rattle.sql_tree.specs.Trees.{Exp}
-use Rattle.sql_eval.specs.Plans.{conjuncts}
+use Rattle.sql_meaning.specs.Plans.{conjuncts}
 use Rattle.sql_from.specs.Keys.{is_link}
 use Rattle.sql_from.specs.Sources.{Sourced}
 

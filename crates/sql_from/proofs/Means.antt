@@ -13,9 +13,9 @@ use Rattle.vtl_rows.specs.Tables.{Listed, cells_at}
 use Rattle.vtl_rows.proofs.Placed.{all_places}
 use Rattle.sql_tree.specs.declared.word_groups.JoinKind.{JoinKind}
 use Rattle.sql_tree.specs.declared.word_groups.JoinKind.TheVariants as joining
-use Rattle.sql_eval.specs.From.{beside, is_met, joined_by, joined_rows, nulls, or_alone, pairs, pairs_by, partners, partners_or_alone, unmet}
-use Rattle.sql_eval.proofs.SourceKinds.{joined_all, pairs_all}
-use Rattle.sql_eval.proofs.UpToOrder.{faults_by-append}
+use Rattle.sql_meaning.specs.From.{beside, is_met, joined_by, joined_rows, nulls, or_alone, pairs, pairs_by, partners, partners_or_alone, unmet}
+use Rattle.sql_meaning.proofs.SourceKinds.{joined_all, pairs_all}
+use Rattle.sql_meaning.proofs.UpToOrder.{faults_by-append}
 use Rattle.sql_from.specs.Joins.{crossed_tuples, fault_of, joined_tuples, kept_tuples, marks_of, numbers_to, pairs_fault, passes, singles, with_number}
 use Rattle.sql_from.specs.Rows.{combined, part, places_of, width_of}
 use Rattle.sql_from.specs.Sources.{IsWide}

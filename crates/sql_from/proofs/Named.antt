@@ -6,12 +6,12 @@ use Rattle.std.specs.Option.{option_map}
 use Rattle.std.specs.Prelude.{nat_eq, unwrap_or}
 use Rattle.std.proofs.lemmas.Bool.{and_parts}
 use Rattle.std.proofs.lemmas.List.{drop_more, drop_all, map-append, take_more}
-use Rattle.vtl_cell.specs.Texts.{same_text}
+use Rattle.vtl_text.specs.Texts.{same_text}
 use Rattle.vtl_cell.specs.declared.kind.Kind.{Kind}
 use Rattle.vtl_rows.specs.declared.column.Column.{Column}
 use Rattle.sql_tree.specs.Trees.{Text}
-use Rattle.sql_eval.specs.Scopes.{Columns, Named, numbered, value_among}
-use Rattle.sql_eval.specs.Tables.{column_entry}
+use Rattle.sql_check_parts.specs.Scopes.{Columns, Named, numbered, value_among}
+use Rattle.sql_meaning.specs.Tables.{column_entry}
 use Rattle.sql_from.specs.Sources.{AreFound}
 use Rattle.sql_from.specs.declared.columns.ColumnAt.{ColumnAt}
 

@@ -5,16 +5,16 @@ use Rattle.std.specs.Map.{keys_of}
 use Rattle.std.specs.Option.{option_map}
 use Rattle.std.specs.Prelude.{option_and_then, slice_get, unwrap_or}
 use Rattle.std.proofs.lemmas.List.{append-nil, length-map}
-use Rattle.vtl_cell.specs.Texts.{same_text}
+use Rattle.vtl_text.specs.Texts.{same_text}
 use Rattle.vtl_rows.specs.Named.{NamedTables, table_of}
 use Rattle.vtl_rows.specs.Tables.{Listed}
 use Rattle.sql_tree.specs.Trees.{Text}
 use Rattle.sql_tree.specs.declared.parts.Column.{Column}
-use Rattle.sql_eval.specs.Scopes.{Columns, Named, columns_of, found, numbered, placed, placed_from, row_of, value_among}
+use Rattle.sql_check_parts.specs.Scopes.{Columns, Named, columns_of, found, numbered, placed, placed_from, row_of, value_among}
 use Rattle.vtl_cell.specs.declared.kind.Kind.{Kind}
 use Rattle.vtl_rows.specs.declared.column.Column.{Column as TableColumn}
-use Rattle.sql_eval.specs.Tables.{column_entry}
-use Rattle.sql_eval.specs.Values.{inner_scope, place_in}
+use Rattle.sql_meaning.specs.Tables.{column_entry}
+use Rattle.sql_meaning.specs.Values.{inner_scope, place_in}
 use Rattle.sql_from.specs.Held.{columns_held, tables_held}
 use Rattle.sql_from.specs.Rows.{width_of}
 use Rattle.sql_from.specs.Sources.{AreFound, AreSited, parts_of, scope_held, source_of, table_named, or_nothing}

@@ -10,7 +10,7 @@ use Rattle.vtl_rows.specs.Gathered.{part_at}
 use Rattle.vtl_rows.specs.Places.{row_at}
 use Rattle.vtl_rows.specs.declared.gather.Pick.{Pick}
 use Rattle.sql_tree.specs.declared.parts.Column.{Column}
-use Rattle.sql_eval.specs.Values.{place_in}
+use Rattle.sql_meaning.specs.Values.{place_in}
 use Rattle.sql_eval.specs.declared.resolved.Side.TheVariants as side
 use Rattle.sql_from.specs.Joins.{with_number}
 use Rattle.sql_from.specs.Keys.{IsPairOf, IsSpot, are_equal, last_of, row_in}

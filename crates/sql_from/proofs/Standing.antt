@@ -5,11 +5,11 @@ use Rattle.std.specs.Prelude.{fold}
 use Rattle.std.specs.Option.{option_map}
 use Rattle.std.proofs.lemmas.Grind.{flat_map-append}
 use Rattle.std.proofs.lemmas.List.{length-map, map-append, take_more}
-use Rattle.vtl_cell.proofs.Sorts.{AllByRecursion-filter}
+use Rattle.vtl_lists.proofs.Sorts.{AllByRecursion-filter}
 use Rattle.vtl_cell.specs.Outcome.{DivZero, Fault, Range, Outcome, fault_in, faults_by, join, unless}
 use Rattle.vtl_cell.specs.Outcomes.{is_true}
 use Rattle.vtl_cell.specs.Row.{Row}
-use Rattle.vtl_cell.specs.Settings.{Settings}
+use Rattle.vtl_decimal.specs.Settings.{Settings}
 use Rattle.vtl_cell.specs.declared.cell.Cell.{Cell}
 use Rattle.vtl_cell.specs.declared.cell.Cell.TheVariants.{Null}
 use Rattle.vtl_rows.specs.Named.{NamedTables, table_of}
@@ -22,17 +22,17 @@ use Rattle.sql_tree.specs.Trees as tree
 use Rattle.sql_tree.specs.Trees.{Exp, JoinTree, SelectTree, Text}
 use Rattle.sql_tree.specs.declared.parts.Source.{Source}
 use Rattle.sql_tree.specs.declared.word_groups.JoinKind.{JoinKind}
-use Rattle.sql_eval.specs.Queries.{join_source, joined_scope}
-use Rattle.sql_eval.specs.Scopes.{Columns, or_nothing as columns_or_nothing, row_of, with_source}
-use Rattle.sql_eval.specs.TypedSelects.{AreJoinsTyped, IsSourceTyped}
-use Rattle.sql_eval.specs.Profiles.{IsLawful}
-use Rattle.sql_eval.specs.From.{Joined, first_of, joined_rows, kept_of, pairs, with_join}
-use Rattle.sql_eval.specs.Plans.{early_at, planned_joins, try_early}
-use Rattle.sql_eval.specs.Tables.{Base, column_entry, columns_named, rows_of}
-use Rattle.sql_eval.specs.Values.{View, at_rows, value}
-use Rattle.sql_eval.specs.plan.Early.{Early}
-use Rattle.sql_eval.proofs.SourceKinds.{source_added}
-use Rattle.sql_eval.proofs.UpToOrder.{join_none}
+use Rattle.sql_check_parts.specs.Queries.{join_source, joined_scope}
+use Rattle.sql_check_parts.specs.Scopes.{Columns, or_nothing as columns_or_nothing, row_of, with_source}
+use Rattle.sql_check_laws.specs.Selects.{AreJoinsTyped, IsSourceTyped}
+use Rattle.sql_meaning.specs.Profiles.{IsLawful}
+use Rattle.sql_meaning.specs.From.{Joined, first_of, joined_rows, kept_of, pairs, with_join}
+use Rattle.sql_meaning.specs.Plans.{early_at, planned_joins, try_early}
+use Rattle.sql_meaning.specs.Tables.{Base, column_entry, columns_named, rows_of}
+use Rattle.sql_meaning.specs.Values.{View, at_rows, value}
+use Rattle.sql_meaning.specs.declared.plan.Early.{Early}
+use Rattle.sql_meaning.proofs.SourceKinds.{source_added}
+use Rattle.sql_meaning.proofs.UpToOrder.{join_none}
 use Rattle.sql_from.specs.Held.{base_held, columns_held, rows_held, tables_held}
 use Rattle.sql_from.specs.Joins.{crossed_tuples, joined_tuples, kept_fault, kept_tuples, marks_of, numbers_to, pairs_fault, singles}
 use Rattle.sql_from.specs.Keys.{last_of as last_source}

@@ -11,7 +11,7 @@ use Rattle.vtl_rows.specs.Tables.{Listed, column_at, column_kinds}
 use Rattle.vtl_rows.specs.declared.column.Column.{Column}
 use Rattle.vtl_rows.specs.declared.gather.Pick.{Pick}
 use Rattle.sql_tree.specs.Trees.{Text}
-use Rattle.sql_eval.specs.Tables.{column_entry}
+use Rattle.sql_meaning.specs.Tables.{column_entry}
 use Rattle.sql_from.specs.Columns.{columns_below, line_feed, source_columns}
 use Rattle.sql_from.specs.Rows.{combined, picks_at, picks_from}
 use Rattle.sql_from.specs.Sources.{parts_of, scope_held}

@@ -5,9 +5,9 @@ use Rattle.std.specs.Map.{keys_of}
 use Rattle.std.specs.Prelude.{option_and_then, slice_get, unwrap_or}
 use Rattle.std.proofs.lemmas.List.{length-map}
 use Rattle.std.proofs.lemmas.List.Folds.{list_all-append}
-use Rattle.vtl_cell.specs.Texts.{same_text}
+use Rattle.vtl_text.specs.Texts.{same_text}
 use Rattle.vtl_cell.specs.declared.operator.ScalarOp.TheVariants as op
-use Rattle.vtl_cell.specs.Settings.{Settings}
+use Rattle.vtl_decimal.specs.Settings.{Settings}
 use Rattle.vtl_rows.specs.Gathered.{part_at}
 use Rattle.vtl_rows.specs.Named.{NamedTables}
 use Rattle.vtl_rows.specs.Tables.{Listed}
@@ -17,13 +17,13 @@ use Rattle.sql_tree.specs.Trees.{Exp, Text}
 use Rattle.sql_tree.specs.declared.parts.Column.{Column}
 use Rattle.sql_tree.specs.declared.parts.Source.{Source}
 use Rattle.sql_tree.specs.declared.word_groups.JoinKind.{JoinKind}
-use Rattle.sql_eval.specs.Expressions.{Site, site}
-use Rattle.sql_eval.specs.Fits.{Fits}
-use Rattle.sql_eval.specs.Plans.{are_sides, conjuncts, is_side_equality}
-use Rattle.sql_eval.specs.Scopes.{Named, Scope, found, is_among, numbered, row_of, value_among}
-use Rattle.sql_eval.specs.Tables.{column_entry}
-use Rattle.sql_eval.specs.TypedSelects.{IsSourceTyped}
-use Rattle.sql_eval.proofs.Lists.{all_parted}
+use Rattle.sql_check_parts.specs.Expressions.{Site, site}
+use Rattle.sql_check_laws.specs.Fits.{Fits}
+use Rattle.sql_meaning.specs.Plans.{are_sides, conjuncts, is_side_equality}
+use Rattle.sql_check_parts.specs.Scopes.{Named, Scope, found, is_among, numbered, row_of, value_among}
+use Rattle.sql_meaning.specs.Tables.{column_entry}
+use Rattle.sql_check_laws.specs.Selects.{IsSourceTyped}
+use Rattle.sql_meaning.proofs.Lists.{all_parted}
 use Rattle.sql_from.specs.Held.{columns_held, tables_held}
 use Rattle.sql_from.specs.Keys.{IsLinked, are_linked, is_link, linked_count, spot_of, stands_in}
 use Rattle.sql_from.specs.Rows.{picks_from}

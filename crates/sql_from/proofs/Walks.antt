@@ -9,8 +9,8 @@ use Rattle.vtl_cell.specs.declared.cell.Cell.{Cell}
 use Rattle.vtl_cell.specs.Outcome.{Fault, Outcome, fault_in, faults_by, join}
 use Rattle.vtl_rows.proofs.Stable.{one_number_more}
 use Rattle.vtl_cell.specs.Outcomes.{is_true}
-use Rattle.sql_eval.proofs.UpToOrder.{faults_by-append, join_assoc, join_none}
-use Rattle.sql_eval.specs.From.{or_alone}
+use Rattle.sql_meaning.proofs.UpToOrder.{faults_by-append, join_assoc, join_none}
+use Rattle.sql_meaning.specs.From.{or_alone}
 use Rattle.sql_from.specs.Joins.{fault_of, from_left, kept_fault, kept_tuples, numbers_to, pairs_with, passes, told, with_number}
 
 -- ---- one item more

@@ -5,7 +5,7 @@ use Rattle.vtl_cell.specs.declared.kind.Kind.{Kind}
 use Rattle.vtl_cell.specs.declared.kind.Kind.TheVariants as k
 use Rattle.vtl_rows.specs.declared.column.Column.{Column}
 use Rattle.sql_tree.specs.Trees.{Text}
-use Rattle.sql_eval.specs.Scopes.{Columns, Scope}
+use Rattle.sql_check_parts.specs.Scopes.{Columns, Scope}
 
 abbrev pub line_feed : ℕ
 line_feed = 10

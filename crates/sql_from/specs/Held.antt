@@ -1,12 +1,12 @@
 -- The tables that the program holds, as typing and the meaning know them.
 use Rattle.std.specs.Prelude.{◌≡◌, List, map}
 use Rattle.vtl_cell.specs.Row.{Row}
-use Rattle.vtl_cell.specs.Settings.{Settings}
+use Rattle.vtl_decimal.specs.Settings.{Settings}
 use Rattle.vtl_rows.specs.Named.{NamedTables, table_of}
 use Rattle.vtl_rows.specs.Tables.{Listed}
 use Rattle.sql_tree.specs.Trees.{Text}
-use Rattle.sql_eval.specs.Scopes.{Columns, Tables}
-use Rattle.sql_eval.specs.Tables.{Base, base_over, column_entry, rows_of}
+use Rattle.sql_check_parts.specs.Scopes.{Columns, Tables}
+use Rattle.sql_meaning.specs.Tables.{Base, base_over, column_entry, rows_of}
 
 abbrev pub columns_held : Listed → Columns
 columns_held t = map column_entry t.columns

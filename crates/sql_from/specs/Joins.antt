@@ -7,7 +7,7 @@ use Rattle.vtl_cell.specs.declared.cell.Cell.{Cell}
 use Rattle.vtl_rows.specs.Tables.{Listed}
 use Rattle.sql_tree.specs.declared.word_groups.JoinKind.{JoinKind}
 use Rattle.sql_tree.specs.declared.word_groups.JoinKind.TheVariants as joining
-use Rattle.sql_eval.specs.From.{joined_by, pairs_by, partners, partners_or_alone}
+use Rattle.sql_meaning.specs.From.{joined_by, pairs_by, partners, partners_or_alone}
 
 -- ---- conditions
 

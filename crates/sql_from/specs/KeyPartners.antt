@@ -2,12 +2,12 @@
 use Rattle.std.specs.Prelude.{◌≡◌, ℕ, ◌==◌, not, List, length}
 use Rattle.std.specs.List.{list_all}
 use Rattle.vtl_cell.specs.Row.{Row}
-use Rattle.vtl_cell.specs.Settings.{Settings}
+use Rattle.vtl_decimal.specs.Settings.{Settings}
 use Rattle.vtl_rows.specs.Named.{NamedTables}
 use Rattle.vtl_index.specs.RowIndex.{found_rows}
 use Rattle.vtl_index.specs.RowKeys.{key_at}
 use Rattle.sql_eval.specs.Placed.{has_partner, is_tied}
-use Rattle.sql_eval.specs.Profiles.{IsRowOfProfile}
+use Rattle.sql_meaning.specs.Profiles.{IsRowOfProfile}
 use Rattle.sql_eval.specs.declared.resolved.Tie.{Tie}
 use Rattle.sql_from.specs.Held.{rows_held}
 use Rattle.sql_from.specs.Keys.{all_paired, is_paired}

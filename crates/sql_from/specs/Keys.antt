@@ -5,7 +5,7 @@ use Rattle.vtl_cell.specs.Outcome.{fault_in}
 use Rattle.vtl_cell.specs.Outcomes.{is_true}
 use Rattle.vtl_cell.specs.Row.{Row, column_of}
 use Rattle.vtl_cell.specs.Scalars.{scalar_of}
-use Rattle.vtl_cell.specs.Settings.{Settings}
+use Rattle.vtl_decimal.specs.Settings.{Settings}
 use Rattle.vtl_cell.specs.declared.cell.Cell.{Cell}
 use Rattle.vtl_cell.specs.declared.operator.ScalarOp.TheVariants as op
 use Rattle.vtl_rows.specs.Gathered.{part_at}
@@ -17,8 +17,8 @@ use Rattle.vtl_index.specs.declared.row_keys.KeyForm.TheVariants.{AsNumber}
 use Rattle.sql_tree.specs.Trees as tree
 use Rattle.sql_tree.specs.Trees.{Exp}
 use Rattle.sql_tree.specs.declared.parts.Column.{Column}
-use Rattle.sql_eval.specs.Plans.{conjuncts}
-use Rattle.sql_eval.specs.Values.{place_in}
+use Rattle.sql_meaning.specs.Plans.{conjuncts}
+use Rattle.sql_meaning.specs.Values.{place_in}
 use Rattle.sql_from.specs.Joins.{with_number}
 use Rattle.sql_from.specs.Rows.{combined, picks_from}
 use Rattle.sql_from.specs.Sources.{Sourced, parts_of, scope_held}

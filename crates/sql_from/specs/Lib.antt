@@ -1,15 +1,3 @@
-pub use Rattle.sql_eval.specs.Expressions
-pub use Rattle.sql_eval.specs.Fits
-pub use Rattle.sql_eval.specs.From
-pub use Rattle.sql_eval.specs.Groups
-pub use Rattle.sql_eval.specs.Outcomes
-pub use Rattle.sql_eval.specs.Profiles
-pub use Rattle.sql_eval.specs.Queries
-pub use Rattle.sql_eval.specs.Scopes
-pub use Rattle.sql_eval.specs.Selects
-pub use Rattle.sql_eval.specs.Tables
-pub use Rattle.sql_eval.specs.TypedSelects
-pub use Rattle.sql_eval.specs.Values
 pub mod Held
 pub mod Tuples
 pub mod Rows

@@ -1,6 +1,6 @@
 -- What a look-up by keys finds for a tuple.
 use Rattle.std.specs.Prelude.{◌≡◌, ℕ, ◌+◌, ◌<◌, List, filter, length, slice_index, None}
-use Rattle.vtl_cell.specs.Settings.{Settings}
+use Rattle.vtl_decimal.specs.Settings.{Settings}
 use Rattle.vtl_rows.specs.Tables.{Listed}
 use Rattle.vtl_index.specs.Matches.{matched}
 use Rattle.sql_from.specs.Joins.{Test, fault_of, numbers_to, passes}

@@ -8,7 +8,7 @@ use Rattle.vtl_rows.specs.Named.{NamedTables, table_of}
 use Rattle.vtl_rows.specs.Tables.{Listed}
 use Rattle.vtl_rows.specs.declared.gather.Pick.{Pick}
 use Rattle.sql_tree.specs.Trees.{Text}
-use Rattle.sql_eval.specs.Scopes.{Columns, Named, Scope, numbered, value_among}
+use Rattle.sql_check_parts.specs.Scopes.{Columns, Named, Scope, numbered, value_among}
 use Rattle.sql_from.specs.Held.{IsHeld, columns_held, tables_held}
 use Rattle.sql_from.specs.Rows.{picks_from}
 use Rattle.sql_from.specs.declared.columns.ColumnAt.{ColumnAt}

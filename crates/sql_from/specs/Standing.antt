@@ -3,12 +3,12 @@ use Rattle.std.specs.Prelude.{◌≡◌, List, [], map, length, Option, None, So
 use Rattle.std.specs.List.{AllByRecursion}
 use Rattle.vtl_cell.specs.Outcome.{Fault}
 use Rattle.vtl_cell.specs.Row.{Row}
-use Rattle.vtl_cell.specs.Settings.{Settings}
+use Rattle.vtl_decimal.specs.Settings.{Settings}
 use Rattle.sql_tree.specs.Trees.{Exp}
-use Rattle.sql_eval.specs.From.{Joined}
-use Rattle.sql_eval.specs.Profiles.{IsLawful}
-use Rattle.sql_eval.specs.Tables.{Base}
-use Rattle.sql_eval.specs.Values.{View, at_rows, value}
+use Rattle.sql_meaning.specs.From.{Joined}
+use Rattle.sql_meaning.specs.Profiles.{IsLawful}
+use Rattle.sql_meaning.specs.Tables.{Base}
+use Rattle.sql_meaning.specs.Values.{View, at_rows, value}
 use Rattle.sql_from.specs.Held.{base_held}
 use Rattle.sql_from.specs.Joins.{Test}
 use Rattle.sql_from.specs.Rows.{combined}

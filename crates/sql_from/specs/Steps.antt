@@ -2,16 +2,16 @@
 use Rattle.std.specs.Borrow.{Bor}
 use Rattle.std.specs.Prelude.{◌≡◌, ℕ, ◌+◌, ◌==◌, Bool, false, List, length, map, sum, Option, Some, None}
 use Rattle.std.specs.List.{AllByRecursion, list_any}
-use Rattle.vtl_cell.specs.Settings.{Settings}
+use Rattle.vtl_decimal.specs.Settings.{Settings}
 use Rattle.vtl_rows.specs.Gathered.{part_at}
 use Rattle.sql_tree.specs.Trees.{JoinTree, SelectTree}
-use Rattle.sql_eval.specs.Expressions.{site}
-use Rattle.sql_eval.specs.From.{joined}
-use Rattle.sql_eval.specs.Plans.{IsEqualityJoin}
-use Rattle.sql_eval.specs.Queries.{is_grouped, join_source}
-use Rattle.sql_eval.specs.Scopes.{with_source}
-use Rattle.sql_eval.specs.Tables.{Base}
-use Rattle.sql_eval.specs.TypedSelects.{IsJoinCondition}
+use Rattle.sql_check_parts.specs.Expressions.{site}
+use Rattle.sql_meaning.specs.From.{joined}
+use Rattle.sql_meaning.specs.Plans.{IsEqualityJoin}
+use Rattle.sql_check_parts.specs.Queries.{is_grouped, join_source}
+use Rattle.sql_check_parts.specs.Scopes.{with_source}
+use Rattle.sql_meaning.specs.Tables.{Base}
+use Rattle.sql_check_laws.specs.Selects.{IsJoinCondition}
 use Rattle.sql_from.specs.Asking.{condition_asks, item_asks}
 use Rattle.sql_from.specs.Held.{rows_held, tables_held}
 use Rattle.sql_from.specs.Sources.{Sourced, parts_of, scope_held}

@@ -1,12 +1,13 @@
 // The columns of a table by name.
 ghost use Rattle.std.specs.Prelude.{◌≡◌, ◌<◌, ◌+◌, ◌^◌, length, map, unwrap_or, IfOk};
-ghost use Rattle.sql_eval.specs.Scopes.{numbered, value_among};
-ghost use Rattle.sql_eval.specs.Tables.{column_entry};
+ghost use Rattle.sql_check_parts.specs.Scopes.{numbered, value_among};
+ghost use Rattle.sql_meaning.specs.Tables.{column_entry};
 ghost use Rattle.sql_from.specs.Sources.{AreFound};
 
 use std::alloc::{AllocError, Global};
-use vtl_cell::{ByName, Kind, Txt};
+use vtl_cell::Kind;
 use vtl_rows::Column;
+use vtl_text::{ByName, Txt};
 
 /// What is known of a column of a source.
 #[derive(Clone, Copy)]

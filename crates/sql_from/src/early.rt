@@ -1,9 +1,9 @@
 // Parts of WHERE that are tried before a join.
 ghost use Rattle.std.specs.Prelude.{◌≡◌, ◌+◌, ◌∷◌, [], drop, length, take, IfErr, IfOk, MatchOption};
 ghost use Rattle.sql_tree.specs.View.{expr_tree, select_tree};
-ghost use Rattle.sql_eval.specs.Plans.{conjuncts, early_at};
+ghost use Rattle.sql_meaning.specs.Plans.{conjuncts, early_at};
 
-use sql_eval::Early;
+use sql_meaning::Early;
 use sql_tree::{Select, SqlExpr};
 use vtl_cell::ScalarOp;
 

@@ -8,7 +8,8 @@ ghost use Rattle.sql_from.specs.Held.{rows_held};
 use crate::OuterRow;
 use sql_eval::{Existence, Side, Tie};
 use std::alloc::{AllocError, Global};
-use vtl_cell::{Cell, Profile, ScalarOp};
+use vtl_cell::{Cell, ScalarOp};
+use vtl_decimal::Profile;
 use vtl_rows::Tables;
 use vtl_scalar::{ScalarErr, apply_two};
 

@@ -1,7 +1,7 @@
 // Partners of the key of a group in the table of EXISTS, by a look-up.
 ghost use Rattle.std.specs.List.{AllByRecursion};
 ghost use Rattle.std.specs.Prelude.{◌≡◌, ◌<◌, ◌==◌, not, true, IfOk, IfSome, length};
-ghost use Rattle.sql_eval.specs.Profiles.{IsLawful};
+ghost use Rattle.sql_meaning.specs.Profiles.{IsLawful};
 ghost use Rattle.sql_from.specs.Held.{base_held};
 ghost use Rattle.sql_from.specs.KeyPartners.{AnswersAt, AreTiedAs, IsTiedAs, asking_of, found_for};
 
@@ -11,7 +11,8 @@ use sql_eval::{Existence, Side, Tie};
 use std::alloc::{AllocError, Global};
 use std::marker::Brand;
 use std::sync::ledger::{Blank, Ledger};
-use vtl_cell::{Cell, Profile};
+use vtl_cell::Cell;
+use vtl_decimal::Profile;
 use vtl_index::{KeyColumn, NullKeys, RowIndex, Steps};
 use vtl_rows::Tables;
 

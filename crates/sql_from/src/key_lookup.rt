@@ -2,7 +2,7 @@
 ghost use Rattle.std.specs.Prelude.{◌≡◌, ℕ, ◌+◌, ◌<◌, ◌≤◌, IfOk, IfSome, IsSome, length, slice_index};
 ghost use Rattle.vtl_index.specs.Matches.{matched};
 ghost use Rattle.sql_tree.specs.View.{expr_tree};
-ghost use Rattle.sql_eval.specs.Profiles.{IsLawful};
+ghost use Rattle.sql_meaning.specs.Profiles.{IsLawful};
 ghost use Rattle.sql_from.specs.Held.{base_held};
 ghost use Rattle.sql_from.specs.Keys.{IsLinked, last_of, linked_count};
 ghost use Rattle.sql_from.specs.Lookups.{Finds, IsKeyed};
@@ -13,7 +13,7 @@ use crate::key_pairs::{KeyPair, asked_columns, lead_of, own_columns, push_pairs}
 use sql_tree::SqlExpr;
 use std::alloc::{AllocError, Global};
 use std::sync::ledger::Ledger;
-use vtl_cell::Profile;
+use vtl_decimal::Profile;
 use vtl_index::{Matches, NullKeys, RowIndex, Steps};
 use vtl_rows::Table;
 

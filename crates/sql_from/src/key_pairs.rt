@@ -4,7 +4,7 @@ ghost use Rattle.std.specs.Prelude.{◌≡◌, ℕ, ◌+◌, ◌<◌, true, IfOk
 ghost use Rattle.vtl_cell.specs.declared.operator.ScalarOp.TheVariants as op;
 ghost use Rattle.sql_tree.specs.Trees as tree;
 ghost use Rattle.sql_tree.specs.View.{expr_tree};
-ghost use Rattle.sql_eval.specs.Plans.{conjuncts};
+ghost use Rattle.sql_meaning.specs.Plans.{conjuncts};
 ghost use Rattle.sql_from.specs.Keys.{ArePaired, IsLinked, IsPairOf, are_linked, asked_columns, is_link, own_columns};
 
 use crate::Sources;

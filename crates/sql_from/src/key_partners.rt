@@ -2,7 +2,7 @@
 ghost use Rattle.std.specs.List.{AllByRecursion};
 ghost use Rattle.std.specs.Prelude.{◌≡◌, ◌+◌, ◌<◌, IfOk, IfSome, OnOk, length};
 ghost use Rattle.sql_eval.specs.Placed.{has_partner};
-ghost use Rattle.sql_eval.specs.Profiles.{IsLawful, IsRowOfProfile};
+ghost use Rattle.sql_meaning.specs.Profiles.{IsLawful, IsRowOfProfile};
 ghost use Rattle.sql_from.specs.Held.{base_held, rows_held};
 ghost use Rattle.sql_from.specs.KeyPartners.{AnswersAt, asking_of};
 
@@ -12,7 +12,8 @@ use sql_eval::Existence;
 use std::alloc::{AllocError, Global};
 use std::marker::Model;
 use std::sync::ledger::Ledger;
-use vtl_cell::{Cell, Profile};
+use vtl_cell::Cell;
+use vtl_decimal::Profile;
 use vtl_index::Steps;
 use vtl_rows::Tables;
 

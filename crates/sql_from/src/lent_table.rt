@@ -1,7 +1,7 @@
 // The table of the only source of a select, where the rows of FROM are its rows.
 ghost use Rattle.std.specs.Prelude.{◌≡◌, ◌∷◌, [], length, true, IfSome};
 ghost use Rattle.vtl_rows.specs.Tables.{column_kinds};
-ghost use Rattle.sql_eval.specs.Scopes.{row_of};
+ghost use Rattle.sql_check_parts.specs.Scopes.{row_of};
 ghost use Rattle.sql_from.specs.Joins.{singles};
 ghost use Rattle.sql_from.specs.Sources.{parts_of, scope_held};
 ghost use Rattle.sql_from.specs.Standing.{rows_for};

@@ -2,7 +2,7 @@
 ghost use Rattle.std.specs.List.{AllByRecursion};
 ghost use Rattle.std.specs.Prelude.{◌≡◌, ◌+◌, ◌<◌, ◌==◌, not, true, IfOk, IfSome, length, slice_index};
 ghost use Rattle.vtl_index.specs.Matches.{matched};
-ghost use Rattle.sql_eval.specs.Profiles.{IsLawful};
+ghost use Rattle.sql_meaning.specs.Profiles.{IsLawful};
 ghost use Rattle.sql_from.specs.Held.{base_held};
 ghost use Rattle.sql_from.specs.Joins.{with_number};
 ghost use Rattle.sql_from.specs.Partners.{Answers};
@@ -13,8 +13,9 @@ use crate::ties::{are_same_ties, lead_of_tie, tied_columns};
 use sql_eval::{Existence, Tie};
 use std::alloc::{AllocError, Global};
 use std::sync::ledger::Ledger;
-use vtl_cell::{Profile, Txt};
+use vtl_decimal::Profile;
 use vtl_index::Steps;
+use vtl_text::Txt;
 
 /// What an EXISTS asks, and an index of the rows of its table.
 pub(crate) struct PartnerIndex<'a> {

@@ -7,7 +7,8 @@ ghost use Rattle.sql_from.specs.Sources.{parts_of};
 use crate::{Partners, TupleRow};
 use sql_eval::{Cells, Existence, Resolved};
 use std::alloc::{AllocError, Global};
-use vtl_cell::{AggKind, Cell, Profile};
+use vtl_cell::{AggKind, Cell};
+use vtl_decimal::Profile;
 use vtl_scalar::ScalarErr;
 
 /// The row of FROM of a tuple of row numbers, at which EXISTS is asked by a look-up where there is one for it.

@@ -2,7 +2,7 @@
 ghost use Rattle.std.specs.List.{AllByRecursion};
 ghost use Rattle.std.specs.Prelude.{◌≡◌, ◌+◌, ◌<◌, ◌++◌, ◌∷◌, [], IfOk, IfSome, length, OnOk};
 ghost use Rattle.sql_eval.specs.Placed.{has_partner};
-ghost use Rattle.sql_eval.specs.Profiles.{IsLawful};
+ghost use Rattle.sql_meaning.specs.Profiles.{IsLawful};
 ghost use Rattle.sql_from.specs.Held.{base_held, rows_held};
 ghost use Rattle.sql_from.specs.Joins.{with_number};
 ghost use Rattle.sql_from.specs.Partners.{Answers};
@@ -15,7 +15,7 @@ use sql_eval::{Existence, Resolved};
 use std::alloc::{AllocError, Global};
 use std::marker::Model;
 use std::sync::ledger::Ledger;
-use vtl_cell::Profile;
+use vtl_decimal::Profile;
 use vtl_index::Steps;
 
 /// The sources of a select, and look-ups for the EXISTS of its expressions, made once for all rows. A contract sees the

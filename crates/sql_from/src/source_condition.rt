@@ -1,6 +1,6 @@
 // Conditions at the rows of sources.
 ghost use Rattle.std.specs.Prelude.{◌≡◌, length, [], IfSome, Ok};
-ghost use Rattle.vtl_cell.specs.Settings.{Settings};
+ghost use Rattle.vtl_decimal.specs.Settings.{Settings};
 ghost use Rattle.sql_eval.specs.Placed.{placed_value};
 ghost use Rattle.sql_eval.specs.View.{placed_of};
 ghost use Rattle.sql_from.specs.Held.{rows_held};
@@ -12,7 +12,8 @@ use crate::condition::Condition;
 use crate::{PartneredRow, Partners};
 use sql_eval::{Cells, Resolved, value_at};
 use std::alloc::Global;
-use vtl_cell::{Cell, Profile, ScalarOp, is_same};
+use vtl_cell::{Cell, ScalarOp, is_same};
+use vtl_decimal::Profile;
 use vtl_scalar::ScalarErr;
 
 // Whether a column equals a constant, where both are texts or both are integers: many conditions ask no more than this.

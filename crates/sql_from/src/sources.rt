@@ -5,9 +5,9 @@ ghost use Rattle.std.specs.Prelude.{◌≡◌, ◌+◌, ◌<◌, ◌≤◌, ◌^
 ghost use Rattle.vtl_cell.specs.Row.{column_of};
 ghost use Rattle.vtl_cell.specs.declared.cell.Cell.TheVariants.{Null};
 ghost use Rattle.vtl_rows.specs.Places.{row_at};
-ghost use Rattle.sql_eval.specs.Scopes.{found, placed};
-ghost use Rattle.sql_eval.specs.TypedSelects.{IsSourceTyped};
-ghost use Rattle.sql_eval.specs.Tables.{column_entry};
+ghost use Rattle.sql_check_parts.specs.Scopes.{found, placed};
+ghost use Rattle.sql_check_laws.specs.Selects.{IsSourceTyped};
+ghost use Rattle.sql_meaning.specs.Tables.{column_entry};
 ghost use Rattle.sql_from.specs.Columns.{columns_below, line_feed, source_columns};
 ghost use Rattle.sql_from.specs.Held.{IsHeld, rows_held, tables_held};
 ghost use Rattle.sql_from.specs.Joins.{marks_of};
@@ -21,9 +21,9 @@ use sql_eval::Names;
 use sql_tree::{Column, Source};
 use std::alloc::{AllocError, Global};
 use std::marker::Model;
-use vtl_cell::{ByName, Cell, Kind, Txt};
+use vtl_cell::{Cell, Kind};
 use vtl_rows::{Column as TableColumn, Pick, Table, Tables};
-use vtl_text::concat;
+use vtl_text::{ByName, Txt, concat};
 
 // A table that is a source, and its columns by name.
 pub(crate) struct SourceTable<'a> {

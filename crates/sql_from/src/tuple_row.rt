@@ -8,7 +8,8 @@ ghost use Rattle.sql_from.specs.Rows.{combined};
 use crate::{OuterRow, Sources, has_partner};
 use sql_eval::{Cells, Existence, Resolved};
 use std::alloc::{AllocError, Global};
-use vtl_cell::{AggKind, Cell, Profile};
+use vtl_cell::{AggKind, Cell};
+use vtl_decimal::Profile;
 use vtl_scalar::ScalarErr;
 
 /// The row of FROM of a tuple of row numbers, one for each source. Its cells are lent, and none is copied.

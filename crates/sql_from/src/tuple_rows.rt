@@ -3,7 +3,7 @@ ghost use Rattle.std.proofs.Props.{props};
 ghost use Rattle.std.specs.Prelude.{◌≡◌, ◌<◌, ◌∷◌, ◌++◌, [], length, map, slice_index_or, All, IfOk, IfSome};
 ghost use Rattle.vtl_cell.specs.Row.{column_of};
 ghost use Rattle.vtl_rows.specs.Tables.{cells_at, column_kinds};
-ghost use Rattle.sql_eval.specs.Scopes.{row_of};
+ghost use Rattle.sql_check_parts.specs.Scopes.{row_of};
 ghost use Rattle.sql_from.specs.Columns.{kinds_at, source_columns};
 ghost use Rattle.sql_from.specs.Rows.{combined, pick_for};
 ghost use Rattle.sql_from.specs.Sources.{parts_of, scope_held};

@@ -2,12 +2,12 @@
 use Rattle.std.proofs.Common.{◌≡◌, List, [], ◌∷◌, map, length, true, ◌&&◌, Some, Ok, Err, refl, ◌∙◌}
 use Rattle.std.specs.Prelude.{IfOk, zip}
 use Rattle.std.specs.List.{AllByRecursion, position_or_len}
-use Rattle.vtl_cell.proofs.Sorts.{AllByRecursion-filter}
+use Rattle.vtl_lists.proofs.Sorts.{AllByRecursion-filter}
 use Rattle.vtl_cell.specs.Conversion.{as_kind}
 use Rattle.vtl_cell.specs.Kinds.{is_of}
 use Rattle.vtl_cell.specs.Outcome.{Outcome, after}
 use Rattle.vtl_cell.specs.Row.{Row, same_row}
-use Rattle.vtl_cell.specs.Settings.{Settings}
+use Rattle.vtl_decimal.specs.Settings.{Settings}
 use Rattle.vtl_cell.specs.declared.cell.Cell.{Cell}
 use Rattle.vtl_cell.specs.declared.kind.Kind.{Kind}
 use Rattle.vtl_rows.specs.Tables.{cells_at, column_kinds, fits, fits_kinds}
@@ -16,21 +16,21 @@ use Rattle.vtl_scalar.specs.KindLaws.{HasKind, IsOfKind}
 use Rattle.sql_tree.specs.Trees as tree
 use Rattle.sql_tree.specs.Trees.{Exp, ItemTree, ValueTree}
 use Rattle.sql_tree.specs.declared.parts.Column.{Column}
-use Rattle.sql_from.specs.Expressions.{Site, site}
-use Rattle.sql_from.specs.Queries.{item_kind, value_kind}
-use Rattle.sql_from.specs.Scopes.{Scope, grouping_of, row_of}
-use Rattle.sql_from.specs.TypedSelects.{IsItemTyped, IsValueTyped}
-use Rattle.sql_from.specs.From.{nulls}
-use Rattle.sql_from.specs.Groups.{keys_by, rows_with}
-use Rattle.sql_from.specs.Outcomes.{cell_or_null, row_at}
-use Rattle.sql_from.specs.Selects.{Wanted, group_item, key_value}
-use Rattle.sql_from.specs.Tables.{Base, RowsFit}
-use Rattle.sql_from.specs.Values.{View, at_groups, place_in, same_column}
-use Rattle.sql_from.proofs.ExpressionKinds.{Sees, value_has}
-use Rattle.sql_from.proofs.Lists.{all_once, under}
-use Rattle.sql_from.proofs.OperatorKinds.{after_if, as_kind_is_of}
-use Rattle.sql_from.proofs.SourceKinds.{null_is_of, nulls_fit}
-use Rattle.sql_from.proofs.WindowKinds.{sees_key, sees_rows}
+use Rattle.sql_check_parts.specs.Expressions.{Site, site}
+use Rattle.sql_check_parts.specs.Queries.{item_kind, value_kind}
+use Rattle.sql_check_parts.specs.Scopes.{Scope, grouping_of, row_of}
+use Rattle.sql_check_laws.specs.Selects.{IsItemTyped, IsValueTyped}
+use Rattle.sql_meaning.specs.From.{nulls}
+use Rattle.sql_meaning.specs.Groups.{keys_by, rows_with}
+use Rattle.sql_meaning.specs.Outcomes.{cell_or_null, row_at}
+use Rattle.sql_meaning.specs.Selects.{Wanted, group_item, key_value}
+use Rattle.sql_meaning.specs.Tables.{Base, RowsFit}
+use Rattle.sql_meaning.specs.Values.{View, at_groups, place_in, same_column}
+use Rattle.sql_meaning.proofs.ExpressionKinds.{Sees, value_has}
+use Rattle.sql_meaning.proofs.Lists.{all_once, under}
+use Rattle.sql_meaning.proofs.OperatorKinds.{after_if, as_kind_is_of}
+use Rattle.sql_meaning.proofs.SourceKinds.{null_is_of, nulls_fit}
+use Rattle.sql_meaning.proofs.WindowKinds.{sees_key, sees_rows}
 use Rattle.sql_groups.specs.Resolved.{AreLifted}
 
 cell_fits : (kind : Kind) (m : Outcome Cell) → IfOk m (λ v. is_of kind v ≡ true) → is_of kind (cell_or_null m) ≡ true

@@ -4,7 +4,7 @@ use Rattle.std.proofs.lemmas.List.{map-append, map_more, take_all}
 use Rattle.vtl_cell.specs.Groups.{group_value}
 use Rattle.vtl_cell.specs.Outcome.{Fault, Outcome, after, fault_in, faults_by, join, unless}
 use Rattle.vtl_cell.specs.Row.{Row, column_of}
-use Rattle.vtl_cell.specs.Settings.{Settings}
+use Rattle.vtl_decimal.specs.Settings.{Settings}
 use Rattle.vtl_cell.specs.declared.cell.Cell.{Cell}
 use Rattle.vtl_cell.specs.declared.operator.AggKind.{AggKind}
 use Rattle.vtl_rows.specs.Places.{row_at}
@@ -14,8 +14,8 @@ use Rattle.sql_tree.specs.Trees.{Text}
 use Rattle.sql_eval.specs.Placed.{aggregate_value, column}
 use Rattle.sql_eval.specs.View.{placed_of}
 use Rattle.sql_eval.specs.declared.resolved.Resolved as resolved
-use Rattle.sql_from.specs.Outcomes.{all_values, cell_or_null}
-use Rattle.sql_from.proofs.UpToOrder.{faults_by-append, join_none}
+use Rattle.sql_meaning.specs.Outcomes.{all_values, cell_or_null}
+use Rattle.sql_meaning.proofs.UpToOrder.{faults_by-append, join_none}
 use Rattle.sql_groups.specs.Grouped.{rows_at}
 use Rattle.std.specs.Prelude.{Result}
 

@@ -4,7 +4,7 @@ use Rattle.std.specs.List.{AllByRecursion, position_or_len, range_with_len}
 use Rattle.std.specs.Prelude.{slice_index_or}
 use Rattle.std.proofs.lemmas.Bool.{eqb-true}
 use Rattle.std.proofs.lemmas.List.{get_or-map, length-map}
-use Rattle.vtl_cell.proofs.Sorts.{AllByRecursion-filter}
+use Rattle.vtl_lists.proofs.Sorts.{AllByRecursion-filter}
 use Rattle.vtl_cell.specs.Row.{Row, same_row}
 use Rattle.vtl_rows.specs.Places.{row_at}
 use Rattle.vtl_rows.specs.Tables.{cells_at}
@@ -13,8 +13,8 @@ use Rattle.vtl_index.specs.Leads.{leads_of}
 use Rattle.vtl_index.proofs.KeyGroups.{are_leads, keys_once, rows_of_key}
 use Rattle.vtl_index.proofs.Ranges.{all_indexed, none_pass, passing, passing_at, passing_is}
 use Rattle.vtl_tuples.specs.Keys as tuples
-use Rattle.sql_from.specs.Groups.{keys_by, rows_with}
-use Rattle.sql_from.proofs.Lists.{all_at}
+use Rattle.sql_meaning.specs.Groups.{keys_by, rows_with}
+use Rattle.sql_meaning.proofs.Lists.{all_at}
 use Rattle.sql_groups.specs.Grouped.{AreGroups, AreWithin, Grouped, groups_led, rows_at}
 
 -- ---- the first row of a group

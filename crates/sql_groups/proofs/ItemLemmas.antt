@@ -10,9 +10,9 @@ use Rattle.vtl_rows.specs.Places.{row_at}
 use Rattle.vtl_scalar.specs.Answers.{AnswersBy}
 use Rattle.vtl_scalar.specs.declared.error.ScalarErr.{ScalarErr}
 use Rattle.sql_tree.specs.declared.parts.Column.{Column}
-use Rattle.sql_from.specs.Groups.{rows_with}
-use Rattle.sql_from.specs.Outcomes.{cell_or_null}
-use Rattle.sql_from.proofs.UpToOrder.{faults_by-append, join_assoc, join_none}
+use Rattle.sql_meaning.specs.Groups.{rows_with}
+use Rattle.sql_meaning.specs.Outcomes.{cell_or_null}
+use Rattle.sql_meaning.proofs.UpToOrder.{faults_by-append, join_assoc, join_none}
 use Rattle.sql_from.specs.Seen.{answer_of}
 use Rattle.sql_from.specs.declared.tuple_rows.TupleRows.{TupleRows}
 use Rattle.sql_groups.specs.Grouped.{AreGroups, Group, Grouped, rows_at}

@@ -3,7 +3,7 @@ use Rattle.std.proofs.Common.{◌≡◌, ℕ, ◌+◌, ◌<◌, Bool, true, not,
 use Rattle.std.specs.List.{AllByRecursion, position_or_len, range_with_len}
 use Rattle.std.proofs.lemmas.List.{length-map}
 use Rattle.vtl_cell.specs.Row.{Row, column_of, same_row}
-use Rattle.vtl_cell.specs.Settings.{Settings}
+use Rattle.vtl_decimal.specs.Settings.{Settings}
 use Rattle.vtl_cell.specs.declared.cell.Cell.TheVariants as c
 use Rattle.vtl_rows.specs.Places.{row_at}
 use Rattle.vtl_rows.specs.Tables.{cells_at, column_kinds, fits, fits_kinds}
@@ -11,16 +11,16 @@ use Rattle.vtl_rows.specs.declared.column.Column.{Column as TableColumn}
 use Rattle.vtl_index.proofs.Ranges.{all_indexed}
 use Rattle.vtl_index.specs.Leads.{leads_of}
 use Rattle.sql_tree.specs.declared.parts.Column.{Column}
-use Rattle.sql_from.specs.Scopes.{Scope, column_kind, found, row_of}
-use Rattle.sql_from.specs.Fits.{IsSeen}
-use Rattle.sql_from.specs.Tables.{RowsFit}
-use Rattle.sql_from.specs.Values.{place_in}
-use Rattle.sql_from.specs.Groups.{keys_by}
-use Rattle.sql_from.specs.Profiles.{AreOfProfile, IsRowOfProfile}
-use Rattle.sql_from.proofs.Lists.{all_at, all_once}
-use Rattle.sql_from.proofs.Profiled.{cell_is}
-use Rattle.sql_from.proofs.OperatorKinds.{some_of}
-use Rattle.sql_from.proofs.SourceKinds.{column_fits}
+use Rattle.sql_check_parts.specs.Scopes.{Scope, column_kind, found, row_of}
+use Rattle.sql_check_laws.specs.Fits.{IsSeen}
+use Rattle.sql_meaning.specs.Tables.{RowsFit}
+use Rattle.sql_meaning.specs.Values.{place_in}
+use Rattle.sql_meaning.specs.Groups.{keys_by}
+use Rattle.sql_meaning.specs.Profiles.{AreOfProfile, IsRowOfProfile}
+use Rattle.sql_meaning.proofs.Lists.{all_at, all_once}
+use Rattle.sql_meaning.proofs.Profiled.{cell_is}
+use Rattle.sql_meaning.proofs.OperatorKinds.{some_of}
+use Rattle.sql_meaning.proofs.SourceKinds.{column_fits}
 
 -- ---- kinds
 

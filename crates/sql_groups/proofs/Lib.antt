@@ -1,13 +1,3 @@
-pub use Rattle.sql_eval.proofs.HeldTables
-pub use Rattle.sql_eval.proofs.Lists
-pub use Rattle.sql_eval.proofs.Orders
-pub use Rattle.sql_eval.proofs.Profiled
-pub use Rattle.sql_eval.proofs.QueryKinds
-pub use Rattle.sql_eval.proofs.SharedKinds
-pub use Rattle.sql_eval.proofs.SourceKinds
-pub use Rattle.sql_eval.proofs.TypingQueryKinds
-pub use Rattle.sql_eval.proofs.UpToOrder
-pub use Rattle.sql_from.proofs.Standing
 pub mod Fitted
 pub mod ItemLemmas
 pub mod GatheredLemmas

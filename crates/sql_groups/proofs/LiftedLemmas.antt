@@ -1,16 +1,16 @@
 -- The kinds of a query's columns are those to which the kinds of its items are lifted.
 use Rattle.std.proofs.Common.{List, [], ◌∷◌}
 use Rattle.std.specs.List.{AllByRecursion}
-use Rattle.vtl_cell.specs.Settings.{Settings}
+use Rattle.vtl_decimal.specs.Settings.{Settings}
 use Rattle.vtl_cell.specs.declared.kind.Kind.{Kind}
 use Rattle.sql_tree.specs.Trees.{QueryTree}
-use Rattle.sql_from.specs.Queries as typing
-use Rattle.sql_from.specs.Queries.{query_columns}
-use Rattle.sql_from.specs.Scopes.{Tables}
-use Rattle.sql_from.specs.TypedSelects.{IsQueryTyped}
-use Rattle.sql_from.specs.Tables.{kinds_of}
-use Rattle.sql_from.proofs.Lists.{under}
-use Rattle.sql_from.proofs.SharedKinds.{Lifted, all_lifted}
+use Rattle.sql_check_parts.specs.Queries as typing
+use Rattle.sql_check_parts.specs.Queries.{query_columns}
+use Rattle.sql_check_parts.specs.Scopes.{Tables}
+use Rattle.sql_check_laws.specs.Selects.{IsQueryTyped}
+use Rattle.sql_meaning.specs.Tables.{kinds_of}
+use Rattle.sql_meaning.proofs.Lists.{under}
+use Rattle.sql_meaning.proofs.SharedKinds.{Lifted, all_lifted}
 use Rattle.sql_groups.specs.Resolved.{AreLifted}
 
 are_lifted : (kinds own : List Kind) → Lifted kinds own → AreLifted kinds own

@@ -14,10 +14,10 @@ use Rattle.sql_tree.specs.Trees as tree
 use Rattle.sql_tree.specs.Trees.{Exp, ItemTree, Text, ValueTree}
 use Rattle.sql_tree.specs.View.{item_tree}
 use Rattle.sql_tree.specs.declared.statements.Item.{Item}
-use Rattle.sql_from.specs.Outcomes.{cell_or_null, row_at, row_fault}
-use Rattle.sql_from.specs.Selects.{Wanted, group_item, group_rows, having_fault, kept_keys, key_value}
-use Rattle.sql_from.specs.Values.{View}
-use Rattle.sql_from.proofs.UpToOrder.{join_assoc, join_none, join_swap}
+use Rattle.sql_meaning.specs.Outcomes.{cell_or_null, row_at, row_fault}
+use Rattle.sql_meaning.specs.Selects.{Wanted, group_item, group_rows, having_fault, kept_keys, key_value}
+use Rattle.sql_meaning.specs.Values.{View}
+use Rattle.sql_meaning.proofs.UpToOrder.{join_assoc, join_none, join_swap}
 use Rattle.sql_eval.specs.Placed.{placed_value}
 use Rattle.sql_eval.specs.View.{placed_of}
 use Rattle.sql_eval.specs.declared.resolved.Resolved.{Resolved}

@@ -3,20 +3,20 @@ use Rattle.std.proofs.Common.{◌≡◌, suc, List, [], ◌∷◌, map, length, 
 use Rattle.std.specs.Prelude.{zip}
 use Rattle.std.specs.List.{AllByRecursion}
 use Rattle.std.proofs.lemmas.List.{length-map}
-use Rattle.vtl_cell.specs.Settings.{Settings}
+use Rattle.vtl_decimal.specs.Settings.{Settings}
 use Rattle.vtl_cell.specs.declared.kind.Kind.{Kind}
 use Rattle.vtl_rows.specs.Tables.{column_kinds, fits}
 use Rattle.vtl_rows.specs.declared.column.Column.{Column as TableColumn}
 use Rattle.sql_tree.specs.Trees.{SelectTree}
 use Rattle.sql_tree.specs.declared.parts.Column.{Column}
-use Rattle.sql_from.specs.Expressions.{site}
-use Rattle.sql_from.specs.Queries.{is_grouped, item_kind, kinds_of}
-use Rattle.sql_from.specs.Queries as typing
-use Rattle.sql_from.specs.Scopes.{grouping_of, row_of}
-use Rattle.sql_from.specs.TypedSelects.{IsItemTyped, IsSelectTyped}
-use Rattle.sql_from.specs.Selects.{grouped_rows}
-use Rattle.sql_from.specs.Tables.{RowsFit}
-use Rattle.sql_from.specs.Values.{at_rows}
+use Rattle.sql_check_parts.specs.Expressions.{site}
+use Rattle.sql_check_parts.specs.Queries.{is_grouped, item_kind, kinds_of}
+use Rattle.sql_check_parts.specs.Queries as typing
+use Rattle.sql_check_parts.specs.Scopes.{grouping_of, row_of}
+use Rattle.sql_check_laws.specs.Selects.{IsItemTyped, IsSelectTyped}
+use Rattle.sql_meaning.specs.Selects.{grouped_rows}
+use Rattle.sql_meaning.specs.Tables.{RowsFit}
+use Rattle.sql_meaning.specs.Values.{at_rows}
 use Rattle.sql_from.specs.Held.{base_held, tables_held}
 use Rattle.sql_groups.specs.Items.{Around, around, groups_made, keys_in, row_of_key}
 use Rattle.sql_from.specs.declared.tuple_rows.TupleRows.{TupleRows}

@@ -6,7 +6,7 @@ use Rattle.vtl_rows.specs.Named.{NamedTables}
 use Rattle.vtl_rows.specs.Places.{row_at}
 use Rattle.vtl_rows.specs.Tables.{cells_at}
 use Rattle.vtl_index.specs.Groups.{AreLeads, firsts, rows_led}
-use Rattle.sql_from.specs.Groups.{keys_by, rows_with}
+use Rattle.sql_meaning.specs.Groups.{keys_by, rows_with}
 use Rattle.sql_groups.specs.declared.grouping.Layout.{Layout}
 use Rattle.sql_groups.specs.declared.grouping.Layout.TheVariants.{Keyed, Whole}
 

@@ -4,13 +4,13 @@ use Rattle.vtl_cell.specs.Conversion.{as_kind}
 use Rattle.vtl_cell.specs.Outcome.{Fault, Outcome, after, fault_in, faults_by, join, unless}
 use Rattle.vtl_cell.specs.Outcomes.{is_true}
 use Rattle.vtl_cell.specs.Row.{Row}
-use Rattle.vtl_cell.specs.Settings.{Settings}
+use Rattle.vtl_decimal.specs.Settings.{Settings}
 use Rattle.vtl_cell.specs.declared.cell.Cell.{Cell}
 use Rattle.sql_tree.specs.Trees.{Text}
 use Rattle.sql_tree.specs.declared.parts.Column.{Column}
-use Rattle.sql_from.specs.Groups.{keys_by, rows_with}
-use Rattle.sql_from.specs.Outcomes.{cell_or_null}
-use Rattle.sql_from.specs.Values.{place_in}
+use Rattle.sql_meaning.specs.Groups.{keys_by, rows_with}
+use Rattle.sql_meaning.specs.Outcomes.{cell_or_null}
+use Rattle.sql_meaning.specs.Values.{place_in}
 use Rattle.sql_eval.specs.Placed.{placed_value}
 use Rattle.sql_eval.specs.View.{placed_of}
 use Rattle.sql_eval.specs.declared.resolved.Resolved.{Resolved}

@@ -2,7 +2,7 @@
 use Rattle.std.specs.Prelude.{List}
 use Rattle.vtl_cell.specs.Row.{Row}
 use Rattle.sql_tree.specs.Trees.{Text}
-use Rattle.sql_from.specs.Scopes.{Scope}
+use Rattle.sql_check_parts.specs.Scopes.{Scope}
 use Rattle.sql_from.specs.Held.{rows_held}
 use Rattle.sql_from.specs.Sources.{scope_held}
 use Rattle.sql_from.specs.Standing.{rows_for}

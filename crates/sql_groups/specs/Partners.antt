@@ -1,7 +1,7 @@
 -- When the look-ups of a grouped select may be asked at a group.
 use Rattle.std.specs.Prelude.{◌≡◌}
 use Rattle.vtl_cell.specs.Row.{Row}
-use Rattle.sql_from.specs.Profiles.{IsRowOfProfile}
+use Rattle.sql_meaning.specs.Profiles.{IsRowOfProfile}
 use Rattle.sql_from.specs.declared.tuple_rows.TupleRows.{TupleRows}
 use Rattle.sql_groups.specs.declared.group_partners.GroupPartners.{GroupPartners}
 

@@ -2,7 +2,7 @@
 ghost use Rattle.std.specs.Prelude.{◌≡◌, IfOk};
 ghost use Rattle.sql_from.specs.Held.{base_held};
 ghost use Rattle.sql_from.specs.KeyPartners.{asking_of};
-ghost use Rattle.sql_from.specs.Profiles.{IsLawful};
+ghost use Rattle.sql_meaning.specs.Profiles.{IsLawful};
 
 use crate::asked::Asked;
 use crate::items::GroupSelect;
@@ -10,7 +10,7 @@ use sql_eval::{Existence, Resolved};
 use sql_from::{KeyPartners, Partners, Sources, TupleRows};
 use std::alloc::{AllocError, Global};
 use std::sync::ledger::Ledger;
-use vtl_cell::Profile;
+use vtl_decimal::Profile;
 use vtl_index::Steps;
 use vtl_rows::Tables;
 

@@ -11,8 +11,8 @@ use sql_eval::{Cells, Existence, Resolved};
 use sql_from::{OuterRow, TupleRows, has_partner};
 use std::alloc::{AllocError, Global};
 use std::marker::Model;
-use vtl_cell::{AggKind, Cell, Profile};
-use vtl_decimal::whole;
+use vtl_cell::{AggKind, Cell};
+use vtl_decimal::{Profile, whole};
 use vtl_scalar::ScalarErr;
 
 /// A group: its key, which holds the cells of the columns of GROUP BY, and its rows. All cells are lent. EXISTS is asked by

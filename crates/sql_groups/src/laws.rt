@@ -1,12 +1,12 @@
 // Laws of the definitions.
 ghost use Rattle.std.specs.List.{AllByRecursion};
-ghost use Rattle.vtl_cell.specs.Settings.{Settings};
+ghost use Rattle.vtl_decimal.specs.Settings.{Settings};
 ghost use Rattle.sql_tree.specs.Trees.{QueryTree};
-ghost use Rattle.sql_from.specs.Queries.{query_columns};
-ghost use Rattle.sql_from.specs.Queries as typing;
-ghost use Rattle.sql_from.specs.Scopes.{Tables};
-ghost use Rattle.sql_from.specs.TypedSelects.{IsQueryTyped};
-ghost use Rattle.sql_from.specs.Tables.{kinds_of};
+ghost use Rattle.sql_check_parts.specs.Queries.{query_columns};
+ghost use Rattle.sql_check_parts.specs.Queries as typing;
+ghost use Rattle.sql_check_parts.specs.Scopes.{Tables};
+ghost use Rattle.sql_check_laws.specs.Selects.{IsQueryTyped};
+ghost use Rattle.sql_meaning.specs.Tables.{kinds_of};
 ghost use Rattle.sql_groups.specs.Resolved.{AreLifted};
 
 /// The kinds of the items of each select of a typed query are lifted to those of its columns.

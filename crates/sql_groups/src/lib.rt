@@ -22,5 +22,3 @@ mod totals;
 
 pub use laws::items_are_lifted_to_columns;
 pub use select::push_grouped;
-pub use sql_eval::Plan;
-pub use sql_from::{ExecErr, Partners, Seen, Sources, TupleRows, asks, source_rows, source_tuples};

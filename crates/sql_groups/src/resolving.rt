@@ -8,7 +8,8 @@ use crate::items::{GroupItem, GroupSelect};
 use sql_eval::{Kinded, Level, Names, Resolved, resolve};
 use sql_tree::{Column, Item, ItemValue, Select, SqlExpr};
 use std::alloc::{AllocError, Global};
-use vtl_cell::{Cell, Kind, Profile};
+use vtl_cell::{Cell, Kind};
+use vtl_decimal::Profile;
 
 // An expression at groups.
 fn resolved<N: Names>(

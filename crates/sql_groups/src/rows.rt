@@ -4,11 +4,11 @@ ghost use Rattle.std.specs.Prelude.{◌≡◌, ◌<◌, true, ◌++◌, None, Ok
 ghost use Rattle.vtl_cell.specs.Outcome.{after};
 ghost use Rattle.vtl_scalar.specs.Answers.{AnswersBy};
 ghost use Rattle.vtl_rows.specs.Tables.{fits};
-ghost use Rattle.sql_from.specs.Scopes.{row_of};
-ghost use Rattle.sql_from.specs.Fits.{IsSeen};
+ghost use Rattle.sql_check_parts.specs.Scopes.{row_of};
+ghost use Rattle.sql_check_laws.specs.Fits.{IsSeen};
 ghost use Rattle.sql_from.specs.Held.{base_held};
-ghost use Rattle.sql_from.specs.Profiles.{AreOfProfile, IsLawful};
-ghost use Rattle.sql_from.specs.Tables.{RowsFit};
+ghost use Rattle.sql_meaning.specs.Profiles.{AreOfProfile, IsLawful};
+ghost use Rattle.sql_meaning.specs.Tables.{RowsFit};
 ghost use Rattle.sql_groups.specs.Items.{around, groups_made, keys_in, row_of_key};
 ghost use Rattle.sql_groups.specs.Kept.{rows_of, scope_of};
 
@@ -20,7 +20,8 @@ use sql_from::{Seen, TupleRows};
 use sql_tree::Column;
 use std::alloc::Global;
 use std::sync::ledger::Ledger;
-use vtl_cell::{Cell, Profile};
+use vtl_cell::Cell;
+use vtl_decimal::Profile;
 use vtl_index::Steps;
 use vtl_rows::Table;
 use vtl_scalar::ScalarErr;

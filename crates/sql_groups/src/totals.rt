@@ -6,7 +6,7 @@ ghost use Rattle.vtl_cell.specs.Row.{column_of};
 ghost use Rattle.vtl_cell.specs.declared.cell.Cell as cells;
 ghost use Rattle.vtl_agg.specs.Added.{HasRoom, IsAdded};
 ghost use Rattle.vtl_scalar.specs.Answers.{Answers};
-ghost use Rattle.sql_from.specs.Outcomes.{cell_or_null};
+ghost use Rattle.sql_meaning.specs.Outcomes.{cell_or_null};
 ghost use Rattle.sql_eval.specs.Placed.{aggregate_value, placed_value};
 ghost use Rattle.sql_eval.specs.View.{placed_of};
 ghost use Rattle.sql_from.specs.Seen.{seen_of};
@@ -17,7 +17,8 @@ use sql_eval::{Cells, Resolved, value_at};
 use sql_from::{Partners, Seen, TupleRows};
 use std::alloc::{AllocError, Global};
 use vtl_agg::Acc;
-use vtl_cell::{AggKind, Cell, Profile};
+use vtl_cell::{AggKind, Cell};
+use vtl_decimal::Profile;
 use vtl_scalar::ScalarErr;
 
 // The rows of this many numbers are fetched side by side.

@@ -18,9 +18,9 @@ use Rattle.sql_tree.specs.Trees.{Exp, JoinTree, QueryTree, SelectTree, Text}
 use Rattle.sql_tree.specs.declared.parts.Column.{Column}
 use Rattle.sql_tree.specs.declared.parts.Source.{Source}
 use Rattle.sql_tree.specs.declared.word_groups.JoinKind.{JoinKind}
-use Rattle.vtl_cell.specs.Texts.{same_text}
-use Rattle.sql_check_laws.specs.Queries.{join_source}
-use Rattle.sql_check_laws.specs.Scopes.{Scope, is_among, row_of, with_source}
+use Rattle.vtl_text.specs.Texts.{same_text}
+use Rattle.sql_check_parts.specs.Queries.{join_source}
+use Rattle.sql_check_parts.specs.Scopes.{Scope, is_among, row_of, with_source}
 use Rattle.sql_check_laws.specs.Selects.{AreJoinsTyped, IsSelectTyped, IsSourceTyped}
 use Rattle.sql_meaning.specs.Early.{IsSafe, MayBeEarly, NamesEarly, NamesOnly, aliases_left, columns_in, is_full, is_safe, is_safe_condition, is_safe_join, join_alias}
 use Rattle.sql_meaning.specs.From.{Joined, beside, fault_at, first_of, holds, joined, joined_rows, kept_of, nulls, pairs, source_rows, with_join}

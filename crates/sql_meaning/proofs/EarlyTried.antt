@@ -10,7 +10,7 @@ use Rattle.vtl_cell.specs.Row.{Row}
 use Rattle.vtl_cell.specs.Logic.{and_of}
 use Rattle.vtl_cell.specs.Outcomes.{is_true}
 use Rattle.vtl_cell.specs.ScalarChoice.{on_truths, truth_in}
-use Rattle.vtl_cell.specs.Settings.{Settings}
+use Rattle.vtl_decimal.specs.Settings.{Settings}
 use Rattle.vtl_cell.specs.declared.cell.Cell.{Cell}
 use Rattle.vtl_cell.specs.declared.cell.Cell.TheVariants as c
 use Rattle.vtl_cell.specs.declared.kind.Kind.{Kind}
@@ -19,7 +19,7 @@ use Rattle.sql_tree.specs.Trees as tree
 use Rattle.sql_tree.specs.Trees.{Exp, JoinTree, QueryTree, SelectTree, Text}
 use Rattle.sql_tree.specs.declared.word_groups.JoinKind.{JoinKind}
 use Rattle.sql_tree.specs.declared.word_groups.JoinKind.TheVariants as joining
-use Rattle.sql_check_laws.specs.Kinds.{kind_in}
+use Rattle.sql_check_parts.specs.Kinds.{kind_in}
 use Rattle.sql_meaning.specs.Early.{is_full_kind}
 use Rattle.sql_meaning.specs.From.{holds, joined_by, or_alone, pairs_by, partners, partners_or_alone}
 use Rattle.sql_meaning.specs.Outcomes.{operated}

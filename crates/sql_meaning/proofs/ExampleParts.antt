@@ -2,12 +2,12 @@
 use Rattle.std.proofs.Common.{ℕ, pos, List, [], ◌∷◌, None}
 use Rattle.std.specs.Prelude.{Option, codes, if◌then◌else◌}
 use Rattle.vtl_cell.specs.Row.{Row}
-use Rattle.vtl_cell.specs.Texts.{same_text}
+use Rattle.vtl_text.specs.Texts.{same_text}
 use Rattle.vtl_cell.specs.declared.cell.Cell.{Cell}
 use Rattle.vtl_cell.specs.declared.cell.Cell.TheVariants.{Int}
 use Rattle.vtl_cell.specs.declared.kind.Kind.TheVariants as k
 use Rattle.vtl_cell.specs.declared.operator.ScalarOp.TheVariants as op
-use Rattle.vtl_cell.specs.settings.Rounding.TheVariants.{HalfUp}
+use Rattle.vtl_decimal.specs.declared.settings.Rounding.TheVariants.{HalfUp}
 use Rattle.sql_tree.specs.Trees as tree
 use Rattle.sql_tree.specs.Trees.{Exp, ItemTree, JoinTree, SelectTree, Text}
 use Rattle.sql_tree.specs.declared.parts.Column.{Column}
@@ -15,7 +15,7 @@ use Rattle.sql_tree.specs.declared.parts.Constant.TheVariants as constant
 use Rattle.sql_tree.specs.declared.parts.Numeral.TheVariants as numeral
 use Rattle.sql_tree.specs.declared.parts.Source.{Source}
 use Rattle.sql_tree.specs.declared.windows.Window.{Window}
-use Rattle.sql_check_laws.specs.Scopes.{Columns}
+use Rattle.sql_check_parts.specs.Scopes.{Columns}
 use Rattle.sql_meaning.specs.Tables.{Base}
 
 abbrev pub source : Text → Text → Source

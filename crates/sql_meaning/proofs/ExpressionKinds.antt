@@ -6,7 +6,7 @@ use Rattle.vtl_cell.specs.Conversion.{as_kind}
 use Rattle.vtl_cell.specs.Groups.{group_value}
 use Rattle.vtl_cell.specs.Outcome.{Outcome, fault_in, faults_by}
 use Rattle.vtl_cell.specs.Outcomes.{branch, first_chosen}
-use Rattle.vtl_cell.specs.Range.{fit_integer}
+use Rattle.vtl_decimal.specs.Range.{fit_integer}
 use Rattle.vtl_cell.specs.Row.{Row, column_of}
 use Rattle.vtl_cell.specs.ScalarKinds.{common_kind}
 use Rattle.vtl_cell.specs.declared.cell.Cell.{Cell}
@@ -18,9 +18,9 @@ use Rattle.vtl_scalar.specs.KindLaws.{HasKind, IsOfKind}
 use Rattle.sql_tree.specs.Trees as tree
 use Rattle.sql_tree.specs.Trees.{Branches, Exp, Exps}
 use Rattle.sql_tree.specs.declared.parts.Column.{Column}
-use Rattle.sql_check_laws.specs.Expressions.{Site, site}
-use Rattle.sql_check_laws.specs.Kinds.{kind_in, kinds_in, operator_kind, value_kinds}
-use Rattle.sql_check_laws.specs.Scopes.{Grouping, Scope, column_kind}
+use Rattle.sql_check_parts.specs.Expressions.{Site, site}
+use Rattle.sql_check_parts.specs.Kinds.{kind_in, kinds_in, operator_kind, value_kinds}
+use Rattle.sql_check_parts.specs.Scopes.{Grouping, Scope, column_kind}
 use Rattle.sql_check_laws.specs.Fits.{AllFit, BranchesFit, Fits, IsSeen}
 use Rattle.sql_meaning.specs.Outcomes.{all_values, cell_or_null, operated}
 use Rattle.sql_meaning.specs.Tables.{Base}

@@ -8,8 +8,8 @@ use Rattle.vtl_cell.specs.Row.{Row}
 use Rattle.vtl_cell.specs.declared.kind.Kind.{Kind}
 use Rattle.sql_tree.specs.Trees as tree
 use Rattle.sql_tree.specs.Trees.{Exp, JoinTree, QueryTree, SelectTree}
-use Rattle.sql_check_laws.specs.Queries.{is_grouped, joined_scope, query_columns, scope_of}
-use Rattle.sql_check_laws.specs.Scopes.{Scope, with_source}
+use Rattle.sql_check_parts.specs.Queries.{is_grouped, joined_scope, query_columns, scope_of}
+use Rattle.sql_check_parts.specs.Scopes.{Scope, with_source}
 use Rattle.sql_meaning.specs.Faults.{Evaluations, at_condition, at_grouped, at_having, at_joins, at_keys, at_plain, evaluations, first_evaluations, is_division, is_range, query_evaluations, second_evaluations, worst}
 use Rattle.sql_meaning.specs.From.{Joined, condition_fault, fault_at, first_of, joined, kept, pairs, source_rows, with_join}
 use Rattle.sql_meaning.specs.Groups.{keys_by, rows_with}

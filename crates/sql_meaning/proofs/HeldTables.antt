@@ -1,10 +1,10 @@
 -- Tables of the program that have the columns over which a query is typed.
 use Rattle.std.proofs.Common.{◌≡◌, List, [], ◌∷◌, map, Option, Some, None, refl, ap, ◌∙◌, subst}
-use Rattle.vtl_cell.specs.Settings.{Settings}
+use Rattle.vtl_decimal.specs.Settings.{Settings}
 use Rattle.vtl_rows.specs.Named.{NamedTables, table_of}
 use Rattle.vtl_rows.specs.Tables.{Listed, column_kinds}
 use Rattle.vtl_rows.specs.declared.column.Column.{Column}
-use Rattle.sql_check_laws.specs.Scopes.{Tables}
+use Rattle.sql_check_parts.specs.Scopes.{Tables}
 use Rattle.sql_meaning.specs.Tables.{AreHeldFit, HasColumns, HasTable, RowsFit, TablesFit, base_over, column_entry, kinds_of, rows_of}
 
 kinds_are : (columns : List Column) → column_kinds columns ≡ kinds_of (map column_entry columns)

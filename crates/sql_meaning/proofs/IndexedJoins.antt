@@ -9,15 +9,15 @@ use Rattle.vtl_cell.specs.Outcomes.{is_true}
 use Rattle.vtl_cell.specs.Row.{Row}
 use Rattle.vtl_cell.specs.ScalarChoice.{on_truths, truth_in}
 use Rattle.vtl_cell.specs.ScalarComparison.{compared, truth}
-use Rattle.vtl_cell.specs.Settings.{Settings}
+use Rattle.vtl_decimal.specs.Settings.{Settings}
 use Rattle.vtl_cell.specs.declared.cell.Cell.{Cell}
 use Rattle.vtl_cell.specs.declared.kind.Kind.{Kind}
 use Rattle.vtl_cell.specs.declared.kind.Kind.TheVariants as k
 use Rattle.vtl_cell.specs.declared.operator.ScalarOp.TheVariants as op
 use Rattle.sql_tree.specs.Trees as tree
 use Rattle.sql_tree.specs.Trees.{Exp, JoinTree, Text}
-use Rattle.sql_check_laws.specs.Kinds.{kind_in}
-use Rattle.sql_check_laws.specs.Scopes.{row_of, with_source}
+use Rattle.sql_check_parts.specs.Kinds.{kind_in}
+use Rattle.sql_check_parts.specs.Scopes.{row_of, with_source}
 use Rattle.sql_meaning.specs.From.{Joined, fault_at, holds, joined_rows, pairs, with_join}
 use Rattle.sql_meaning.specs.Outcomes.{operated}
 use Rattle.sql_meaning.specs.Plans.{IsEqualityJoin, are_sides, conjuncts, is_side_equality, with_index}

@@ -10,7 +10,7 @@ use Rattle.vtl_cell.specs.Outcomes.{branch, first_chosen, is_true}
 use Rattle.vtl_cell.specs.Row.{Row, column_of}
 use Rattle.vtl_cell.specs.ScalarKinds.{common_kind}
 use Rattle.vtl_cell.specs.Scalars.{scalar_of}
-use Rattle.vtl_cell.specs.Texts.{same_text}
+use Rattle.vtl_text.specs.Texts.{same_text}
 use Rattle.vtl_cell.specs.declared.cell.Cell.{Cell}
 use Rattle.vtl_cell.specs.declared.cell.Cell.TheVariants as c
 use Rattle.vtl_cell.specs.declared.kind.Kind.{Kind}
@@ -21,9 +21,9 @@ use Rattle.sql_tree.specs.Trees as tree
 use Rattle.sql_tree.specs.Trees.{Branches, Exp, Exps, Text}
 use Rattle.sql_tree.specs.declared.parts.Column.{Column}
 use Rattle.sql_tree.specs.declared.parts.Equality.{Equality}
-use Rattle.sql_check_laws.specs.Exists.{Inner, inner_of, is_inner}
-use Rattle.sql_check_laws.specs.Kinds.{given_kind, kind_in, kinds_in, value_kinds}
-use Rattle.sql_check_laws.specs.Scopes.{Named, Scope, Sources, found, is_among, numbered, or_null, placed, placed_from, row_of, value_among}
+use Rattle.sql_check_parts.specs.Exists.{Inner, inner_of, is_inner}
+use Rattle.sql_check_parts.specs.Kinds.{given_kind, kind_in, kinds_in, value_kinds}
+use Rattle.sql_check_parts.specs.Scopes.{Named, Scope, Sources, found, is_among, numbered, or_null, placed, placed_from, row_of, value_among}
 use Rattle.sql_meaning.specs.Early.{NamesOnly, columns_in, columns_of, columns_within, outer_columns, outer_of}
 use Rattle.sql_meaning.specs.Outcomes.{operated}
 use Rattle.sql_meaning.specs.Tables.{Base}

@@ -1,6 +1,3 @@
-pub use Rattle.sql_check_laws.proofs.GivenColumns
-pub use Rattle.sql_check_laws.proofs.OperatorKinds as LawsOperatorKinds
-pub use Rattle.sql_check_laws.proofs.TypedStatements
 pub mod Lists
 pub mod ExampleParts
 pub mod ScriptExamples

@@ -3,11 +3,11 @@ use Rattle.std.proofs.Common.{◌≡◌, ℕ, pos, Bool, true, false, List, [], 
 use Rattle.std.specs.Prelude.{ℤ, IfOk, IsSome, ◌&&◌, not, Contains, option_and_then, encode_utf8_all, option_map, unwrap_or}
 use Rattle.std.specs.Int.RustNames.{int_le}
 use Rattle.std.specs.List.{AllByRecursion, list_all}
-use Rattle.vtl_cell.specs.number.Fault.{Fault as DecimalFault}
-use Rattle.vtl_cell.specs.Numeral.{number_spelled}
-use Rattle.vtl_cell.specs.Range.{fit_integer, fit_number}
-use Rattle.vtl_cell.specs.Settings.{Settings}
-use Rattle.vtl_cell.specs.Sorting.{sorted_by}
+use Rattle.vtl_decimal.specs.declared.number.Fault.{Fault as DecimalFault}
+use Rattle.vtl_decimal.specs.Numeral.{number_spelled}
+use Rattle.vtl_decimal.specs.Range.{fit_integer, fit_number}
+use Rattle.vtl_decimal.specs.Settings.{Settings}
+use Rattle.vtl_lists.specs.Sorting.{sorted_by}
 use Rattle.vtl_cell.specs.Conversion.{as_kind}
 use Rattle.vtl_cell.specs.Groups.{aggregate, greatest, group_value, is_integer, least, mean_value, median_of, middle_of, number_or_null, numbers_of, of_nothing, of_values, total_of, values_of, wholes_of}
 use Rattle.vtl_cell.specs.Kinds.{is_null, is_of, kind_of}
@@ -37,9 +37,9 @@ use Rattle.vtl_scalar.proofs.ValueKindLemmas.{scalar_is, value_is_of_kind}
 use Rattle.sql_tree.specs.declared.parts.Constant.{Constant}
 use Rattle.sql_tree.specs.declared.parts.Constant.TheVariants as constant
 use Rattle.sql_tree.specs.declared.parts.Numeral.TheVariants as numeral
-use Rattle.sql_check_laws.specs.Kinds.{operator_kind}
-use Rattle.sql_check_laws.specs.Literals.{constant_kind}
-use Rattle.sql_check_laws.specs.Scopes.{or_null}
+use Rattle.sql_check_parts.specs.Kinds.{operator_kind}
+use Rattle.sql_check_parts.specs.Literals.{constant_kind}
+use Rattle.sql_check_parts.specs.Scopes.{or_null}
 use Rattle.sql_meaning.specs.Outcomes.{cell_or_null, operated}
 use Rattle.sql_meaning.specs.Values.{constant_cell}
 use Rattle.sql_meaning.proofs.Lists.{all_at}

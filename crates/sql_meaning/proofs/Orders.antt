@@ -26,10 +26,10 @@ use Rattle.sql_tree.specs.declared.parts.Column.{Column}
 use Rattle.sql_tree.specs.declared.windows.Window.{Window}
 use Rattle.sql_tree.specs.declared.word_groups.JoinKind.{JoinKind}
 use Rattle.sql_tree.specs.declared.word_groups.JoinKind.TheVariants as joining
-use Rattle.sql_check_laws.specs.Kinds.{kind_in}
-use Rattle.sql_check_laws.specs.Queries.{is_grouped, query_columns, scope_of}
-use Rattle.sql_check_laws.specs.Scopes.{Scope, row_of, with_source}
-use Rattle.sql_check_laws.specs.Exists.{inner_of}
+use Rattle.sql_check_parts.specs.Kinds.{kind_in}
+use Rattle.sql_check_parts.specs.Queries.{is_grouped, query_columns, scope_of}
+use Rattle.sql_check_parts.specs.Scopes.{Scope, row_of, with_source}
+use Rattle.sql_check_parts.specs.Exists.{inner_of}
 use Rattle.sql_meaning.specs.Outcomes.{operated, row_at, row_fault}
 use Rattle.sql_meaning.specs.Tables.{Base, columns_named, kinds_of}
 use Rattle.sql_meaning.specs.Values.{View, at_groups, at_rows, chosen, is_tied, literal_cell, null_test, place_in, set_operator, value, values}

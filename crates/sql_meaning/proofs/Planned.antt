@@ -8,7 +8,7 @@ use Rattle.vtl_cell.specs.Outcome.{Outcome}
 use Rattle.vtl_cell.specs.Outcomes.{Same}
 use Rattle.vtl_cell.specs.declared.kind.Kind.{Kind}
 use Rattle.sql_tree.specs.Trees.{JoinTree, QueryTree, SelectTree}
-use Rattle.sql_check_laws.specs.Queries.{query_columns, scope_of}
+use Rattle.sql_check_parts.specs.Queries.{query_columns, scope_of}
 use Rattle.sql_check_laws.specs.Selects.{IsQueryTyped, IsSelectTyped}
 use Rattle.sql_meaning.specs.From.{Joined, first_of, kept_of, source_rows, with_join}
 use Rattle.sql_meaning.specs.Plans.{IsAt, IsEqualityJoin, IsFirst, IsPlan, SelectsStand, Ways, as_written, is_indexed, planned_joins, planned_selects, planned_source, planned_value, with_index}

@@ -11,23 +11,23 @@ use Rattle.vtl_lists.proofs.Sorts.{AllByRecursion-filter, Perm-sorted_by}
 use Rattle.vtl_decimal.specs.Operators.{quotient}
 use Rattle.vtl_decimal.specs.Tally.{mean_of, tally_of}
 use Rattle.vtl_decimal.proofs.PowerLemmas.{power_of_ten_fits}
-use Rattle.vtl_cell.specs.number.Fault.{Fault as DecimalFault}
+use Rattle.vtl_decimal.specs.declared.number.Fault.{Fault as DecimalFault}
 use Rattle.vtl_cell.specs.Conversion.{as_kind}
 use Rattle.vtl_cell.specs.Groups.{aggregate, greatest, group_value, is_integer, least, middle_of, number_or_null, numbers_of, of_nothing, of_values, ratio_of, total_of, units_of, values_of, wholes_of}
 use Rattle.vtl_cell.specs.Kinds.{is_null, is_of}
-use Rattle.vtl_cell.specs.Numeral.{Numeral as Spelled, denominator, integer_of, number_spelled, numeral_of, numerator, signed}
+use Rattle.vtl_decimal.specs.Numeral.{Numeral as Spelled, denominator, integer_of, number_spelled, numeral_of, numerator, signed}
 use Rattle.vtl_cell.specs.Outcome.{Outcome, Range, after, fault_in, faults_by, join}
 use Rattle.vtl_cell.specs.Outcomes.{all_of, branch, first_chosen, is_true, result_of}
 use Rattle.vtl_cell.specs.Profile.{IsOfProfile}
-use Rattle.vtl_cell.specs.Range.{fit_integer, fit_number}
-use Rattle.vtl_cell.specs.Results.{◌>>=◌}
+use Rattle.vtl_decimal.specs.Range.{fit_integer, fit_number}
+use Rattle.vtl_lists.specs.Results.{◌>>=◌}
 use Rattle.vtl_cell.specs.Row.{Row, column_of, same_row}
 use Rattle.vtl_cell.specs.ScalarArithmetic.{integer, negation_of, number, units}
 use Rattle.vtl_cell.specs.Scalars.{scalar_of}
-use Rattle.vtl_cell.specs.Settings.{Settings}
+use Rattle.vtl_decimal.specs.Settings.{Settings}
 use Rattle.vtl_cell.specs.Sorted.{by_keys}
-use Rattle.vtl_cell.specs.Sorting.{sorted_by}
-use Rattle.vtl_cell.specs.Texts.{same_text}
+use Rattle.vtl_lists.specs.Sorting.{sorted_by}
+use Rattle.vtl_text.specs.Texts.{same_text}
 use Rattle.vtl_cell.specs.declared.cell.Cell.{Cell}
 use Rattle.vtl_cell.specs.declared.cell.Cell.TheVariants as c
 use Rattle.vtl_cell.specs.declared.kind.Kind.{Kind}
@@ -55,9 +55,9 @@ use Rattle.sql_tree.specs.declared.windows.Window.{Window}
 use Rattle.sql_tree.specs.declared.windows.WindowCall.{WindowCall}
 use Rattle.sql_tree.specs.declared.windows.WindowCall.TheVariants as call
 use Rattle.sql_tree.specs.declared.word_groups.ValueFunction.TheVariants as value
-use Rattle.sql_check_laws.specs.Kinds.{kind_in}
-use Rattle.sql_check_laws.specs.Queries.{is_grouped, query_columns, scope_of}
-use Rattle.sql_check_laws.specs.Scopes.{Scope, row_of, with_source}
+use Rattle.sql_check_parts.specs.Kinds.{kind_in}
+use Rattle.sql_check_parts.specs.Queries.{is_grouped, query_columns, scope_of}
+use Rattle.sql_check_parts.specs.Scopes.{Scope, row_of, with_source}
 use Rattle.sql_meaning.specs.From.{Joined, beside, condition_fault, first_of, holds, joined, kept, nulls, source_rows, with_join}
 use Rattle.sql_meaning.specs.Groups.{keys_by, rows_with}
 use Rattle.sql_meaning.specs.Outcomes.{all_values, cell_or_null, operated, row_at, row_fault}

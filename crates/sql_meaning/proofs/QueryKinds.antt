@@ -8,7 +8,7 @@ use Rattle.vtl_cell.specs.Kinds.{is_of}
 use Rattle.vtl_cell.specs.Outcome.{Outcome, after, fault_in, faults_by, join}
 use Rattle.vtl_cell.specs.Outcomes.{is_true}
 use Rattle.vtl_cell.specs.Row.{Row, same_row}
-use Rattle.vtl_cell.specs.Settings.{Settings}
+use Rattle.vtl_decimal.specs.Settings.{Settings}
 use Rattle.vtl_cell.specs.declared.cell.Cell.{Cell}
 use Rattle.vtl_cell.specs.declared.kind.Kind.{Kind}
 use Rattle.vtl_rows.specs.Tables.{cells_at, fits_kinds}
@@ -16,10 +16,10 @@ use Rattle.vtl_scalar.specs.KindLaws.{HasKind, IsOfKind}
 use Rattle.sql_tree.specs.Trees as tree
 use Rattle.sql_tree.specs.Trees.{Exp, ItemTree, QueryTree, SelectTree, Text, ValueTree}
 use Rattle.sql_tree.specs.declared.parts.Column.{Column}
-use Rattle.sql_check_laws.specs.Expressions.{Site, site}
-use Rattle.sql_check_laws.specs.Queries as typing
-use Rattle.sql_check_laws.specs.Queries.{beside, groups_of, is_grouped, item_kind, item_name, names_of, query_columns, query_names, same_names, scope_of, shared_kinds, value_kind}
-use Rattle.sql_check_laws.specs.Scopes.{Scope, grouping_of, row_of}
+use Rattle.sql_check_parts.specs.Expressions.{Site, site}
+use Rattle.sql_check_parts.specs.Queries as typing
+use Rattle.sql_check_parts.specs.Queries.{beside, groups_of, is_grouped, item_kind, item_name, names_of, query_columns, query_names, same_names, scope_of, shared_kinds, value_kind}
+use Rattle.sql_check_parts.specs.Scopes.{Scope, grouping_of, row_of}
 use Rattle.sql_check_laws.specs.Selects.{IsItemTyped, IsQueryTyped, IsSelectTyped, IsValueTyped}
 use Rattle.sql_meaning.specs.From.{nulls, source_rows}
 use Rattle.sql_meaning.specs.Groups.{keys_by, rows_with}

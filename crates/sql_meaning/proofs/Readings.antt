@@ -5,7 +5,7 @@ use Rattle.std.specs.List.{list_any}
 use Rattle.vtl_cell.specs.Conversion.{as_kind}
 use Rattle.vtl_cell.specs.Kinds.{is_null}
 use Rattle.vtl_cell.specs.Outcome.{Outcome, after, faults_by, join}
-use Rattle.vtl_cell.specs.Apart.{all_apart}
+use Rattle.vtl_lists.specs.Apart.{all_apart}
 use Rattle.vtl_cell.specs.Outcomes.{is_true}
 use Rattle.vtl_cell.specs.Row.{Row, same_key}
 use Rattle.vtl_cell.specs.declared.cell.Cell.{Cell}
@@ -15,8 +15,8 @@ use Rattle.vtl_scalar.proofs.NullLemmas.{null_gives_null}
 use Rattle.sql_tree.specs.Trees as tree
 use Rattle.sql_tree.specs.Trees.{SelectTree}
 use Rattle.sql_tree.specs.declared.parts.Column.{Column}
-use Rattle.sql_check_laws.specs.Kinds.{kind_in}
-use Rattle.sql_check_laws.specs.Queries.{is_grouped, scope_of}
+use Rattle.sql_check_parts.specs.Kinds.{kind_in}
+use Rattle.sql_check_parts.specs.Queries.{is_grouped, scope_of}
 use Rattle.sql_meaning.specs.From.{holds, source_rows}
 use Rattle.sql_meaning.specs.Inputs.{IsInputData, key_width}
 use Rattle.sql_tree.specs.declared.statements.SqlInput.{SqlInput}

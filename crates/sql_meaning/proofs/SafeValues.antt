@@ -10,7 +10,7 @@ use Rattle.vtl_cell.specs.Profile.{IsOfProfile}
 use Rattle.vtl_cell.specs.Row.{Row}
 use Rattle.vtl_cell.specs.ScalarArithmetic.{number, units}
 use Rattle.vtl_cell.specs.Scalars.{scalar_of}
-use Rattle.vtl_cell.specs.Settings.{Settings}
+use Rattle.vtl_decimal.specs.Settings.{Settings}
 use Rattle.vtl_cell.specs.declared.cell.Cell.{Cell}
 use Rattle.vtl_cell.specs.declared.cell.Cell.TheVariants as c
 use Rattle.vtl_cell.specs.declared.kind.Kind.{Kind}
@@ -23,8 +23,8 @@ use Rattle.vtl_scalar.proofs.ProfileLemmas.{Gives, value_is_of_profile}
 use Rattle.sql_tree.specs.Trees as tree
 use Rattle.sql_tree.specs.Trees.{Branches, Exp, Exps}
 use Rattle.sql_tree.specs.declared.parts.Literal.{Literal}
-use Rattle.sql_check_laws.specs.Kinds.{kind_in}
-use Rattle.sql_check_laws.specs.Scopes.{Scope}
+use Rattle.sql_check_parts.specs.Kinds.{kind_in}
+use Rattle.sql_check_parts.specs.Scopes.{Scope}
 use Rattle.sql_meaning.specs.Early.{are_safe, have_safe, is_safe}
 use Rattle.sql_meaning.specs.From.{fault_at}
 use Rattle.sql_meaning.specs.Outcomes.{operated}

@@ -7,19 +7,19 @@ use Rattle.std.proofs.lemmas.List.{map-append}
 use Rattle.vtl_lists.proofs.Perms.{AllByRecursion-Perm, Perm-sym}
 use Rattle.vtl_lists.proofs.Sorts.{Perm-sorted_by}
 use Rattle.vtl_cell.specs.Outcome.{Outcome}
-use Rattle.vtl_cell.specs.Results.{◌>>=◌}
+use Rattle.vtl_lists.specs.Results.{◌>>=◌}
 use Rattle.vtl_cell.specs.Row.{Row}
-use Rattle.vtl_cell.specs.Settings.{Settings}
-use Rattle.vtl_cell.specs.settings.Rounding.{Rounding}
-use Rattle.vtl_cell.specs.Texts.{same_text}
+use Rattle.vtl_decimal.specs.Settings.{Settings}
+use Rattle.vtl_decimal.specs.declared.settings.Rounding.{Rounding}
+use Rattle.vtl_text.specs.Texts.{same_text}
 use Rattle.vtl_cell.proofs.Keys.{window_order}
 use Rattle.vtl_rows.specs.Tables.{fits_kinds}
 use Rattle.sql_tree.specs.Trees as tree
 use Rattle.sql_tree.specs.Trees.{QueryTree, StatementTree, Text}
 use Rattle.sql_tree.specs.declared.statements.SqlExport.{SqlExport}
-use Rattle.sql_check_laws.specs.Queries.{query_columns}
-use Rattle.sql_check_laws.specs.Scopes.{Columns, Tables, columns_of}
-use Rattle.sql_check_laws.specs.PartsStatements.{Given, IsTypedScript, after, input_columns, nothing, settings_of}
+use Rattle.sql_check_parts.specs.Queries.{query_columns}
+use Rattle.sql_check_parts.specs.Scopes.{Columns, Tables, columns_of}
+use Rattle.sql_check_parts.specs.Statements.{Given, IsTypedScript, after, input_columns, nothing, settings_of}
 use Rattle.sql_check_laws.specs.Selects.{IsQueryTyped}
 use Rattle.sql_check_laws.specs.Statements.{AreTyped, IsStatementTyped}
 use Rattle.sql_meaning.specs.Fitting.{HasInput, HeldFit, InputsFit, IsExportFit, IsFit}

@@ -3,12 +3,12 @@ use Rattle.std.proofs.Common.{◌≡◌, List, [], ◌∷◌, ◌++◌, Result, 
 use Rattle.std.specs.Prelude.{IfOk}
 use Rattle.std.proofs.lemmas.List.{append-nil}
 use Rattle.vtl_cell.specs.Outcome.{Outcome}
-use Rattle.vtl_cell.specs.Results.{◌>>=◌}
+use Rattle.vtl_lists.specs.Results.{◌>>=◌}
 use Rattle.vtl_cell.specs.Row.{Row}
-use Rattle.vtl_cell.specs.Settings.{Settings}
+use Rattle.vtl_decimal.specs.Settings.{Settings}
 use Rattle.sql_tree.specs.Trees as tree
 use Rattle.sql_tree.specs.Trees.{QueryTree, ScriptTree, StatementTree, Text}
-use Rattle.sql_check_laws.specs.PartsStatements.{script_settings}
+use Rattle.sql_check_parts.specs.Statements.{script_settings}
 use Rattle.sql_meaning.specs.Fronts.{IsFrontOf}
 use Rattle.sql_meaning.specs.Scripts.{Export, Inputs, Made, NamedFault, and_table, base_of, created, export_of, nothing_made, or_named, script_value, statement_made, statements_made, table_named}
 use Rattle.sql_meaning.specs.Selects.{query_value}

@@ -7,17 +7,17 @@ use Rattle.vtl_lists.proofs.Perms.{Perm-refl}
 use Rattle.vtl_lists.proofs.Sorts.{sorted_by-Perm}
 use Rattle.vtl_cell.specs.Outcome.{Outcome, Fault}
 use Rattle.vtl_cell.specs.Outcomes.{Same}
-use Rattle.vtl_cell.specs.Results.{◌>>=◌}
+use Rattle.vtl_lists.specs.Results.{◌>>=◌}
 use Rattle.vtl_cell.specs.Row.{Row}
-use Rattle.vtl_cell.specs.Settings.{Settings}
-use Rattle.vtl_cell.specs.Texts.{same_text}
+use Rattle.vtl_decimal.specs.Settings.{Settings}
+use Rattle.vtl_text.specs.Texts.{same_text}
 use Rattle.vtl_cell.proofs.Keys.{window_order}
 use Rattle.sql_tree.specs.Trees as tree
 use Rattle.sql_tree.specs.Trees.{QueryTree, ScriptTree, StatementTree, Text}
 use Rattle.sql_tree.specs.declared.statements.SqlExport.{SqlExport}
-use Rattle.sql_check_laws.specs.Queries.{query_columns}
-use Rattle.sql_check_laws.specs.Scopes.{Columns, Tables}
-use Rattle.sql_check_laws.specs.PartsStatements.{script_settings}
+use Rattle.sql_check_parts.specs.Queries.{query_columns}
+use Rattle.sql_check_parts.specs.Scopes.{Columns, Tables}
+use Rattle.sql_check_parts.specs.Statements.{script_settings}
 use Rattle.sql_meaning.specs.Orders.{SameInputs}
 use Rattle.sql_meaning.specs.Scripts.{Data, Export, Inputs, Made, NamedFault, Table, and_table, base_of, created, export_of, fault_name, input_table, no_table, nothing_made, or_named, rows_read, script_made, script_value, sort_key, statement_made, statements_made, table_named, tables_in}
 use Rattle.sql_meaning.specs.Selects.{query_value}

@@ -5,15 +5,15 @@ use Rattle.std.specs.List.{AllByRecursion}
 use Rattle.std.proofs.lemmas.List.{length-map}
 use Rattle.vtl_cell.specs.Kinds.{kind_of}
 use Rattle.vtl_cell.specs.ScalarKinds.{shared_kind}
-use Rattle.vtl_cell.specs.Texts.{same_text}
+use Rattle.vtl_text.specs.Texts.{same_text}
 use Rattle.vtl_cell.specs.declared.cell.Cell.{Cell}
 use Rattle.vtl_cell.specs.declared.kind.Kind.{Kind}
 use Rattle.vtl_scalar.specs.KindLaws.{IsOfKind}
 use Rattle.vtl_scalar.proofs.KindLemmas.{common_left, common_right}
 use Rattle.sql_tree.specs.Trees.{QueryTree, SelectTree, Text}
-use Rattle.sql_check_laws.specs.Queries as typing
-use Rattle.sql_check_laws.specs.Queries.{beside, item_kind, item_name, names_of, query_columns, same_names, scope_of, shared_kinds}
-use Rattle.sql_check_laws.specs.Scopes.{or_null}
+use Rattle.sql_check_parts.specs.Queries as typing
+use Rattle.sql_check_parts.specs.Queries.{beside, item_kind, item_name, names_of, query_columns, same_names, scope_of, shared_kinds}
+use Rattle.sql_check_parts.specs.Scopes.{or_null}
 use Rattle.sql_check_laws.specs.Selects.{IsQueryTyped}
 use Rattle.sql_meaning.specs.Tables.{Base, kinds_of}
 use Rattle.sql_meaning.proofs.Lists.{under}

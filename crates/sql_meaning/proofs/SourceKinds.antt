@@ -19,9 +19,9 @@ use Rattle.sql_tree.specs.declared.parts.Column.{Column}
 use Rattle.sql_tree.specs.declared.parts.Source.{Source}
 use Rattle.sql_tree.specs.declared.word_groups.JoinKind.{JoinKind}
 use Rattle.sql_tree.specs.declared.word_groups.JoinKind.TheVariants as joining
-use Rattle.sql_check_laws.specs.Queries.{first_scope, joined_scope, scope_of}
-use Rattle.sql_check_laws.specs.Scopes.{Columns, Scope, Tables, add_source, columns_of, found, or_nothing, placed, row_of, with_source}
-use Rattle.sql_check_laws.proofs.Places.{found_placed}
+use Rattle.sql_check_parts.specs.Queries.{first_scope, joined_scope, scope_of}
+use Rattle.sql_check_parts.specs.Scopes.{Columns, Scope, Tables, add_source, columns_of, found, or_nothing, placed, row_of, with_source}
+use Rattle.sql_check_parts.proofs.Places.{found_placed}
 use Rattle.sql_check_laws.specs.Selects.{AreJoinsTyped, IsSelectTyped, IsSourceTyped}
 use Rattle.sql_meaning.specs.From.{Joined, beside, condition_fault, fault_at, holds, is_met, joined, joined_by, joined_rows, kept, nulls, or_alone, pairs, pairs_by, partners, partners_or_alone, source_rows, unmet, with_join}
 use Rattle.sql_meaning.specs.Tables.{Base, RowsFit, TablesFit, columns_named, kinds_of}

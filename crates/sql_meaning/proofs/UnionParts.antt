@@ -5,21 +5,21 @@ use Rattle.std.specs.Prelude.{◌^◌, nat_lt, pos, unsigned_abs, zip}
 use Rattle.std.specs.List.{AllByRecursion}
 use Rattle.std.proofs.lemmas.List.{append-nil, length-map}
 use Rattle.vtl_cell.specs.Conversion.{as_kind}
-use Rattle.vtl_cell.specs.number.Fault.{Fault as DecimalFault}
+use Rattle.vtl_decimal.specs.declared.number.Fault.{Fault as DecimalFault}
 use Rattle.vtl_cell.specs.Outcome.{DivZero, Fault, Outcome, Range, after, fault_in, faults_by, join, unless}
-use Rattle.vtl_cell.specs.Range.{fit_number}
+use Rattle.vtl_decimal.specs.Range.{fit_number}
 use Rattle.vtl_cell.specs.Row.{Row}
 use Rattle.vtl_cell.specs.ScalarArithmetic.{number, units}
 use Rattle.vtl_cell.specs.ScalarKinds.{meets}
-use Rattle.vtl_cell.specs.Settings.{Settings}
+use Rattle.vtl_decimal.specs.Settings.{Settings}
 use Rattle.vtl_cell.specs.declared.cell.Cell.{Cell}
 use Rattle.vtl_cell.specs.declared.cell.Cell.TheVariants as c
 use Rattle.vtl_cell.specs.declared.kind.Kind.{Kind}
 use Rattle.vtl_cell.specs.declared.kind.Kind.TheVariants as k
 use Rattle.sql_tree.specs.Trees.{ItemTree, QueryTree, SelectTree, ValueTree}
-use Rattle.sql_check_laws.specs.Queries as typing
-use Rattle.sql_check_laws.specs.Queries.{is_grouped, item_kind, item_name, query_columns, scope_of, shared_kinds}
-use Rattle.sql_check_laws.specs.Scopes.{or_null}
+use Rattle.sql_check_parts.specs.Queries as typing
+use Rattle.sql_check_parts.specs.Queries.{is_grouped, item_kind, item_name, query_columns, scope_of, shared_kinds}
+use Rattle.sql_check_parts.specs.Scopes.{or_null}
 use Rattle.sql_check_laws.specs.Selects.{IsQueryTyped}
 use Rattle.sql_meaning.specs.From.{source_rows}
 use Rattle.sql_meaning.specs.Groups.{keys_by, rows_with}

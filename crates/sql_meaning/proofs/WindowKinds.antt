@@ -16,17 +16,17 @@ use Rattle.vtl_decimal.specs.Tally.{tally_of}
 use Rattle.vtl_cell.specs.Frames.{before, first_cell, last_cell, up_to}
 use Rattle.vtl_cell.specs.Groups.{numbers_of, ratio_of, units_of, values_of}
 use Rattle.vtl_cell.specs.Kinds.{is_null, kind_of}
-use Rattle.vtl_cell.specs.number.Fault.{Fault as DecimalFault}
-use Rattle.vtl_cell.specs.Numeral.{number_spelled}
+use Rattle.vtl_decimal.specs.declared.number.Fault.{Fault as DecimalFault}
+use Rattle.vtl_decimal.specs.Numeral.{number_spelled}
 use Rattle.vtl_cell.specs.Outcome.{Outcome, after}
-use Rattle.vtl_cell.specs.Range.{fit_integer, fit_number}
+use Rattle.vtl_decimal.specs.Range.{fit_integer, fit_number}
 use Rattle.vtl_cell.specs.Row.{Row, column_of, same_row}
 use Rattle.vtl_cell.specs.ScalarArithmetic.{negation_of, number}
 use Rattle.vtl_cell.specs.ScalarKinds.{meets}
 use Rattle.vtl_cell.specs.ScalarKinds.{kinds_of as scalar_kinds}
-use Rattle.vtl_cell.specs.Settings.{Settings}
+use Rattle.vtl_decimal.specs.Settings.{Settings}
 use Rattle.vtl_cell.specs.Sorted.{by_keys, row_rank}
-use Rattle.vtl_cell.specs.Texts.{same_text}
+use Rattle.vtl_text.specs.Texts.{same_text}
 use Rattle.vtl_cell.specs.declared.cell.Cell.{Cell}
 use Rattle.vtl_cell.specs.declared.cell.Cell.TheVariants as c
 use Rattle.vtl_cell.specs.declared.kind.Kind.{Kind}
@@ -50,10 +50,10 @@ use Rattle.sql_tree.specs.declared.windows.WindowCall.TheVariants as call
 use Rattle.sql_tree.specs.declared.word_groups.ShiftFunction.{ShiftFunction}
 use Rattle.sql_tree.specs.declared.word_groups.ShiftFunction.TheVariants as shift
 use Rattle.sql_tree.specs.declared.word_groups.ValueFunction.TheVariants as value
-use Rattle.sql_check_laws.specs.Literals.{literal_kind}
-use Rattle.sql_check_laws.specs.Scopes.{Scope, column_kind, column_name, column_order, found, grouping_of, is_grouped_by, row_of}
-use Rattle.sql_check_laws.specs.Windows.{argument, call_kind, shift_kind, window_kind}
-use Rattle.sql_check_laws.proofs.Grouped.{is_in_group}
+use Rattle.sql_check_parts.specs.Literals.{literal_kind}
+use Rattle.sql_check_parts.specs.Scopes.{Scope, column_kind, column_name, column_order, found, grouping_of, is_grouped_by, row_of}
+use Rattle.sql_check_parts.specs.Windows.{argument, call_kind, shift_kind, window_kind}
+use Rattle.sql_check_parts.proofs.Grouped.{is_in_group}
 use Rattle.sql_check_laws.specs.Fits.{IsSeen, IsWindowTyped}
 use Rattle.sql_meaning.specs.Tables.{Base, RowsFit}
 use Rattle.sql_meaning.specs.Values.{View, at_rows, cell_at, literal_cell, place_in, same_column}

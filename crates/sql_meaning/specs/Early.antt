@@ -1,7 +1,7 @@
 -- Which parts of a WHERE may be tried before a join.
 use Rattle.std.specs.Prelude.{◌≡◌, ℕ, Bool, true, false, not, ◌&&◌, List, [], ◌∷◌, ◌++◌, map, filter, take, drop, Option, Some, None}
 use Rattle.std.specs.List.{AllByRecursion, flat_map}
-use Rattle.vtl_cell.specs.Texts.{same_text}
+use Rattle.vtl_text.specs.Texts.{same_text}
 use Rattle.vtl_scalar.specs.LawOperators.{may_fault}
 use Rattle.sql_tree.specs.Trees as tree
 use Rattle.sql_tree.specs.Trees.{Branches, Exp, Exps, JoinTree, QueryTree, SelectTree, Text}
@@ -9,8 +9,8 @@ use Rattle.sql_tree.specs.declared.parts.Column.{Column}
 use Rattle.sql_tree.specs.declared.parts.Equality.{Equality}
 use Rattle.sql_tree.specs.declared.word_groups.JoinKind.{JoinKind}
 use Rattle.sql_tree.specs.declared.word_groups.JoinKind.TheVariants as joining
-use Rattle.sql_check_laws.specs.Queries.{join_source}
-use Rattle.sql_check_laws.specs.Scopes.{is_among}
+use Rattle.sql_check_parts.specs.Queries.{join_source}
+use Rattle.sql_check_parts.specs.Scopes.{is_among}
 use Rattle.sql_meaning.specs.Plans.{IsAt, conjuncts_of}
 use Rattle.sql_meaning.specs.declared.plan.Early.{Early}
 

@@ -7,8 +7,8 @@ use Rattle.vtl_cell.specs.Row.{Row}
 use Rattle.vtl_cell.specs.declared.kind.Kind.{Kind}
 use Rattle.sql_tree.specs.Trees as tree
 use Rattle.sql_tree.specs.Trees.{Exp, JoinTree, QueryTree, SelectTree}
-use Rattle.sql_check_laws.specs.Queries.{is_grouped, query_columns, scope_of}
-use Rattle.sql_check_laws.specs.Scopes.{with_source}
+use Rattle.sql_check_parts.specs.Queries.{is_grouped, query_columns, scope_of}
+use Rattle.sql_check_parts.specs.Scopes.{with_source}
 use Rattle.sql_meaning.specs.From.{Joined, fault_at, first_of, joined, kept, pairs, with_join}
 use Rattle.sql_meaning.specs.Groups.{keys_by, rows_with}
 use Rattle.sql_meaning.specs.Selects.{Wanted, at_key, group_item, item_value, kept_keys}

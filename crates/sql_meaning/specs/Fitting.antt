@@ -3,8 +3,8 @@ use Rattle.std.specs.Prelude.{◌≡◌, List}
 use Rattle.std.specs.List.{AllByRecursion}
 use Rattle.sql_tree.specs.Trees as tree
 use Rattle.sql_tree.specs.Trees.{StatementTree}
-use Rattle.sql_check_laws.specs.Scopes.{Tables}
-use Rattle.sql_check_laws.specs.PartsStatements.{input_columns}
+use Rattle.sql_check_parts.specs.Scopes.{Tables}
+use Rattle.sql_check_parts.specs.Statements.{input_columns}
 use Rattle.sql_meaning.specs.Scripts.{Data, Export, Inputs, Made, rows_read, tables_in}
 use Rattle.sql_meaning.specs.Tables.{RowsFit, kinds_of}
 

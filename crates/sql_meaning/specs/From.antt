@@ -10,7 +10,7 @@ use Rattle.sql_tree.specs.Trees.{Exp, JoinTree, SelectTree}
 use Rattle.sql_tree.specs.declared.parts.Source.{Source}
 use Rattle.sql_tree.specs.declared.word_groups.JoinKind.{JoinKind}
 use Rattle.sql_tree.specs.declared.word_groups.JoinKind.TheVariants as joining
-use Rattle.sql_check_laws.specs.Scopes.{Scope, row_of, with_source}
+use Rattle.sql_check_parts.specs.Scopes.{Scope, row_of, with_source}
 use Rattle.sql_meaning.specs.Tables.{Base, columns_named}
 use Rattle.sql_meaning.specs.Values.{View, at_rows, value}
 

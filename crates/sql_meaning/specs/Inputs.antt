@@ -1,7 +1,7 @@
 -- What an INPUT asks of its rows: the columns of its KEY are identifiers.
 use Rattle.std.specs.Prelude.{◌≡◌, ℕ, Bool, true, false, not, ◌&&◌, ◌||◌, List, [], ◌∷◌, filter, length, take}
 use Rattle.std.specs.List.{AllByRecursion, list_any}
-use Rattle.vtl_cell.specs.Apart.{all_apart}
+use Rattle.vtl_lists.specs.Apart.{all_apart}
 use Rattle.vtl_cell.specs.Kinds.{is_null}
 use Rattle.vtl_cell.specs.Row.{Row, same_key}
 use Rattle.vtl_cell.specs.declared.cell.Cell.{Cell}
@@ -9,8 +9,8 @@ use Rattle.vtl_cell.specs.declared.cell.Cell.TheVariants as c
 use Rattle.sql_tree.specs.Trees.{Text}
 use Rattle.sql_tree.specs.declared.statements.InputColumn.{InputColumn}
 use Rattle.sql_tree.specs.declared.statements.SqlInput.{SqlInput}
-use Rattle.sql_check_laws.specs.Scopes.{is_among, is_empty}
-use Rattle.sql_check_laws.specs.PartsStatements.{in_table_order, input_columns, is_of_key}
+use Rattle.sql_check_parts.specs.Scopes.{is_among, is_empty}
+use Rattle.sql_check_parts.specs.Statements.{in_table_order, input_columns, is_of_key}
 use Rattle.sql_meaning.specs.Tables.{RowsFit, kinds_of}
 
 -- the columns of the key stand first, and there are this many

@@ -1,7 +1,3 @@
-pub use Rattle.sql_check_laws.specs.Fits
-pub use Rattle.sql_check_laws.specs.Operators
-pub use Rattle.sql_check_laws.specs.Selects as TypedSelects
-pub use Rattle.sql_check_laws.specs.Statements
 pub mod Outcomes
 pub mod Tables
 pub mod Values

@@ -3,7 +3,7 @@ use Rattle.std.specs.Prelude.{List, map, Option, Ok, Err}
 use Rattle.vtl_cell.specs.Outcome.{Fault, Outcome, after, fault_in, faults_by, unless}
 use Rattle.vtl_cell.specs.Outcomes.{all_of, result_of}
 use Rattle.vtl_cell.specs.Row.{Row}
-use Rattle.vtl_cell.specs.Settings.{Settings}
+use Rattle.vtl_decimal.specs.Settings.{Settings}
 use Rattle.vtl_cell.specs.declared.cell.Cell.{Cell}
 use Rattle.vtl_cell.specs.declared.cell.Cell.TheVariants as c
 use Rattle.vtl_cell.specs.declared.kind.Kind.{Kind}

@@ -4,15 +4,15 @@ use Rattle.std.specs.List.{AllByRecursion, flat_map, list_all, list_any}
 use Rattle.vtl_cell.specs.Outcome.{Outcome, after, faults_by, join}
 use Rattle.vtl_cell.specs.Outcomes.{Same}
 use Rattle.vtl_cell.specs.Row.{Row}
-use Rattle.vtl_cell.specs.Texts.{same_text}
+use Rattle.vtl_text.specs.Texts.{same_text}
 use Rattle.vtl_cell.specs.declared.kind.Kind.{Kind}
 use Rattle.vtl_cell.specs.declared.operator.ScalarOp.TheVariants as op
 use Rattle.sql_tree.specs.Trees as tree
 use Rattle.sql_tree.specs.Trees.{Exp, JoinTree, QueryTree, SelectTree, Text}
 use Rattle.sql_tree.specs.declared.statements.Query.{Query}
-use Rattle.sql_check_laws.specs.Exists.{same_side}
-use Rattle.sql_check_laws.specs.Queries.{query_columns, scope_of}
-use Rattle.sql_check_laws.specs.Scopes.{row_of, with_source}
+use Rattle.sql_check_parts.specs.Exists.{same_side}
+use Rattle.sql_check_parts.specs.Queries.{query_columns, scope_of}
+use Rattle.sql_check_parts.specs.Scopes.{row_of, with_source}
 use Rattle.sql_check_laws.specs.Selects.{IsSelectTyped}
 use Rattle.sql_meaning.specs.From.{Joined, fault_at, first_of, holds, joined_rows, kept_of, source_rows, with_join}
 use Rattle.sql_meaning.specs.Profiles.{IsLawful}

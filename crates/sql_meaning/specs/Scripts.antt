@@ -3,18 +3,18 @@ use Rattle.std.specs.Prelude.{ℕ, ◌==◌, List, [], ◌∷◌, ◌++◌, map,
 use Rattle.std.specs.List.{before_first, position_or_len}
 use Rattle.std.specs.Map.{keys_of, lookup}
 use Rattle.vtl_cell.specs.Outcome.{Fault, Outcome}
-use Rattle.vtl_cell.specs.Results.{◌>>=◌}
+use Rattle.vtl_lists.specs.Results.{◌>>=◌}
 use Rattle.vtl_cell.specs.Row.{Row}
-use Rattle.vtl_cell.specs.Settings.{Settings}
+use Rattle.vtl_decimal.specs.Settings.{Settings}
 use Rattle.vtl_cell.specs.Sorted.{Key, in_order, rising}
-use Rattle.vtl_cell.specs.Texts.{same_text}
+use Rattle.vtl_text.specs.Texts.{same_text}
 use Rattle.sql_tree.specs.Trees as tree
 use Rattle.sql_tree.specs.Trees.{QueryTree, ScriptTree, StatementTree, Text}
 use Rattle.sql_tree.specs.declared.statements.SqlExport.{SqlExport}
 use Rattle.sql_tree.specs.declared.statements.SqlInput.{SqlInput}
-use Rattle.sql_check_laws.specs.Queries.{query_columns}
-use Rattle.sql_check_laws.specs.Scopes.{Columns, Named, Tables}
-use Rattle.sql_check_laws.specs.PartsStatements.{input_columns, script_settings}
+use Rattle.sql_check_parts.specs.Queries.{query_columns}
+use Rattle.sql_check_parts.specs.Scopes.{Columns, Named, Tables}
+use Rattle.sql_check_parts.specs.Statements.{input_columns, script_settings}
 use Rattle.sql_meaning.specs.Selects.{query_value}
 use Rattle.sql_meaning.specs.Tables.{Base}
 

@@ -11,7 +11,7 @@ use Rattle.vtl_cell.specs.declared.kind.Kind.{Kind}
 use Rattle.sql_tree.specs.Trees as tree
 use Rattle.sql_tree.specs.Trees.{Exp, ItemTree, QueryTree, SelectTree, ValueTree}
 use Rattle.sql_tree.specs.declared.parts.Column.{Column}
-use Rattle.sql_check_laws.specs.Queries.{is_grouped, query_columns, scope_of}
+use Rattle.sql_check_parts.specs.Queries.{is_grouped, query_columns, scope_of}
 use Rattle.sql_meaning.specs.From.{source_rows}
 use Rattle.sql_meaning.specs.Groups.{keys_by, rows_with}
 use Rattle.sql_meaning.specs.Outcomes.{row_fault, row_at}

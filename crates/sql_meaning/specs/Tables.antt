@@ -2,13 +2,13 @@
 use Rattle.std.specs.Prelude.{◌≡◌, true, List, [], map, Option, Some, None}
 use Rattle.std.specs.List.{AllByRecursion}
 use Rattle.vtl_cell.specs.Row.{Row}
-use Rattle.vtl_cell.specs.Settings.{Settings}
+use Rattle.vtl_decimal.specs.Settings.{Settings}
 use Rattle.vtl_cell.specs.declared.kind.Kind.{Kind}
 use Rattle.vtl_rows.specs.Named.{NamedTables, table_of}
 use Rattle.vtl_rows.specs.Tables.{Listed, column_kinds, fits_kinds}
 use Rattle.vtl_rows.specs.declared.column.Column.{Column}
 use Rattle.sql_tree.specs.Trees.{Text}
-use Rattle.sql_check_laws.specs.Scopes.{Columns, Tables, columns_of, or_nothing}
+use Rattle.sql_check_parts.specs.Scopes.{Columns, Tables, columns_of, or_nothing}
 
 -- what a query rests on: the settings, the tables before its statement with their columns, as it is typed over them, and the rows of each
 pub record Base : Type 0 where

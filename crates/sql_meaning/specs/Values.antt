@@ -7,8 +7,8 @@ use Rattle.vtl_cell.specs.Outcome.{Outcome, after}
 use Rattle.vtl_cell.specs.Outcomes.{branch, first_chosen, is_true}
 use Rattle.vtl_cell.specs.Row.{Row, column_of}
 use Rattle.vtl_cell.specs.Scalars.{scalar_of}
-use Rattle.vtl_cell.specs.Settings.{Settings}
-use Rattle.vtl_cell.specs.Texts.{same_text}
+use Rattle.vtl_decimal.specs.Settings.{Settings}
+use Rattle.vtl_text.specs.Texts.{same_text}
 use Rattle.vtl_cell.specs.declared.cell.Cell.{Cell}
 use Rattle.vtl_cell.specs.declared.cell.Cell.TheVariants as c
 use Rattle.vtl_cell.specs.declared.kind.Kind.TheVariants as k
@@ -21,10 +21,10 @@ use Rattle.sql_tree.specs.declared.parts.Constant.{Constant}
 use Rattle.sql_tree.specs.declared.parts.Equality.{Equality}
 use Rattle.sql_tree.specs.declared.parts.Literal.{Literal}
 use Rattle.sql_tree.specs.declared.parts.Source.{Source}
-use Rattle.sql_check_laws.specs.Exists.{Inner, inner_of, is_inner}
-use Rattle.sql_check_laws.specs.Kinds.{kind_in}
-use Rattle.sql_check_laws.specs.Literals.{constant_value, literal_value}
-use Rattle.sql_check_laws.specs.Scopes.{Scope, found, or_nothing, placed, row_of}
+use Rattle.sql_check_parts.specs.Exists.{Inner, inner_of, is_inner}
+use Rattle.sql_check_parts.specs.Kinds.{kind_in}
+use Rattle.sql_check_parts.specs.Literals.{constant_value, literal_value}
+use Rattle.sql_check_parts.specs.Scopes.{Scope, found, or_nothing, placed, row_of}
 use Rattle.sql_meaning.specs.Outcomes.{all_values, operated}
 use Rattle.sql_meaning.specs.Tables.{Base}
 

@@ -6,9 +6,9 @@ use Rattle.vtl_cell.specs.Frames as frame
 use Rattle.vtl_cell.specs.Groups.{group_value, ratio_of}
 use Rattle.vtl_cell.specs.Outcome.{Outcome}
 use Rattle.vtl_cell.specs.Row.{Row, same_row}
-use Rattle.vtl_cell.specs.Settings.{Settings}
+use Rattle.vtl_decimal.specs.Settings.{Settings}
 use Rattle.vtl_cell.specs.Sorted.{Key, in_order, row_rank, window_cmp}
-use Rattle.vtl_cell.specs.Sorting.{le_by}
+use Rattle.vtl_lists.specs.Sorting.{le_by}
 use Rattle.vtl_cell.specs.declared.cell.Cell.{Cell}
 use Rattle.vtl_cell.specs.declared.cell.Cell.TheVariants as c
 use Rattle.vtl_cell.specs.Literals.{integer_written}

@@ -1,7 +1,7 @@
 -- What the trees of a form have in common, where each token has a property.
 use Rattle.std.proofs.Common.{◌≡◌, ◌⊎◌, inl, inr, ◌≤◌, ℕ, Bool, true, false, List, [], ◌∷◌, ◌++◌, length, max, Option, None, Some, refl, sym, subst, arith, length-append}
 use Rattle.std.specs.Prelude.{nat_eq, nat_le, if◌then◌else◌}
-use Rattle.vtl_cell.specs.Options.{◌>>=◌}
+use Rattle.vtl_lists.specs.Options.{◌>>=◌}
 use Rattle.grammar_forms.specs.Forms.{Spelling, Both, Deep, deep, deep_added, deep_one, EachSpells, IsAbsent, IsChain, IsMade, IsToken, MaybeSpells, added, joined, limited, lookup, one_of}
 use Rattle.grammar_forms.specs.Written.{Each}
 use Rattle.grammar_forms.proofs.Laws.{some_of}

@@ -1,7 +1,7 @@
 -- One step of a loop. The number of steps that are left is the number of tokens less those that were taken.
 use Rattle.std.proofs.Common.{◌≡◌, ℕ, zero, suc, ◌<◌, List, [], ◌∷◌, ◌++◌, ◌∙◌, map, length, Option, None, Some, Result, Ok, Err, refl, sym, ap, arith}
 use Rattle.std.specs.Prelude.{option_map}
-use Rattle.vtl_cell.specs.Options.{given, ◌>>=◌}
+use Rattle.vtl_lists.specs.Options.{given, ◌>>=◌}
 use Rattle.grammar_forms.specs.Forms.{Reads, added, gives, turns}
 use Rattle.sql_tree.specs.Grammar.{join_added}
 use Rattle.sql_tree.specs.Trees.{JoinTree}

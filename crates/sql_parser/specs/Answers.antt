@@ -2,7 +2,7 @@
 use Rattle.std.specs.Prelude.{◌≡◌, ℕ, List, [], ◌∷◌, map, Option, None, Some, Result, Ok, Err, Vec}
 use Rattle.std.specs.Borrow.{Bor}
 use Rattle.std.specs.declared.alloc.Global.{Global}
-use Rattle.vtl_cell.specs.Options.{◌>>=◌}
+use Rattle.vtl_lists.specs.Options.{◌>>=◌}
 use Rattle.grammar_forms.specs.Forms.{Reads, first_as, gives, lookup, one_of, then_reads}
 use Rattle.sql_lexer.specs.Places.{place}
 use Rattle.sql_lexer.specs.declared.token.Token.{Token}

@@ -2,7 +2,7 @@
 use Rattle.std.specs.Prelude.{◌≤◌, ℕ, suc, List, Option, Some, Result, Box}
 use Rattle.std.specs.Borrow.{Bor}
 use Rattle.std.specs.declared.alloc.Global.{Global}
-use Rattle.vtl_cell.specs.Options.{◌>>=◌}
+use Rattle.vtl_lists.specs.Options.{◌>>=◌}
 use Rattle.grammar_forms.specs.Forms.{Deep, deep, deep_one, Reads, gives, limited}
 use Rattle.sql_lexer.specs.declared.token.Token.{Token}
 use Rattle.sql_lexer.specs.declared.token.TokenKind.{TokenKind}

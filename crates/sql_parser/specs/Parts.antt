@@ -1,7 +1,7 @@
 -- The trees that parts of a select stand for.
 use Rattle.std.specs.Prelude.{List, Option, map, option_map, Vec}
 use Rattle.std.specs.declared.alloc.Global.{Global}
-use Rattle.vtl_cell.specs.settings.Rounding.{Rounding}
+use Rattle.vtl_decimal.specs.declared.settings.Rounding.{Rounding}
 use Rattle.sql_tree.specs.Trees.{Exp, JoinTree, StatementTree, Text, setting}
 use Rattle.sql_tree.specs.View.{expr_tree, join_tree}
 use Rattle.sql_tree.specs.declared.expressions.SqlExpr.{SqlExpr}

@@ -1,6 +1,6 @@
 -- Chains, step by step.
 use Rattle.std.specs.Prelude.{◌≡◌, List, Option, None, Some, Result, Ok, Err}
-use Rattle.vtl_cell.specs.Options.{given, ◌>>=◌}
+use Rattle.vtl_lists.specs.Options.{given, ◌>>=◌}
 use Rattle.grammar_forms.specs.Forms.{Deep, Reads}
 use Rattle.sql_lexer.specs.declared.token.TokenKind.{TokenKind}
 use Rattle.sql_tree.specs.Trees.{Exp}

@@ -1,6 +1,6 @@
 -- What follows an operand.
 use Rattle.std.specs.Prelude.{ℕ, List, Option, Some}
-use Rattle.vtl_cell.specs.Options.{◌>>=◌}
+use Rattle.vtl_lists.specs.Options.{◌>>=◌}
 use Rattle.grammar_forms.specs.Forms.{Deep, Reads, gives, then_reads}
 use Rattle.sql_lexer.specs.declared.token.TokenKind.{TokenKind}
 use Rattle.sql_tree.specs.Grammar as grammar

@@ -18,7 +18,8 @@ use crate::parts::{column, constant};
 use crate::words::{key, word};
 use sql_lexer::Word;
 use sql_tree::{Branch, Literal, SqlExpr};
-use vtl_cell::{AggKind, List, ScalarOp};
+use vtl_cell::{AggKind, ScalarOp};
+use vtl_text::List;
 
 // What may follow an operand.
 #[derive(Drop)]

@@ -10,7 +10,7 @@ use crate::words::{flag, key, two_keys};
 use sql_lexer::{TokenKind, Word};
 use sql_tree::{Column, Constant, Equality, Literal, Numeral, Source};
 use std::alloc::Global;
-use vtl_cell::Txt;
+use vtl_text::Txt;
 
 pub(crate) fn name(tokens: Tokens<'_>) -> Result<Front<'_, Txt>, Unread>
     ensures { Answers (name.reads (kinds tokens.now)) result }

@@ -16,7 +16,7 @@ use crate::words::{key, two_keys, word};
 use sql_lexer::Word;
 use sql_tree::{Column, Item, ItemValue, Join, JoinKind, Select, Source, SqlExpr, Window};
 use std::alloc::Global;
-use vtl_cell::{List, Txt};
+use vtl_text::{List, Txt};
 
 // A window, or an expression
 #[tactic(auto, unfolding(sql_tree::specs::Grammar::value_of))]

@@ -10,7 +10,7 @@ use crate::front::{Front, Tokens, Unread, optional};
 use crate::statements::{setting, statement};
 use sql_tree::{SqlScript, Statement};
 use std::alloc::Global;
-use vtl_cell::List;
+use vtl_text::List;
 
 // As many statements as there are, up to the number.
 fn statements<'t>(

@@ -14,7 +14,9 @@ use crate::words::{key, two_keys, word};
 use sql_lexer::Word;
 use sql_tree::{InputColumn, Query, Select, SqlCreate, SqlExport, SqlInput, Statement};
 use std::alloc::Global;
-use vtl_cell::{Kind, List, Rounding, Txt};
+use vtl_cell::Kind;
+use vtl_decimal::Rounding;
+use vtl_text::{List, Txt};
 
 // A name after a word
 fn name_after(tokens: Tokens<'_>, mark: Word) -> Result<Front<'_, Txt>, Unread>

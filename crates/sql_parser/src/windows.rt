@@ -16,7 +16,8 @@ use sql_tree::{
     WindowKey,
 };
 use std::alloc::Global;
-use vtl_cell::{AggKind, List};
+use vtl_cell::AggKind;
+use vtl_text::List;
 
 // `"(" column ")"`
 fn bracketed_column(tokens: Tokens<'_>) -> Result<Front<'_, Column>, Unread>

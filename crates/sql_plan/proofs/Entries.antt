@@ -5,7 +5,7 @@ use Rattle.std.specs.List.{AllByRecursion, list_all, range_with_len}
 use Rattle.std.proofs.lemmas.Bool.{and_parts}
 use Rattle.sql_tree.specs.Trees as tree
 use Rattle.sql_tree.specs.Trees.{Exp, JoinTree, QueryTree, SelectTree}
-use Rattle.sql_check_laws.specs.Scopes.{is_among}
+use Rattle.sql_check_parts.specs.Scopes.{is_among}
 use Rattle.sql_meaning.specs.Early.{MayBeEarly, NamesEarly, NamesOnly, aliases_left, columns_in, is_full, is_safe_condition, is_safe_join}
 use Rattle.sql_meaning.specs.Plans.{IsAt, IsEqualityJoin, IsFirst, IsPlan, NamesJoin, conjuncts_of}
 use Rattle.sql_meaning.proofs.EarlyPlans.{chosen_stands}

@@ -6,7 +6,7 @@ use Rattle.std.proofs.lemmas.Bool.Decides.{nat_tests}
 use Rattle.std.proofs.lemmas.List.{take-map}
 use Rattle.sql_tree.specs.Trees.{Exp, SelectTree, Text}
 use Rattle.sql_tree.specs.declared.parts.Column.{Column}
-use Rattle.sql_check_laws.specs.Scopes.{Named, is_among, value_among}
+use Rattle.sql_check_parts.specs.Scopes.{Named, is_among, value_among}
 use Rattle.sql_meaning.specs.Early.{aliases_left, columns_in, join_alias}
 use Rattle.sql_plan.specs.EarlyChosen.{first_join, is_lasting, may_precede, names_only}
 use Rattle.sql_plan.specs.Reach.{ArePlaces, aliases_of, below, reach}

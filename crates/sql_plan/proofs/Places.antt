@@ -7,11 +7,11 @@ use Rattle.std.specs.Cmp.Lexicographic as texts
 use Rattle.std.proofs.lemmas.Bool.Decides.{nat_tests}
 use Rattle.std.proofs.lemmas.List.{length-map, length-take, map-append, take_more}
 use Rattle.std.proofs.lemmas.Map.Made.{is_some-lookup}
-use Rattle.vtl_cell.specs.Texts.{same_text}
+use Rattle.vtl_text.specs.Texts.{same_text}
 use Rattle.sql_tree.specs.Trees.{Text}
 use Rattle.sql_tree.specs.declared.statements.Join.{Join}
 use Rattle.sql_tree.specs.View.{join_tree}
-use Rattle.sql_check_laws.specs.Scopes.{Named, is_among, value_among}
+use Rattle.sql_check_parts.specs.Scopes.{Named, is_among, value_among}
 use Rattle.sql_meaning.specs.Early.{join_alias}
 use Rattle.sql_plan.specs.Reach.{ArePlaces, place_among, with_place}
 

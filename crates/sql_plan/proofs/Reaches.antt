@@ -9,7 +9,7 @@ use Rattle.sql_tree.specs.declared.expressions.Branch.{Branch}
 use Rattle.sql_tree.specs.declared.expressions.SqlExpr.{SqlExpr}
 use Rattle.sql_tree.specs.declared.parts.Column.{Column}
 use Rattle.sql_meaning.specs.Early.{columns_in, columns_of, columns_within}
-use Rattle.sql_check_laws.specs.Scopes.{Named, value_among}
+use Rattle.sql_check_parts.specs.Scopes.{Named, value_among}
 use Rattle.sql_plan.specs.Reach.{reach}
 
 pub reach_both : (places : Named ℕ) (n : ℕ) (xs ys : List Column) → reach places n (xs ++ ys) ≡ option_and_then (λ m. reach places m ys) (reach places n xs)

@@ -2,7 +2,7 @@
 use Rattle.std.specs.Prelude.{ℕ, suc, Bool, not, cond, ◌&&◌, List, [], ◌∷◌, ◌++◌, map, find, drop, length, Option, Some, None}
 use Rattle.std.specs.List.{list_all, range_with_len}
 use Rattle.sql_tree.specs.Trees.{Exp, JoinTree, QueryTree, SelectTree, Text}
-use Rattle.sql_check_laws.specs.Scopes.{is_among}
+use Rattle.sql_check_parts.specs.Scopes.{is_among}
 use Rattle.sql_meaning.specs.Early.{aliases_left, columns_in, is_full, is_safe_condition, is_safe_join}
 use Rattle.sql_meaning.specs.Plans.{conjuncts_of}
 use Rattle.sql_meaning.specs.declared.plan.Early.{Early}

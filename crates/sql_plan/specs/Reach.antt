@@ -1,10 +1,10 @@
 -- How far to the right the sources of columns stand.
 use Rattle.std.specs.Prelude.{◌≡◌, ℕ, suc, max, nat_lt, cond, List, [], ◌∷◌, ◌++◌, map, option_map, option_and_then, Option, Some, None, if◌then◌else◌}
 use Rattle.std.specs.Map.{keys_of}
-use Rattle.vtl_cell.specs.Texts.{same_text}
+use Rattle.vtl_text.specs.Texts.{same_text}
 use Rattle.sql_tree.specs.Trees.{Exp, SelectTree, Text}
 use Rattle.sql_tree.specs.declared.parts.Column.{Column}
-use Rattle.sql_check_laws.specs.Scopes.{Named, is_among, value_among}
+use Rattle.sql_check_parts.specs.Scopes.{Named, is_among, value_among}
 use Rattle.sql_meaning.specs.Early.{columns_in, join_alias}
 use Rattle.sql_plan.specs.declared.standing.Standing.{Standing}
 

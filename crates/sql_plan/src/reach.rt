@@ -3,12 +3,12 @@ ghost use Rattle.std.specs.List.{flat_map};
 ghost use Rattle.std.specs.Prelude.{◌≡◌, map, max, option_map};
 ghost use Rattle.sql_tree.specs.Trees.{branches_of, exps_of};
 ghost use Rattle.sql_tree.specs.View.{branch_tree, expr_tree};
-ghost use Rattle.sql_check_laws.specs.Scopes.{value_among};
+ghost use Rattle.sql_check_parts.specs.Scopes.{value_among};
 ghost use Rattle.sql_meaning.specs.Early.{columns_in, columns_of, columns_within, outer_columns, outer_of};
 ghost use Rattle.sql_plan.specs.Reach.{reach};
 
 use sql_tree::{Branch, Column, Equality, Source, SqlExpr};
-use vtl_cell::ByName;
+use vtl_text::ByName;
 
 /// The place of the last source that an expression names, at least `from`; none where a source is not there. It takes no
 /// memory.

@@ -2,7 +2,7 @@
 ghost use Rattle.std.specs.Prelude.{◌≡◌, ℕ, IfOk, OnOk, drop, map, nat_le};
 ghost use Rattle.sql_tree.specs.Trees.{Exp};
 ghost use Rattle.sql_tree.specs.View.{expr_tree, join_tree, select_tree};
-ghost use Rattle.sql_check_laws.specs.Queries.{join_source};
+ghost use Rattle.sql_check_parts.specs.Queries.{join_source};
 ghost use Rattle.sql_meaning.specs.Early.{is_full};
 ghost use Rattle.sql_plan.specs.EarlyChosen.{first_join, is_lasting};
 ghost use Rattle.sql_plan.specs.Reach.{ArePlaces, aliases_of, first_join_by, with_place};
@@ -10,7 +10,7 @@ ghost use Rattle.sql_plan.specs.Reach.{ArePlaces, aliases_of, first_join_by, wit
 use crate::reach::reach;
 use sql_tree::{Join, JoinKind, Select, Source, SqlExpr};
 use std::alloc::{AllocError, Global};
-use vtl_cell::{ByName, Txt};
+use vtl_text::{ByName, Txt};
 
 /// What of the sources of a select tells before which join a part of its WHERE may be tried.
 pub(crate) struct Standing {

@@ -14,7 +14,7 @@ use crate::word_groups::{aggregate_word, left_level, op_level, op_word, right_le
 use crate::writing::{Printed, Written, parted, word};
 use sql_lexer::{TokenKind, Word};
 use sql_tree::{Branch, Equality, Literal, Source, SqlExpr};
-use vtl_cell::Txt;
+use vtl_text::Txt;
 
 #[tactic(auto, using(crate::proofs::Views::views))]
 fn level_of(e: &SqlExpr) -> u8

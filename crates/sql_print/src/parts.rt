@@ -6,7 +6,7 @@ ghost use Rattle.sql_tree.specs.Printing.{not_word, minus_word, written_constant
 use crate::writing::{Printed, Written, parted, word};
 use sql_lexer::{TokenKind, Word};
 use sql_tree::{Column, Constant, Equality, Literal, Numeral, Source};
-use vtl_cell::Txt;
+use vtl_text::Txt;
 
 pub(crate) fn name(out: &mut Vec<TokenKind>, name: &Txt) -> Printed
     ensures { OnOk result (out.new.items ≡ out.old.items ++ written_name name.now) }

@@ -14,7 +14,7 @@ use crate::writing::{Printed, Written, all, parted, two_words, word};
 use sql_lexer::{TokenKind, Word};
 use sql_tree::{InputColumn, SqlCreate, SqlExport, SqlInput, SqlScript, Statement};
 use std::alloc::{AllocError, Global};
-use vtl_cell::Txt;
+use vtl_text::Txt;
 
 // The names, with commas between them.
 fn names(out: &mut Vec<TokenKind>, items: &[Txt]) -> Printed

@@ -4,7 +4,8 @@ ghost use Rattle.sql_tree.specs.Printing.{aggregate_word, direction_word, join_w
 
 use sql_lexer::Word;
 use sql_tree::{Direction, JoinKind, ShiftFunction, Side, ValueFunction};
-use vtl_cell::{AggKind, Kind, Rounding, ScalarOp};
+use vtl_cell::{AggKind, Kind, ScalarOp};
+use vtl_decimal::Rounding;
 
 pub(crate) fn op_word(op: ScalarOp) -> Word
     ensures { result ≡ op_word op }

@@ -2,7 +2,7 @@
 use Rattle.std.proofs.Common.{◌≡◌, inl, inr, ◌≤◌, true, false, ℕ, zero, suc, max, Bool, List, [], ◌∷◌, ◌++◌, Option, None, Some, refl, ap, subst, arith}
 use borrow.Author.Tests.{leb-true}
 use Rattle.std.specs.Prelude.{nat_le, if◌then◌else◌}
-use Rattle.vtl_cell.specs.Options.{◌>>=◌}
+use Rattle.vtl_lists.specs.Options.{◌>>=◌}
 use Rattle.grammar_forms.specs.Forms.{Spelling, Both, IsMade, MaybeSpells, Deep, deep, limited, deep_listed, deep_added, joined}
 use Rattle.sql_lexer.specs.declared.token.TokenKind.{TokenKind}
 use Rattle.sql_lexer.specs.declared.token.Word.TheVariants as w

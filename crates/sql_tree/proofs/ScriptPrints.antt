@@ -11,8 +11,8 @@ use Rattle.vtl_cell.specs.declared.operator.AggKind.{AggKind}
 use Rattle.vtl_cell.specs.declared.operator.AggKind.TheVariants as agg
 use Rattle.vtl_cell.specs.declared.kind.Kind.{Kind}
 use Rattle.vtl_cell.specs.declared.kind.Kind.TheVariants as kind
-use Rattle.vtl_cell.specs.settings.Rounding.{Rounding}
-use Rattle.vtl_cell.specs.settings.Rounding.TheVariants as rounding
+use Rattle.vtl_decimal.specs.declared.settings.Rounding.{Rounding}
+use Rattle.vtl_decimal.specs.declared.settings.Rounding.TheVariants as rounding
 use Rattle.sql_tree.specs.Trees.{Text, Exp, ValueTree, expression, window, ItemTree, JoinTree, on, cross, SelectTree, QueryTree, StatementTree, setting, input, create, export, ScriptTree}
 use Rattle.sql_tree.specs.Grammar as g
 use Rattle.sql_tree.specs.Grammar.{SqlForm, Tokens, key, of_table, in_brackets, items_after, two_keys}

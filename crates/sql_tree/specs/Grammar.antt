@@ -12,8 +12,8 @@ use Rattle.vtl_cell.specs.declared.operator.AggKind.{AggKind}
 use Rattle.vtl_cell.specs.declared.operator.AggKind.TheVariants as agg
 use Rattle.vtl_cell.specs.declared.kind.Kind.{Kind}
 use Rattle.vtl_cell.specs.declared.kind.Kind.TheVariants as kind
-use Rattle.vtl_cell.specs.settings.Rounding.{Rounding}
-use Rattle.vtl_cell.specs.settings.Rounding.TheVariants as rounding
+use Rattle.vtl_decimal.specs.declared.settings.Rounding.{Rounding}
+use Rattle.vtl_decimal.specs.declared.settings.Rounding.TheVariants as rounding
 use Rattle.sql_tree.specs.Classes.{class, name_class, text_class, int_class, dec_class}
 use Rattle.sql_tree.specs.Trees as tree
 use Rattle.sql_tree.specs.Trees.{Text, Exp, exps_of, branches_of, ValueTree, ItemTree, JoinTree, SelectTree, QueryTree, StatementTree, ScriptTree}

@@ -1,6 +1,6 @@
 -- The tokens that a tree is written with: brackets stand only where the tree needs them.
 use Rattle.std.specs.Prelude.{ℕ, Bool, true, false, List, [], ◌∷◌, ◌++◌, nat_le, Option, None, Some}
-use Rattle.vtl_cell.specs.Options.{given}
+use Rattle.vtl_lists.specs.Options.{given}
 use Rattle.grammar_forms.specs.Written.{between, run}
 use Rattle.sql_lexer.specs.declared.token.TokenKind.TheVariants as t
 use Rattle.sql_lexer.specs.declared.token.Word.{Word}
@@ -11,8 +11,8 @@ use Rattle.vtl_cell.specs.declared.operator.AggKind.{AggKind}
 use Rattle.vtl_cell.specs.declared.operator.AggKind.TheVariants as agg
 use Rattle.vtl_cell.specs.declared.kind.Kind.{Kind}
 use Rattle.vtl_cell.specs.declared.kind.Kind.TheVariants as kind
-use Rattle.vtl_cell.specs.settings.Rounding.{Rounding}
-use Rattle.vtl_cell.specs.settings.Rounding.TheVariants as rounding
+use Rattle.vtl_decimal.specs.declared.settings.Rounding.{Rounding}
+use Rattle.vtl_decimal.specs.declared.settings.Rounding.TheVariants as rounding
 use Rattle.sql_tree.specs.Grammar.{Tokens, digit_one}
 use Rattle.sql_tree.specs.Trees.{Text, Exp, binary, unary, is_null, in_list, constant, column, call, count_all, aggregate, case_when, exists, Exps, no_exps, exp, Branches, no_branches, branch, ValueTree, expression, window, ItemTree, JoinTree, on, cross, SelectTree, QueryTree, StatementTree, setting, input, create, export, ScriptTree}
 use Rattle.sql_tree.specs.declared.parts.Column.{Column}

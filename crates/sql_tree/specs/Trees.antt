@@ -2,7 +2,7 @@
 use Rattle.std.specs.Prelude.{ℕ, Bool, List, [], ◌∷◌, Option}
 use Rattle.vtl_cell.specs.declared.operator.ScalarOp.{ScalarOp}
 use Rattle.vtl_cell.specs.declared.operator.AggKind.{AggKind}
-use Rattle.vtl_cell.specs.settings.Rounding.{Rounding}
+use Rattle.vtl_decimal.specs.declared.settings.Rounding.{Rounding}
 use Rattle.sql_tree.specs.declared.parts.Column.{Column}
 use Rattle.sql_tree.specs.declared.parts.Source.{Source}
 use Rattle.sql_tree.specs.declared.parts.Equality.{Equality}

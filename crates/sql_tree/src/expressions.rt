@@ -1,7 +1,8 @@
 // Expressions.
 
 use crate::{Column, Constant, Equality, Literal, Source};
-use vtl_cell::{AggKind, List, ScalarOp};
+use vtl_cell::{AggKind, ScalarOp};
+use vtl_text::List;
 
 /// An expression.
 #[cycle(expressions)]

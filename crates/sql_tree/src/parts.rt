@@ -1,6 +1,6 @@
 // Columns, sources and constants.
 
-use vtl_cell::Txt;
+use vtl_text::Txt;
 
 /// `"source"."name"`
 #[derive(Drop)]

@@ -1,7 +1,9 @@
 // Scripts, statements and queries.
 
 use crate::{Column, JoinKind, Source, SqlExpr, Window};
-use vtl_cell::{Kind, List, Rounding, Txt};
+use vtl_cell::Kind;
+use vtl_decimal::Rounding;
+use vtl_text::{List, Txt};
 
 /// `SET SCALE scale ROUNDING rounding; statements`
 pub struct SqlScript {

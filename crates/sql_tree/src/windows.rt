@@ -1,7 +1,8 @@
 // Windows.
 
 use crate::{Column, Direction, Literal, ShiftFunction, Side, ValueFunction};
-use vtl_cell::{AggKind, List, Txt};
+use vtl_cell::AggKind;
+use vtl_text::{List, Txt};
 
 /// `call OVER (over)`
 #[derive(Drop)]

@@ -12,7 +12,7 @@ use Rattle.vtl_frames.specs.Framed.{at_each}
 use Rattle.vtl_frames.specs.Picks as picks
 use Rattle.vtl_frames.specs.declared.bounds.Frame.{Frame}
 use Rattle.vtl_frames.specs.declared.picks.End.{End}
-use Rattle.vtl_cell.specs.Settings.{Settings}
+use Rattle.vtl_decimal.specs.Settings.{Settings}
 use Rattle.sql_tree.specs.declared.windows.Frame.{Frame as SqlFrame}
 use Rattle.sql_tree.specs.declared.word_groups.ValueFunction.{ValueFunction}
 use Rattle.vtl_rows.specs.Places.{row_at}
@@ -24,8 +24,8 @@ use Rattle.sql_tree.specs.declared.windows.Over.{Over}
 use Rattle.sql_tree.specs.declared.windows.WindowCall.TheVariants as call
 use Rattle.sql_tree.specs.declared.word_groups.ShiftFunction.{ShiftFunction}
 use Rattle.sql_tree.specs.declared.word_groups.ShiftFunction.TheVariants as shift
-use Rattle.sql_eval.specs.Values.{View, cell_at}
-use Rattle.sql_eval.specs.Windows.{cells_of, count_of, default_cell, framed, shifted, value_in}
+use Rattle.sql_meaning.specs.Values.{View, cell_at}
+use Rattle.sql_meaning.specs.Windows.{cells_of, count_of, default_cell, framed, shifted, value_in}
 use Rattle.sql_window.specs.Runs.{lane_cells, run_values, shift_in}
 
 -- ---- values at each place

@@ -2,7 +2,7 @@
 use Rattle.std.proofs.Common.{◌≡◌, ℕ, List, length, Some, None, refl, ap, ◌∙◌, arith}
 use Rattle.std.proofs.lemmas.List.{take_all}
 use Rattle.vtl_cell.specs.Frames.{frame_of}
-use Rattle.vtl_cell.specs.Settings.{Settings}
+use Rattle.vtl_decimal.specs.Settings.{Settings}
 use Rattle.vtl_cell.specs.declared.cell.Cell.{Cell}
 use Rattle.vtl_frames.specs.Framed as places
 use Rattle.vtl_frames.specs.declared.bounds.Bound.TheVariants as place
@@ -10,7 +10,7 @@ use Rattle.sql_tree.specs.declared.windows.Bound.{Bound}
 use Rattle.sql_tree.specs.declared.windows.Bound.TheVariants as bound
 use Rattle.sql_tree.specs.declared.windows.Frame.{Frame}
 use Rattle.sql_tree.specs.declared.word_groups.Side.TheVariants as side
-use Rattle.sql_eval.specs.Windows.{bound_of, framed}
+use Rattle.sql_meaning.specs.Windows.{bound_of, framed}
 use Rattle.sql_window.specs.Frames.{bound_in}
 
 bound_is : (p : Settings) (b : Bound) → places.bound_of (bound_in p b) ≡ bound_of p b

@@ -1,14 +1,3 @@
-pub use Rattle.sql_groups.proofs.HeldTables
-pub use Rattle.sql_groups.proofs.LiftedLemmas
-pub use Rattle.sql_groups.proofs.Lists
-pub use Rattle.sql_groups.proofs.Orders
-pub use Rattle.sql_groups.proofs.Profiled
-pub use Rattle.sql_groups.proofs.QueryKinds
-pub use Rattle.sql_groups.proofs.SharedKinds
-pub use Rattle.sql_groups.proofs.SourceKinds
-pub use Rattle.sql_groups.proofs.Standing
-pub use Rattle.sql_groups.proofs.TypingQueryKinds
-pub use Rattle.sql_groups.proofs.UpToOrder
 pub mod CallLemmas
 pub mod FrameLemmas
 pub mod OrderLemmas

@@ -8,14 +8,14 @@ use Rattle.std.specs.Ordering.{is_eq, is_lt, nat_cmp, on, ordering_then, then_cm
 use Rattle.std.specs.declared.cmp.Ordering.{Ordering}
 use Rattle.std.specs.declared.cmp.Ordering.TheVariants.{Less, Equal, Greater}
 use Rattle.std.proofs.lemmas.List.{get_or-drop, get_or-take, length-drop, length-take-le, map-append}
-use Rattle.vtl_cell.specs.Perm.{Perm}
+use Rattle.vtl_lists.specs.Perm.{Perm}
 use Rattle.vtl_cell.specs.Row.{Row, row_cmp, same_row}
 use Rattle.vtl_cell.specs.Sorted.{by_keys, rising, window_cmp}
-use Rattle.vtl_cell.specs.Sorting.{Rises, le_by, sorted_by}
+use Rattle.vtl_lists.specs.Sorting.{Rises, le_by, sorted_by}
 use Rattle.vtl_cell.proofs.Keys.{by_keys_total}
-use Rattle.vtl_cell.proofs.Perms.{Perm-filter, Perm-from_IsPermutation, Perm-map, Perm-sym}
+use Rattle.vtl_lists.proofs.Perms.{Perm-filter, Perm-from_IsPermutation, Perm-map, Perm-sym}
 use Rattle.vtl_cell.proofs.Rows.{same_row-is, same_row-refl}
-use Rattle.vtl_cell.proofs.Sorts.{Rises-from_IsSorted, sorted_by-from_sort}
+use Rattle.vtl_lists.proofs.Sorts.{Rises-from_IsSorted, sorted_by-from_sort}
 use Rattle.vtl_rows.specs.Keys.{agree, key_of}
 use Rattle.vtl_rows.specs.Places.{row_at}
 use Rattle.vtl_rows.specs.Tables.{cells_at}
@@ -25,8 +25,8 @@ use Rattle.vtl_rows.proofs.Placed.{all_places, order_within}
 use Rattle.vtl_rows.proofs.Stable.{first_not_less, placed_total}
 use Rattle.vtl_rows.proofs.Ties.{ties_agree}
 use Rattle.sql_tree.specs.declared.windows.Window.{Window}
-use Rattle.sql_eval.specs.Values.{View}
-use Rattle.sql_eval.specs.Windows.{keys_of, partition_of, partition_places}
+use Rattle.sql_meaning.specs.Values.{View}
+use Rattle.sql_meaning.specs.Windows.{keys_of, partition_of, partition_places}
 use Rattle.sql_window.specs.Keys.{AreSorted, rising_key}
 use Rattle.sql_window.specs.Runs.{AreInOrder, IsPartition, IsTold, run_values, window_at}
 use Rattle.sql_window.proofs.PartitionLemmas.{partition_values}

@@ -5,19 +5,19 @@ use Rattle.std.specs.List.{AllByRecursion, range_with_len}
 use Rattle.std.proofs.lemmas.List.{get_or-map, length-map}
 use Rattle.std.proofs.lemmas.List.FromFn.{fill_by_all}
 use Rattle.vtl_cell.specs.Outcome.{Outcome}
-use Rattle.vtl_cell.specs.Perm.{Perm, empty, keep, cross, chain}
+use Rattle.vtl_lists.specs.Perm.{Perm, empty, keep, cross, chain}
 use Rattle.vtl_cell.specs.Row.{Row, same_row}
 use Rattle.vtl_cell.specs.Sorted.{in_order, window_cmp}
-use Rattle.vtl_cell.specs.Sorting.{IsOrder, Rises, le_by}
+use Rattle.vtl_lists.specs.Sorting.{IsOrder, Rises, le_by}
 use Rattle.vtl_cell.specs.declared.cell.Cell.{Cell}
 use Rattle.vtl_cell.proofs.Keys.{window_order}
-use Rattle.vtl_cell.proofs.Perms.{Perm-sym}
+use Rattle.vtl_lists.proofs.Perms.{Perm-sym}
 use Rattle.vtl_cell.proofs.Rows.{same_row-is, same_row-refl}
-use Rattle.vtl_cell.proofs.Sorts.{Rises-map, sorted_is}
+use Rattle.vtl_lists.proofs.Sorts.{Rises-map, sorted_is}
 use Rattle.vtl_rows.specs.Places.{row_at}
 use Rattle.sql_tree.specs.declared.windows.Window.{Window}
-use Rattle.sql_eval.specs.Values.{View}
-use Rattle.sql_eval.specs.Windows.{call_value, keys_of, partition_of, partition_places, place_within, stand_in}
+use Rattle.sql_meaning.specs.Values.{View}
+use Rattle.sql_meaning.specs.Windows.{call_value, keys_of, partition_of, partition_places, place_within, stand_in}
 use Rattle.sql_window.specs.Runs.{IsPartition, IsTold, behind, run_values, stand_at, window_at}
 use Rattle.sql_window.proofs.CallLemmas.{map_same}
 use Rattle.sql_window.proofs.RankLemmas.{count_cons, count_map}

@@ -17,12 +17,12 @@ use Rattle.sql_tree.specs.declared.windows.Over.{Over}
 use Rattle.sql_tree.specs.declared.windows.WindowKey.{WindowKey}
 use Rattle.sql_tree.specs.declared.word_groups.Direction.{Direction}
 use Rattle.sql_tree.specs.declared.word_groups.Direction.TheVariants as direction
-use Rattle.sql_eval.specs.Scopes.{Columns, Scope, row_of}
-use Rattle.sql_eval.specs.Tables.{Base}
-use Rattle.sql_eval.specs.Values.{at_rows, place_in}
-use Rattle.sql_eval.specs.Windows.{is_falling}
-use Rattle.sql_eval.specs.Windows.{key_of as window_key}
-use Rattle.sql_groups.specs.Columns.{columns_below, line_feed, source_columns}
+use Rattle.sql_check_parts.specs.Scopes.{Columns, Scope, row_of}
+use Rattle.sql_meaning.specs.Tables.{Base}
+use Rattle.sql_meaning.specs.Values.{at_rows, place_in}
+use Rattle.sql_meaning.specs.Windows.{is_falling}
+use Rattle.sql_meaning.specs.Windows.{key_of as window_key}
+use Rattle.sql_from.specs.Columns.{columns_below, line_feed, source_columns}
 use Rattle.std.proofs.lemmas.List.{drop_more, map-append, take_all}
 use Rattle.std.proofs.Math.Seq.{take-nil}
 use Rattle.std.proofs.lemmas.List.FromFn.{length-range_with_len, map-range_with_len_more}
@@ -33,8 +33,8 @@ use Rattle.vtl_rows.specs.Places.{row_at}
 use Rattle.vtl_rows.specs.Runs.{is_start}
 use Rattle.vtl_rows.specs.declared.column.SortKey.{SortKey}
 use Rattle.sql_tree.specs.declared.windows.Window.{Window}
-use Rattle.sql_eval.specs.Values.{View}
-use Rattle.sql_eval.specs.Windows.{told_apart, window_value}
+use Rattle.sql_meaning.specs.Values.{View}
+use Rattle.sql_meaning.specs.Windows.{told_apart, window_value}
 use Rattle.sql_window.specs.Keys.{falls, order_key, partition_key, rising_key}
 use Rattle.sql_window.specs.Runs.{behind, window_at}
 use Rattle.sql_window.proofs.RankLemmas.{below_or_not}

@@ -9,9 +9,9 @@ use Rattle.std.specs.declared.cmp.Ordering.TheVariants.{Less, Equal, Greater}
 use Rattle.std.proofs.lemmas.Cmp.{upto}
 use Rattle.std.proofs.lemmas.List.Sums.{sum_by-cons}
 use Rattle.vtl_cell.specs.Row.{Row}
-use Rattle.vtl_cell.specs.Settings.{Settings}
+use Rattle.vtl_decimal.specs.Settings.{Settings}
 use Rattle.vtl_cell.specs.Sorted.{by_keys}
-use Rattle.vtl_cell.specs.Sorting.{Rises, le_by}
+use Rattle.vtl_lists.specs.Sorting.{Rises, le_by}
 use Rattle.vtl_cell.proofs.Keys.{by_keys_total}
 use Rattle.vtl_rows.specs.Keys.{key_of}
 use Rattle.vtl_rows.specs.Places.{row_at}
@@ -19,8 +19,8 @@ use Rattle.vtl_rows.specs.Runs.{is_start, last_start, rank_at}
 use Rattle.vtl_rows.specs.declared.column.SortKey.{SortKey}
 use Rattle.sql_tree.specs.declared.windows.Over.{Over}
 use Rattle.sql_tree.specs.declared.windows.WindowCall.TheVariants as call
-use Rattle.sql_eval.specs.Values.{View}
-use Rattle.sql_eval.specs.Windows.{keys_of}
+use Rattle.sql_meaning.specs.Values.{View}
+use Rattle.sql_meaning.specs.Windows.{keys_of}
 use Rattle.sql_window.specs.Runs.{AreInOrder, count_in, run_values}
 use Rattle.sql_window.proofs.CallLemmas.{map_same}
 

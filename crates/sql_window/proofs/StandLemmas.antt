@@ -10,7 +10,7 @@ use Rattle.std.specs.declared.cmp.Ordering.TheVariants.{Less, Equal, Greater}
 use Rattle.std.proofs.lemmas.List.{drop_all, drop_more}
 use Rattle.std.proofs.lemmas.List.Sums.{sum_by-cons}
 use Rattle.vtl_cell.specs.Row.{Row, same_row}
-use Rattle.vtl_cell.specs.Sorting.{insert_by, le_by, sorted_by}
+use Rattle.vtl_lists.specs.Sorting.{insert_by, le_by, sorted_by}
 use Rattle.vtl_cell.proofs.Rows.{same_row-is, same_row-sym}
 use Rattle.vtl_rows.specs.Places.{row_at}
 use Rattle.sql_window.specs.Runs.{IsTold, behind}

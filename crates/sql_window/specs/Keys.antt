@@ -12,9 +12,9 @@ use Rattle.sql_tree.specs.declared.windows.Over.{Over}
 use Rattle.sql_tree.specs.declared.windows.WindowKey.{WindowKey}
 use Rattle.sql_tree.specs.declared.word_groups.Direction.{Direction}
 use Rattle.sql_tree.specs.declared.word_groups.Direction.TheVariants as direction
-use Rattle.sql_eval.specs.Scopes.{Scope}
-use Rattle.sql_eval.specs.Values.{View, place_in}
-use Rattle.sql_eval.specs.Windows.{keys_of, partition_places}
+use Rattle.sql_check_parts.specs.Scopes.{Scope}
+use Rattle.sql_meaning.specs.Values.{View, place_in}
+use Rattle.sql_meaning.specs.Windows.{keys_of, partition_places}
 
 abbrev pub rising_key : ℕ → SortKey
 rising_key i = record { column = i; falling = false }

@@ -2,10 +2,10 @@
 use Rattle.std.specs.Prelude.{◌≡◌, ℕ, ◌+◌, ◌<◌, List, [], ◌∷◌, map, length, drop, count_by, pos, slice_index_or}
 use Rattle.std.specs.List.{range_with_len}
 use Rattle.vtl_cell.specs.Outcome.{Outcome}
-use Rattle.vtl_cell.specs.Range.{fit_integer}
+use Rattle.vtl_decimal.specs.Range.{fit_integer}
 use Rattle.vtl_cell.specs.Row.{Row, column_of, same_row}
 use Rattle.vtl_cell.specs.ScalarArithmetic.{integer}
-use Rattle.vtl_cell.specs.Settings.{Settings}
+use Rattle.vtl_decimal.specs.Settings.{Settings}
 use Rattle.vtl_cell.specs.declared.cell.Cell.{Cell}
 use Rattle.vtl_rows.specs.Places.{row_at}
 use Rattle.sql_tree.specs.declared.windows.Over.{Over}
@@ -13,15 +13,15 @@ use Rattle.sql_tree.specs.declared.windows.Window.{Window}
 use Rattle.sql_tree.specs.declared.windows.WindowCall.{WindowCall}
 use Rattle.sql_tree.specs.declared.word_groups.ShiftFunction.{ShiftFunction}
 use Rattle.sql_tree.specs.declared.word_groups.ShiftFunction.TheVariants as shift
-use Rattle.vtl_cell.specs.Perm.{Perm}
+use Rattle.vtl_lists.specs.Perm.{Perm}
 use Rattle.vtl_cell.specs.Sorted.{by_keys, window_cmp}
-use Rattle.vtl_cell.specs.Sorting.{Rises, le_by}
+use Rattle.vtl_lists.specs.Sorting.{Rises, le_by}
 use Rattle.vtl_frames.specs.declared.picks.Shift as places
 use Rattle.vtl_frames.specs.declared.picks.Shift.TheVariants as place
 use Rattle.vtl_rows.specs.Keys.{key_of}
 use Rattle.vtl_rows.specs.declared.column.SortKey.{SortKey}
-use Rattle.sql_groups.specs.Values.{View}
-use Rattle.sql_eval.specs.Windows.{Stand, call_value, keys_of, partition_of, partition_places, window_value}
+use Rattle.sql_meaning.specs.Values.{View}
+use Rattle.sql_meaning.specs.Windows.{Stand, call_value, keys_of, partition_of, partition_places, window_value}
 
 -- the cells of a column at these rows
 abbrev pub lane_cells : List Row → List ℕ → ℕ → List Cell

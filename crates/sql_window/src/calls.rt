@@ -6,21 +6,22 @@ ghost use Rattle.vtl_frames.specs.Framed.{at_each};
 ghost use Rattle.vtl_rows.specs.Keys.{key_of};
 ghost use Rattle.vtl_rows.specs.Runs.{is_start, rank_at};
 ghost use Rattle.sql_tree.specs.declared.windows.WindowCall.TheVariants as call;
-ghost use Rattle.sql_groups.specs.Standing.{sight_of};
-ghost use Rattle.sql_eval.specs.Windows.{count_of, default_cell, keys_of, shifted, value_in};
+ghost use Rattle.sql_from.specs.Standing.{sight_of};
+ghost use Rattle.sql_meaning.specs.Windows.{count_of, default_cell, keys_of, shifted, value_in};
 ghost use Rattle.sql_window.specs.Lanes.{cells_in};
 ghost use Rattle.sql_window.specs.Runs.{AreInOrder, count_in, run_values, shift_in};
 
 use crate::frames::{count_of, default_of, frame_of};
 use crate::lane::Lane;
 use sql_eval::Names;
-use sql_groups::Sources;
+use sql_from::Sources;
 use sql_tree::{Column, Frame, Literal, Over, ShiftFunction, ValueFunction, Window, WindowCall};
 use std::alloc::{AllocError, Global};
-use vtl_cell::{AggKind, Cell, Profile, Txt};
-use vtl_decimal::{Fault, whole};
+use vtl_cell::{AggKind, Cell};
+use vtl_decimal::{Fault, Profile, whole};
 use vtl_frames::{End, Shift, push_aggregates, push_ends, push_ratios, push_shifted};
 use vtl_rows::{SortKey, Table, ranks};
+use vtl_text::Txt;
 
 // The values so far, each an outcome.
 pub(crate) type Outcomes = Vec<Result<Cell, Fault>>;

@@ -2,14 +2,16 @@
 ghost use Rattle.std.specs.Prelude.{◌≡◌, ℕ, IfOk, List};
 ghost use Rattle.vtl_cell.specs.declared.cell.Cell as cells;
 ghost use Rattle.vtl_frames.specs.Framed as frames;
-ghost use Rattle.sql_eval.specs.Windows.{count_of, default_cell, framed};
+ghost use Rattle.sql_meaning.specs.Windows.{count_of, default_cell, framed};
 ghost use Rattle.sql_window.specs.Frames.{bound_in};
 
 use sql_check_parts::literal_value;
 use sql_tree::{self, Literal, Side};
 use std::alloc::{AllocError, Global};
-use vtl_cell::{Cell, Profile, Txt, integer_written};
+use vtl_cell::{Cell, integer_written};
+use vtl_decimal::Profile;
 use vtl_frames::{Bound, Frame};
+use vtl_text::Txt;
 
 /// The number that digits write; 0 where they write none.
 pub(crate) fn count_of(digits: &Txt, p: &Profile) -> usize

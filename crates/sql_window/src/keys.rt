@@ -1,11 +1,11 @@
 // The keys by which the rows of a window are sorted.
 ghost use Rattle.std.specs.List.{range_with_len};
 ghost use Rattle.std.specs.Prelude.{◌≡◌, ◌++◌, IfOk, OnOk, map};
-ghost use Rattle.sql_groups.specs.Sources.{scope_held};
+ghost use Rattle.sql_from.specs.Sources.{scope_held};
 ghost use Rattle.sql_window.specs.Keys.{falls, order_key, partition_key, rising_key};
 
 use sql_eval::Names;
-use sql_groups::Sources;
+use sql_from::Sources;
 use sql_tree::{Column, Direction, WindowKey};
 use std::alloc::{AllocError, Global};
 use vtl_rows::SortKey;

@@ -17,9 +17,5 @@ mod lane;
 mod tabled_rows;
 mod windows;
 
-pub use sql_groups::{
-    ExecErr, Partners, Plan, Seen, Sources, TupleRows, asks, items_are_lifted_to_columns,
-    push_grouped, source_rows, source_tuples,
-};
 pub use tabled_rows::TabledRows;
 pub use windows::window_values;

@@ -1,11 +1,11 @@
 // Rows of FROM with a table of them.
 ghost use Rattle.std.specs.Prelude.{◌≡◌, ◌<◌, length, slice_index_or, IfOk};
-ghost use Rattle.sql_eval.specs.Scopes.{row_of};
-ghost use Rattle.sql_groups.specs.Sources.{scope_held};
-ghost use Rattle.sql_groups.specs.Standing.{rows_for};
+ghost use Rattle.sql_check_parts.specs.Scopes.{row_of};
+ghost use Rattle.sql_from.specs.Sources.{scope_held};
+ghost use Rattle.sql_from.specs.Standing.{rows_for};
 ghost use Rattle.sql_window.specs.TabledRows.{listed_in};
 
-use sql_groups::{Sources, TupleRows};
+use sql_from::{Sources, TupleRows};
 use std::alloc::{AllocError, Global};
 use vtl_cell::Cell;
 use vtl_rows::Table;

@@ -3,22 +3,22 @@ ghost use Rattle.std.specs.List.{AllByRecursion, range_with_len};
 ghost use Rattle.std.specs.Prelude.{◌≡◌, ◌-◌, ◌<◌, ◌≤◌, ◌++◌, ℕ, IfOk, IsPermutation, OnOk, drop, length, map, slice_index_or, take};
 ghost use Rattle.vtl_cell.specs.Outcome.{Outcome};
 ghost use Rattle.vtl_cell.specs.declared.cell.Cell as cells;
-ghost use Rattle.sql_eval.specs.Scopes.{row_of};
-ghost use Rattle.sql_eval.specs.Values.{place_in};
-ghost use Rattle.sql_eval.specs.Windows.{told_apart, window_value};
-ghost use Rattle.sql_groups.specs.Sources.{scope_held};
-ghost use Rattle.sql_groups.specs.Standing.{rows_for, sight_of};
+ghost use Rattle.sql_check_parts.specs.Scopes.{row_of};
+ghost use Rattle.sql_meaning.specs.Values.{place_in};
+ghost use Rattle.sql_meaning.specs.Windows.{told_apart, window_value};
+ghost use Rattle.sql_from.specs.Sources.{scope_held};
+ghost use Rattle.sql_from.specs.Standing.{rows_for, sight_of};
 ghost use Rattle.sql_window.specs.Keys.{AreCut};
 ghost use Rattle.sql_window.specs.Runs.{window_at};
 
 use crate::calls::{Outcomes, push_call};
 use crate::keys::{all_keys, order_keys, partition_keys};
 use crate::tabled_rows::TabledRows;
-use sql_groups::Sources;
+use sql_from::Sources;
 use sql_tree::Window;
 use std::alloc::{AllocError, Global};
-use vtl_cell::{Cell, Profile};
-use vtl_decimal::Fault;
+use vtl_cell::Cell;
+use vtl_decimal::{Fault, Profile};
 use vtl_rows::{SortKey, Table};
 
 // The start of a number, or a count where there is none.

@@ -1,13 +1,13 @@
 -- Tables whose rows fall are those of the same exports.
 use Rattle.std.proofs.Common.{Bool, true, false, cond, List, [], ◌∷◌, Result, Ok, Err, refl}
-use Rattle.vtl_top.specs.EngineScripts.{Export, NamedFault}
-use Rattle.vtl_top.specs.Perm.{Perm, empty, keep, cross, chain}
-use Rattle.vtl_top.specs.RowNames.{NamedTables}
-use Rattle.vtl_top.specs.Sorting.{insert_by, sorted_by}
-use Rattle.vtl_top.specs.TextRuns.{ShowsAs, ShowsMeaning, TellsText}
-use Rattle.vtl_top.specs.error.RunErr.{RunErr}
-use Rattle.vtl_top.specs.error.RunErr.TheVariants as err
-use Rattle.vtl_top.proofs.Perms.{Perm-refl}
+use Rattle.sql_meaning.specs.Scripts.{Export, NamedFault}
+use Rattle.vtl_lists.specs.Perm.{Perm, empty, keep, cross, chain}
+use Rattle.vtl_rows.specs.Named.{NamedTables}
+use Rattle.vtl_lists.specs.Sorting.{insert_by, sorted_by}
+use Rattle.sql_back.specs.TextRuns.{ShowsAs, ShowsMeaning, TellsText}
+use Rattle.vtl_backend.specs.declared.error.RunErr.{RunErr}
+use Rattle.vtl_backend.specs.declared.error.RunErr.TheVariants as err
+use Rattle.vtl_lists.proofs.Perms.{Perm-refl}
 use Rattle.vtl.specs.Falling.{all_falling}
 
 -- a sort by an order in which rows tie leaves the same rows, too

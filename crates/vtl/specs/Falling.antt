@@ -1,8 +1,8 @@
 -- The tables of an engine whose rows fall.
 use Rattle.std.specs.Prelude.{[], ◌∷◌, map, true}
-use Rattle.vtl_top.specs.RowKeys.{ordered}
-use Rattle.vtl_top.specs.RowNames.{NamedTables}
-use Rattle.vtl_top.specs.RowTables.{Listed}
+use Rattle.vtl_rows.specs.Keys.{ordered}
+use Rattle.vtl_rows.specs.Named.{NamedTables}
+use Rattle.vtl_rows.specs.Tables.{Listed}
 
 -- the rows by the first column, the greatest first
 abbrev pub falling : Listed → Listed

@@ -3,12 +3,16 @@ ghost use Rattle.std.specs.Prelude.{◌≡◌, ◌<◌, length, slice_index_or, 
 ghost use Rattle.vtl.specs.Falling.{all_falling, falling};
 
 use crate::tests::held;
+use sql_back::{Bundled, SqlBack, TextEngine};
 use std::alloc::{AllocError, Global};
+use vtl_backend::{Backend, RunErr};
+use vtl_cell::Cell;
+use vtl_decimal::{Profile, Rounding};
 use vtl_files::MemFiles;
-use vtl_top::{
-    Backend, Bundled, Cell, Inputs, Outputs, Profile, Rounding, RunErr, SortKey, Source, SqlBack,
-    Status, Table, TextEngine, Txt, read_built, read_inputs,
-};
+use vtl_rows::{Inputs, Outputs, SortKey, Table};
+use vtl_status::Status;
+use vtl_text::Txt;
+use vtl_top::{Source, read_built, read_inputs};
 
 const FALLING: SortKey = SortKey {
     column: 0,

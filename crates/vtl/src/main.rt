@@ -14,14 +14,15 @@ mod tests;
 ghost use Rattle.std.specs.Prelude.{◌≡◌, ◌≢◌, ◌⊎◌, drop, IfErr, IfOk};
 ghost use Rattle.std.specs.Process.{exit_status};
 ghost use Rattle.std.specs.Vec.Iter.{into_iter_items};
-ghost use Rattle.vtl_top.specs.StatusLine.{code_of};
+ghost use Rattle.vtl_status.specs.StatusLine.{code_of};
 
 use std::alloc::{AllocError, Global};
 use std::env::{self, Args, Env};
 use std::io::ErrorKind;
 use std::process::ExitCode;
 use vtl_files::{DiskFiles, StdSink};
-use vtl_top::{Status, tell, vtl};
+use vtl_status::{Status, tell};
+use vtl_top::vtl;
 
 fn main(rt: HostRuntime) -> ExitCode {
     let mut out = StdSink::new(&rt);

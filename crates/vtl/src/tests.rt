@@ -3,7 +3,8 @@ use std::alloc::{AllocError, Global};
 use std::process::Abort;
 use std::test::Fail;
 use vtl_files::{FailAt, MemFile, MemFiles, MemSink, Method};
-use vtl_top::{Status, vtl};
+use vtl_status::Status;
+use vtl_top::vtl;
 
 const SCRIPT: &str = "DS_r <- DS_1 [filter Me_1 > 5];";
 

@@ -2,9 +2,9 @@
 use Rattle.std.proofs.Common.{◌≡◌, List, [], ◌∷◌, ◌++◌, Bool, true, false, not, cond, refl, sym, ap, ◌∙◌, true≢false, ⊎_elim}
 use Rattle.std.specs.Prelude.{◌||◌}
 use Rattle.std.specs.List.{AllByRecursion}
-use Rattle.vtl_cell.specs.Sorting.{IsOrder, insert_by, sorted_by}
-use Rattle.vtl_cell.proofs.Perms.{AllByRecursion-Perm, Perm-append_comm, Perm-sym}
-use Rattle.vtl_cell.proofs.Sorts.{Perm-sorted_by, sorted_by-Perm}
+use Rattle.vtl_lists.specs.Sorting.{IsOrder, insert_by, sorted_by}
+use Rattle.vtl_lists.proofs.Perms.{AllByRecursion-Perm, Perm-append_comm, Perm-sym}
+use Rattle.vtl_lists.proofs.Sorts.{Perm-sorted_by, sorted_by-Perm}
 use Rattle.vtl_cell.specs.declared.cell.Cell.{Cell}
 use Rattle.vtl_cell.specs.Kinds.{is_null}
 use Rattle.vtl_cell.specs.Row.{column_of}

@@ -14,9 +14,9 @@ use Rattle.vtl_decimal.specs.declared.settings.Rounding.{Rounding}
 use Rattle.vtl_decimal.proofs.RoundingLemmas.{rounds_up_no_rest}
 use Rattle.vtl_cell.specs.Groups.{at, middle_of}
 use Rattle.vtl_cell.specs.ScalarArithmetic.{number}
-use Rattle.vtl_cell.specs.Sorting.{IsOrder, Rises, le_by}
-use Rattle.vtl_cell.proofs.Perms.{Perm-from_IsPermutation}
-use Rattle.vtl_cell.proofs.Sorts.{Rises-from_IsSorted, sorted_is}
+use Rattle.vtl_lists.specs.Sorting.{IsOrder, Rises, le_by}
+use Rattle.vtl_lists.proofs.Perms.{Perm-from_IsPermutation}
+use Rattle.vtl_lists.proofs.Sorts.{Rises-from_IsSorted, sorted_is}
 use Rattle.vtl_agg.specs.Added.{median_value}
 
 -- ---- half of a double

@@ -13,13 +13,13 @@ use Rattle.vtl_decimal.proofs.RoundingLemmas.{rounded_quotient_within}
 use Rattle.vtl_cell.specs.Groups.{aggregate, at, group_value, is_integer, mean_value, middle_of, number_or_null, numbers_of, units_of, values_of, wholes_of}
 use Rattle.vtl_cell.specs.Outcome.{Outcome, Range}
 use Rattle.vtl_cell.specs.ScalarArithmetic.{integer, number}
-use Rattle.vtl_cell.specs.Sorting.{sorted_by}
+use Rattle.vtl_lists.specs.Sorting.{sorted_by}
 use Rattle.vtl_cell.specs.declared.cell.Cell.{Cell}
 use Rattle.vtl_cell.specs.declared.cell.Cell.TheVariants as c
 use Rattle.vtl_cell.specs.declared.operator.AggKind.{AggKind}
 use Rattle.vtl_cell.specs.declared.operator.AggKind.TheVariants as agg
-use Rattle.vtl_cell.proofs.Perms.{AllByRecursion-Perm, Perm-sym}
-use Rattle.vtl_cell.proofs.Sorts.{AllByRecursion-filter, Perm-sorted_by}
+use Rattle.vtl_lists.proofs.Perms.{AllByRecursion-Perm, Perm-sym}
+use Rattle.vtl_lists.proofs.Sorts.{AllByRecursion-filter, Perm-sorted_by}
 use Rattle.vtl_cell.specs.Kinds.{is_null}
 use Rattle.vtl_agg.specs.Added.{IsProper, may_be_out_of_range}
 use Rattle.vtl_agg.proofs.KnownLemmas.{mean_of_some, some_count}

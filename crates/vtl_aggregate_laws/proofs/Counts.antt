@@ -5,8 +5,8 @@ use Rattle.std.specs.List.{filter, flat_map, list_all, sum_by}
 use Rattle.std.proofs.lemmas.List.Concat.{length-flat_map}
 use Rattle.std.proofs.lemmas.List.Sums.{sum_by-cons}
 use Rattle.std.proofs.Math.Nat.{one-le-pow}
-use Rattle.vtl_cell.specs.Range.{fit_integer}
-use Rattle.vtl_cell.specs.Settings.{Settings}
+use Rattle.vtl_decimal.specs.Range.{fit_integer}
+use Rattle.vtl_decimal.specs.Settings.{Settings}
 use Rattle.vtl_cell.specs.Groups.{aggregate, count_of_points, group_value, is_integer, values_of, wholes_of}
 use Rattle.vtl_cell.specs.Kinds.{is_null}
 use Rattle.vtl_cell.specs.Outcome.{Outcome, Range, after}
@@ -17,7 +17,7 @@ use Rattle.vtl_cell.specs.declared.cell.Cell.{Cell}
 use Rattle.vtl_cell.specs.declared.cell.Cell.TheVariants as c
 use Rattle.vtl_cell.specs.declared.operator.AggKind.TheVariants.{Count, Sum}
 use Rattle.vtl_cell.proofs.Aggregates.{count-Perm, group-Perm}
-use Rattle.vtl_cell.proofs.Perms.{Perm-map}
+use Rattle.vtl_lists.proofs.Perms.{Perm-map}
 use Rattle.vtl_rows.specs.Tables.{cells_at}
 use Rattle.vtl_tuples.proofs.Lists.{filter-flat_map, map-flat_map, map_each}
 use Rattle.vtl_aggregates.specs.Groups.{keys_by, points_with}

@@ -7,15 +7,15 @@ use Rattle.vtl_cell.specs.Kinds.{is_null}
 use Rattle.vtl_cell.specs.Outcome.{after}
 use Rattle.vtl_cell.specs.Outcomes.{all_of}
 use Rattle.vtl_cell.specs.Row.{Row, column_of}
-use Rattle.vtl_cell.specs.Settings.{Settings}
-use Rattle.vtl_cell.specs.Sorting.{IsOrder, insert_by, sorted_by}
+use Rattle.vtl_decimal.specs.Settings.{Settings}
+use Rattle.vtl_lists.specs.Sorting.{IsOrder, insert_by, sorted_by}
 use Rattle.vtl_cell.specs.declared.cell.Cell.{Cell}
 use Rattle.vtl_cell.specs.declared.cell.Cell.TheVariants as c
 use Rattle.vtl_cell.specs.declared.operator.AggKind.{AggKind}
 use Rattle.vtl_cell.specs.declared.operator.AggKind.TheVariants.{Max, Min}
 use Rattle.vtl_cell.proofs.Aggregates.{falling_order, group-Perm, rising_order}
-use Rattle.vtl_cell.proofs.Perms.{AllByRecursion-Perm, Perm-map, Perm-sym}
-use Rattle.vtl_cell.proofs.Sorts.{Perm-sorted_by}
+use Rattle.vtl_lists.proofs.Perms.{AllByRecursion-Perm, Perm-map, Perm-sym}
+use Rattle.vtl_lists.proofs.Sorts.{Perm-sorted_by}
 use Rattle.vtl_aggregates.specs.Groups.{keys_by, points_with}
 use Rattle.vtl_aggregate_laws.specs.Parts.{of_column, of_groups, values_at}
 use Rattle.vtl_aggregate_laws.proofs.Pieces.{parts}

@@ -1,11 +1,11 @@
 -- The points of all groups are the points, up to order.
 use Rattle.std.proofs.Common.{◌≡◌, ℕ, Bool, true, false, ◌&&◌, ◌||◌, cond, List, [], ◌∷◌, ◌++◌, map, refl, sym, ap, ◌∙◌, true≢false}
 use Rattle.std.specs.List.{AllByRecursion, filter, flat_map, list_any}
-use Rattle.vtl_cell.specs.Apart.{all_apart}
-use Rattle.vtl_cell.specs.Perm.{Perm, empty, keep, chain}
+use Rattle.vtl_lists.specs.Apart.{all_apart}
+use Rattle.vtl_lists.specs.Perm.{Perm, empty, keep, chain}
 use Rattle.vtl_cell.specs.Row.{Row, same_row}
-use Rattle.vtl_cell.proofs.Aparts.{all_apart-filter, apart_parts, none_is}
-use Rattle.vtl_cell.proofs.Perms.{Perm-append_front, Perm-middle, Perm-same}
+use Rattle.vtl_lists.proofs.Aparts.{all_apart-filter, apart_parts, none_is}
+use Rattle.vtl_lists.proofs.Perms.{Perm-append_front, Perm-middle, Perm-same}
 use Rattle.vtl_cell.proofs.Rows.{same_row-is, same_row-refl, same_row-sym}
 use Rattle.vtl_rows.specs.Tables.{cells_at}
 use Rattle.vtl_tuples.specs.Keys.{TellsApart}

@@ -6,8 +6,8 @@ use Rattle.std.proofs.Math.IntN.{+ℤ_idl}
 use Rattle.std.proofs.lemmas.List.{map-append}
 use Rattle.std.proofs.lemmas.List.Elements.{filter-append}
 use Rattle.std.proofs.lemmas.List.Folds.{list_all-append, list_any-append}
-use Rattle.vtl_cell.specs.Range.{fit_integer, fit_number}
-use Rattle.vtl_cell.specs.Settings.{Settings}
+use Rattle.vtl_decimal.specs.Range.{fit_integer, fit_number}
+use Rattle.vtl_decimal.specs.Settings.{Settings}
 use Rattle.vtl_cell.specs.Groups.{aggregate, group_value, is_integer, numbers_of, total_of, units_of, values_of, whole_of, wholes_of}
 use Rattle.vtl_cell.specs.Kinds.{is_null}
 use Rattle.vtl_cell.specs.Outcome.{Outcome, Range}
@@ -18,7 +18,7 @@ use Rattle.vtl_cell.specs.declared.cell.Cell.{Cell}
 use Rattle.vtl_cell.specs.declared.cell.Cell.TheVariants as c
 use Rattle.vtl_cell.specs.declared.operator.AggKind.TheVariants.{Sum}
 use Rattle.vtl_cell.proofs.Aggregates.{group-Perm}
-use Rattle.vtl_cell.proofs.Perms.{Perm-map}
+use Rattle.vtl_lists.proofs.Perms.{Perm-map}
 use Rattle.vtl_aggregates.specs.Groups.{keys_by, points_with}
 use Rattle.vtl_aggregate_laws.specs.Parts.{of_column, of_groups, values_at}
 use Rattle.vtl_aggregate_laws.proofs.Pieces.{parts}

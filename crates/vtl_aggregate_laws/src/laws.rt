@@ -3,9 +3,9 @@ ghost use Rattle.std.specs.Prelude.{◌≡◌, ◌<◌, ℕ, IfOk, List, Some, l
 ghost use Rattle.std.specs.List.{flat_map};
 ghost use Rattle.vtl_cell.specs.Groups.{count_of_points, group_value};
 ghost use Rattle.vtl_cell.specs.Outcome.{after};
-ghost use Rattle.vtl_cell.specs.Perm.{Perm};
+ghost use Rattle.vtl_lists.specs.Perm.{Perm};
 ghost use Rattle.vtl_cell.specs.Row.{Row};
-ghost use Rattle.vtl_cell.specs.Settings.{Settings};
+ghost use Rattle.vtl_decimal.specs.Settings.{Settings};
 ghost use Rattle.vtl_cell.specs.declared.operator.AggKind.{AggKind};
 ghost use Rattle.vtl_cell.specs.declared.operator.AggKind.TheVariants.{Count, Max, Min, Sum};
 ghost use Rattle.vtl_tree.specs.Environment.{DataSet};

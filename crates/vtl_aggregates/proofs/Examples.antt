@@ -3,7 +3,7 @@ use Rattle.std.proofs.Common.{◌≡◌, ℕ, pos, negsuc, true, List, [], ◌�
 use Rattle.std.specs.Prelude.{codes}
 use Rattle.vtl_cell.specs.Outcome.{DivZero, Outcome, Range}
 use Rattle.vtl_cell.specs.Row.{Row}
-use Rattle.vtl_cell.specs.Settings.{Settings}
+use Rattle.vtl_decimal.specs.Settings.{Settings}
 use Rattle.vtl_cell.specs.declared.cell.Cell.{Cell}
 use Rattle.vtl_cell.specs.declared.cell.Cell.TheVariants.{Int, Null, Num, Text}
 use Rattle.vtl_cell.specs.declared.cell.Cell.TheVariants as c

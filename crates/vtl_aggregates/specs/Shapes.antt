@@ -9,8 +9,8 @@ use Rattle.vtl_tree.specs.declared.expression.AggCall.{AggCall}
 use Rattle.vtl_tree.specs.declared.structure.Component.{Component}
 use Rattle.vtl_tree.specs.declared.structure.Role.TheVariants as role
 use Rattle.vtl_tree.specs.declared.structure.Structure.{Structure}
-use Rattle.vtl_tree.specs.kind.Kind.{Kind}
-use Rattle.vtl_tree.specs.kind.Kind.TheVariants as k
+use Rattle.vtl_cell.specs.declared.kind.Kind.{Kind}
+use Rattle.vtl_cell.specs.declared.kind.Kind.TheVariants as k
 use Rattle.vtl_nodes.specs.Trees.{AggTree}
 use Rattle.vtl_nodes.specs.declared.specifications.AggItems.{AggItems}
 use Rattle.vtl_nodes.specs.declared.specifications.AggItems.TheVariants as items

@@ -1,9 +1,9 @@
 // Laws of aggregates.
 ghost use Rattle.std.specs.Prelude.{◌≡◌, ◌&&◌, [], ◌∷◌, IfOk, List, None, Some, cond};
 ghost use Rattle.vtl_cell.specs.Outcomes.{Same};
-ghost use Rattle.vtl_cell.specs.Perm.{Perm};
+ghost use Rattle.vtl_lists.specs.Perm.{Perm};
 ghost use Rattle.vtl_cell.specs.Row.{Row};
-ghost use Rattle.vtl_cell.specs.Settings.{Settings};
+ghost use Rattle.vtl_decimal.specs.Settings.{Settings};
 ghost use Rattle.vtl_tree.specs.DataSet.{AreOfProfile, IsDataSet, look};
 ghost use Rattle.vtl_tree.specs.Environment.{DataSet};
 ghost use Rattle.vtl_tree.specs.Structure.{columns_of, key_width};

@@ -1,10 +1,10 @@
 -- Answers that tell the same meaning agree.
 use Rattle.std.proofs.Common.{◌≡◌, ℕ, List, [], ◌∷◌, Result, Ok, Err, sym, ap, ◌∙◌}
 use Rattle.vtl_cell.specs.Outcome.{Fault, DivZero, Range}
-use Rattle.vtl_cell.specs.Perm.{chain}
-use Rattle.vtl_cell.proofs.Perms.{Perm-sym}
+use Rattle.vtl_lists.specs.Perm.{chain}
+use Rattle.vtl_lists.proofs.Perms.{Perm-sym}
 use Rattle.vtl_rows.specs.Named.{NamedTables}
-use Rattle.check_laws.specs.Meaning.{Outputs}
+use Rattle.vtl_meaning.specs.Meaning.{Outputs}
 use Rattle.vtl_backend.specs.Agree.{Agree, SameTables}
 use Rattle.vtl_backend.specs.Runs.{ShowAll, ShowMeaning, Tells}
 use Rattle.vtl_backend.specs.declared.error.RunErr.{RunErr}

@@ -2,7 +2,7 @@
 use Rattle.std.proofs.Common.{◌≡◌, ◌&&◌, List, [], ◌∷◌, refl, ap}
 use Rattle.std.specs.List.{list_all}
 use Rattle.vtl_nodes.specs.Trees.{NodeTree, nodes_of}
-use Rattle.check_laws.specs.Meaning.{are_nodes_built, is_built}
+use Rattle.vtl_meaning.specs.Meaning.{are_nodes_built, is_built}
 
 pub nodes_built : (ns : List NodeTree) → are_nodes_built (nodes_of ns) ≡ list_all is_built ns
 nodes_built [] = refl

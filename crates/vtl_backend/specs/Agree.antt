@@ -1,6 +1,6 @@
 -- Answers of back ends that tell the same.
 use Rattle.std.specs.Prelude.{◌≡◌, [], ◌∷◌, Result, Ok, Err}
-use Rattle.vtl_cell.specs.Perm.{Perm}
+use Rattle.vtl_lists.specs.Perm.{Perm}
 use Rattle.vtl_rows.specs.Named.{NamedTables}
 use Rattle.vtl_backend.specs.declared.error.RunErr.{RunErr}
 use Rattle.vtl_backend.specs.declared.error.RunErr.TheVariants as err

@@ -9,9 +9,9 @@ use Rattle.vtl_tree.specs.Environment.{DataSet, Environment}
 use Rattle.vtl_tree.specs.Structures.{Named}
 use Rattle.vtl_tree.specs.declared.structure.Structure.{Structure}
 use Rattle.vtl_sets.specs.TableOf.{IsTableOf}
-use Rattle.check_laws.specs.Profiles.{AllAreOfProfile}
-use Rattle.check_laws.specs.Checked.{TypedScript, nodes_of}
-use Rattle.check_laws.specs.Uses.{reads}
+use Rattle.vtl_meaning.specs.Profiles.{AllAreOfProfile}
+use Rattle.vtl_check.specs.Checked.{TypedScript, nodes_of}
+use Rattle.vtl_check.specs.Uses.{reads}
 
 -- the declared data sets that a script reads, in order of first use, with their structures
 abbrev pub inputs_of : TypedScript → Named

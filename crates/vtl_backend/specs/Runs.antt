@@ -2,8 +2,8 @@
 use Rattle.std.specs.Prelude.{◌≡◌, ℕ, List, [], ◌∷◌, Result, Ok, Err}
 use Rattle.vtl_cell.specs.Outcome.{DivZero, Fault, Range}
 use Rattle.vtl_rows.specs.Named.{NamedTables}
-use Rattle.check_laws.specs.Meaning.{Outputs, meaning}
-use Rattle.check_laws.specs.Checked.{TypedScript}
+use Rattle.vtl_meaning.specs.Meaning.{Outputs, meaning}
+use Rattle.vtl_check.specs.Checked.{TypedScript}
 use Rattle.vtl_backend.specs.Inputs.{environment_of}
 use Rattle.vtl_backend.specs.Statements.{statements_of}
 use Rattle.vtl_backend.specs.Tables.{Shows}

@@ -4,9 +4,9 @@ use Rattle.std.specs.List.{list_all}
 use Rattle.vtl_syntax.specs.declared.word_groups.AssignKind.{AssignKind}
 use Rattle.vtl_syntax.specs.declared.word_groups.AssignKind.TheVariants as kind
 use Rattle.vtl_nodes.specs.Trees.{NodeTree}
-use Rattle.check_laws.specs.Meaning.{Statement, is_built}
-use Rattle.check_laws.specs.Checked.{TypedScript, nodes_of, tree_of}
-use Rattle.check_laws.specs.Transformations.{Transformation, transformations}
+use Rattle.vtl_meaning.specs.Meaning.{Statement, is_built}
+use Rattle.vtl_check.specs.Checked.{TypedScript, nodes_of, tree_of}
+use Rattle.vtl_check.specs.Transformations.{Transformation, transformations}
 
 -- a result is written where `<-` assigns it
 abbrev pub is_written : AssignKind → Bool

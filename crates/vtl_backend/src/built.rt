@@ -2,10 +2,10 @@
 ghost use Rattle.std.specs.Prelude.{◌≡◌, map};
 ghost use Rattle.vtl_nodes.specs.Trees.{nodes_of, operands_of};
 ghost use Rattle.vtl_nodes.specs.View.{node_tree, operand_tree};
-ghost use Rattle.check_laws.specs.Meaning.{are_nodes_built as are_trees_built, are_operands_built as are_operand_trees_built, is_built as is_tree_built};
+ghost use Rattle.vtl_meaning.specs.Meaning.{are_nodes_built as are_trees_built, are_operands_built as are_operand_trees_built, is_built as is_tree_built};
 ghost use Rattle.vtl_backend.specs.Statements.{is_script_built};
 
-use check_laws::Checked;
+use vtl_check::Checked;
 use vtl_nodes::{JoinOperand, Node, NodeForm};
 
 /// Whether a script holds only forms that back ends evaluate so far.

@@ -2,7 +2,7 @@
 ghost use Rattle.std.specs.Prelude.{ℕ, List, Result};
 ghost use Rattle.vtl_cell.specs.Outcome.{Fault};
 ghost use Rattle.vtl_rows.specs.Named.{NamedTables};
-ghost use Rattle.check_laws.specs.Meaning.{Outputs as Meant};
+ghost use Rattle.vtl_meaning.specs.Meaning.{Outputs as Meant};
 ghost use Rattle.vtl_backend.specs.Agree.{Agree};
 ghost use Rattle.vtl_backend.specs.Runs.{Tells};
 ghost use Rattle.vtl_backend.specs.declared.error.RunErr.{RunErr as Error};

@@ -14,7 +14,5 @@ mod laws;
 
 pub use backend::Backend;
 pub use built::is_built;
-pub use check_laws::{CheckErr, Checked, check, defines_rulesets, read_names};
 pub use error::RunErr;
 pub use laws::answers_agree;
-pub use vtl_sets::DataSet;

@@ -1,9 +1,3 @@
-pub use Rattle.vtl_decimal.proofs.WrittenLemmas
-pub use Rattle.vtl_lists.proofs.Aparts
-pub use Rattle.vtl_lists.proofs.Eaches
-pub use Rattle.vtl_lists.proofs.Perms
-pub use Rattle.vtl_lists.proofs.Sorts
-pub use Rattle.vtl_text.proofs.Apart as TextsApart
 pub mod Aggregates
 pub mod Cells
 pub mod Cuts

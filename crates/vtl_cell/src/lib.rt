@@ -40,6 +40,4 @@ pub use operator_kinds::{
 };
 pub use reading::read_cell;
 pub use row::{is_same_key, is_same_row};
-pub use vtl_decimal::{Profile, Rounding};
-pub use vtl_text::{ByName, List, Shared, Txt, are_distinct, concat, is_component_name, is_word};
 pub use writing::write_cell;

@@ -4,9 +4,10 @@ ghost use Rattle.std.specs.Result.{result_ok};
 ghost use Rattle.vtl_cell.specs.ScalarArithmetic.{negation_of};
 ghost use Rattle.vtl_cell.specs.Literals.{integer_cell, integer_written, is_null_kind, lies_between, number_cell, with_sign, written};
 
-use crate::{Cell, Kind, Txt, read_cell};
+use crate::{Cell, Kind, read_cell};
 use std::alloc::{AllocError, Global};
 use vtl_decimal::{Profile, neg, read_literal, read_whole_literal, whole};
+use vtl_text::Txt;
 
 /// The last place in a text that a literal may name.
 pub const LARGEST_PLACE: i64 = 1_000_000_000;

@@ -10,7 +10,7 @@ use Rattle.vtl_tree.specs.Structures.{Named}
 use Rattle.vtl_nodes.specs.Trees.{NodeTree}
 use Rattle.vtl_nodes.specs.View.{node_tree}
 use Rattle.vtl_nodes.specs.declared.nodes.Node.{Node}
-use Rattle.check_expressions.specs.Places.{Env}
+use Rattle.check_operators.specs.Places.{Env}
 use Rattle.vtl_check.specs.Checked.{AreUses, IsTyped, TypedScript, env_over}
 use Rattle.vtl_check.specs.Count.{count}
 use Rattle.vtl_check.specs.Script.{assigned, at, transformations_typed, with_result}

@@ -1,16 +1,3 @@
-pub use Rattle.check_expressions.specs.Aggregates
-pub use Rattle.check_expressions.specs.Clauses
-pub use Rattle.check_expressions.specs.JoinOperands
-pub use Rattle.check_expressions.specs.Operators
-pub use Rattle.check_expressions.specs.Places
-pub use Rattle.check_expressions.specs.Sets
-pub use Rattle.check_expressions.specs.Targets
-pub use Rattle.check_expressions.specs.Typed
-pub use Rattle.check_expressions.specs.Typing
-pub use Rattle.check_expressions.specs.Windowed
-pub use Rattle.check_expressions.specs.calls
-pub use Rattle.check_expressions.specs.places
-pub use Rattle.check_expressions.specs.targets
 pub mod Checked
 pub mod Count
 pub mod Names

@@ -11,9 +11,9 @@ use Rattle.check_faults.specs.declared.error.TypeErr.{TypeErr}
 use Rattle.check_faults.specs.declared.error.TypeErr.TheVariants as type
 use Rattle.check_faults.specs.declared.rules.Rule.{Rule}
 use Rattle.check_faults.specs.declared.rules.Rule.TheVariants as rule
-use Rattle.check_expressions.specs.Places.{Env}
-use Rattle.check_expressions.specs.Typed.{dataset_in}
-use Rattle.check_expressions.specs.places.Place.TheVariants as place
+use Rattle.check_operators.specs.Places.{Env}
+use Rattle.check_operators.specs.Typed.{dataset_in}
+use Rattle.check_operators.specs.declared.places.Place.TheVariants as place
 use Rattle.check_expressions.specs.Typing.{typed}
 use Rattle.vtl_check.specs.Count.{count}
 use Rattle.vtl_check.specs.Transformations.{Transformation, transformations}

@@ -16,7 +16,7 @@ use crate::CheckErr;
 use crate::known::share_structures;
 use crate::script::typed_statements;
 use crate::uses::{Uses, uses_of};
-use check_expressions::Scope;
+use check_operators::Scope;
 use std::alloc::{AllocError, Global};
 use std::marker::Model;
 use vtl_decimal::Profile;

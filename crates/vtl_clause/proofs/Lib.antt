@@ -1,15 +1,1 @@
-pub use Rattle.vtl_expr.proofs.AnalyticPoints
-pub use Rattle.vtl_expr.proofs.ColumnLemmas
-pub use Rattle.vtl_expr.proofs.ColumnPlaces
-pub use Rattle.vtl_expr.proofs.GroupKinds
-pub use Rattle.vtl_expr.proofs.GroupPoints
-pub use Rattle.vtl_expr.proofs.JoinKept
-pub use Rattle.vtl_expr.proofs.Kept
-pub use Rattle.vtl_expr.proofs.LookUps
-pub use Rattle.vtl_expr.proofs.Places
-pub use Rattle.vtl_expr.proofs.PointLemmas
-pub use Rattle.vtl_expr.proofs.SetsKept
-pub use Rattle.vtl_expr.proofs.TableLemmas
-pub use Rattle.vtl_expr.proofs.TurnedKept
-pub use Rattle.vtl_expr.proofs.Values
 pub mod SubLemmas

@@ -17,7 +17,3 @@ pub use calculation::calc;
 pub use filtering::filter;
 pub use renaming::rename;
 pub use subspace::sub;
-pub use vtl_expr::{
-    AggItems, AggSpec, AggTarget, DataSet, Seen, choose, keep_columns, map_measures, new_table,
-    pair_measures, place_of, places_in, push_cells, table_columns,
-};

@@ -1,12 +1,12 @@
 // `rename`
 ghost use Rattle.std.specs.Prelude.{◌≡◌, IfOk};
-ghost use Rattle.vtl_expr.specs.DataSets.{data_set};
-ghost use Rattle.vtl_expr.specs.Made.{IsRenamed};
-ghost use Rattle.vtl_expr.specs.TableOf.{IsTableOf};
+ghost use Rattle.vtl_sets.specs.DataSets.{data_set};
+ghost use Rattle.vtl_meaning.specs.Made.{IsRenamed};
+ghost use Rattle.vtl_sets.specs.TableOf.{IsTableOf};
 
 use std::alloc::{AllocError, Global};
-use vtl_expr::{DataSet, table_columns};
 use vtl_rows::SharedTable;
+use vtl_sets::{DataSet, table_columns};
 use vtl_tree::Structure;
 
 fn renamed_table(alloc: Global, a: &DataSet, made: &Structure) -> Result<SharedTable, AllocError>

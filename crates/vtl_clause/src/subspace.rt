@@ -4,16 +4,19 @@ ghost use Rattle.vtl_cell.specs.Row.{column_of};
 ghost use Rattle.vtl_cell.specs.Order.{same_cell};
 ghost use Rattle.vtl_rows.specs.Tables.{cells_at, fits};
 ghost use Rattle.vtl_tree.specs.Structure.{columns_of};
-ghost use Rattle.vtl_expr.specs.DataSets.{data_set};
-ghost use Rattle.vtl_expr.specs.Made.{IsSub};
-ghost use Rattle.vtl_expr.specs.Operators.{sub_of};
-ghost use Rattle.vtl_expr.specs.TableOf.{IsTableOf};
+ghost use Rattle.vtl_sets.specs.DataSets.{data_set};
+ghost use Rattle.vtl_meaning.specs.Made.{IsSub};
+ghost use Rattle.vtl_meaning.specs.Operators.{sub_of};
+ghost use Rattle.vtl_sets.specs.TableOf.{IsTableOf};
 ghost use Rattle.vtl_clause.specs.Pins.{are_met, wanted_by, wanted_in};
 
+use check_shapes::place_of;
 use std::alloc::{AllocError, Global};
 use vtl_cell::{Cell, is_same};
-use vtl_expr::{DataSet, SubItem, new_table, place_of, places_in, push_cells};
+use vtl_expr::{places_in, push_cells};
+use vtl_nodes::SubItem;
 use vtl_rows::Table;
+use vtl_sets::{DataSet, new_table};
 use vtl_tree::Structure;
 
 // The place of an identifier, and the value that is wanted there.

@@ -12,16 +12,16 @@ use Rattle.vtl_tree.specs.Environment.{DataSet}
 use Rattle.vtl_tree.specs.Structure.{columns_of, key_width}
 use Rattle.vtl_tree.specs.declared.structure.Structure.{Structure}
 use Rattle.vtl_tuples.proofs.Lists.{flat_map_same}
-use Rattle.vtl_clause.specs.TableOf.{table_columns}
-use Rattle.vtl_clause.proofs.TableLemmas.{point_fits}
-use Rattle.vtl_clause.specs.Agreement.{agree_in, common_identifiers, has_agreeing, key_of}
-use Rattle.vtl_clause.specs.Made.{IsExistence}
-use Rattle.vtl_clause.specs.Points.{with_points}
-use Rattle.vtl_clause.specs.Sets.{existence_of, is_retained, with_answer}
-use Rattle.vtl_clause.proofs.LookUps.{named_cells}
-use Rattle.vtl_clause.proofs.Places.{all_more, key_within}
-use Rattle.vtl_clause.proofs.SetsKept.{existence_kept}
-use Rattle.vtl_clause.proofs.PointLemmas.{holds_at}
+use Rattle.vtl_sets.specs.TableOf.{table_columns}
+use Rattle.vtl_sets.proofs.TableLemmas.{point_fits}
+use Rattle.vtl_meaning.specs.Agreement.{agree_in, common_identifiers, has_agreeing, key_of}
+use Rattle.vtl_meaning.specs.Made.{IsExistence}
+use Rattle.vtl_meaning.specs.Points.{with_points}
+use Rattle.vtl_meaning.specs.Sets.{existence_of, is_retained, with_answer}
+use Rattle.vtl_meaning.proofs.LookUps.{named_cells}
+use Rattle.vtl_meaning.proofs.Places.{all_more, key_within}
+use Rattle.vtl_meaning.proofs.SetsKept.{existence_kept}
+use Rattle.vtl_expr.proofs.PointLemmas.{holds_at}
 use Rattle.vtl_combine.specs.Existence.{answered, sought_common}
 use Rattle.vtl_combine.proofs.ChosenLemmas.{found_by_test, taken_where}
 use Rattle.vtl_combine.proofs.RowLemmas.{first_cells}

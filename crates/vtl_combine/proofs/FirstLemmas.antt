@@ -16,8 +16,8 @@ use Rattle.vtl_rows.specs.Places.{row_at}
 use Rattle.vtl_rows.specs.Tables.{cells_at}
 use Rattle.vtl_tuples.specs.Keys.{each_once}
 use Rattle.vtl_tuples.proofs.Lists.{filter_each, filter_same}
-use Rattle.vtl_clause.proofs.Places.{all_more}
-use Rattle.vtl_clause.proofs.JoinKept.{once_hold}
+use Rattle.vtl_meaning.proofs.Places.{all_more}
+use Rattle.vtl_meaning.proofs.JoinKept.{once_hold}
 use Rattle.vtl_combine.proofs.RowLemmas.{all_below, filter-filter, first_cells}
 
 -- ---- the first row of a group is the one by which it is known

@@ -1,12 +1,3 @@
-pub use Rattle.vtl_clause.proofs.AnalyticPoints
-pub use Rattle.vtl_clause.proofs.ColumnLemmas
-pub use Rattle.vtl_clause.proofs.GroupKinds
-pub use Rattle.vtl_clause.proofs.GroupPoints
-pub use Rattle.vtl_clause.proofs.Kept
-pub use Rattle.vtl_clause.proofs.Places
-pub use Rattle.vtl_clause.proofs.PointLemmas
-pub use Rattle.vtl_clause.proofs.TableLemmas
-pub use Rattle.vtl_clause.proofs.Values
 pub mod AnswerLemmas
 pub mod ChosenLemmas
 pub mod ExistenceLemmas

@@ -18,17 +18,17 @@ use Rattle.vtl_tree.specs.Structure.{IsStructure, columns_of, key_width}
 use Rattle.vtl_tree.specs.declared.structure.Component.{Component}
 use Rattle.vtl_tree.specs.declared.structure.Structure.{Structure}
 use Rattle.vtl_tuples.proofs.Lists.{filter-map, filter_each}
-use Rattle.vtl_clause.specs.TableOf.{table_columns}
-use Rattle.vtl_clause.proofs.ColumnLemmas.{few_keys}
-use Rattle.vtl_clause.specs.Columns.{identifiers_of, others_of, place_of, places_in}
-use Rattle.vtl_clause.specs.Joined.{structures_of}
-use Rattle.vtl_clause.specs.Made.{AreCombined, IsAlternative, IsCombined}
-use Rattle.vtl_clause.specs.Operators.{left_of}
-use Rattle.vtl_clause.specs.Sets.{all_left_of, has_point, intersected, is_retained}
-use Rattle.vtl_clause.proofs.Kept.{shown_split}
-use Rattle.vtl_clause.proofs.Places.{all_append, all_map, each}
-use Rattle.vtl_clause.proofs.SetsKept.{IsKeyed, alternative_tells, combined_is, has_any}
-use Rattle.vtl_clause.proofs.ColumnPlaces.{chosen_columns}
+use Rattle.vtl_sets.specs.TableOf.{table_columns}
+use Rattle.vtl_sets.proofs.ColumnLemmas.{few_keys}
+use Rattle.check_shapes.specs.Columns.{identifiers_of, others_of, place_of, places_in}
+use Rattle.vtl_meaning.specs.Joined.{structures_of}
+use Rattle.vtl_meaning.specs.Made.{AreCombined, IsAlternative, IsCombined}
+use Rattle.vtl_meaning.specs.Operators.{left_of}
+use Rattle.vtl_meaning.specs.Sets.{all_left_of, has_point, intersected, is_retained}
+use Rattle.vtl_meaning.proofs.Kept.{shown_split}
+use Rattle.vtl_meaning.proofs.Places.{all_append, all_map, each}
+use Rattle.vtl_meaning.proofs.SetsKept.{IsKeyed, alternative_tells, combined_is, has_any}
+use Rattle.vtl_expr.proofs.ColumnPlaces.{chosen_columns}
 use Rattle.vtl_combine.specs.Operands.{HasColumns, all_have, left_at, retained, retained_by, sought_by_key}
 use Rattle.vtl_combine.proofs.ChosenLemmas.{list_any-map}
 use Rattle.vtl_combine.proofs.RowLemmas.{chosen_rows}

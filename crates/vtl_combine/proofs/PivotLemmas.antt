@@ -18,16 +18,16 @@ use Rattle.vtl_tree.specs.Structure.{columns_of}
 use Rattle.vtl_tree.specs.declared.structure.Structure.{Structure}
 use Rattle.vtl_tuples.specs.Keys.{each_once}
 use Rattle.vtl_tuples.proofs.Lists.{map-map, map_each}
-use Rattle.vtl_clause.specs.TableOf.{table_columns}
-use Rattle.vtl_clause.proofs.TableLemmas.{point_fits}
-use Rattle.vtl_clause.specs.Agreement.{values_in}
-use Rattle.vtl_clause.specs.Columns.{place_of}
-use Rattle.vtl_clause.specs.LookUps.{value_named}
-use Rattle.vtl_clause.specs.Made.{IsPivoted}
-use Rattle.vtl_clause.specs.Turned.{coded_value, codes_of, is_coded, other_identifiers, pivot_of, pivoted_point}
-use Rattle.vtl_clause.proofs.LookUps.{named_cells}
-use Rattle.vtl_clause.proofs.Places.{all_more, all_of_map}
-use Rattle.vtl_clause.proofs.TurnedKept.{pivot_kept}
+use Rattle.vtl_sets.specs.TableOf.{table_columns}
+use Rattle.vtl_sets.proofs.TableLemmas.{point_fits}
+use Rattle.vtl_meaning.specs.Agreement.{values_in}
+use Rattle.check_shapes.specs.Columns.{place_of}
+use Rattle.vtl_meaning.specs.LookUps.{value_named}
+use Rattle.vtl_meaning.specs.Made.{IsPivoted}
+use Rattle.vtl_meaning.specs.Turned.{coded_value, codes_of, is_coded, other_identifiers, pivot_of, pivoted_point}
+use Rattle.vtl_meaning.proofs.LookUps.{named_cells}
+use Rattle.vtl_meaning.proofs.Places.{all_more, all_of_map}
+use Rattle.vtl_meaning.proofs.TurnedKept.{pivot_kept}
 use Rattle.vtl_index.proofs.Ranges.{all_indexed}
 use Rattle.vtl_combine.specs.Pivots.{AreCoded, coded, other_places, pivoted, sought_codes}
 use Rattle.vtl_combine.specs.declared.pivoting.CodedPoints.{CodedPoints}

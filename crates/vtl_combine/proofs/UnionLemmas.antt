@@ -3,7 +3,7 @@ use Rattle.std.proofs.Common.{◌≡◌, Bool, true, not, List, [], ◌∷◌, �
 use Rattle.std.specs.Borrow.{Bor}
 use Rattle.std.specs.List.{filter, list_any}
 use Rattle.std.proofs.lemmas.List.{append-nil}
-use Rattle.vtl_cell.specs.Apart.{all_apart}
+use Rattle.vtl_lists.specs.Apart.{all_apart}
 use Rattle.vtl_cell.specs.Row.{same_key}
 use Rattle.vtl_tree.specs.DataSet.{IsDataSet}
 use Rattle.vtl_tree.specs.Environment.{DataSet}
@@ -13,10 +13,10 @@ use Rattle.vtl_tree.specs.declared.structure.Structure.{Structure}
 use Rattle.vtl_tuples.specs.Keys.{each_once}
 use Rattle.vtl_tuples.proofs.Lists.{filter_each}
 use Rattle.vtl_tuples.proofs.Onces.{once_already, once_more}
-use Rattle.vtl_clause.specs.Made.{IsCombined}
-use Rattle.vtl_clause.specs.Operators.{left_of}
-use Rattle.vtl_clause.specs.Sets.{difference_of, has_point, union_of}
-use Rattle.vtl_clause.proofs.SetsKept.{first_shown, has_any, second_shown}
+use Rattle.vtl_meaning.specs.Made.{IsCombined}
+use Rattle.vtl_meaning.specs.Operators.{left_of}
+use Rattle.vtl_meaning.specs.Sets.{difference_of, has_point, union_of}
+use Rattle.vtl_meaning.proofs.SetsKept.{first_shown, has_any, second_shown}
 
 -- two lists, each with an item once
 once_of_two : {X : Type 0} (same : X → X → Bool) (xs ys : List X) → all_apart same xs ≡ true → all_apart same ys ≡ true → each_once same (xs ++ ys) ≡ xs ++ filter (λ y. not (list_any (λ x. same x y) xs)) ys

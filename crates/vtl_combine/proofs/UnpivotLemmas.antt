@@ -14,16 +14,16 @@ use Rattle.vtl_tree.specs.Environment.{DataSet}
 use Rattle.vtl_tree.specs.Structure.{columns_of, key_width}
 use Rattle.vtl_tree.specs.declared.structure.Structure.{Structure}
 use Rattle.vtl_tuples.proofs.Lists.{flat_map_same}
-use Rattle.vtl_clause.specs.TableOf.{table_columns}
-use Rattle.vtl_clause.proofs.TableLemmas.{point_fits}
-use Rattle.vtl_clause.specs.Columns.{measures_of}
-use Rattle.vtl_clause.specs.LookUps.{value_named}
-use Rattle.vtl_clause.specs.Made.{IsUnpivoted}
-use Rattle.vtl_clause.specs.Points.{with_points}
-use Rattle.vtl_clause.specs.Turned.{named_point, unpivot_of, unpivoted_points}
-use Rattle.vtl_clause.proofs.Places.{all_front, all_more}
-use Rattle.vtl_clause.proofs.TurnedKept.{unpivot_kept}
-use Rattle.vtl_clause.proofs.PointLemmas.{holds_at}
+use Rattle.vtl_sets.specs.TableOf.{table_columns}
+use Rattle.vtl_sets.proofs.TableLemmas.{point_fits}
+use Rattle.check_shapes.specs.Columns.{measures_of}
+use Rattle.vtl_meaning.specs.LookUps.{value_named}
+use Rattle.vtl_meaning.specs.Made.{IsUnpivoted}
+use Rattle.vtl_meaning.specs.Points.{with_points}
+use Rattle.vtl_meaning.specs.Turned.{named_point, unpivot_of, unpivoted_points}
+use Rattle.vtl_meaning.proofs.Places.{all_front, all_more}
+use Rattle.vtl_meaning.proofs.TurnedKept.{unpivot_kept}
+use Rattle.vtl_expr.proofs.PointLemmas.{holds_at}
 use Rattle.vtl_combine.specs.Unpivots.{measure_in, named_row, unpivoted}
 use Rattle.vtl_combine.proofs.ExistenceLemmas.{own_key}
 

@@ -10,8 +10,8 @@ use Rattle.vtl_index.specs.Seekers.{Sought, first_meant}
 use Rattle.vtl_tree.specs.Environment.{DataSet}
 use Rattle.vtl_tree.specs.Structure.{columns_of}
 use Rattle.vtl_tree.specs.declared.structure.Structure.{Structure}
-use Rattle.vtl_clause.specs.Columns.{place_of, places_in}
-use Rattle.vtl_clause.specs.Turned.{codes_of, other_identifiers}
+use Rattle.check_shapes.specs.Columns.{place_of, places_in}
+use Rattle.vtl_meaning.specs.Turned.{codes_of, other_identifiers}
 use Rattle.vtl_combine.specs.declared.pivoting.CodedPoints.{CodedPoints}
 
 -- the measure's value at a key of the other identifiers and a code

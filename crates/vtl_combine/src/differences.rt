@@ -1,16 +1,16 @@
 // `setdiff` and `symdiff`
 ghost use Rattle.std.specs.Prelude.{◌≡◌, [], ◌∷◌, IfOk};
-ghost use Rattle.vtl_clause.specs.DataSets.{data_set};
-ghost use Rattle.vtl_clause.specs.TableOf.{IsTableOf, table_columns};
-ghost use Rattle.vtl_clause.specs.Made.{IsCombined};
-ghost use Rattle.vtl_clause.specs.Sets.{difference_of, symmetric_difference_of};
+ghost use Rattle.vtl_sets.specs.DataSets.{data_set};
+ghost use Rattle.vtl_sets.specs.TableOf.{IsTableOf, table_columns};
+ghost use Rattle.vtl_meaning.specs.Made.{IsCombined};
+ghost use Rattle.vtl_meaning.specs.Sets.{difference_of, symmetric_difference_of};
 ghost use Rattle.vtl_combine.specs.Operands.{HasColumns};
 
 use crate::retaining::retained;
 use crate::rows::{are_data_sets, chosen_rows, numbers};
 use std::alloc::{AllocError, Global};
-use vtl_clause::DataSet;
 use vtl_rows::Table;
+use vtl_sets::DataSet;
 use vtl_syntax::Retain;
 use vtl_tree::Structure;
 

@@ -3,12 +3,12 @@ ghost use Rattle.std.specs.Prelude.{◌≡◌, ◌<◌, true, ◌++◌, ◌∷�
 ghost use Rattle.vtl_rows.specs.Tables.{cells_at, fits};
 ghost use Rattle.vtl_tree.specs.Shown.{shown};
 ghost use Rattle.vtl_tree.specs.Structure.{names_of};
-ghost use Rattle.vtl_clause.specs.DataSets.{data_set};
-ghost use Rattle.vtl_clause.specs.TableOf.{IsTableOf};
+ghost use Rattle.vtl_sets.specs.DataSets.{data_set};
+ghost use Rattle.vtl_sets.specs.TableOf.{IsTableOf};
 ghost use Rattle.check_shapes.specs.Names.{is_among};
-ghost use Rattle.vtl_clause.specs.Agreement.{common_identifiers};
-ghost use Rattle.vtl_clause.specs.Made.{IsExistence};
-ghost use Rattle.vtl_clause.specs.Sets.{existence_of, is_retained};
+ghost use Rattle.vtl_meaning.specs.Agreement.{common_identifiers};
+ghost use Rattle.vtl_meaning.specs.Made.{IsExistence};
+ghost use Rattle.vtl_meaning.specs.Sets.{existence_of, is_retained};
 ghost use Rattle.vtl_combine.specs.Existence.{answered, sought_common};
 
 use crate::retaining::{answers, is_retained};
@@ -16,11 +16,13 @@ use crate::rows::own_key;
 use std::alloc::{AllocError, Global};
 use std::marker::Brand;
 use std::sync::ledger::{Blank, Ledger};
-use vtl_cell::{Cell, Txt};
-use vtl_clause::{DataSet, new_table, places_in, push_cells};
+use vtl_cell::Cell;
+use vtl_expr::{places_in, push_cells};
 use vtl_index::{Seeker, Steps};
 use vtl_rows::Table;
+use vtl_sets::{DataSet, new_table};
 use vtl_syntax::Retain;
+use vtl_text::Txt;
 use vtl_tree::{Component, Structure};
 
 // Whether a column has this name.

@@ -2,18 +2,18 @@
 ghost use Rattle.std.specs.List.{range_with_len};
 ghost use Rattle.std.specs.Prelude.{◌≡◌, [], ◌∷◌, filter, length, IfOk};
 ghost use Rattle.vtl_tree.specs.Shown.{shown};
-ghost use Rattle.vtl_clause.specs.DataSets.{data_set};
-ghost use Rattle.vtl_clause.specs.TableOf.{IsTableOf};
-ghost use Rattle.vtl_clause.specs.Joined.{structures_of};
-ghost use Rattle.vtl_clause.specs.Made.{AreCombined, IsCombined};
-ghost use Rattle.vtl_clause.specs.Sets.{intersection_of};
+ghost use Rattle.vtl_sets.specs.DataSets.{data_set};
+ghost use Rattle.vtl_sets.specs.TableOf.{IsTableOf};
+ghost use Rattle.vtl_meaning.specs.Joined.{structures_of};
+ghost use Rattle.vtl_meaning.specs.Made.{AreCombined, IsCombined};
+ghost use Rattle.vtl_meaning.specs.Sets.{intersection_of};
 ghost use Rattle.vtl_combine.specs.Operands.{all_have};
 
 use crate::retaining::retained;
 use crate::rows::{are_data_sets, chosen_rows, numbers};
 use std::alloc::{AllocError, Global};
-use vtl_clause::DataSet;
 use vtl_rows::Table;
+use vtl_sets::DataSet;
 use vtl_syntax::Retain;
 use vtl_tree::Structure;
 

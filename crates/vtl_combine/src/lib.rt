@@ -25,7 +25,3 @@ pub use intersections::{intersect, intersect_all};
 pub use pivoting::pivot;
 pub use unions::{union, union_all};
 pub use unpivoting::unpivot;
-pub use vtl_clause::{
-    AggItems, AggSpec, AggTarget, DataSet, Seen, calc, choose, filter, keep_columns, map_measures,
-    new_table, pair_measures, push_cells, rename, sub,
-};

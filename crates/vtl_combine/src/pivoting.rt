@@ -2,23 +2,25 @@
 ghost use Rattle.std.specs.Prelude.{◌≡◌, ◌<◌, true, ◌++◌, ◌∷◌, [], map, IfOk, OnOk};
 ghost use Rattle.vtl_rows.specs.Tables.{cells_at, fits};
 ghost use Rattle.vtl_tree.specs.Shown.{shown};
-ghost use Rattle.vtl_clause.specs.DataSets.{data_set};
-ghost use Rattle.vtl_clause.specs.TableOf.{IsTableOf};
-ghost use Rattle.vtl_clause.specs.Made.{IsPivoted};
-ghost use Rattle.vtl_clause.specs.Turned.{codes_of, other_identifiers, pivot_of};
+ghost use Rattle.vtl_sets.specs.DataSets.{data_set};
+ghost use Rattle.vtl_sets.specs.TableOf.{IsTableOf};
+ghost use Rattle.vtl_meaning.specs.Made.{IsPivoted};
+ghost use Rattle.vtl_meaning.specs.Turned.{codes_of, other_identifiers, pivot_of};
 ghost use Rattle.vtl_combine.specs.Pivots.{AreCoded, coded, pivoted};
 
 use crate::firsts::first_rows;
 use crate::rows::{numbers, row_or_none};
-use check_shapes::{Choice, component_of, is_chosen};
+use check_shapes::{Choice, component_of, is_chosen, place_of};
 use std::alloc::{AllocError, Global};
 use std::marker::Brand;
 use std::slice;
 use std::sync::ledger::{Blank, Ledger};
-use vtl_cell::{Cell, Txt};
-use vtl_clause::{DataSet, new_table, place_of, places_in, push_cells};
+use vtl_cell::Cell;
+use vtl_expr::{places_in, push_cells};
 use vtl_index::{Groups, Seeker, Steps};
 use vtl_rows::Table;
+use vtl_sets::{DataSet, new_table};
+use vtl_text::Txt;
 use vtl_tree::{Component, Structure};
 
 // What a pivot takes its points from: a table, the places of the other identifiers, the rows by these and by the

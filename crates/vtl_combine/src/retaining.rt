@@ -1,16 +1,16 @@
 // The points of an operand whose identifiers another operand has, or lacks.
 ghost use Rattle.std.specs.Prelude.{◌≡◌, ◌<◌, length, map, All, IfOk};
 ghost use Rattle.vtl_index.specs.Seekers.{is_any_meant};
-ghost use Rattle.vtl_clause.specs.Sets.{is_retained};
+ghost use Rattle.vtl_meaning.specs.Sets.{is_retained};
 ghost use Rattle.vtl_combine.specs.Operands.{retained, retained_by};
 
 use crate::rows::key_places;
 use std::alloc::{AllocError, Global};
 use std::marker::Brand;
 use std::sync::ledger::{Blank, Ledger};
-use vtl_clause::DataSet;
 use vtl_index::{Seeker, Steps};
 use vtl_rows::Table;
+use vtl_sets::DataSet;
 use vtl_syntax::Retain;
 use vtl_tree::Structure;
 

@@ -4,15 +4,16 @@ ghost use Rattle.std.specs.Prelude.{◌≡◌, map, All, IfOk};
 ghost use Rattle.vtl_rows.specs.Places.{row_at};
 ghost use Rattle.vtl_tree.specs.DataSet.{IsDataSet};
 ghost use Rattle.vtl_tree.specs.Structure.{columns_of, key_width};
-ghost use Rattle.vtl_clause.specs.TableOf.{table_columns};
-ghost use Rattle.vtl_clause.specs.Columns.{identifiers_of, places_in};
-ghost use Rattle.vtl_clause.specs.Operators.{left_of};
+ghost use Rattle.vtl_sets.specs.TableOf.{table_columns};
+ghost use Rattle.check_shapes.specs.Columns.{identifiers_of, places_in};
+ghost use Rattle.vtl_meaning.specs.Operators.{left_of};
 ghost use Rattle.vtl_combine.specs.Operands.{HasColumns, left_at, pick_at};
 
 use std::alloc::{AllocError, Global};
 use vtl_cell::Cell;
-use vtl_clause::{DataSet, places_in, table_columns};
+use vtl_expr::places_in;
 use vtl_rows::{Pick, Table, gather_beside};
+use vtl_sets::{DataSet, table_columns};
 use vtl_tree::Structure;
 
 // The numbers below a bound, rising.

@@ -3,20 +3,20 @@ ghost use Rattle.std.specs.List.{flat_map};
 ghost use Rattle.std.specs.Prelude.{◌≡◌, [], ◌∷◌, All, IfOk};
 ghost use Rattle.vtl_tree.specs.Shown.{shown};
 ghost use Rattle.vtl_tree.specs.Structure.{IsStructure};
-ghost use Rattle.vtl_clause.specs.DataSets.{data_set};
-ghost use Rattle.vtl_clause.specs.TableOf.{IsTableOf, table_columns};
-ghost use Rattle.vtl_clause.specs.Joined.{structures_of};
-ghost use Rattle.vtl_clause.specs.Made.{AreCombined, IsCombined};
-ghost use Rattle.vtl_clause.specs.Operators.{left_of};
-ghost use Rattle.vtl_clause.specs.Sets.{union_of};
+ghost use Rattle.vtl_sets.specs.DataSets.{data_set};
+ghost use Rattle.vtl_sets.specs.TableOf.{IsTableOf, table_columns};
+ghost use Rattle.vtl_meaning.specs.Joined.{structures_of};
+ghost use Rattle.vtl_meaning.specs.Made.{AreCombined, IsCombined};
+ghost use Rattle.vtl_meaning.specs.Operators.{left_of};
+ghost use Rattle.vtl_meaning.specs.Sets.{union_of};
 ghost use Rattle.vtl_combine.specs.Operands.{HasColumns};
 
 use crate::differences::reduced_rows;
 use crate::firsts::once_by_key;
 use crate::rows::{all_rows, are_data_sets, key_width};
 use std::alloc::{AllocError, Global};
-use vtl_clause::{DataSet, new_table};
 use vtl_rows::Table;
+use vtl_sets::{DataSet, new_table};
 use vtl_tree::Structure;
 
 // The points of all operands, one operand after the other.

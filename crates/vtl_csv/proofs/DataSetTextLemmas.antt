@@ -7,15 +7,15 @@ use Rattle.std.specs.declared.cmp.Ordering.TheVariants.{Less, Equal, Greater}
 use Rattle.std.proofs.lemmas.List.{length-map, map-append}
 use Rattle.std.proofs.lemmas.Simd.{map-map}
 use Rattle.csv.specs.Writing.{default_writer, row_text}
-use Rattle.vtl_cell.specs.Settings.{Settings}
-use Rattle.vtl_cell.specs.Perm.{Perm}
-use Rattle.vtl_cell.specs.Sorting.{le_by, sorted_by}
+use Rattle.vtl_decimal.specs.Settings.{Settings}
+use Rattle.vtl_lists.specs.Perm.{Perm}
+use Rattle.vtl_lists.specs.Sorting.{le_by, sorted_by}
 use Rattle.vtl_cell.specs.Kinds.{is_null, is_of}
 use Rattle.vtl_cell.specs.Row.{Row, row_cmp}
 use Rattle.vtl_cell.specs.Sorted.{by_keys, rising}
 use Rattle.vtl_cell.specs.Writing.{text_of}
 use Rattle.vtl_cell.proofs.Rows.{row_order, split_and}
-use Rattle.vtl_cell.proofs.Sorts.{sorted_by-Perm}
+use Rattle.vtl_lists.proofs.Sorts.{sorted_by-Perm}
 use Rattle.vtl_rows.specs.declared.column.SortKey.{SortKey}
 use Rattle.vtl_rows.specs.Keys.{key_of, ordered}
 use Rattle.vtl_rows.specs.Tables.{Listed}

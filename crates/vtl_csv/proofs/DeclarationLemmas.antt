@@ -15,9 +15,9 @@ use Rattle.csv.specs.declared.parser.Config.{Config}
 use Rattle.csv.specs.declared.parser.State.{State}
 use Rattle.csv.specs.declared.parser.State.TheVariants as st
 use Rattle.vtl_lists.specs.Results.{◌>>=◌}
-use Rattle.vtl_cell.specs.Apart.{all_apart}
-use Rattle.vtl_cell.specs.Each.{cons_if, each_some, onto}
-use Rattle.vtl_cell.proofs.Eaches.{each_stops, each_takes}
+use Rattle.vtl_lists.specs.Apart.{all_apart}
+use Rattle.vtl_lists.specs.Each.{cons_if, each_some, onto}
+use Rattle.vtl_lists.proofs.Eaches.{each_stops, each_takes}
 use Rattle.vtl_text.specs.Words.{is_component_name}
 use Rattle.vtl_cell.specs.declared.kind.Kind.{Kind}
 use Rattle.vtl_cell.specs.declared.kind.Kind.TheVariants as k

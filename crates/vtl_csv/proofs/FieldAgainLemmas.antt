@@ -11,9 +11,9 @@ use Rattle.std.specs.Int.{is_negative, w64}
 use Rattle.std.specs.Int.RustNames.{FitsSigned}
 use Rattle.std.proofs.lemmas.Str.Ascii.{IsAscii-cons, IsAscii-nil}
 use Rattle.std.proofs.lemmas.Str.{chars-encodes, IsAscii-append, IsUtf8-from_ascii, encodes_same, is_utf8-from_IsUtf8}
-use Rattle.vtl_cell.specs.Settings.{Settings}
-use Rattle.vtl_cell.specs.Numeral.{integer_read, number_read}
-use Rattle.vtl_cell.specs.Written.{behind_point, last_digits, number_text, shortest_digits, sign_text}
+use Rattle.vtl_decimal.specs.Settings.{Settings}
+use Rattle.vtl_decimal.specs.Numeral.{integer_read, number_read}
+use Rattle.vtl_decimal.specs.Written.{behind_point, last_digits, number_text, shortest_digits, sign_text}
 use Rattle.vtl_time.specs.Days.{CalendarDay, day_text}
 use Rattle.vtl_time.specs.Periods.{YearPart, is_year_part, letter_of, part_text, parts_in_year, period_text}
 use Rattle.vtl_time.specs.declared.periods.Frequency.{Frequency}
@@ -32,7 +32,7 @@ use Rattle.vtl_tree.specs.DataSet.{is_point}
 use Rattle.vtl_tree.specs.Structure.{same_role}
 use Rattle.vtl_tree.specs.declared.structure.Component.{Component}
 use Rattle.vtl_tree.specs.declared.structure.Role.TheVariants as role
-use Rattle.vtl_cell.proofs.WrittenLemmas.{reads_back as number_back}
+use Rattle.vtl_decimal.proofs.WrittenLemmas.{reads_back as number_back}
 use Rattle.vtl_time.proofs.DayLemmas.{reads_back as day_back}
 use Rattle.vtl_time.proofs.PeriodLemmas.{reads_back as period_back}
 use Rattle.vtl_cell.proofs.Rows.{split_and}

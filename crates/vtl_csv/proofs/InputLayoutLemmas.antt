@@ -7,9 +7,9 @@ use Rattle.std.proofs.lemmas.List.{get_or-map}
 use Rattle.std.proofs.lemmas.List.Elements.{All-take}
 use Rattle.std.specs.Option.{is_some}
 use Rattle.vtl_lists.specs.Results.{◌>>=◌}
-use Rattle.vtl_cell.specs.Apart.{all_apart}
-use Rattle.vtl_cell.specs.Each.{cons_if, each_some}
-use Rattle.vtl_cell.proofs.Aparts.{apart_parts}
+use Rattle.vtl_lists.specs.Apart.{all_apart}
+use Rattle.vtl_lists.specs.Each.{cons_if, each_some}
+use Rattle.vtl_lists.proofs.Aparts.{apart_parts}
 use Rattle.vtl_cell.specs.declared.kind.Kind.TheVariants as k
 use Rattle.vtl_cell.specs.Row.{Row, column_of}
 use Rattle.vtl_cell.proofs.Rows.{split_and}

@@ -1,8 +1,8 @@
 -- Rows in order rise by their first cells.
 use Rattle.std.proofs.Common.{◌≡◌, ℕ, true, List, [], ◌∷◌}
 use Rattle.std.specs.List.{AllByRecursion}
-use Rattle.vtl_cell.specs.Sorting.{Rises, le_by, sorted_by}
-use Rattle.vtl_cell.proofs.Sorts.{Rises-sorted_by}
+use Rattle.vtl_lists.specs.Sorting.{Rises, le_by, sorted_by}
+use Rattle.vtl_lists.proofs.Sorts.{Rises-sorted_by}
 use Rattle.vtl_cell.specs.Row.{Row, row_cmp}
 use Rattle.vtl_cell.proofs.Rows.{front_rises, row_order}
 use Rattle.vtl_csv.specs.CsvText.{le_key}

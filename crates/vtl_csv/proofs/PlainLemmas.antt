@@ -8,16 +8,16 @@ use Rattle.std.proofs.lemmas.List.{length-map, map-append}
 use Rattle.std.proofs.lemmas.Slice.Eq.{bytes_eq-Decides}
 use Rattle.vtl_lists.specs.Aliases.{Bytes, Field, Record}
 use Rattle.vtl_lists.specs.Results.{◌>>=◌}
-use Rattle.vtl_cell.specs.Settings.{Settings}
-use Rattle.vtl_cell.specs.Apart.{all_apart}
-use Rattle.vtl_cell.specs.Each.{cons_if, each_some}
-use Rattle.vtl_cell.specs.Perm.{Perm, empty, keep, cross, chain}
+use Rattle.vtl_decimal.specs.Settings.{Settings}
+use Rattle.vtl_lists.specs.Apart.{all_apart}
+use Rattle.vtl_lists.specs.Each.{cons_if, each_some}
+use Rattle.vtl_lists.specs.Perm.{Perm, empty, keep, cross, chain}
 use Rattle.vtl_cell.specs.declared.cell.Cell.{Cell}
 use Rattle.vtl_cell.specs.declared.cell.Cell.TheVariants as c
 use Rattle.vtl_cell.specs.Reading.{reads}
 use Rattle.vtl_cell.specs.Row.{Row}
-use Rattle.vtl_cell.proofs.Aparts.{all_apart-Perm, apart_parts}
-use Rattle.vtl_cell.proofs.Perms.{Perm-filter, length-Perm}
+use Rattle.vtl_lists.proofs.Aparts.{all_apart-Perm, apart_parts}
+use Rattle.vtl_lists.proofs.Perms.{Perm-filter, length-Perm}
 use Rattle.vtl_rows.specs.Tables.{cells_at}
 use Rattle.vtl_tree.specs.declared.structure.Component.{Component}
 use Rattle.vtl_tree.specs.declared.structure.Role.TheVariants as role

@@ -4,11 +4,11 @@ use Rattle.std.specs.Prelude.{◌==◌, ◌/◌, ◌%◌, IsOk, Result, ℤ, cha
 use Rattle.std.specs.List.{zip, AllByRecursion}
 use Rattle.std.specs.Result.{result_ok}
 use Rattle.std.specs.Str.{is_utf8}
-use Rattle.vtl_cell.specs.number.Fault.{Fault}
-use Rattle.vtl_cell.specs.number.Fault.TheVariants.{Range}
-use Rattle.vtl_cell.specs.Numeral.{denominator, integer_of, integer_read, integer_spelled, number_read, numeral_of, numerator, signed}
-use Rattle.vtl_cell.specs.Range.{fit_integer}
-use Rattle.vtl_cell.specs.Settings.{Settings}
+use Rattle.vtl_decimal.specs.declared.number.Fault.{Fault}
+use Rattle.vtl_decimal.specs.declared.number.Fault.TheVariants.{Range}
+use Rattle.vtl_decimal.specs.Numeral.{denominator, integer_of, integer_read, integer_spelled, number_read, numeral_of, numerator, signed}
+use Rattle.vtl_decimal.specs.Range.{fit_integer}
+use Rattle.vtl_decimal.specs.Settings.{Settings}
 use Rattle.vtl_time.specs.Days.{read_day_of}
 use Rattle.vtl_time.specs.Periods.{read_period_of}
 use Rattle.vtl_cell.specs.declared.cell.Cell.{Cell}

@@ -12,14 +12,14 @@ use Rattle.csv.specs.Writing.{default_writer, escaped, field_text, fields_text, 
 use Rattle.csv.specs.declared.parser.State.TheVariants as st
 use Rattle.csv.proofs.RoundTrip.{read-write}
 use Rattle.vtl_lists.specs.Results.{◌>>=◌}
-use Rattle.vtl_cell.specs.Settings.{Settings}
-use Rattle.vtl_cell.specs.Apart.{all_apart}
-use Rattle.vtl_cell.specs.Each.{each_some}
-use Rattle.vtl_cell.specs.Perm.{Perm, empty, keep, chain}
-use Rattle.vtl_cell.proofs.Aparts.{all_apart-Perm, apart_parts}
-use Rattle.vtl_cell.specs.Sorting.{le_by, sorted_by}
-use Rattle.vtl_cell.proofs.Perms.{AllByRecursion-Perm, Perm-append_back, Perm-middle, Perm-sym, length-Perm}
-use Rattle.vtl_cell.proofs.Sorts.{Perm-sorted_by}
+use Rattle.vtl_decimal.specs.Settings.{Settings}
+use Rattle.vtl_lists.specs.Apart.{all_apart}
+use Rattle.vtl_lists.specs.Each.{each_some}
+use Rattle.vtl_lists.specs.Perm.{Perm, empty, keep, chain}
+use Rattle.vtl_lists.proofs.Aparts.{all_apart-Perm, apart_parts}
+use Rattle.vtl_lists.specs.Sorting.{le_by, sorted_by}
+use Rattle.vtl_lists.proofs.Perms.{AllByRecursion-Perm, Perm-append_back, Perm-middle, Perm-sym, length-Perm}
+use Rattle.vtl_lists.proofs.Sorts.{Perm-sorted_by}
 use Rattle.vtl_cell.specs.Row.{Row, column_of, row_cmp, same_key, same_row}
 use Rattle.vtl_cell.specs.Writing.{text_of}
 use Rattle.vtl_cell.proofs.Rows.{row_order, same_key-sym}

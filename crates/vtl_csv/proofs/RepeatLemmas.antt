@@ -3,8 +3,8 @@ use Rattle.std.proofs.Common.{◌≡◌, ℕ, zero, suc, ◌+◌, ◌<◌, ◌�
 use Rattle.std.proofs.lemmas.Bool.{cases_order}
 use Rattle.std.proofs.lemmas.List.{append-nil, take-append-drop, take-append-le, take_all}
 use Rattle.vtl_lists.specs.Results.{◌>>=◌}
-use Rattle.vtl_cell.specs.Settings.{Settings}
-use Rattle.vtl_cell.specs.Apart.{all_apart}
+use Rattle.vtl_decimal.specs.Settings.{Settings}
+use Rattle.vtl_lists.specs.Apart.{all_apart}
 use Rattle.vtl_cell.specs.Row.{Row}
 use Rattle.vtl_rows.specs.Keys.{FindsRepeat, IsFirstSame, agree, apart}
 use Rattle.vtl_rows.proofs.Firsts.{apart_front, apart_push}

@@ -8,12 +8,12 @@ use Rattle.std.proofs.Math.Seq.{drop-cons}
 use Rattle.std.proofs.lemmas.List.{length-map, get_or-map, map-append}
 use Rattle.std.proofs.lemmas.List.Elements.{All-append, recursion_from_All}
 use Rattle.std.proofs.lemmas.List.FromFn.{fill_by_all, get_or-range_with_len, length-range_with_len}
-use Rattle.vtl_cell.specs.Settings.{Settings}
-use Rattle.vtl_cell.specs.Apart.{all_apart}
-use Rattle.vtl_cell.specs.Sorting.{insert_by, le_by, sorted_by}
-use Rattle.vtl_cell.proofs.Aparts.{apart_parts}
-use Rattle.vtl_cell.proofs.Perms.{AllByRecursion-Perm, Perm-sym}
-use Rattle.vtl_cell.proofs.Sorts.{Perm-sorted_by}
+use Rattle.vtl_decimal.specs.Settings.{Settings}
+use Rattle.vtl_lists.specs.Apart.{all_apart}
+use Rattle.vtl_lists.specs.Sorting.{insert_by, le_by, sorted_by}
+use Rattle.vtl_lists.proofs.Aparts.{apart_parts}
+use Rattle.vtl_lists.proofs.Perms.{AllByRecursion-Perm, Perm-sym}
+use Rattle.vtl_lists.proofs.Sorts.{Perm-sorted_by}
 use Rattle.vtl_cell.specs.declared.cell.Cell.TheVariants as c
 use Rattle.vtl_cell.specs.Row.{Row, column_of, row_cmp, same_key, same_row}
 use Rattle.vtl_cell.specs.Sorted.{by_keys, rising}

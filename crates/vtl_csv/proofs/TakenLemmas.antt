@@ -4,7 +4,7 @@ use Rattle.std.proofs.lemmas.List.{length-map}
 use Rattle.vtl_lists.specs.Aliases.{Record}
 use Rattle.vtl_cell.specs.declared.cell.Cell.{Cell}
 use Rattle.vtl_cell.specs.Row.{Row}
-use Rattle.vtl_cell.specs.Settings.{Settings}
+use Rattle.vtl_decimal.specs.Settings.{Settings}
 use Rattle.vtl_rows.specs.declared.column.Column.{Column}
 use Rattle.vtl_rows.specs.Flat.{IsFlat, flat_rows}
 use Rattle.vtl_rows.proofs.Flats.{IsFlat-none, IsFlat-push, length-flat_rows, rows_push}

@@ -2,8 +2,8 @@
 use Rattle.std.specs.Prelude.{ℕ, Bool, List, ◌∷◌, map, flat_map, take, encode_utf8_all}
 use Rattle.csv.specs.Writing.{default_writer, row_text}
 use Rattle.vtl_lists.specs.Aliases.{Bytes, Record}
-use Rattle.vtl_cell.specs.Settings.{Settings}
-use Rattle.vtl_cell.specs.Sorting.{le_by, sorted_by}
+use Rattle.vtl_decimal.specs.Settings.{Settings}
+use Rattle.vtl_lists.specs.Sorting.{le_by, sorted_by}
 use Rattle.vtl_cell.specs.Row.{Row, row_cmp}
 use Rattle.vtl_tree.specs.declared.structure.Component.{Component}
 use Rattle.vtl_tree.specs.declared.structure.Structure.{Structure}

@@ -3,8 +3,8 @@ use Rattle.std.specs.Prelude.{ℕ, List, ◌∷◌, ◌++◌, map, flat_map, len
 use Rattle.std.specs.List.{range_with_len}
 use Rattle.csv.specs.Writing.{default_writer, row_text}
 use Rattle.vtl_lists.specs.Aliases.{Bytes, Record}
-use Rattle.vtl_cell.specs.Settings.{Settings}
-use Rattle.vtl_cell.specs.Sorting.{le_by, sorted_by}
+use Rattle.vtl_decimal.specs.Settings.{Settings}
+use Rattle.vtl_lists.specs.Sorting.{le_by, sorted_by}
 use Rattle.vtl_cell.specs.Row.{Row}
 use Rattle.vtl_cell.specs.Sorted.{by_keys, rising}
 use Rattle.vtl_cell.specs.Writing.{text_of}

@@ -2,7 +2,7 @@
 ghost use Rattle.std.specs.Prelude.{◌≡◌, ◌<◌, ◌≤◌, ℕ, List as Items, [], ◌∷◌, IfOk, IfSome, chars, length, nat_le, option_map};
 ghost use Rattle.std.specs.List.{list_any, position_or_len};
 ghost use Rattle.std.specs.Option.{option_map_or};
-ghost use Rattle.vtl_cell.specs.Each.{each_some};
+ghost use Rattle.vtl_lists.specs.Each.{each_some};
 ghost use Rattle.vtl_text.specs.Words.{is_component_name, is_name};
 ghost use Rattle.vtl_tree.specs.Structure.{names_of, same_name};
 ghost use Rattle.vtl_tree.specs.Structures.{components_of, is_filled, is_string_identifier};

@@ -1,7 +1,7 @@
 // The columns of a CSV file of a data set, by its header.
 ghost use Rattle.std.specs.Prelude.{◌≡◌, [], IfOk, option_map};
 ghost use Rattle.std.specs.Option.{is_some};
-ghost use Rattle.vtl_cell.specs.Each.{each_some};
+ghost use Rattle.vtl_lists.specs.Each.{each_some};
 ghost use Rattle.vtl_tree.specs.Shown.{shown};
 ghost use Rattle.vtl_csv.specs.InputFile.{columns_with, layout_of, named_by, newly_named, place_in};
 ghost use Rattle.vtl_csv.specs.InputSteps.{columns_answer, layout_answer};

@@ -1,6 +1,6 @@
 // The cells that the fields of a record spell in their columns.
 ghost use Rattle.std.specs.Prelude.{◌≡◌, ◌<◌, [], IfOk, Some, Ok, Err, length, option_map, if◌then◌else◌};
-ghost use Rattle.vtl_cell.specs.Settings.{Settings};
+ghost use Rattle.vtl_decimal.specs.Settings.{Settings};
 ghost use Rattle.vtl_cell.specs.declared.cell.Cell.TheVariants as cell;
 ghost use Rattle.vtl_cell.specs.declared.kind.Kind.TheVariants as kind;
 ghost use Rattle.vtl_csv.specs.InputFields.{coded_cell, field_cell, record_row, row_with};
@@ -16,7 +16,8 @@ use crate::plain_integers::plain_integer;
 use crate::text_pool::TextPool;
 use std::alloc::{AllocError, Global};
 use std::str;
-use vtl_cell::{Cell, Kind, Profile, read_cell};
+use vtl_cell::{Cell, Kind, read_cell};
+use vtl_decimal::Profile;
 use vtl_tree::Role;
 
 /// The most points that a file may hold.

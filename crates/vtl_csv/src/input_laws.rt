@@ -1,6 +1,6 @@
 // Laws of the definitions of data sets that are read.
 ghost use Rattle.std.specs.Prelude.{◌≡◌, ◌≢◌, ℕ, List, Result, Ok, Err};
-ghost use Rattle.vtl_cell.specs.Settings.{Settings};
+ghost use Rattle.vtl_decimal.specs.Settings.{Settings};
 ghost use Rattle.vtl_cell.specs.Row.{Row};
 ghost use Rattle.vtl_rows.specs.Tables.{Listed};
 ghost use Rattle.vtl_tree.specs.DataSet.{AreOfProfile, IsDataSet};

@@ -1,9 +1,9 @@
 // Laws of the definitions of CSV texts.
 ghost use Rattle.std.specs.Prelude.{◌≡◌, ℕ, List, Ok};
 ghost use Rattle.std.specs.List.{range_with_len};
-ghost use Rattle.vtl_cell.specs.Perm.{Perm};
-ghost use Rattle.vtl_cell.specs.Settings.{Settings};
-ghost use Rattle.vtl_cell.specs.Sorting.{Rises, le_by, sorted_by};
+ghost use Rattle.vtl_lists.specs.Perm.{Perm};
+ghost use Rattle.vtl_decimal.specs.Settings.{Settings};
+ghost use Rattle.vtl_lists.specs.Sorting.{Rises, le_by, sorted_by};
 ghost use Rattle.vtl_cell.specs.Row.{Row, row_cmp};
 ghost use Rattle.vtl_rows.specs.Tables.{Listed};
 ghost use Rattle.vtl_sets.specs.TableOf.{IsTableOf};

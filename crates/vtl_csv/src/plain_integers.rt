@@ -8,7 +8,7 @@ ghost use Rattle.vtl_cell.specs.Reading.{reads};
 ghost use Rattle.vtl_cell.specs.declared.cell.Cell.TheVariants as cell;
 ghost use Rattle.vtl_cell.specs.declared.kind.Kind.TheVariants as kind;
 
-use vtl_cell::Profile;
+use vtl_decimal::Profile;
 
 // The most digits of an integer, with those that a number of the profile has behind its point.
 const MOST_DIGITS: usize = 18;

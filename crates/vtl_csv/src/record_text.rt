@@ -5,7 +5,8 @@ ghost use Rattle.csv.specs.Writing.{default_writer, escaped, field_text, needs_q
 ghost use Rattle.vtl_cell.specs.Writing.{text_of};
 
 use std::alloc::AllocError;
-use vtl_cell::{Cell, Profile, write_cell};
+use vtl_cell::{Cell, write_cell};
+use vtl_decimal::Profile;
 
 /// Appends the record of a row's cells to a text, as `csv` writes it: fields between commas, in quotes where they need
 /// them, and a line feed.

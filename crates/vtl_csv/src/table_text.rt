@@ -15,7 +15,8 @@ use crate::record_text::push_record;
 use crate::row_text::RowWriter;
 use csv::ByteRecord;
 use std::alloc::{AllocError, Global};
-use vtl_cell::{Cell, Profile};
+use vtl_cell::Cell;
+use vtl_decimal::Profile;
 use vtl_rows::{Column, SortKey, Table};
 use vtl_tree::Structure;
 

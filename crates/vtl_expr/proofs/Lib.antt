@@ -1,14 +1,3 @@
-pub use Rattle.vtl_meaning.proofs.AnalyticPoints
-pub use Rattle.vtl_meaning.proofs.GroupKinds
-pub use Rattle.vtl_meaning.proofs.GroupPoints
-pub use Rattle.vtl_meaning.proofs.JoinKept
-pub use Rattle.vtl_meaning.proofs.Kept
-pub use Rattle.vtl_meaning.proofs.LookUps
-pub use Rattle.vtl_meaning.proofs.Places
-pub use Rattle.vtl_meaning.proofs.SetsKept
-pub use Rattle.vtl_meaning.proofs.TurnedKept
-pub use Rattle.vtl_sets.proofs.ColumnLemmas
-pub use Rattle.vtl_sets.proofs.TableLemmas
 pub mod ChoiceLemmas
 pub mod ColumnPlaces
 pub mod FindingLemmas

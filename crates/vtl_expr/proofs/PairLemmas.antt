@@ -3,7 +3,7 @@ use Rattle.std.proofs.Common.{◌≡◌, ℕ, ◌+◌, Bool, List, ◌++◌, tru
 use Rattle.std.specs.List.{flat_map}
 use Rattle.std.specs.Option.{option_map, option_to_list}
 use Rattle.std.proofs.lemmas.List.{length-map}
-use Rattle.vtl_cell.specs.Settings.{Settings}
+use Rattle.vtl_decimal.specs.Settings.{Settings}
 use Rattle.vtl_cell.specs.Row.{Row}
 use Rattle.vtl_cell.specs.declared.operator.ScalarOp.{ScalarOp}
 use Rattle.vtl_rows.specs.Tables.{cells_at, fits}
@@ -16,7 +16,7 @@ use Rattle.vtl_tree.specs.declared.structure.Component.{Component}
 use Rattle.vtl_tree.specs.declared.structure.Structure.{Structure}
 use Rattle.check_shapes.specs.Pairs.{contains}
 use Rattle.vtl_sets.specs.TableOf.{table_columns}
-use Rattle.vtl_meaning.specs.Columns.{column_behind, column_named, columns_named, identifiers_of, kind_named, measures_of, place_of, places_in}
+use Rattle.check_shapes.specs.Columns.{column_behind, column_named, columns_named, identifiers_of, kind_named, measures_of, place_of, places_in}
 use Rattle.vtl_meaning.specs.Made.{AreFor}
 use Rattle.vtl_meaning.specs.Operators.{for_measures, pair_columns, pair_exps, pairs_of, with_namesake}
 use Rattle.vtl_meaning.specs.Points.{beside, paired, point_of}

@@ -23,7 +23,6 @@ mod points;
 mod prepared;
 mod seen;
 
-pub use check_shapes::{copied, place_of, push_column};
 pub use choice::choose;
 pub use evaluation::{eval, value_at};
 pub use kept_columns::keep_columns;
@@ -33,5 +32,3 @@ pub use places::{places_in, push_cells};
 pub use points::each_point;
 pub use prepared::{Prepared, prepare, prepare_all};
 pub use seen::Seen;
-pub use vtl_meaning::{AggItems, AggSpec, AggTarget, CalcItem, CalcValue, SubItem};
-pub use vtl_sets::{DataSet, new_table, table_columns};

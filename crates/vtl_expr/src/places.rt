@@ -4,7 +4,7 @@ ghost use Rattle.vtl_cell.specs.Row.{column_of};
 ghost use Rattle.vtl_rows.specs.Tables.{cells_at};
 ghost use Rattle.vtl_tree.specs.Shown.{shown};
 ghost use Rattle.vtl_tree.specs.Structure.{columns_of};
-ghost use Rattle.vtl_meaning.specs.Columns.{places_in};
+ghost use Rattle.check_shapes.specs.Columns.{places_in};
 
 use check_shapes::place_of;
 use std::alloc::{AllocError, Global};

@@ -4,7 +4,7 @@ use Rattle.std.specs.List.{list_any}
 use Rattle.vtl_cell.specs.Kinds.{is_null}
 use Rattle.vtl_cell.specs.Order.{cell_cmp}
 use Rattle.vtl_cell.specs.Row.{column_of}
-use Rattle.vtl_cell.specs.Sorting.{le_by}
+use Rattle.vtl_lists.specs.Sorting.{le_by}
 use Rattle.vtl_cell.specs.declared.cell.Cell.{Cell}
 use Rattle.vtl_cell.specs.declared.operator.AggKind.{AggKind}
 use Rattle.vtl_cell.specs.declared.operator.AggKind.TheVariants as kinds

@@ -9,8 +9,8 @@ use crate::kept::Kept;
 use crate::medians::push_medians;
 use crate::{Frame, Partition};
 use std::alloc::{AllocError, Global};
-use vtl_cell::{AggKind, Cell, Profile};
-use vtl_decimal::Fault;
+use vtl_cell::{AggKind, Cell};
+use vtl_decimal::{Fault, Profile};
 
 // The values of an aggregate that is kept up as its frame moves.
 fn push_moved<P: Partition>(

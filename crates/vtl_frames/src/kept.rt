@@ -11,8 +11,8 @@ use crate::best::Best;
 use crate::bounds::Cut;
 use crate::totals::Totals;
 use std::alloc::{AllocError, Global};
-use vtl_cell::{AggKind, Cell, Profile};
-use vtl_decimal::Fault;
+use vtl_cell::{AggKind, Cell};
+use vtl_decimal::{Fault, Profile};
 
 // The totals, or the best cells.
 #[derive(Drop)]

@@ -8,8 +8,8 @@ use crate::bounds::Cut;
 use crate::{Frame, Partition};
 use std::alloc::{AllocError, Global};
 use vtl_agg::Acc;
-use vtl_cell::{AggKind, Cell, Profile};
-use vtl_decimal::Fault;
+use vtl_cell::{AggKind, Cell};
+use vtl_decimal::{Fault, Profile};
 
 // The median of the cells between two places.
 fn median_of<P: Partition>(

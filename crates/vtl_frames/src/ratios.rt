@@ -9,8 +9,8 @@ use crate::Partition;
 use crate::numbers::share;
 use crate::totals::Totals;
 use std::alloc::AllocError;
-use vtl_cell::{Cell, Profile};
-use vtl_decimal::{Dec, Fault};
+use vtl_cell::Cell;
+use vtl_decimal::{Dec, Fault, Profile};
 
 // The total of the cells as a number.
 fn total_of<P: Partition>(cells: &P, p: &Profile) -> Result<Dec, Fault>

@@ -3,16 +3,16 @@ use Rattle.std.proofs.Common.{◌≡◌, ℕ, ◌<◌, ◌∷◌, Bool, cond, Li
 use Rattle.std.specs.Prelude.{option_map}
 use Rattle.vtl_cell.specs.Outcome.{Fault}
 use Rattle.vtl_cell.specs.Row.{Row}
-use Rattle.vtl_cell.specs.Settings.{Settings}
+use Rattle.vtl_decimal.specs.Settings.{Settings}
 use Rattle.vtl_rows.specs.Places.{row_at}
 use Rattle.vtl_rows.specs.Tables.{Listed, cells_at}
 use Rattle.vtl_tree.specs.CompExp.{CompExp}
 use Rattle.vtl_tree.specs.View.{comp_exp_of}
 use Rattle.vtl_tree.specs.declared.structure.Component.{Component}
-use Rattle.vtl_combine.specs.Trees.{AggTree}
+use Rattle.vtl_nodes.specs.Trees.{AggTree}
 use Rattle.vtl_index.specs.Groups.{firsts, rows_led}
 use Rattle.vtl_index.specs.Leads.{leads_of}
-use Rattle.vtl_combine.specs.Groups.{keys_by, places_named, points_with}
+use Rattle.vtl_aggregates.specs.Groups.{keys_by, places_named, points_with}
 use Rattle.vtl_group.specs.Calls.{AreWithin, column_place, placed_for, rows_at}
 use Rattle.vtl_group.specs.Points.{fault_for, passes, row_for, tested}
 use Rattle.vtl_group.specs.Walks.{first_of, group_in}

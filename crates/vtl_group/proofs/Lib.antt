@@ -1,9 +1,3 @@
-pub use Rattle.vtl_combine.proofs.AnalyticPoints
-pub use Rattle.vtl_combine.proofs.ColumnLemmas
-pub use Rattle.vtl_combine.proofs.Kept
-pub use Rattle.vtl_combine.proofs.Places
-pub use Rattle.vtl_combine.proofs.PointLemmas
-pub use Rattle.vtl_combine.proofs.TableLemmas
 pub mod Found
 pub mod GroupWalks
 pub mod KeyedGroups

@@ -5,7 +5,7 @@ use Rattle.vtl_cell.specs.Groups.{group_value}
 use Rattle.vtl_cell.specs.Outcome.{Fault, Outcome, after, fault_in, faults_by, join}
 use Rattle.vtl_cell.specs.Outcomes.{is_true}
 use Rattle.vtl_cell.specs.Row.{Row, column_of}
-use Rattle.vtl_cell.specs.Settings.{Settings}
+use Rattle.vtl_decimal.specs.Settings.{Settings}
 use Rattle.vtl_cell.specs.declared.cell.Cell.{Cell}
 use Rattle.vtl_cell.specs.declared.cell.Cell.TheVariants as c
 use Rattle.vtl_cell.specs.declared.operator.AggKind.{AggKind}
@@ -14,13 +14,13 @@ use Rattle.vtl_tree.specs.CompExp.{CompExp}
 use Rattle.vtl_tree.specs.Structure.{same_name}
 use Rattle.vtl_tree.specs.declared.expression.AggCall.{AggCall}
 use Rattle.vtl_tree.specs.declared.structure.Component.{Component}
-use Rattle.vtl_combine.specs.Trees.{AggTree}
-use Rattle.vtl_combine.specs.specifications.AggItems.{AggItems}
-use Rattle.vtl_combine.specs.Columns.{place_of}
-use Rattle.vtl_combine.specs.TableOf.{column_for}
-use Rattle.vtl_combine.specs.AggregatePoints.{call_for, cell_or_null, condition_fault, condition_of, group_fault, group_point, is_kept, made_of, made_value}
-use Rattle.vtl_combine.specs.GroupExpressions.{aggregated, grouped_cell, value_at_group, value_over}
-use Rattle.vtl_combine.specs.Groups.{keys_by, places_named, points_with}
+use Rattle.vtl_nodes.specs.Trees.{AggTree}
+use Rattle.vtl_nodes.specs.declared.specifications.AggItems.{AggItems}
+use Rattle.check_shapes.specs.Columns.{place_of}
+use Rattle.vtl_sets.specs.TableOf.{column_for}
+use Rattle.vtl_aggregates.specs.Aggregates.{call_for, cell_or_null, condition_fault, condition_of, group_fault, group_point, is_kept, made_of, made_value}
+use Rattle.vtl_aggregates.specs.Expressions.{aggregated, grouped_cell, value_at_group, value_over}
+use Rattle.vtl_aggregates.specs.Groups.{keys_by, places_named, points_with}
 use Rattle.vtl_group.specs.Calls.{call_value, column_place, placed, placed_call, placed_for}
 use Rattle.vtl_group.specs.declared.calls.Call.{Call}
 use Rattle.vtl_group.specs.declared.calls.Call.TheVariants as call

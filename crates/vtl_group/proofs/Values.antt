@@ -4,7 +4,7 @@ use Rattle.std.proofs.lemmas.Bool.{eqb-true}
 use Rattle.vtl_cell.specs.Conversion.{as_kind}
 use Rattle.vtl_cell.specs.Outcome.{Fault, DivZero, Range, Outcome, after}
 use Rattle.vtl_cell.specs.Outcomes.{all_of, branch, first_chosen, result_of}
-use Rattle.vtl_cell.specs.Settings.{Settings}
+use Rattle.vtl_decimal.specs.Settings.{Settings}
 use Rattle.vtl_cell.specs.declared.cell.Cell.{Cell}
 use Rattle.vtl_cell.specs.declared.kind.Kind.{Kind}
 use Rattle.vtl_cell.specs.declared.operator.ScalarOp.{ScalarOp}
@@ -12,7 +12,7 @@ use Rattle.vtl_cell.specs.declared.operator.ScalarOp.TheVariants as op
 use Rattle.vtl_tree.specs.Value.{called, is_choice}
 use Rattle.vtl_tree.specs.View.{comp_exp_of, comp_exps_of}
 use Rattle.vtl_tree.specs.declared.expression.CompExpr.{CompExpr}
-use Rattle.vtl_combine.proofs.Values.{after_value, no_choice}
+use Rattle.vtl_expr.proofs.Values.{after_value, no_choice}
 use Rattle.vtl_group.specs.Points.{Group, value_in, values_in}
 
 -- ---- calls that are a choice, and calls that are none

@@ -5,7 +5,7 @@ use Rattle.std.specs.Option.{option_map_or}
 use Rattle.vtl_cell.specs.Groups.{count_of_points, group_value}
 use Rattle.vtl_cell.specs.Outcome.{Outcome}
 use Rattle.vtl_cell.specs.Row.{Row, column_of}
-use Rattle.vtl_cell.specs.Settings.{Settings}
+use Rattle.vtl_decimal.specs.Settings.{Settings}
 use Rattle.vtl_cell.specs.declared.cell.Cell.{Cell}
 use Rattle.vtl_cell.specs.declared.cell.Cell.TheVariants as c
 use Rattle.vtl_cell.specs.declared.operator.AggKind.{AggKind}
@@ -13,8 +13,8 @@ use Rattle.vtl_rows.specs.Places.{row_at}
 use Rattle.vtl_rows.specs.declared.column.Column.{Column}
 use Rattle.vtl_tree.specs.Structure.{same_name}
 use Rattle.vtl_tree.specs.declared.expression.AggCall.{AggCall}
-use Rattle.vtl_combine.specs.specifications.AggItems.{AggItems}
-use Rattle.vtl_combine.specs.AggregatePoints.{call_for}
+use Rattle.vtl_nodes.specs.declared.specifications.AggItems.{AggItems}
+use Rattle.vtl_aggregates.specs.Aggregates.{call_for}
 use Rattle.vtl_group.specs.declared.calls.Call.{Call}
 use Rattle.vtl_group.specs.declared.calls.Call.TheVariants as call
 

@@ -1,15 +1,3 @@
-pub use Rattle.vtl_combine.specs.AnalyticPoints
-pub use Rattle.vtl_combine.specs.AnalyticShapes
-pub use Rattle.vtl_combine.specs.Columns
-pub use Rattle.vtl_combine.specs.DataSets
-pub use Rattle.vtl_combine.specs.Made
-pub use Rattle.vtl_combine.specs.PointWindows
-pub use Rattle.vtl_combine.specs.Seen
-pub use Rattle.vtl_combine.specs.TableOf
-pub use Rattle.vtl_combine.specs.Trees
-pub use Rattle.vtl_combine.specs.View
-pub use Rattle.vtl_combine.specs.calls
-pub use Rattle.vtl_combine.specs.specifications
 pub mod Calls
 pub mod Points
 pub mod Walks

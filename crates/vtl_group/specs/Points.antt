@@ -3,13 +3,13 @@ use Rattle.std.specs.Prelude.{ℕ, Bool, true, false, List, ◌++◌, map, Optio
 use Rattle.vtl_cell.specs.Outcome.{Fault, Outcome, after, fault_in, faults_by, join}
 use Rattle.vtl_cell.specs.Outcomes.{is_true}
 use Rattle.vtl_cell.specs.Row.{Row}
-use Rattle.vtl_cell.specs.Settings.{Settings}
+use Rattle.vtl_decimal.specs.Settings.{Settings}
 use Rattle.vtl_cell.specs.declared.cell.Cell.{Cell}
 use Rattle.vtl_rows.specs.declared.column.Column.{Column}
 use Rattle.vtl_tree.specs.CompExp.{CompExp, CompExps}
 use Rattle.vtl_tree.specs.declared.expression.AggCall.{AggCall}
-use Rattle.vtl_combine.specs.AggregatePoints.{cell_or_null}
-use Rattle.vtl_combine.specs.GroupExpressions.{grouped_cell, value_over, values_over}
+use Rattle.vtl_aggregates.specs.Aggregates.{cell_or_null}
+use Rattle.vtl_aggregates.specs.Expressions.{grouped_cell, value_over, values_over}
 use Rattle.vtl_group.specs.Calls.{call_value, placed_call}
 use Rattle.vtl_group.specs.declared.calls.Call.{Call}
 

@@ -1,23 +1,25 @@
 // Aggregates of data sets.
 ghost use Rattle.std.specs.Prelude.{◌≡◌, IfOk, map};
-ghost use Rattle.vtl_combine.specs.AggregatePoints.{aggregate_of};
-ghost use Rattle.vtl_combine.specs.AggregateShapes.{IsAggregated};
-ghost use Rattle.vtl_combine.specs.Columns.{others_of};
-ghost use Rattle.vtl_combine.specs.DataSets.{with_structure};
-ghost use Rattle.vtl_combine.specs.TableOf.{IsTableOf};
+ghost use Rattle.vtl_aggregates.specs.Aggregates.{aggregate_of};
+ghost use Rattle.vtl_aggregates.specs.Shapes.{IsAggregated};
+ghost use Rattle.check_shapes.specs.Columns.{others_of};
+ghost use Rattle.vtl_sets.specs.DataSets.{with_structure};
+ghost use Rattle.vtl_sets.specs.TableOf.{IsTableOf};
 ghost use Rattle.vtl_group.specs.Calls.{column_place, placed_for};
-ghost use Rattle.vtl_combine.specs.View.{agg_tree};
+ghost use Rattle.vtl_nodes.specs.View.{agg_tree};
 ghost use Rattle.vtl_scalar.specs.Answers.{Answers, AnswersBy};
 ghost use Rattle.vtl_tree.specs.Shown.{shown};
 
 use crate::calls::{Call, call_for, column_place};
 use crate::points::{Points, Recipe};
 use std::alloc::{AllocError, Global};
-use vtl_cell::{Profile, Txt};
-use vtl_combine::{AggItems, AggSpec, DataSet};
+use vtl_decimal::Profile;
 use vtl_index::Groups;
+use vtl_nodes::{AggItems, AggSpec};
 use vtl_rows::{Column, Table};
 use vtl_scalar::ScalarErr;
+use vtl_sets::DataSet;
+use vtl_text::Txt;
 use vtl_tree::{Component, Structure};
 
 // The places of columns by their names.

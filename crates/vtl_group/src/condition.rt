@@ -1,7 +1,7 @@
 // The value of an expression over a group.
 ghost use Rattle.std.specs.Prelude.{◌≡◌, length, map, option_map};
 ghost use Rattle.std.specs.List.{position_or_len};
-ghost use Rattle.vtl_combine.specs.GroupExpressions.{grouped_cell};
+ghost use Rattle.vtl_aggregates.specs.Expressions.{grouped_cell};
 ghost use Rattle.vtl_cell.specs.Outcomes.{all_of};
 ghost use Rattle.vtl_cell.specs.Row.{column_of};
 ghost use Rattle.vtl_group.specs.Calls.{AreWithin, rows_at};
@@ -15,12 +15,14 @@ ghost use Rattle.vtl_tree.specs.View.{comp_exp_of, comp_exps_of};
 use crate::calls::{call_value, placed};
 use std::alloc::Global;
 use std::marker::Model;
-use vtl_cell::{Cell, Kind, Profile, ScalarOp, Txt};
+use vtl_cell::{Cell, Kind, ScalarOp};
+use vtl_decimal::Profile;
 use vtl_rows::Table;
 use vtl_scalar::{
     Given, ScalarErr, apply, first_chosen, given_of_kind, made_of_kind, value_of_one,
     value_of_three, value_of_two,
 };
+use vtl_text::Txt;
 use vtl_tree::{AggCall, CompExpr};
 
 /// A group, as its condition sees it: the names of the grouping identifiers with their values, and the numbers of its

@@ -14,7 +14,3 @@ mod condition;
 mod points;
 
 pub use aggregation::aggregate;
-pub use vtl_combine::{
-    calc, choose, exists_in, filter, intersect_all, keep_columns, map_measures, pair_measures,
-    pivot, rename, setdiff, sub, symdiff, union_all, unpivot,
-};

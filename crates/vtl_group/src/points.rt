@@ -1,9 +1,9 @@
 // Points that are made of groups, one after the other.
 ghost use Rattle.std.specs.Prelude.{◌≡◌, ◌<◌, ◌++◌, ◌∷◌, [], true, None, IfErr, IfOk, OnOk, if◌then◌else◌, length, map, option_map};
-ghost use Rattle.vtl_combine.specs.AggregatePoints.{cell_or_null};
+ghost use Rattle.vtl_aggregates.specs.Aggregates.{cell_or_null};
 ghost use Rattle.vtl_cell.specs.Outcome.{fault_in, join, unless};
-ghost use Rattle.vtl_combine.specs.Seen.{answer_of, seen_of};
-ghost use Rattle.vtl_combine.specs.TableOf.{table_columns};
+ghost use Rattle.vtl_expr.specs.Seen.{answer_of, seen_of};
+ghost use Rattle.vtl_sets.specs.TableOf.{table_columns};
 ghost use Rattle.vtl_group.specs.Calls.{AreWithin, call_value, rows_at};
 ghost use Rattle.vtl_group.specs.Points.{fault_for, faults_of_calls, passes, row_for, tested, values_of_calls};
 ghost use Rattle.vtl_group.specs.Walks.{group_in};
@@ -15,10 +15,13 @@ ghost use Rattle.vtl_tree.specs.View.{comp_exp_of};
 use crate::calls::{Call, call_value};
 use crate::condition::{Group, is_kept};
 use std::alloc::{AllocError, Global};
-use vtl_cell::{Cell, Profile, Txt};
-use vtl_combine::{Seen, new_table, push_cells};
+use vtl_cell::Cell;
+use vtl_decimal::Profile;
+use vtl_expr::{Seen, push_cells};
 use vtl_rows::Table;
 use vtl_scalar::ScalarErr;
+use vtl_sets::new_table;
+use vtl_text::Txt;
 use vtl_tree::{CompExpr, Structure};
 
 /// What a point is made of, besides the rows of its group: the table, the grouping identifiers with their places, the

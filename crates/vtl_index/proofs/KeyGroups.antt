@@ -5,9 +5,9 @@ use Rattle.std.proofs.lemmas.Bool.{cases_lt}
 use Rattle.std.proofs.lemmas.List.{get_or-map, get_or_at, length-append, length-map, length_push}
 use Rattle.std.proofs.lemmas.List.Folds.{list_any-append}
 use Rattle.std.proofs.lemmas.List.Sums.{fails_before_first, passes_at_first}
-use Rattle.vtl_cell.specs.Apart.{all_apart}
+use Rattle.vtl_lists.specs.Apart.{all_apart}
 use Rattle.vtl_cell.specs.Row.{Row, same_row}
-use Rattle.vtl_cell.proofs.Aparts.{all_apart-filter, apart_more}
+use Rattle.vtl_lists.proofs.Aparts.{all_apart-filter, apart_more}
 use Rattle.vtl_cell.proofs.Rows.{same_row-is, same_row-refl}
 use Rattle.vtl_index.proofs.Ranges.{passing_agree, same_tests}
 use Rattle.vtl_index.specs.Groups.{AreLeads, each_once, firsts, is_first, rows_led}

@@ -2,7 +2,7 @@
 use Rattle.std.specs.Prelude.{ℕ, Bool, true, not, List, [], length, slice_get, if◌then◌else◌}
 use Rattle.std.specs.Option.{unwrap_or}
 use Rattle.vtl_cell.specs.Row.{Row}
-use Rattle.vtl_cell.specs.Settings.{Settings}
+use Rattle.vtl_decimal.specs.Settings.{Settings}
 use Rattle.vtl_index.specs.Leads.{rows_with}
 use Rattle.vtl_index.specs.RowKeys.{has_null, key_at}
 use Rattle.vtl_index.specs.declared.row_keys.KeyColumn.{KeyColumn}

@@ -8,7 +8,7 @@ use crate::Groups;
 use crate::finder::led_of;
 use crate::row_keys::{KeyColumn, KeyForm, KeyedRows};
 use std::alloc::{AllocError, Global};
-use vtl_cell::{Profile, Rounding};
+use vtl_decimal::{Profile, Rounding};
 use vtl_rows::Table;
 
 // The columns of a key whose cells count as they are.

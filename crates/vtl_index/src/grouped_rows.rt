@@ -5,7 +5,7 @@ ghost use Rattle.vtl_index.specs.RowKeys.{count_in, keys_in};
 
 use crate::Groups;
 use crate::row_keys::{KeyColumn, KeyedRows, NullKeys};
-use vtl_cell::Profile;
+use vtl_decimal::Profile;
 use vtl_rows::Table;
 
 // The rows of a table, the columns of their keys, what becomes of nulls, the profile by which an integer is made a

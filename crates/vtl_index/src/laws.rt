@@ -1,7 +1,7 @@
 // Laws of groups by keys.
 ghost use Rattle.std.specs.Prelude.{◌≡◌, ℕ, ◌<◌, true, List, length, map, slice_index};
 ghost use Rattle.std.specs.List.{list_any};
-ghost use Rattle.vtl_cell.specs.Apart.{all_apart};
+ghost use Rattle.vtl_lists.specs.Apart.{all_apart};
 ghost use Rattle.vtl_cell.specs.Row.{Row, same_row};
 ghost use Rattle.vtl_index.specs.Groups.{AreLeads, each_once, firsts, rows_led};
 ghost use Rattle.vtl_index.specs.Leads.{leads_of, rows_with};

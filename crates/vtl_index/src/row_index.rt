@@ -13,7 +13,8 @@ use crate::{Groups, Steps};
 use std::alloc::{AllocError, Global};
 use std::marker::Model;
 use std::sync::ledger::Ledger;
-use vtl_cell::{Cell, Profile};
+use vtl_cell::Cell;
+use vtl_decimal::Profile;
 use vtl_rows::Table;
 
 /// A look-up from keys to the rows of a table that have them. A key is made of the cells of a row at listed columns.

@@ -13,8 +13,8 @@ ghost use Rattle.vtl_index.specs.RowKeys.{begun, count_in, counted, hash_by, has
 use std::alloc::AllocError;
 use std::cmp::Ordering;
 use std::hash::{FoldHasher, Hash, Hasher};
-use vtl_cell::{Cell, Profile, compare};
-use vtl_decimal::from_whole;
+use vtl_cell::{Cell, compare};
+use vtl_decimal::{Profile, from_whole};
 use vtl_rows::Table;
 
 /// How the cells of a column count in a key.

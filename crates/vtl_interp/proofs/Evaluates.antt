@@ -1,7 +1,7 @@
 -- What an expression evaluates to, from what its operands do.
 use Rattle.std.proofs.Common.{◌≡◌, suc, List, [], ◌∷◌, ◌++◌, length, map, Result, Ok, Err, refl, sym, ap, subst, append_assoc, ◌∙◌}
 use Rattle.std.proofs.lemmas.List.{append-nil, length-map}
-use Rattle.vtl_cell.specs.Settings.{Settings}
+use Rattle.vtl_decimal.specs.Settings.{Settings}
 use Rattle.vtl_cell.specs.Outcome.{DivZero, Fault, Outcome, Range, after}
 use Rattle.vtl_cell.specs.Row.{Row}
 use Rattle.vtl_scalar.specs.Answers.{AnswersBy}
@@ -11,11 +11,11 @@ use Rattle.vtl_tree.specs.Environment.{DataSet, Environment}
 use Rattle.vtl_tree.specs.declared.structure.Structure.{Structure}
 use Rattle.vtl_nodes.specs.Trees as nodes
 use Rattle.vtl_nodes.specs.Trees.{NodeTree, NodeTrees, OperandTree, OperandTrees, operands_of, structure_of}
-use Rattle.vtl_backend.specs.DataSets.{data_set, with_structure}
-use Rattle.vtl_backend.specs.Joined.{structures_of}
-use Rattle.vtl_backend.specs.Made.{node_structures, operands_in}
-use Rattle.vtl_backend.specs.Meaning.{node_value, nodes_value, operands_value, with_first, with_operand}
-use Rattle.vtl_backend.specs.Points.{with_points}
+use Rattle.vtl_sets.specs.DataSets.{data_set, with_structure}
+use Rattle.vtl_meaning.specs.Joined.{structures_of}
+use Rattle.vtl_meaning.specs.Made.{node_structures, operands_in}
+use Rattle.vtl_meaning.specs.Meaning.{node_value, nodes_value, operands_value, with_first, with_operand}
+use Rattle.vtl_meaning.specs.Points.{with_points}
 use Rattle.vtl_interp.specs.Evaluated.{Evaluates, Gives}
 
 -- a function of a structure and a data set at others that are the same

@@ -3,7 +3,7 @@ use Rattle.std.proofs.Common.{◌≡◌, ℕ, Bool, true, false, cond, ◌||◌,
 use Rattle.std.specs.Map.{keys_of, lookup}
 use Rattle.std.specs.Cmp.Lexicographic.{bytes_decides}
 use Rattle.std.proofs.lemmas.List.{map-append}
-use Rattle.vtl_cell.specs.Apart.{all_apart}
+use Rattle.vtl_lists.specs.Apart.{all_apart}
 use Rattle.vtl_rows.specs.Named.{NamedTables}
 use Rattle.vtl_tree.specs.Structure.{same_name}
 use Rattle.vtl_tree.specs.Structures.{Named, has_name}
@@ -11,11 +11,11 @@ use Rattle.vtl_tree.specs.declared.structure.Structure.{Structure}
 use Rattle.vtl_text.proofs.Apart.{apart_push}
 use Rattle.vtl_tree.proofs.StructuresLemmas.{not_found, not_there}
 use Rattle.vtl_nodes.specs.Trees.{NodeTree}
-use Rattle.vtl_backend.specs.Names.{names_of}
-use Rattle.vtl_backend.specs.Uses.{read_behind, reads, with_declared, with_new}
-use Rattle.vtl_backend.specs.Meaning.{known_in}
+use Rattle.vtl_check.specs.Names.{names_of}
+use Rattle.vtl_check.specs.Uses.{read_behind, reads, with_declared, with_new}
+use Rattle.vtl_meaning.specs.Meaning.{known_in}
 use Rattle.vtl_backend.specs.Inputs.{input_of}
-use Rattle.vtl_backend.specs.Scripts.{AreKnownAlike}
+use Rattle.check_laws.specs.Scripts.{AreKnownAlike}
 use Rattle.vtl_interp.proofs.Environments.{found_behind, found_in_front}
 
 -- the data sets of inputs have the structures that are read

@@ -4,7 +4,7 @@ use Rattle.std.specs.List.{AllByRecursion}
 use Rattle.std.specs.Map.{keys_of, lookup}
 use Rattle.std.specs.Cmp.Lexicographic.{bytes_decides}
 use Rattle.std.proofs.lemmas.List.{map-append}
-use Rattle.vtl_cell.specs.Settings.{Settings}
+use Rattle.vtl_decimal.specs.Settings.{Settings}
 use Rattle.vtl_cell.specs.Outcome.{Fault, after}
 use Rattle.vtl_cell.specs.Row.{Row}
 use Rattle.vtl_rows.specs.Named.{NamedTables}
@@ -14,10 +14,10 @@ use Rattle.vtl_tree.specs.Structures.{Named}
 use Rattle.vtl_tree.specs.declared.structure.Structure.{Structure}
 use Rattle.vtl_tree.proofs.StructuresLemmas.{not_found}
 use Rattle.vtl_nodes.specs.Trees.{NodeTree, structure_of}
-use Rattle.vtl_backend.specs.Checked.{IsTyped, TypedScript, known_of, nodes_of, tree_of}
-use Rattle.vtl_backend.specs.Transformations.{Transformation, transformations}
-use Rattle.vtl_backend.specs.Uses.{results_behind, with_new}
-use Rattle.vtl_backend.specs.Meaning.{Outputs, meaning, node_value, stated, with_output}
+use Rattle.vtl_check.specs.Checked.{IsTyped, TypedScript, known_of, nodes_of, tree_of}
+use Rattle.vtl_check.specs.Transformations.{Transformation, transformations}
+use Rattle.vtl_check.specs.Uses.{results_behind, with_new}
+use Rattle.vtl_meaning.specs.Meaning.{Outputs, meaning, node_value, stated, with_output}
 use Rattle.vtl_backend.specs.Inputs.{environment_of, inputs_of}
 use Rattle.vtl_backend.specs.Runs.{script_meaning}
 use Rattle.vtl_backend.specs.Statements.{is_written, statements_of, with_nodes}

@@ -1,14 +1,14 @@
 -- Each expression of a typed script is made over what is known where it stands.
 use Rattle.std.proofs.Common.{List, [], ◌∷◌}
-use Rattle.vtl_cell.specs.Settings.{Settings}
+use Rattle.vtl_decimal.specs.Settings.{Settings}
 use Rattle.vtl_tree.specs.Structures.{AreStructures, Named}
 use Rattle.vtl_nodes.specs.Trees.{NodeTree, structure_of}
-use Rattle.vtl_backend.specs.Checked.{IsTyped, TypedScript, nodes_of, tree_of}
-use Rattle.vtl_backend.specs.Made.{AreMadeStatements}
-use Rattle.vtl_backend.specs.Scripts.{AreMadeFrom}
-use Rattle.vtl_backend.proofs.Scripts.{script-made}
+use Rattle.vtl_check.specs.Checked.{IsTyped, TypedScript, nodes_of, tree_of}
+use Rattle.vtl_meaning.specs.Made.{AreMadeStatements}
+use Rattle.check_laws.specs.Scripts.{AreMadeFrom}
+use Rattle.check_laws.proofs.Scripts.{script-made}
 use Rattle.vtl_backend.specs.Statements.{statements_of, with_nodes}
-use Rattle.vtl_backend.specs.Transformations.{Transformation, transformations}
+use Rattle.vtl_check.specs.Transformations.{Transformation, transformations}
 
 made_statements : (p : Settings) (known : Named) (ts : List Transformation) (ns : List NodeTree) → AreMadeFrom p known ts ns → AreMadeStatements p known (with_nodes ts ns)
 made_statements p known [] ns h = tt

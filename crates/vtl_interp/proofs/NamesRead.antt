@@ -3,7 +3,7 @@ use Rattle.std.proofs.Common.{◌≡◌, ℕ, cond, List, [], ◌∷◌, ◌++�
 use Rattle.std.specs.List.{AllByRecursion, flat_map}
 use Rattle.std.specs.Map.{lookup}
 use Rattle.std.specs.Option.{option_map_or}
-use Rattle.vtl_cell.specs.Settings.{Settings}
+use Rattle.vtl_decimal.specs.Settings.{Settings}
 use Rattle.vtl_cell.specs.Outcome.{Outcome, after}
 use Rattle.vtl_cell.specs.Row.{Row}
 use Rattle.vtl_tree.specs.Clauses.{filter_of}
@@ -13,19 +13,19 @@ use Rattle.vtl_tree.specs.Structures.{Named}
 use Rattle.vtl_tree.specs.declared.structure.Structure.{Structure}
 use Rattle.vtl_nodes.specs.Trees as nodes
 use Rattle.vtl_nodes.specs.Trees.{FormTree, NodeTree, NodeTrees, OperandTrees, structure_of}
-use Rattle.vtl_backend.proofs.NameLemmas.{names_append}
-use Rattle.vtl_backend.specs.Names.{name_at_form, names_at, names_in}
+use Rattle.vtl_check.proofs.NameLemmas.{names_append}
+use Rattle.vtl_check.specs.Names.{name_at_form, names_at, names_in}
 use Rattle.vtl_nodes.specs.Nodes.{all_nodes, form_nodes, nodes_in, operand_nodes}
-use Rattle.vtl_backend.specs.Joined.{join_of}
-use Rattle.vtl_backend.specs.Made.{AreMadeStatements}
-use Rattle.vtl_backend.specs.Meaning.{Statement, data_set_of, form_value, kept_output, meaning, node_value, nodes_value, operands_value, stated, with_first, with_operand}
-use Rattle.vtl_backend.specs.AggregatePoints.{aggregate_of}
-use Rattle.vtl_backend.specs.AnalyticPoints.{analytic_of}
-use Rattle.vtl_backend.specs.Operators.{calculated_of, choice_of, left_of, measured_of, pair_of, sub_of}
-use Rattle.vtl_backend.specs.Sets.{difference_of, existence_of, intersection_of, symmetric_difference_of, union_of}
-use Rattle.vtl_backend.specs.Turned.{pivot_of, unpivot_of}
-use Rattle.vtl_backend.specs.Scripts.{AreKnownAlike}
-use Rattle.vtl_backend.proofs.Over.{made_over}
+use Rattle.vtl_meaning.specs.Joined.{join_of}
+use Rattle.vtl_meaning.specs.Made.{AreMadeStatements}
+use Rattle.vtl_meaning.specs.Meaning.{Statement, data_set_of, form_value, kept_output, meaning, node_value, nodes_value, operands_value, stated, with_first, with_operand}
+use Rattle.vtl_aggregates.specs.Aggregates.{aggregate_of}
+use Rattle.vtl_windows.specs.Analytics.{analytic_of}
+use Rattle.vtl_meaning.specs.Operators.{calculated_of, choice_of, left_of, measured_of, pair_of, sub_of}
+use Rattle.vtl_meaning.specs.Sets.{difference_of, existence_of, intersection_of, symmetric_difference_of, union_of}
+use Rattle.vtl_meaning.specs.Turned.{pivot_of, unpivot_of}
+use Rattle.check_laws.specs.Scripts.{AreKnownAlike}
+use Rattle.check_laws.proofs.Over.{made_over}
 
 -- ---- lists
 pub all_front : {X : Type 0} (P : X → Type 0) (xs ys : List X) → AllByRecursion P (xs ++ ys) → AllByRecursion P xs

@@ -4,8 +4,8 @@ use Rattle.std.specs.Prelude.{Box, Vec, option_map}
 use Rattle.std.specs.declared.alloc.Global.{Global}
 use Rattle.std.specs.Option.{option_map_or}
 use Rattle.std.specs.Map.{lookup}
-use Rattle.vtl_cell.specs.Settings.{Settings}
-use Rattle.vtl_cell.specs.shared_text.Txt.{Txt}
+use Rattle.vtl_decimal.specs.Settings.{Settings}
+use Rattle.vtl_text.specs.declared.shared_text.Txt.{Txt}
 use Rattle.vtl_cell.specs.declared.operator.ScalarOp.{ScalarOp}
 use Rattle.vtl_cell.specs.Outcome.{Outcome}
 use Rattle.vtl_cell.specs.Row.{Row}
@@ -30,11 +30,11 @@ use Rattle.vtl_nodes.specs.declared.specifications.AggSpec.{AggSpec}
 use Rattle.vtl_nodes.specs.declared.specifications.AnalyticSpec.{AnalyticSpec}
 use Rattle.vtl_nodes.specs.declared.specifications.JoinSpec.{JoinSpec}
 use Rattle.vtl_syntax.specs.declared.word_groups.Retain.{Retain}
-use Rattle.vtl_backend.specs.AggregateShapes.{IsAggregated}
-use Rattle.vtl_backend.specs.DataSets.{with_structure}
-use Rattle.vtl_backend.specs.Joined.{structures_of}
-use Rattle.vtl_backend.specs.Made.{AreCombined, IsChoice, IsJoined, IsMade, IsMadeForm, IsMeasured, IsWindowed, node_structures}
-use Rattle.vtl_backend.specs.Meaning.{form_value, known_in, node_value, nodes_value, operands_value, with_operand}
+use Rattle.vtl_aggregates.specs.Shapes.{IsAggregated}
+use Rattle.vtl_sets.specs.DataSets.{with_structure}
+use Rattle.vtl_meaning.specs.Joined.{structures_of}
+use Rattle.vtl_meaning.specs.Made.{AreCombined, IsChoice, IsJoined, IsMade, IsMadeForm, IsMeasured, IsWindowed, node_structures}
+use Rattle.vtl_meaning.specs.Meaning.{form_value, known_in, node_value, nodes_value, operands_value, with_operand}
 use Rattle.vtl_interp.specs.Evaluated.{Evaluates, Gives, GivesOne, GivesTwo}
 use Rattle.vtl_interp.proofs.Environments.{data_looked, known_looked}
 use Rattle.vtl_interp.proofs.Evaluates.{applied, nodes_structures, operands_structures, then}

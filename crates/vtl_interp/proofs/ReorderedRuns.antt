@@ -3,12 +3,12 @@ use Rattle.std.proofs.Common.{◌≡◌, ℕ, true, List, [], ◌∷◌, map, Op
 use Rattle.std.specs.List.{AllByRecursion}
 use Rattle.std.specs.Option.{option_map_or}
 use Rattle.vtl_cell.specs.Outcome.{DivZero, Fault, Range}
-use Rattle.vtl_cell.specs.Perm.{Perm, chain, empty}
+use Rattle.vtl_lists.specs.Perm.{Perm, chain, empty}
 use Rattle.vtl_cell.specs.Profile.{IsOfProfile}
 use Rattle.vtl_cell.specs.Row.{Row, same_key}
-use Rattle.vtl_cell.specs.Settings.{Settings}
-use Rattle.vtl_cell.proofs.Aparts.{all_apart-Perm}
-use Rattle.vtl_cell.proofs.Perms.{AllByRecursion-Perm, Perm-sym}
+use Rattle.vtl_decimal.specs.Settings.{Settings}
+use Rattle.vtl_lists.proofs.Aparts.{all_apart-Perm}
+use Rattle.vtl_lists.proofs.Perms.{AllByRecursion-Perm, Perm-sym}
 use Rattle.vtl_cell.proofs.Rows.{same_key-sym}
 use Rattle.vtl_rows.specs.Named.{NamedTables, table_of}
 use Rattle.vtl_rows.specs.Tables.{Listed}
@@ -17,15 +17,15 @@ use Rattle.vtl_tree.specs.Environment.{DataSet}
 use Rattle.vtl_tree.specs.Structure.{columns_of, key_width}
 use Rattle.vtl_tree.specs.Structures.{AreStructures, Named}
 use Rattle.vtl_tree.specs.declared.structure.Structure.{Structure}
-use Rattle.vtl_join.proofs.ScriptsOrders.{meaning_respects}
-use Rattle.vtl_backend.specs.Checked.{IsTyped, TypedScript}
+use Rattle.vtl_meaning.proofs.ScriptsOrders.{meaning_respects}
+use Rattle.vtl_check.specs.Checked.{IsTyped, TypedScript}
 use Rattle.vtl_backend.specs.Inputs.{AreInRange, AreInputs, Holds, environment_of, input_of, inputs_of}
-use Rattle.vtl_backend.specs.Meaning.{AreDataSets, Outputs}
-use Rattle.vtl_backend.specs.Orders.{SameData, SameMeaning}
-use Rattle.vtl_backend.specs.Profiles.{AllAreOfProfile}
+use Rattle.vtl_meaning.specs.Meaning.{AreDataSets, Outputs}
+use Rattle.vtl_meaning.specs.Orders.{SameData, SameMeaning}
+use Rattle.vtl_meaning.specs.Profiles.{AllAreOfProfile}
 use Rattle.vtl_backend.specs.Runs.{Runs, ShowAll, ShowMeaning, Tells, script_meaning}
 use Rattle.vtl_backend.specs.Statements.{is_script_built, statements_of}
-use Rattle.vtl_backend.specs.TableOf.{IsTableOf}
+use Rattle.vtl_sets.specs.TableOf.{IsTableOf}
 use Rattle.vtl_backend.specs.Tables.{Shows}
 use Rattle.vtl_backend.specs.declared.error.RunErr.{RunErr}
 use Rattle.vtl_backend.specs.declared.error.RunErr.TheVariants as err

@@ -6,8 +6,8 @@ use Rattle.std.specs.Cmp.Lexicographic.{bytes_decides}
 use Rattle.std.proofs.lemmas.List.{append-nil, take_all, take_more}
 use Rattle.std.proofs.lemmas.List.FromFn.{fill_by_all}
 use lib.Pointwise.{pointwise}
-use Rattle.vtl_cell.specs.Perm.{Perm}
-use Rattle.vtl_cell.proofs.Perms.{Perm-from_IsPermutation, Perm-map, Perm-refl}
+use Rattle.vtl_lists.specs.Perm.{Perm}
+use Rattle.vtl_lists.proofs.Perms.{Perm-from_IsPermutation, Perm-map, Perm-refl}
 use Rattle.vtl_rows.specs.Named.{NamedTables, table_of}
 use Rattle.vtl_rows.specs.Places.{row_at}
 use Rattle.vtl_rows.specs.Tables.{Listed}

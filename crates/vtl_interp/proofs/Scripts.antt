@@ -9,17 +9,17 @@ use Rattle.vtl_tree.specs.Structure.{same_name}
 use Rattle.vtl_tree.specs.Structures.{has_name}
 use Rattle.vtl_tree.specs.declared.structure.Structure.{Structure}
 use Rattle.vtl_nodes.specs.Trees.{NodeTree, structure_of}
-use Rattle.vtl_cell.specs.Results.{◌>>=◌}
+use Rattle.vtl_lists.specs.Results.{◌>>=◌}
 use Rattle.check_faults.specs.Rules.{ruled}
 use Rattle.check_faults.specs.declared.rules.Rule.{Rule}
 use Rattle.check_faults.specs.declared.rules.Rule.TheVariants as rule
-use Rattle.vtl_backend.specs.Places.{Env}
-use Rattle.vtl_backend.specs.Checked.{IsTyped, TypedScript, env_over, nodes_of, tree_of}
-use Rattle.vtl_backend.specs.Count.{count}
-use Rattle.vtl_backend.specs.Names.{names_in, names_of}
-use Rattle.vtl_backend.specs.Script.{assigned, at, is_too_much, transformations_typed, value_typed, with_result}
-use Rattle.vtl_backend.specs.Transformations.{Transformation, transformations}
-use Rattle.vtl_backend.specs.Meaning.{Statement, is_built}
+use Rattle.check_operators.specs.Places.{Env}
+use Rattle.vtl_check.specs.Checked.{IsTyped, TypedScript, env_over, nodes_of, tree_of}
+use Rattle.vtl_check.specs.Count.{count}
+use Rattle.vtl_check.specs.Names.{names_in, names_of}
+use Rattle.vtl_check.specs.Script.{assigned, at, is_too_much, transformations_typed, value_typed, with_result}
+use Rattle.vtl_check.specs.Transformations.{Transformation, transformations}
+use Rattle.vtl_meaning.specs.Meaning.{Statement, is_built}
 use Rattle.vtl_backend.specs.Statements.{statements_of, with_nodes}
 use Rattle.vtl_interp.specs.Results.{AreNew}
 use Rattle.vtl_interp.proofs.NamesRead.{all_back, all_both, all_front, names_read}

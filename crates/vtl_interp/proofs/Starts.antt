@@ -1,7 +1,7 @@
 -- A typed script can be evaluated from its inputs on.
 use Rattle.std.proofs.Common.{◌≡◌, true, List, [], map, refl, sym, ap, subst, ◌∙◌}
 use Rattle.std.specs.Map.{keys_of, lookup}
-use Rattle.vtl_cell.specs.Settings.{Settings}
+use Rattle.vtl_decimal.specs.Settings.{Settings}
 use Rattle.vtl_rows.specs.Named.{NamedTables}
 use Rattle.vtl_syntax.specs.View.{statement_tree}
 use Rattle.vtl_syntax.specs.declared.statements.Statement.{Statement}
@@ -10,15 +10,15 @@ use Rattle.vtl_nodes.specs.declared.nodes.Node.{Node}
 use Rattle.vtl_tree.specs.Environment.{Environment}
 use Rattle.vtl_tree.specs.Structure.{same_name}
 use Rattle.vtl_tree.specs.Structures.{Named}
-use Rattle.vtl_backend.specs.Checked.{IsTyped, TypedScript, nodes_of, tree_of}
-use Rattle.vtl_backend.specs.Names.{names_of}
-use Rattle.vtl_backend.specs.Made.{AreMadeStatements}
-use Rattle.vtl_backend.specs.Meaning.{known_in, meaning}
+use Rattle.vtl_check.specs.Checked.{IsTyped, TypedScript, nodes_of, tree_of}
+use Rattle.vtl_check.specs.Names.{names_of}
+use Rattle.vtl_meaning.specs.Made.{AreMadeStatements}
+use Rattle.vtl_meaning.specs.Meaning.{known_in, meaning}
 use Rattle.vtl_backend.specs.Inputs.{environment_of, inputs_of}
 use Rattle.vtl_backend.specs.Runs.{script_meaning}
 use Rattle.vtl_backend.specs.Statements.{is_script_built, statements_of, with_nodes}
-use Rattle.vtl_backend.specs.Transformations.{transformations}
-use Rattle.vtl_backend.specs.Scripts.{AreKnownAlike}
+use Rattle.vtl_check.specs.Transformations.{transformations}
+use Rattle.check_laws.specs.Scripts.{AreKnownAlike}
 use Rattle.vtl_interp.specs.Results.{AreReady}
 use Rattle.vtl_interp.proofs.InputsRead.{known_inputs, reads_same}
 use Rattle.vtl_interp.proofs.NamesRead.{all_so, statements_made_same}

@@ -6,7 +6,7 @@ use Rattle.std.specs.Map.{keys_of, lookup}
 use Rattle.std.specs.Option.{option_map}
 use Rattle.std.proofs.lemmas.Bool.{and_parts}
 use Rattle.std.proofs.lemmas.List.{append-nil, map-append}
-use Rattle.vtl_cell.specs.Settings.{Settings}
+use Rattle.vtl_decimal.specs.Settings.{Settings}
 use Rattle.vtl_cell.specs.Outcome.{Fault, after}
 use Rattle.vtl_cell.specs.Row.{Row}
 use Rattle.vtl_rows.specs.Named.{NamedTables}
@@ -15,8 +15,8 @@ use Rattle.vtl_tree.specs.Environment.{DataSet, Environment, data_of}
 use Rattle.vtl_tree.specs.Structure.{same_name}
 use Rattle.vtl_tree.specs.declared.structure.Structure.{Structure}
 use Rattle.vtl_nodes.specs.Trees.{structure_of}
-use Rattle.vtl_backend.specs.Meaning.{Outputs, Statement, data_set_of, is_built, kept_output, known_in, meaning, node_value, stated, with_output}
-use Rattle.vtl_backend.specs.Scripts.{AreKnownAlike}
+use Rattle.vtl_meaning.specs.Meaning.{Outputs, Statement, data_set_of, is_built, kept_output, known_in, meaning, node_value, stated, with_output}
+use Rattle.check_laws.specs.Scripts.{AreKnownAlike}
 use Rattle.vtl_backend.specs.Runs.{ShowAll, ShowMeaning}
 use Rattle.vtl_backend.specs.Tables.{Shows}
 use Rattle.vtl_interp.specs.Evaluated.{Gives}

@@ -2,7 +2,7 @@
 use Rattle.std.proofs.Common.{◌≡◌, ℕ, ◌+◌, ◌<◌, List, ◌∷◌, drop, get_or, length, map, Result, Err, sym, ap, subst, ◌∙◌, arith}
 use Rattle.std.proofs.lemmas.List.{drop_more}
 use Rattle.std.specs.Map.{keys_of}
-use Rattle.vtl_cell.specs.Settings.{Settings}
+use Rattle.vtl_decimal.specs.Settings.{Settings}
 use Rattle.vtl_cell.specs.Outcome.{DivZero, Fault, Range}
 use Rattle.vtl_rows.specs.Named.{NamedTables}
 use Rattle.vtl_syntax.specs.declared.expressions.Expr.{Expr}
@@ -11,16 +11,16 @@ use Rattle.vtl_syntax.specs.declared.word_groups.AssignKind.{AssignKind}
 use Rattle.vtl_tree.specs.Environment.{Environment, data_of}
 use Rattle.vtl_nodes.specs.View.{node_tree}
 use Rattle.vtl_nodes.specs.declared.nodes.Node.{Node}
-use Rattle.vtl_backend.specs.Meaning as meant
-use Rattle.vtl_backend.specs.Meaning.{Outputs, meaning}
+use Rattle.vtl_meaning.specs.Meaning as meant
+use Rattle.vtl_meaning.specs.Meaning.{Outputs, meaning}
 use Rattle.vtl_backend.specs.Statements.{with_nodes}
-use Rattle.vtl_backend.specs.Transformations.{Transformation}
+use Rattle.vtl_check.specs.Transformations.{Transformation}
 use Rattle.vtl_backend.specs.declared.error.RunErr.{RunErr}
 use Rattle.vtl_backend.specs.declared.error.RunErr.TheVariants as run
 use Rattle.vtl_interp.specs.Reads.{AreRead, IsReadFrom, LastPlaces}
 use Rattle.vtl_interp.specs.Results.{Adds, AreReady, FaultIs, IsAdded, Remain, result_named}
 use Rattle.vtl_interp.specs.declared.held.Held.{Held}
-use Rattle.vtl_backend.proofs.LeftLemmas.{assigned_at, left}
+use Rattle.vtl_check.proofs.LeftLemmas.{assigned_at, left}
 use Rattle.vtl_interp.proofs.NamesRead.{all_so, names_read}
 use Rattle.vtl_interp.proofs.PlacesRead.{all_read}
 use Rattle.vtl_interp.proofs.Scripts.{names_statements}

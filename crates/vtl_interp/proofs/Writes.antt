@@ -4,16 +4,16 @@ use Rattle.std.specs.Prelude.{OnOk}
 use Rattle.std.specs.declared.alloc.AllocError.{AllocError}
 use Rattle.std.specs.List.{list_any}
 use Rattle.std.specs.Map.{keys_of}
-use Rattle.vtl_cell.proofs.Perms.{Perm-same}
+use Rattle.vtl_lists.proofs.Perms.{Perm-same}
 use Rattle.vtl_rows.specs.Named.{NamedTables, table_of}
 use Rattle.vtl_rows.specs.Tables.{Listed}
 use Rattle.vtl_syntax.specs.declared.word_groups.AssignKind.{AssignKind}
 use Rattle.vtl_syntax.specs.declared.word_groups.AssignKind.TheVariants as assign
 use Rattle.vtl_tree.specs.Environment.{DataSet}
 use Rattle.vtl_tree.specs.Structure.{same_name}
-use Rattle.vtl_backend.specs.Meaning.{Outputs}
+use Rattle.vtl_meaning.specs.Meaning.{Outputs}
 use Rattle.vtl_cell.specs.Outcome.{Fault}
-use Rattle.vtl_backend.specs.TableOf.{IsTableOf}
+use Rattle.vtl_sets.specs.TableOf.{IsTableOf}
 use Rattle.vtl_backend.specs.Runs.{Tells}
 use Rattle.vtl_backend.specs.Statements.{is_written}
 use Rattle.vtl_backend.specs.declared.error.RunErr.{RunErr}

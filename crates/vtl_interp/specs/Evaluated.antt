@@ -1,13 +1,13 @@
 -- What an evaluation gives.
 use Rattle.std.specs.Prelude.{◌≡◌, Result, Ok, Err}
-use Rattle.vtl_cell.specs.Settings.{Settings}
+use Rattle.vtl_decimal.specs.Settings.{Settings}
 use Rattle.vtl_cell.specs.Outcome.{DivZero, Range}
 use Rattle.vtl_scalar.specs.declared.error.ScalarErr.{ScalarErr}
 use Rattle.vtl_scalar.specs.declared.error.ScalarErr.TheVariants as err
 use Rattle.vtl_tree.specs.Environment.{DataSet, Environment}
 use Rattle.vtl_nodes.specs.Trees as nodes
 use Rattle.vtl_nodes.specs.Trees.{FormTree, NodeTree, structure_of}
-use Rattle.vtl_backend.specs.Meaning.{node_value}
+use Rattle.vtl_meaning.specs.Meaning.{node_value}
 
 -- the data set of an expression, with its structure and its points
 pub record Gives (p : Settings) (env : Environment) (n : NodeTree) (d : DataSet) : Type 0 where

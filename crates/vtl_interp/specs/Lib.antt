@@ -1,17 +1,3 @@
-pub use Rattle.vtl_backend.specs.Checked
-pub use Rattle.vtl_backend.specs.Inputs
-pub use Rattle.vtl_backend.specs.Meaning
-pub use Rattle.vtl_backend.specs.Names
-pub use Rattle.vtl_backend.specs.Profiles
-pub use Rattle.vtl_backend.specs.Runs
-pub use Rattle.vtl_backend.specs.Script
-pub use Rattle.vtl_backend.specs.Statements
-pub use Rattle.vtl_backend.specs.TableOf
-pub use Rattle.vtl_backend.specs.Tables
-pub use Rattle.vtl_backend.specs.Transformations
-pub use Rattle.vtl_nodes.specs.Trees
-pub use Rattle.vtl_backend.specs.Uses
-pub use Rattle.vtl_backend.specs.declared.error
 pub mod Evaluated
 pub mod Held
 pub mod Loaded

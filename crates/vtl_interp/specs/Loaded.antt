@@ -4,7 +4,7 @@ use Rattle.std.specs.Map.{lookup}
 use Rattle.vtl_rows.specs.Named.{NamedTables, table_of}
 use Rattle.vtl_tree.specs.Structure.{same_name}
 use Rattle.vtl_tree.specs.declared.structure.Structure.{Structure}
-use Rattle.vtl_backend.specs.Checked.{TypedScript, known_of}
+use Rattle.vtl_check.specs.Checked.{TypedScript, known_of}
 use Rattle.vtl_backend.specs.Inputs.{Holds}
 
 -- the name has a structure, and a table of it

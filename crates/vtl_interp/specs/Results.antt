@@ -1,7 +1,7 @@
 -- The results of statements, over the data sets that are held.
 use Rattle.std.specs.Prelude.{◌≡◌, ℕ, false, true, List, [], ◌∷◌, ◌++◌, Result, Ok, Err}
 use Rattle.std.specs.List.{list_all, list_any}
-use Rattle.vtl_cell.specs.Settings.{Settings}
+use Rattle.vtl_decimal.specs.Settings.{Settings}
 use Rattle.vtl_cell.specs.Outcome.{DivZero, Fault, Range}
 use Rattle.vtl_scalar.specs.declared.error.ScalarErr.{ScalarErr}
 use Rattle.vtl_scalar.specs.declared.error.ScalarErr.TheVariants as scalar
@@ -9,8 +9,8 @@ use Rattle.vtl_syntax.specs.declared.word_groups.AssignKind.{AssignKind}
 use Rattle.vtl_tree.specs.Environment.{DataSet, Environment}
 use Rattle.vtl_tree.specs.Structure.{same_name}
 use Rattle.vtl_nodes.specs.Trees.{NodeTree}
-use Rattle.vtl_backend.specs.Made.{AreMadeStatements}
-use Rattle.vtl_backend.specs.Meaning.{Outputs, Statement, is_built, known_in, node_value}
+use Rattle.vtl_meaning.specs.Made.{AreMadeStatements}
+use Rattle.vtl_meaning.specs.Meaning.{Outputs, Statement, is_built, known_in, node_value}
 use Rattle.vtl_rows.specs.Named.{NamedTables}
 use Rattle.vtl_backend.specs.Runs.{ShowAll, ShowMeaning}
 use Rattle.vtl_backend.specs.Statements.{is_written}

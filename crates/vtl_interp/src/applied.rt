@@ -2,8 +2,8 @@
 ghost use Rattle.std.specs.Prelude.{◌≡◌};
 ghost use Rattle.vtl_tree.specs.Environment.{Environment};
 ghost use Rattle.vtl_nodes.specs.View.{form_tree, node_tree};
-ghost use Rattle.vtl_backend.specs.Made.{IsMade};
-ghost use Rattle.vtl_backend.specs.Meaning.{known_in};
+ghost use Rattle.vtl_meaning.specs.Made.{IsMade};
+ghost use Rattle.vtl_meaning.specs.Meaning.{known_in};
 ghost use Rattle.vtl_interp.specs.Evaluated.{Evaluates, GivesOne, GivesTwo};
 ghost use Rattle.vtl_interp.specs.Values.{value_view};
 
@@ -11,7 +11,7 @@ use crate::combinations::{exists_in, pivot, set_diff, sym_diff, unpivot};
 use crate::operators::{aggregate, analytic, calc, columns, filter, measures, pair, rename, sub};
 use crate::value::Value;
 use std::alloc::Global;
-use vtl_cell::Profile;
+use vtl_decimal::Profile;
 use vtl_nodes::{Node, NodeForm};
 use vtl_scalar::ScalarErr;
 

@@ -3,22 +3,22 @@ ghost use Rattle.std.specs.Prelude.{◌≡◌, ◌<◌, ◌∷◌, [], ℕ, IfOk
 ghost use Rattle.std.specs.Option.{IfSome};
 ghost use Rattle.vtl_scalar.specs.Answers.{AnswersBy};
 ghost use Rattle.vtl_tree.specs.Shown.{shown};
-ghost use Rattle.vtl_backend.specs.DataSets.{data_set};
-ghost use Rattle.vtl_backend.specs.Joined.{join_of, structures_of};
-ghost use Rattle.vtl_backend.specs.Made.{AreCombined, IsCombined, IsExistence, IsJoined, IsPivoted, IsUnpivoted};
-ghost use Rattle.vtl_backend.specs.Sets.{difference_of, existence_of, intersection_of, symmetric_difference_of, union_of};
-ghost use Rattle.vtl_backend.specs.Turned.{pivot_of, unpivot_of};
+ghost use Rattle.vtl_sets.specs.DataSets.{data_set};
+ghost use Rattle.vtl_meaning.specs.Joined.{join_of, structures_of};
+ghost use Rattle.vtl_meaning.specs.Made.{AreCombined, IsCombined, IsExistence, IsJoined, IsPivoted, IsUnpivoted};
+ghost use Rattle.vtl_meaning.specs.Sets.{difference_of, existence_of, intersection_of, symmetric_difference_of, union_of};
+ghost use Rattle.vtl_meaning.specs.Turned.{pivot_of, unpivot_of};
 ghost use Rattle.vtl_join.specs.Joining.{sets_of};
 ghost use Rattle.vtl_interp.specs.Values.{value_view};
 
 use crate::value::Value;
 use std::alloc::{AllocError, Global};
-use vtl_backend::DataSet;
-use vtl_cell::Txt;
 use vtl_join::Joined;
 use vtl_nodes::JoinOperand;
 use vtl_scalar::ScalarErr;
+use vtl_sets::DataSet;
 use vtl_syntax::{JoinKind, Retain};
+use vtl_text::Txt;
 use vtl_tree::{Structure, share_structure};
 
 // The data sets, lent.
@@ -79,7 +79,7 @@ pub fn union<'a>(
 {
     let made = share_structure(alloc, made)?;
     let sets = lent(alloc, values)?;
-    Ok(Value::Made(vtl_window::union_all(alloc, &sets, made)?))
+    Ok(Value::Made(vtl_combine::union_all(alloc, &sets, made)?))
 }
 
 /// `intersect`
@@ -93,7 +93,7 @@ pub fn intersect<'a>(
 {
     let made = share_structure(alloc, made)?;
     let sets = lent(alloc, values)?;
-    Ok(Value::Made(vtl_window::intersect_all(alloc, &sets, made)?))
+    Ok(Value::Made(vtl_combine::intersect_all(alloc, &sets, made)?))
 }
 
 /// `setdiff`
@@ -107,7 +107,7 @@ pub fn set_diff<'a>(
     ensures { AnswersBy value_view result (Ok (data_set made.now (difference_of (value_view a.entry) (value_view b.entry) made.now))) }
 {
     let made = share_structure(alloc, made)?;
-    Ok(Value::Made(vtl_window::setdiff(alloc, a.data(), b.data(), made)?))
+    Ok(Value::Made(vtl_combine::setdiff(alloc, a.data(), b.data(), made)?))
 }
 
 /// `symdiff`
@@ -121,7 +121,7 @@ pub fn sym_diff<'a>(
     ensures { AnswersBy value_view result (Ok (data_set made.now (symmetric_difference_of (value_view a.entry) (value_view b.entry) made.now))) }
 {
     let made = share_structure(alloc, made)?;
-    Ok(Value::Made(vtl_window::symdiff(alloc, a.data(), b.data(), made)?))
+    Ok(Value::Made(vtl_combine::symdiff(alloc, a.data(), b.data(), made)?))
 }
 
 /// `exists_in`
@@ -136,7 +136,7 @@ pub fn exists_in<'a>(
     ensures { AnswersBy value_view result (Ok (data_set made.now (existence_of (value_view a.entry) (value_view b.entry) retain))) }
 {
     let made = share_structure(alloc, made)?;
-    Ok(Value::Made(vtl_window::exists_in(alloc, a.data(), b.data(), retain, made)?))
+    Ok(Value::Made(vtl_combine::exists_in(alloc, a.data(), b.data(), retain, made)?))
 }
 
 /// `pivot`
@@ -151,7 +151,7 @@ pub fn pivot<'a>(
     ensures { AnswersBy value_view result (Ok (data_set made.now (pivot_of (value_view a.entry) id.now m.now))) }
 {
     let made = share_structure(alloc, made)?;
-    Ok(Value::Made(vtl_window::pivot(alloc, a.data(), id, m, made)?))
+    Ok(Value::Made(vtl_combine::pivot(alloc, a.data(), id, m, made)?))
 }
 
 /// `unpivot`
@@ -160,5 +160,5 @@ pub fn unpivot<'a>(alloc: Global, a: Value<'a>, made: &Structure) -> Result<Valu
     ensures { AnswersBy value_view result (Ok (data_set made.now (unpivot_of (value_view a.entry)))) }
 {
     let made = share_structure(alloc, made)?;
-    Ok(Value::Made(vtl_window::unpivot(alloc, a.data(), made)?))
+    Ok(Value::Made(vtl_combine::unpivot(alloc, a.data(), made)?))
 }

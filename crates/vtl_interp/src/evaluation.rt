@@ -3,8 +3,8 @@ ghost use Rattle.std.specs.Prelude.{◌≡◌, map, true};
 ghost use Rattle.vtl_nodes.specs.Trees.{nodes_of, operands_of};
 ghost use Rattle.vtl_nodes.specs.View.{node_tree, operand_tree};
 ghost use Rattle.vtl_scalar.specs.Answers.{AnswersBy};
-ghost use Rattle.vtl_backend.specs.Made.{AreMade, AreMadeOperands, IsMade};
-ghost use Rattle.vtl_backend.specs.Meaning.{are_nodes_built, are_operands_built, is_built, known_in, nodes_value, operands_value};
+ghost use Rattle.vtl_meaning.specs.Made.{AreMade, AreMadeOperands, IsMade};
+ghost use Rattle.vtl_meaning.specs.Meaning.{are_nodes_built, are_operands_built, is_built, known_in, nodes_value, operands_value};
 ghost use Rattle.vtl_interp.specs.Evaluated.{Evaluates};
 ghost use Rattle.vtl_interp.specs.Values.{value_view, values_view};
 
@@ -14,7 +14,7 @@ use crate::held::Known;
 use crate::operators::choose;
 use crate::value::Value;
 use std::alloc::Global;
-use vtl_cell::Profile;
+use vtl_decimal::Profile;
 use vtl_nodes::{JoinOperand, Node, NodeForm};
 use vtl_scalar::ScalarErr;
 

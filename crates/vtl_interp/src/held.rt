@@ -1,8 +1,8 @@
 // What a run holds.
 use indexmap::IndexMap;
-use vtl_backend::DataSet;
-use vtl_cell::Txt;
 use vtl_rows::Outputs;
+use vtl_sets::DataSet;
+use vtl_text::Txt;
 
 /// The data sets that later statements read, inputs and results so far, by name.
 pub type Known = IndexMap<Txt, DataSet>;

@@ -3,17 +3,18 @@ ghost use Rattle.std.specs.Prelude.{◌≡◌, ◌++◌, ◌∷◌, [], Some, If
 ghost use Rattle.std.specs.List.{list_any};
 ghost use Rattle.std.specs.Map.{keys_of, lookup};
 ghost use Rattle.vtl_tree.specs.Structure.{same_name};
-ghost use Rattle.vtl_backend.specs.DataSets.{data_set};
-ghost use Rattle.vtl_backend.specs.Checked.{known_of};
-ghost use Rattle.vtl_backend.specs.TableOf.{IsTableOf};
+ghost use Rattle.vtl_sets.specs.DataSets.{data_set};
+ghost use Rattle.vtl_check.specs.Checked.{known_of};
+ghost use Rattle.vtl_sets.specs.TableOf.{IsTableOf};
 ghost use Rattle.vtl_backend.specs.Inputs.{AreInputs, environment_of, rows_named};
 ghost use Rattle.vtl_interp.specs.Loaded.{IsInput};
 
 use crate::held::Known;
 use std::alloc::{AllocError, Global};
-use vtl_backend::{Checked, DataSet};
-use vtl_cell::Txt;
+use vtl_check::Checked;
 use vtl_rows::{Inputs, SharedTable};
+use vtl_sets::DataSet;
+use vtl_text::Txt;
 use vtl_tree::{Structure, share_structure};
 
 // The data set of a table, which is shared.

@@ -24,4 +24,3 @@ mod windows;
 
 pub use interp::Interp;
 pub use ordered::run_over;
-pub use vtl_backend::{Backend, CheckErr, Checked, RunErr, check, defines_rulesets, is_built};

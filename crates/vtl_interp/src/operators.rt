@@ -4,17 +4,18 @@ ghost use Rattle.vtl_scalar.specs.Answers.{AnswersBy};
 ghost use Rattle.vtl_tree.specs.Clauses.{filter_of};
 ghost use Rattle.vtl_tree.specs.View.{comp_exp_of};
 ghost use Rattle.vtl_nodes.specs.View.{agg_tree, analytic_tree, item_tree, measure_tree};
-ghost use Rattle.vtl_backend.specs.AggregatePoints.{aggregate_of};
-ghost use Rattle.vtl_backend.specs.AggregateShapes.{IsAggregated};
-ghost use Rattle.vtl_backend.specs.AnalyticPoints.{analytic_of};
-ghost use Rattle.vtl_backend.specs.DataSets.{data_set, with_structure};
-ghost use Rattle.vtl_backend.specs.Made.{IsCalculated, IsChoice, IsFiltered, IsLeft, IsMeasured, IsPaired, IsRenamed, IsSub, IsWindowed};
-ghost use Rattle.vtl_backend.specs.Operators.{calculated_of, choice_of, left_of, measured_of, pair_of, sub_of};
+ghost use Rattle.vtl_aggregates.specs.Aggregates.{aggregate_of};
+ghost use Rattle.vtl_aggregates.specs.Shapes.{IsAggregated};
+ghost use Rattle.vtl_windows.specs.Analytics.{analytic_of};
+ghost use Rattle.vtl_sets.specs.DataSets.{data_set, with_structure};
+ghost use Rattle.vtl_meaning.specs.Made.{IsCalculated, IsChoice, IsFiltered, IsLeft, IsMeasured, IsPaired, IsRenamed, IsSub, IsWindowed};
+ghost use Rattle.vtl_meaning.specs.Operators.{calculated_of, choice_of, left_of, measured_of, pair_of, sub_of};
 ghost use Rattle.vtl_interp.specs.Values.{value_view};
 
 use crate::value::Value;
 use std::alloc::Global;
-use vtl_cell::{Profile, ScalarOp};
+use vtl_cell::ScalarOp;
+use vtl_decimal::Profile;
 use vtl_nodes::{AggSpec, AnalyticSpec, CalcItem, MeasureOp, SubItem};
 use vtl_scalar::ScalarErr;
 use vtl_tree::{CompExpr, Structure, share_structure};
@@ -31,7 +32,7 @@ pub fn measures<'a>(
     ensures { AnswersBy value_view result (with_structure made.now (measured_of p.now (measure_tree op.now) (value_view a.entry) made.now)) }
 {
     let made = share_structure(alloc, made)?;
-    Ok(Value::Made(vtl_window::map_measures(alloc, op, a.data(), made, p)?))
+    Ok(Value::Made(vtl_expr::map_measures(alloc, op, a.data(), made, p)?))
 }
 
 /// An operator on the measures of two data sets.
@@ -47,7 +48,7 @@ pub fn pair<'a>(
     ensures { AnswersBy value_view result (with_structure made.now (pair_of p.now op (value_view a.entry) (value_view b.entry) made.now)) }
 {
     let made = share_structure(alloc, made)?;
-    Ok(Value::Made(vtl_window::pair_measures(alloc, op, a.data(), b.data(), made, p)?))
+    Ok(Value::Made(vtl_expr::pair_measures(alloc, op, a.data(), b.data(), made, p)?))
 }
 
 /// `if`
@@ -62,7 +63,7 @@ pub fn choose<'a>(
     ensures { AnswersBy value_view result (Ok (data_set made.now (choice_of (value_view condition.entry) (value_view a.entry) (value_view b.entry) made.now))) }
 {
     let made = share_structure(alloc, made)?;
-    Ok(Value::Made(vtl_window::choose(alloc, condition.data(), a.data(), b.data(), made)?))
+    Ok(Value::Made(vtl_expr::choose(alloc, condition.data(), a.data(), b.data(), made)?))
 }
 
 /// Some of the columns: `keep`, `drop` and `a#m`.
@@ -72,7 +73,7 @@ pub fn columns<'a>(alloc: Global, a: Value<'a>, made: &Structure) -> Result<Valu
 {
     let made = share_structure(alloc, made)?;
     let data = a.into_data(alloc)?;
-    Ok(Value::Made(vtl_window::keep_columns(alloc, data, made)?))
+    Ok(Value::Made(vtl_expr::keep_columns(alloc, data, made)?))
 }
 
 /// `filter`
@@ -87,7 +88,7 @@ pub fn filter<'a>(
     ensures { AnswersBy value_view result (with_structure made.now (filter_of p.now (comp_exp_of condition.now) (value_view a.entry).points)) }
 {
     let made = share_structure(alloc, made)?;
-    Ok(Value::Made(vtl_window::filter(alloc, a.data(), condition, made, p)?))
+    Ok(Value::Made(vtl_clause::filter(alloc, a.data(), condition, made, p)?))
 }
 
 /// `calc`
@@ -102,7 +103,7 @@ pub fn calc<'a>(
     ensures { AnswersBy value_view result (with_structure made.now (calculated_of p.now (map item_tree items.now) (value_view a.entry) made.now)) }
 {
     let made = share_structure(alloc, made)?;
-    Ok(Value::Made(vtl_window::calc(alloc, a.data(), items, made, p)?))
+    Ok(Value::Made(vtl_clause::calc(alloc, a.data(), items, made, p)?))
 }
 
 /// `rename`
@@ -111,7 +112,7 @@ pub fn rename<'a>(alloc: Global, a: Value<'a>, made: &Structure) -> Result<Value
     ensures { AnswersBy value_view result (Ok (data_set made.now (value_view a.entry).points)) }
 {
     let made = share_structure(alloc, made)?;
-    Ok(Value::Made(vtl_window::rename(alloc, a.data(), made)?))
+    Ok(Value::Made(vtl_clause::rename(alloc, a.data(), made)?))
 }
 
 /// `sub`
@@ -125,7 +126,7 @@ pub fn sub<'a>(
     ensures { AnswersBy value_view result (Ok (data_set made.now (sub_of items.now (value_view a.entry) made.now))) }
 {
     let made = share_structure(alloc, made)?;
-    Ok(Value::Made(vtl_window::sub(alloc, a.data(), items, made)?))
+    Ok(Value::Made(vtl_clause::sub(alloc, a.data(), items, made)?))
 }
 
 /// An aggregate of each measure, and `aggr`
@@ -140,7 +141,7 @@ pub fn aggregate<'a>(
     ensures { AnswersBy value_view result (with_structure made.now (aggregate_of p.now (agg_tree spec.now) (value_view a.entry) made.now)) }
 {
     let made = share_structure(alloc, made)?;
-    Ok(Value::Made(vtl_window::aggregate(alloc, a.data(), spec, made, p)?))
+    Ok(Value::Made(vtl_group::aggregate(alloc, a.data(), spec, made, p)?))
 }
 
 /// An analytic operator on each measure, and `calc` with an analytic call

@@ -2,9 +2,9 @@
 ghost use Rattle.std.specs.Prelude.{◌≡◌, ◌∷◌, [], None, true, length, map, OnOk};
 ghost use Rattle.vtl_syntax.specs.View.{statement_tree};
 ghost use Rattle.vtl_nodes.specs.View.{node_tree};
-ghost use Rattle.vtl_backend.specs.Made.{IsMade};
-ghost use Rattle.vtl_backend.specs.Meaning.{is_built, known_in, meaning};
-ghost use Rattle.vtl_backend.specs.Transformations.{transformations};
+ghost use Rattle.vtl_meaning.specs.Made.{IsMade};
+ghost use Rattle.vtl_meaning.specs.Meaning.{is_built, known_in, meaning};
+ghost use Rattle.vtl_check.specs.Transformations.{transformations};
 ghost use Rattle.vtl_rows.specs.Named.{table_of};
 ghost use Rattle.vtl_backend.specs.Statements.{is_written, with_nodes};
 ghost use Rattle.vtl_interp.specs.Evaluated.{Evaluates};
@@ -17,12 +17,14 @@ use crate::evaluation::evaluate;
 use crate::held::{Held, Known};
 use crate::last_reads::{LastReads, last_reads, let_go};
 use std::alloc::{AllocError, Global};
-use vtl_backend::{DataSet, RunErr};
-use vtl_cell::{Profile, Txt};
+use vtl_backend::RunErr;
+use vtl_decimal::Profile;
 use vtl_nodes::Node;
 use vtl_rows::Outputs;
 use vtl_scalar::ScalarErr;
+use vtl_sets::DataSet;
 use vtl_syntax::{AssignKind, Statement};
+use vtl_text::Txt;
 
 // The data set of an expression, owned.
 fn result_of(alloc: Global, known: &Known, node: &Node, p: &Profile) -> Result<DataSet, ScalarErr>

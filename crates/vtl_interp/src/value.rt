@@ -3,7 +3,7 @@ ghost use Rattle.std.specs.Prelude.{◌≡◌, IfOk};
 ghost use Rattle.vtl_interp.specs.Values.{value_view};
 
 use std::alloc::{AllocError, Global};
-use vtl_backend::DataSet;
+use vtl_sets::DataSet;
 
 /// A data set that an expression gives: one that has a name is lent.
 #[derive(Drop)]

@@ -1,7 +1,7 @@
 // Whether expressions have windows that go along identifiers.
 
-use vtl_cell::Txt;
 use vtl_nodes::{AnalyticSpec, CalcItem, CalcValue, JoinOperand, Node, NodeForm, Window};
+use vtl_text::Txt;
 use vtl_tree::{Role, Structure, is_same_role};
 
 // Whether a structure has an identifier of this name.

@@ -5,7 +5,7 @@ use Rattle.std.specs.List.{AllByRecursion, filter, find, flat_map, range_with_le
 use Rattle.std.proofs.lemmas.List.{length-map}
 use Rattle.std.proofs.lemmas.Option.{slice_get-get_or}
 use Rattle.vtl_cell.specs.Row.{Row, same_row}
-use Rattle.vtl_cell.proofs.Sorts.{AllByRecursion-filter}
+use Rattle.vtl_lists.proofs.Sorts.{AllByRecursion-filter}
 use Rattle.vtl_rows.specs.Gathered.{picked}
 use Rattle.vtl_rows.specs.Places.{row_at}
 use Rattle.vtl_rows.specs.Tables.{Listed, cells_at}
@@ -17,7 +17,7 @@ use Rattle.vtl_tree.specs.declared.structure.Role.TheVariants as role
 use Rattle.vtl_tree.specs.declared.structure.Structure.{Structure}
 use Rattle.vtl_tuples.proofs.Lists.{filter-map, map-map, map_same}
 use Rattle.vtl_meaning.specs.Agreement.{agree_in, common_identifiers, first_agreeing}
-use Rattle.vtl_meaning.specs.Columns.{identifiers_of}
+use Rattle.check_shapes.specs.Columns.{identifiers_of}
 use Rattle.vtl_meaning.specs.Joined.{Tuple, attributes_in, inner_tuples, is_whole, left_tuples, measures_in, part_of, structures_of, tuple_beside, tuple_point}
 use Rattle.vtl_meaning.proofs.Agreements.{own_values}
 use Rattle.vtl_meaning.proofs.JoinAgreements.{agreeing_own}

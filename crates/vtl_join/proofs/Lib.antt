@@ -1,4 +1,3 @@
-pub use Rattle.vtl_meaning.proofs.ScriptsOrders
 pub mod Pieced
 pub mod Picked
 pub mod PickKinds

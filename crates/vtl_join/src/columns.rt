@@ -4,11 +4,11 @@ ghost use Rattle.vtl_tree.specs.Shown.{shown};
 ghost use Rattle.vtl_tree.specs.Structure.{names_of, of_role};
 ghost use Rattle.check_shapes.specs.Names.{is_among};
 ghost use Rattle.vtl_meaning.specs.Agreement.{common_identifiers};
-ghost use Rattle.vtl_meaning.specs.Columns.{place_of, places_in};
+ghost use Rattle.check_shapes.specs.Columns.{place_of, places_in};
 ghost use Rattle.vtl_join.specs.Picks.{places_of};
 
 use std::alloc::{AllocError, Global};
-use vtl_cell::Txt;
+use vtl_text::Txt;
 use vtl_tree::{Component, Role, Structure, is_same_role};
 
 // The place of the column of this name, or their number where there is none.

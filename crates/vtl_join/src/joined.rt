@@ -5,9 +5,9 @@ ghost use Rattle.vtl_join.specs.Joining.{named};
 
 use std::alloc::{AllocError, Global};
 use std::marker::Model;
-use vtl_cell::Txt;
 use vtl_sets::DataSet;
 use vtl_syntax::JoinKind;
+use vtl_text::Txt;
 
 /// An operand of a join.
 pub struct Operand {

@@ -15,10 +15,11 @@ use crate::gathering::push_picks;
 use crate::joined::Operand;
 use crate::tuples::up_to;
 use std::alloc::{AllocError, Global};
-use vtl_cell::{Kind, Txt};
+use vtl_cell::Kind;
 use vtl_index::Groups;
 use vtl_rows::{Column, Table, gather_beside};
 use vtl_sets::{DataSet, table_column};
+use vtl_text::Txt;
 use vtl_tree::{Component, Structure};
 
 // The columns of keys: those of identifiers, and a spare one, so that there is one where there are no identifiers.

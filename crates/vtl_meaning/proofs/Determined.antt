@@ -1,6 +1,6 @@
 -- The structure of a result is one.
 use Rattle.std.proofs.Common.{◌≡◌, List, [], ◌∷◌, true, Some, ap, sym, ◌∙◌}
-use Rattle.vtl_cell.specs.Settings.{Settings}
+use Rattle.vtl_decimal.specs.Settings.{Settings}
 use Rattle.vtl_tree.specs.Structures.{Named, structure_of}
 use Rattle.vtl_tree.specs.declared.structure.Component.{Component}
 use Rattle.vtl_tree.specs.declared.structure.Structure.{Structure}

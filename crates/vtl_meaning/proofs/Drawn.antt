@@ -3,8 +3,8 @@ use Rattle.std.proofs.Common.{◌≡◌, ℕ, Bool, true, false, List, [], ◌�
 use Rattle.std.specs.Prelude.{option_map}
 use Rattle.std.specs.List.{AllByRecursion, flat_map}
 use Rattle.std.specs.Option.{option_to_list}
-use Rattle.vtl_cell.specs.Apart.{all_apart}
-use Rattle.vtl_cell.proofs.Aparts.{apart_more, apart_parts}
+use Rattle.vtl_lists.specs.Apart.{all_apart}
+use Rattle.vtl_lists.proofs.Aparts.{apart_more, apart_parts}
 use Rattle.vtl_cell.specs.Row.{Row, same_key, same_row}
 use Rattle.vtl_tree.specs.DataSet.{Distinct, IsDataSet, is_point}
 use Rattle.vtl_tree.specs.Structure.{IsStructure, columns_of, key_width}

@@ -1,7 +1,7 @@
 -- The fault of an operator is the worst of the faults of its values.
 use Rattle.std.proofs.Common.{◌≡◌, Bool, true, false, cond, ◌||◌, List, [], ◌∷◌, map, Option, Some, None, Ok, Err, refl, ap, ◌∙◌}
 use Rattle.std.specs.List.{list_any}
-use Rattle.vtl_cell.specs.Settings.{Settings}
+use Rattle.vtl_decimal.specs.Settings.{Settings}
 use Rattle.vtl_cell.specs.declared.cell.Cell.{Cell}
 use Rattle.vtl_cell.specs.Outcome.{Fault, DivZero, Range, Outcome, fault_in, faults_by, join, unless}
 use Rattle.vtl_cell.specs.Row.{Row}

@@ -2,21 +2,21 @@
 use Rattle.std.proofs.Common.{◌≡◌, ℕ, zero, suc, List, [], ◌∷◌, Bool, true, false, ◌||◌, cond, map, take, Some, refl, sym, ap, ◌∙◌, subst, true≢false}
 use Rattle.std.specs.List.{AllByRecursion, filter, find}
 use Rattle.std.specs.Option.{option_to_list}
-use Rattle.vtl_cell.specs.Apart.{all_apart}
+use Rattle.vtl_lists.specs.Apart.{all_apart}
 use Rattle.vtl_cell.specs.Row.{Row, same_key, same_row}
 use Rattle.vtl_cell.specs.declared.cell.Cell.{Cell}
 use Rattle.vtl_cell.specs.declared.kind.Kind.{Kind}
-use Rattle.vtl_cell.proofs.Aparts.{apart_parts}
+use Rattle.vtl_lists.proofs.Aparts.{apart_parts}
 use Rattle.vtl_cell.proofs.Rows.{same_row-is, same_row-refl}
-use Rattle.vtl_cell.proofs.Sorts.{AllByRecursion-filter}
+use Rattle.vtl_lists.proofs.Sorts.{AllByRecursion-filter}
 use Rattle.vtl_tree.specs.DataSet.{IsDataSet, is_point}
 use Rattle.vtl_tree.specs.Environment.{DataSet}
 use Rattle.vtl_tree.specs.Structure.{IsStructure, columns_of, key_width, names_of, same_name}
 use Rattle.vtl_tree.specs.declared.structure.Component.{Component}
 use Rattle.vtl_tree.specs.declared.structure.Structure.{Structure}
-use Rattle.vtl_windows.specs.Names.{is_among}
+use Rattle.check_shapes.specs.Names.{is_among}
 use Rattle.vtl_meaning.specs.Agreement.{OperandPoint, agree_in, common_identifiers, first_agreeing, has_identifier, operand_point, points_agree, values_in}
-use Rattle.vtl_windows.specs.Columns.{identifiers_of, place_of}
+use Rattle.check_shapes.specs.Columns.{identifiers_of, place_of}
 use Rattle.vtl_meaning.specs.LookUps.{value_named}
 use Rattle.vtl_meaning.specs.Made.{AreAmong, IsColumnAt}
 use Rattle.vtl_meaning.proofs.Agreements.{own_values}

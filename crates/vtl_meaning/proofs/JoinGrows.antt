@@ -6,9 +6,9 @@ use Rattle.std.specs.Option.{option_and_then}
 use Rattle.std.proofs.lemmas.Grind.{flat_map-append}
 use Rattle.std.proofs.lemmas.List.{append-nil, map-append}
 use Rattle.std.proofs.lemmas.List.Folds.{flat_map-map, list_any-append}
-use Rattle.vtl_cell.specs.Apart.{all_apart}
+use Rattle.vtl_lists.specs.Apart.{all_apart}
 use Rattle.vtl_cell.specs.Row.{Row, same_key, same_row}
-use Rattle.vtl_cell.proofs.Aparts.{apart_more, apart_parts}
+use Rattle.vtl_lists.proofs.Aparts.{apart_more, apart_parts}
 use Rattle.vtl_cell.proofs.Rows.{same_row-is, same_row-refl}
 use Rattle.vtl_tree.specs.DataSet.{IsDataSet, is_point}
 use Rattle.vtl_tree.specs.Environment.{DataSet}
@@ -21,7 +21,7 @@ use Rattle.vtl_tuples.proofs.Folds.{combinations_more, matching_more}
 use Rattle.vtl_tuples.proofs.Lists.{filter-map, filter_each, flat_map_each, map-flat_map, map-map, map_each, map_same}
 use Rattle.vtl_tuples.proofs.Onces.{among_once, once_already, once_more}
 use Rattle.vtl_meaning.specs.Agreement.{OperandPoint, first_agreeing, key_of, operand_points, points_agree, values_in}
-use Rattle.vtl_windows.specs.Columns.{identifiers_of}
+use Rattle.check_shapes.specs.Columns.{identifiers_of}
 use Rattle.vtl_meaning.specs.JoinWords.{alone, and_crossed, and_part, beside_part, cross_with, full_with, is_there, left_with, point_with}
 use Rattle.vtl_meaning.specs.Joined.{Part, Tuple, agreeing, all_keys, cross_tuples, crossed, full_tuples, keys_in, left_tuples, part_of, present, tuple_at, tuple_beside}
 use Rattle.vtl_meaning.specs.Made.{AreAmong}

@@ -4,11 +4,11 @@ use Rattle.std.specs.Prelude.{is_some, option_map, slice_get}
 use Rattle.std.specs.List.{AllByRecursion, find, list_all}
 use Rattle.std.specs.Option.{option_map_or, option_to_list}
 use Rattle.std.proofs.lemmas.List.Folds.{flat_map-map}
-use Rattle.vtl_cell.specs.Each.{cons_if, each_some}
-use Rattle.vtl_cell.specs.Perm.{Perm, chain}
+use Rattle.vtl_lists.specs.Each.{cons_if, each_some}
+use Rattle.vtl_lists.specs.Perm.{Perm, chain}
 use Rattle.vtl_cell.specs.Row.{Row}
-use Rattle.vtl_cell.proofs.Perms.{Perm-map, Perm-same}
-use Rattle.vtl_cell.proofs.Sorts.{AllByRecursion-filter}
+use Rattle.vtl_lists.proofs.Perms.{Perm-map, Perm-same}
+use Rattle.vtl_lists.proofs.Sorts.{AllByRecursion-filter}
 use Rattle.vtl_syntax.specs.declared.word_groups.JoinKind.TheVariants as join
 use Rattle.vtl_tree.specs.DataSet.{IsDataSet}
 use Rattle.vtl_tree.specs.Environment.{DataSet}
@@ -18,7 +18,7 @@ use Rattle.vtl_tuples.specs.Tuples.{led}
 use Rattle.vtl_tuples.proofs.Leads.{led_is}
 use Rattle.vtl_tuples.proofs.Lists.{filter-map, flat_map_each, map-flat_map, map-map, map_same}
 use Rattle.vtl_meaning.specs.Agreement.{OperandPoint, first_agreeing, key_of, operand_point, operand_points, points_agree}
-use Rattle.vtl_windows.specs.Columns.{identifiers_of}
+use Rattle.check_shapes.specs.Columns.{identifiers_of}
 use Rattle.vtl_meaning.specs.JoinWords.{IsWithin, agreed_tuple}
 use Rattle.vtl_meaning.specs.Joined.{Part, Tuple, agreeing, inner_tuples, is_whole, join_of, left_tuples, part_of, present, reference_place, structures_of, tuple_beside, tuple_point}
 use Rattle.vtl_meaning.specs.Made.{AreAmong, IsJoined}

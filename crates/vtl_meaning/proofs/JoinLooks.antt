@@ -3,7 +3,7 @@ use Rattle.std.proofs.Common.{◌≡◌, ℕ, Bool, true, false, ◌&&◌, ◌||
 use Rattle.std.specs.Prelude.{IfSome, option_map, slice_get}
 use Rattle.std.specs.List.{AllByRecursion, find, flat_map, list_any}
 use Rattle.std.specs.Option.{option_and_then}
-use Rattle.vtl_cell.specs.Each.{cons_if}
+use Rattle.vtl_lists.specs.Each.{cons_if}
 use Rattle.vtl_cell.specs.Row.{Row, same_key, same_row}
 use Rattle.vtl_cell.proofs.Rows.{same_row-is, same_row-refl}
 use Rattle.vtl_syntax.specs.declared.word_groups.JoinKind.{JoinKind}
@@ -17,7 +17,7 @@ use Rattle.vtl_tuples.specs.Tuples.{combinations}
 use Rattle.vtl_tuples.proofs.Lists.{map-map}
 use Rattle.vtl_tuples.proofs.Onces.{among_once}
 use Rattle.vtl_meaning.specs.Agreement.{OperandPoint, key_of, operand_point, operand_points, values_in}
-use Rattle.vtl_windows.specs.Columns.{identifiers_of}
+use Rattle.check_shapes.specs.Columns.{identifiers_of}
 use Rattle.vtl_meaning.specs.JoinWords.{looked_tuple, point_with, points_at, whole_point}
 use Rattle.vtl_meaning.specs.Joined.{all_keys, crossed, is_whole, join_of, keys_in, reference_of, reference_place, structures_of, tuple_at, tuple_beside, tuple_point}
 use Rattle.vtl_meaning.specs.Made.{AreAmong, GoTogether, IsJoined}

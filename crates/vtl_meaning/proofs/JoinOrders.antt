@@ -3,9 +3,9 @@ use Rattle.std.proofs.Common.{◌≡◌, ℕ, zero, suc, Bool, true, false, not,
 use Rattle.std.specs.Prelude.{slice_get}
 use Rattle.std.specs.List.{AllByRecursion, filter, find, flat_map}
 use Rattle.std.specs.Option.{option_to_list}
-use Rattle.vtl_cell.specs.Perm.{Perm, empty, keep, cross, chain}
+use Rattle.vtl_lists.specs.Perm.{Perm, empty, keep, cross, chain}
 use Rattle.vtl_cell.specs.Row.{Row, same_row}
-use Rattle.vtl_cell.proofs.Perms.{AllByRecursion-Perm, Perm-append, Perm-filter, Perm-flat_map, Perm-flat_map_each, Perm-map, Perm-same, length-Perm}
+use Rattle.vtl_lists.proofs.Perms.{AllByRecursion-Perm, Perm-append, Perm-filter, Perm-flat_map, Perm-flat_map_each, Perm-map, Perm-same, length-Perm}
 use Rattle.vtl_cell.proofs.Rows.{same_row-is, same_row-refl}
 use Rattle.vtl_syntax.specs.declared.word_groups.JoinKind.{JoinKind}
 use Rattle.vtl_syntax.specs.declared.word_groups.JoinKind.TheVariants as join
@@ -17,7 +17,7 @@ use Rattle.vtl_tuples.specs.Keys.{TellsApart, each_once}
 use Rattle.vtl_tuples.specs.Tuples.{combinations}
 use Rattle.vtl_tuples.proofs.Lists.{map_each}
 use Rattle.vtl_meaning.specs.Agreement.{OperandPoint, agree_in, key_of, operand_point, operand_points, values_in}
-use Rattle.vtl_windows.specs.Columns.{identifiers_of}
+use Rattle.check_shapes.specs.Columns.{identifiers_of}
 use Rattle.vtl_meaning.specs.Joined.{Part, all_keys, crossed, full_tuples, is_whole, join_of, joined_of, keys_in, left_tuples, part_of, reference_place, structures_of, tuple_at, tuple_beside, tuple_point, tuples_of}
 use Rattle.vtl_meaning.specs.Made.{AreAmong, GoTogether, IsJoined}
 use Rattle.vtl_meaning.specs.Orders.{SameOperands}

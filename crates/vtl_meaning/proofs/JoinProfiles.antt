@@ -5,10 +5,10 @@ use Rattle.std.specs.List.{AllByRecursion, flat_map}
 use Rattle.std.specs.Option.{option_map_or}
 use Rattle.vtl_cell.specs.Profile.{IsOfProfile}
 use Rattle.vtl_cell.specs.Row.{Row, column_of, same_row}
-use Rattle.vtl_cell.specs.Settings.{Settings}
+use Rattle.vtl_decimal.specs.Settings.{Settings}
 use Rattle.vtl_cell.specs.declared.cell.Cell.{Cell}
 use Rattle.vtl_cell.specs.declared.cell.Cell.TheVariants as c
-use Rattle.vtl_cell.proofs.Sorts.{AllByRecursion-filter}
+use Rattle.vtl_lists.proofs.Sorts.{AllByRecursion-filter}
 use Rattle.vtl_syntax.specs.declared.word_groups.JoinKind.{JoinKind}
 use Rattle.vtl_syntax.specs.declared.word_groups.JoinKind.TheVariants as join
 use Rattle.vtl_tree.specs.DataSet.{AreOfProfile}
@@ -18,7 +18,7 @@ use Rattle.vtl_tree.specs.declared.structure.Component.{Component}
 use Rattle.vtl_tree.specs.declared.structure.Structure.{Structure}
 use Rattle.vtl_tuples.specs.Tuples.{combinations}
 use Rattle.vtl_meaning.specs.Agreement.{OperandPoint, agree_in, operand_point, operand_points, values_in}
-use Rattle.vtl_windows.specs.Columns.{identifiers_of, measures_of, place_of}
+use Rattle.check_shapes.specs.Columns.{identifiers_of, measures_of, place_of}
 use Rattle.vtl_meaning.specs.Joined.{Part, Tuple, all_keys, attributes_in, crossed, is_whole, join_of, joined_of, keys_in, left_tuples, measures_in, present, reference_of, reference_place, structures_of, tuple_at, tuple_beside, tuple_point, tuples_of, values_or_nulls}
 use Rattle.vtl_meaning.specs.LookUps.{values_named}
 use Rattle.vtl_meaning.specs.Made.{attributes_of}

@@ -1,14 +1,3 @@
-pub use Rattle.check_joins.proofs.Twins
-pub use Rattle.vtl_windows.proofs.AnalyticOrders
-pub use Rattle.vtl_windows.proofs.AnalyticPoints
-pub use Rattle.vtl_windows.proofs.GroupKinds
-pub use Rattle.vtl_windows.proofs.GroupLooks
-pub use Rattle.vtl_windows.proofs.GroupOrders
-pub use Rattle.vtl_windows.proofs.GroupPoints
-pub use Rattle.vtl_windows.proofs.GroupShaped
-pub use Rattle.vtl_windows.proofs.Partitions as WindowPartitions
-pub use Rattle.vtl_windows.proofs.Places as WindowPlaces
-pub use Rattle.vtl_windows.proofs.Shaped as AnalyticShaped
 pub mod Agreements
 mod Determined
 pub mod Drawn

@@ -3,9 +3,9 @@ use Rattle.std.proofs.Common.{◌≡◌, Bool, true, false, cond, List, ◌++◌
 use Rattle.std.specs.Prelude.{option_map}
 use Rattle.std.specs.List.{filter}
 use Rattle.std.specs.Option.{option_to_list}
-use Rattle.vtl_cell.specs.Settings.{Settings}
-use Rattle.vtl_cell.specs.Perm.{Perm, chain}
-use Rattle.vtl_cell.proofs.Perms.{Perm-filter, Perm-flat_map, Perm-flat_map_each, Perm-map, Perm-same}
+use Rattle.vtl_decimal.specs.Settings.{Settings}
+use Rattle.vtl_lists.specs.Perm.{Perm, chain}
+use Rattle.vtl_lists.proofs.Perms.{Perm-filter, Perm-flat_map, Perm-flat_map_each, Perm-map, Perm-same}
 use Rattle.vtl_cell.specs.Outcome.{Fault, fault_in, faults_by}
 use Rattle.vtl_cell.specs.Outcomes.{Same, is_true}
 use Rattle.vtl_cell.specs.Row.{Row}
@@ -21,8 +21,8 @@ use Rattle.vtl_tree.specs.declared.structure.Structure.{Structure}
 use Rattle.vtl_tree.proofs.Faults.{Same_unless, faults_by-Perm}
 use Rattle.vtl_tree.proofs.LookUps.{look_respects}
 use Rattle.vtl_nodes.specs.declared.clauses.SubItem.{SubItem}
-use Rattle.vtl_windows.specs.Pairs.{contains}
-use Rattle.vtl_windows.specs.Columns.{identifiers_of, places_in}
+use Rattle.check_shapes.specs.Pairs.{contains}
+use Rattle.check_shapes.specs.Columns.{identifiers_of, places_in}
 use Rattle.vtl_meaning.specs.Operators.{choice_of, has_values, is_first_chosen, joined_point, pair_exps, pair_of, pairs_of, sub_of, taken_at}
 use Rattle.vtl_meaning.specs.Points.{beside, each_point, paired, partner, point_fault, point_of, shown, with_points}
 

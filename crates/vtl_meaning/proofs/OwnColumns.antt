@@ -1,17 +1,17 @@
 -- The columns of a structure stand at the places of their own names.
 use Rattle.std.proofs.Common.{◌≡◌, ℕ, zero, suc, ◌||◌, Bool, true, false, cond, List, [], ◌∷◌, ◌++◌, refl, sym, ap, ◌∙◌, subst}
 use Rattle.std.specs.List.{AllByRecursion, filter, list_any}
-use Rattle.vtl_cell.specs.Apart.{all_apart}
-use Rattle.vtl_cell.specs.Perm.{Perm, empty, keep, chain}
+use Rattle.vtl_lists.specs.Apart.{all_apart}
+use Rattle.vtl_lists.specs.Perm.{Perm, empty, keep, chain}
 use Rattle.vtl_cell.specs.declared.kind.Kind.{Kind}
-use Rattle.vtl_cell.proofs.Aparts.{all_apart-Perm, apart_parts}
-use Rattle.vtl_cell.proofs.Perms.{Perm-append_back, Perm-map, Perm-middle}
+use Rattle.vtl_lists.proofs.Aparts.{all_apart-Perm, apart_parts}
+use Rattle.vtl_lists.proofs.Perms.{Perm-append_back, Perm-map, Perm-middle}
 use Rattle.vtl_tree.specs.Structure.{IsStructure, columns_of, names_of, same_name, same_role}
 use Rattle.vtl_tree.specs.declared.structure.Component.{Component}
 use Rattle.vtl_tree.specs.declared.structure.Role.{Role}
 use Rattle.vtl_tree.specs.declared.structure.Role.TheVariants as role
 use Rattle.vtl_tree.specs.declared.structure.Structure.{Structure}
-use Rattle.vtl_windows.specs.Columns.{identifiers_of, measures_of, others_of, place_of}
+use Rattle.check_shapes.specs.Columns.{identifiers_of, measures_of, others_of, place_of}
 use Rattle.vtl_meaning.specs.Made.{AreAmong, IsColumnAt}
 use Rattle.vtl_meaning.proofs.Kept.{column_front, column_within, place_front}
 use Rattle.vtl_meaning.proofs.Places.{all_back, all_front, all_more, columns_split, identifiers_apart, place_here, place_later, same_name-refl, same_name-sym}

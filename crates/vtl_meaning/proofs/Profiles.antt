@@ -7,18 +7,18 @@ use Rattle.vtl_cell.specs.Conversion.{as_kind}
 use Rattle.vtl_cell.specs.Outcome.{Fault, Outcome, after, fault_in, faults_by, unless}
 use Rattle.vtl_cell.specs.Outcomes.{all_of, branch, first_chosen, is_true, result_of}
 use Rattle.vtl_cell.specs.Profile.{IsOfProfile}
-use Rattle.vtl_cell.specs.Range.{fit_number}
+use Rattle.vtl_decimal.specs.Range.{fit_number}
 use Rattle.vtl_cell.specs.Row.{Row, column_of}
 use Rattle.vtl_cell.specs.ScalarArithmetic.{units}
 use Rattle.vtl_cell.specs.Scalars.{scalar_of}
-use Rattle.vtl_cell.specs.Settings.{Settings}
+use Rattle.vtl_decimal.specs.Settings.{Settings}
 use Rattle.vtl_cell.specs.declared.cell.Cell.{Cell}
 use Rattle.vtl_cell.specs.declared.cell.Cell.TheVariants as c
 use Rattle.vtl_cell.specs.declared.kind.Kind.{Kind}
 use Rattle.vtl_cell.specs.declared.kind.Kind.TheVariants as k
 use Rattle.vtl_cell.specs.declared.operator.ScalarOp.{ScalarOp}
 use Rattle.vtl_cell.specs.declared.operator.ScalarOp.TheVariants as op
-use Rattle.vtl_cell.proofs.Sorts.{AllByRecursion-filter}
+use Rattle.vtl_lists.proofs.Sorts.{AllByRecursion-filter}
 use Rattle.vtl_rows.specs.Tables.{cells_at}
 use Rattle.vtl_scalar.proofs.ProfileLemmas.{Gives, number_gives, value_is_of_profile}
 use Rattle.vtl_tree.specs.Clauses.{filter_of}
@@ -28,8 +28,8 @@ use Rattle.vtl_tree.specs.Structure.{columns_of, key_width}
 use Rattle.vtl_tree.specs.Value.{called, value, values}
 use Rattle.vtl_tree.specs.declared.structure.Component.{Component}
 use Rattle.vtl_tree.specs.declared.structure.Structure.{Structure}
-use Rattle.vtl_windows.specs.Pairs.{contains}
-use Rattle.vtl_windows.specs.Columns.{identifiers_of, measures_of, places_in}
+use Rattle.check_shapes.specs.Pairs.{contains}
+use Rattle.check_shapes.specs.Columns.{identifiers_of, measures_of, places_in}
 use Rattle.vtl_meaning.specs.Made.{AreFor, AreTyped, IsTyped}
 use Rattle.vtl_meaning.specs.Operators.{is_first_chosen, joined_point}
 use Rattle.vtl_meaning.specs.Points.{cell_or_null, each_point, point_fault, point_of}

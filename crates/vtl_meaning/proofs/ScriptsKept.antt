@@ -5,7 +5,7 @@ use Rattle.std.specs.List.{list_all}
 use Rattle.std.specs.Map.{lookup}
 use Rattle.std.specs.Option.{option_map_or}
 use Rattle.std.proofs.lemmas.Bool.{and_parts}
-use Rattle.vtl_cell.specs.Settings.{Settings}
+use Rattle.vtl_decimal.specs.Settings.{Settings}
 use Rattle.vtl_cell.specs.Outcome.{Fault, Outcome, after}
 use Rattle.vtl_cell.specs.Row.{Row}
 use Rattle.vtl_tree.specs.Clauses.{filter_of}
@@ -16,10 +16,10 @@ use Rattle.vtl_tree.specs.declared.structure.Structure.{Structure}
 use Rattle.vtl_nodes.specs.Trees as nodes
 use Rattle.vtl_nodes.specs.Trees.{FormTree, NodeTree, NodeTrees, OperandTrees, structure_of}
 use Rattle.check_joins.specs.Joins as joins
-use Rattle.vtl_windows.specs.AggregatePoints.{aggregate_of}
+use Rattle.vtl_aggregates.specs.Aggregates.{aggregate_of}
 use Rattle.vtl_windows.specs.Analytics.{analytic_of}
 use Rattle.vtl_windows.proofs.AnalyticPoints.{result_is as analytic_is}
-use Rattle.vtl_windows.proofs.GroupPoints.{result_is}
+use Rattle.vtl_aggregates.proofs.GroupPoints.{result_is}
 use Rattle.vtl_meaning.specs.Joined.{join_of, structures_of}
 use Rattle.vtl_meaning.specs.Made.{AreCombined, AreMade, AreMadeOperands, AreMadeStatements, IsJoined, IsLeft, IsMade, IsMadeForm, node_structures, operands_in}
 use Rattle.vtl_meaning.specs.Meaning.{AreDataSets, Outputs, Statement, are_nodes_built, are_operands_built, form_value, is_built, is_built_form, known_in, meaning, node_value, nodes_value, operands_value, points_named, stated, with_first, with_operand, with_output}

@@ -3,8 +3,8 @@ use Rattle.std.proofs.Common.{◌≡◌, ℕ, Bool, true, false, cond, ◌&&◌,
 use Rattle.std.specs.List.{list_all}
 use Rattle.std.specs.Option.{option_map_or}
 use Rattle.std.proofs.lemmas.Bool.{and_parts}
-use Rattle.vtl_cell.specs.Settings.{Settings}
-use Rattle.vtl_cell.specs.Perm.{Perm, empty}
+use Rattle.vtl_decimal.specs.Settings.{Settings}
+use Rattle.vtl_lists.specs.Perm.{Perm, empty}
 use Rattle.vtl_cell.specs.Outcome.{Fault, Outcome, after}
 use Rattle.vtl_cell.specs.Outcomes.{Same}
 use Rattle.vtl_cell.specs.Row.{Row}
@@ -14,10 +14,10 @@ use Rattle.vtl_tree.specs.Structure.{columns_of, same_name}
 use Rattle.vtl_tree.specs.declared.structure.Structure.{Structure}
 use Rattle.vtl_nodes.specs.Trees as nodes
 use Rattle.vtl_nodes.specs.Trees.{FormTree, NodeTree, NodeTrees, OperandTrees, structure_of}
-use Rattle.vtl_windows.specs.AggregatePoints.{aggregate_of}
+use Rattle.vtl_aggregates.specs.Aggregates.{aggregate_of}
 use Rattle.vtl_windows.specs.Analytics.{analytic_of}
 use Rattle.vtl_windows.proofs.AnalyticOrders.{analytics_respect}
-use Rattle.vtl_windows.proofs.GroupOrders.{aggregates_respect}
+use Rattle.vtl_aggregates.proofs.GroupOrders.{aggregates_respect}
 use Rattle.vtl_meaning.specs.Joined.{join_of}
 use Rattle.vtl_meaning.specs.Made.{AreCombined, AreMade, AreMadeOperands, AreMadeStatements, IsJoined, IsMade, IsMadeForm}
 use Rattle.vtl_meaning.specs.Meaning.{AreDataSets, Outputs, Statement, are_nodes_built, are_operands_built, form_value, is_built, is_built_form, known_in, meaning, node_value, nodes_value, operands_value, points_named, stated, with_first, with_operand, with_output}

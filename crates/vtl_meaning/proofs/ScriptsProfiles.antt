@@ -5,8 +5,8 @@ use Rattle.std.specs.List.{filter, flat_map}
 use Rattle.std.specs.Option.{option_map_or}
 use Rattle.vtl_cell.specs.Outcome.{Fault, Outcome, after}
 use Rattle.vtl_cell.specs.Row.{Row}
-use Rattle.vtl_cell.specs.Settings.{Settings}
-use Rattle.vtl_cell.proofs.Sorts.{AllByRecursion-filter}
+use Rattle.vtl_decimal.specs.Settings.{Settings}
+use Rattle.vtl_lists.proofs.Sorts.{AllByRecursion-filter}
 use Rattle.vtl_rows.specs.Tables.{cells_at}
 use Rattle.vtl_tree.specs.Clauses.{filter_of}
 use Rattle.vtl_tree.specs.DataSet.{AreOfProfile}
@@ -15,11 +15,11 @@ use Rattle.vtl_tree.specs.Structure.{columns_of, same_name}
 use Rattle.vtl_tree.specs.declared.structure.Structure.{Structure}
 use Rattle.vtl_nodes.specs.Trees as nodes
 use Rattle.vtl_nodes.specs.Trees.{FormTree, NodeTree, NodeTrees, OperandTrees, structure_of}
-use Rattle.vtl_windows.specs.Columns.{places_in}
-use Rattle.vtl_windows.specs.AggregatePoints.{aggregate_of}
+use Rattle.check_shapes.specs.Columns.{places_in}
+use Rattle.vtl_aggregates.specs.Aggregates.{aggregate_of}
 use Rattle.vtl_windows.specs.Analytics.{analytic_of}
 use Rattle.vtl_windows.proofs.AnalyticPoints.{result_is_proper as analytic_is_proper}
-use Rattle.vtl_windows.proofs.GroupPoints.{result_is_proper}
+use Rattle.vtl_aggregates.proofs.GroupPoints.{result_is_proper}
 use Rattle.vtl_meaning.specs.Joined.{join_of}
 use Rattle.vtl_meaning.specs.Made.{AreMade, AreMadeOperands, AreMadeStatements, IsMade, IsMadeForm}
 use Rattle.vtl_meaning.specs.Meaning.{Outputs, Statement, form_value, known_in, meaning, node_value, nodes_value, operands_value, points_named, stated, with_first, with_operand, with_output}

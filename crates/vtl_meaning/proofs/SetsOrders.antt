@@ -3,11 +3,11 @@ use Rattle.std.proofs.Common.{◌≡◌, ℕ, Bool, true, false, not, cond, ◌&
 use Rattle.std.specs.Prelude.{is_some}
 use Rattle.std.specs.List.{AllByRecursion, filter, find, flat_map, list_all, list_any}
 use Rattle.std.specs.Option.{option_or}
-use Rattle.vtl_cell.specs.Perm.{Perm, chain}
+use Rattle.vtl_lists.specs.Perm.{Perm, chain}
 use Rattle.vtl_cell.specs.Row.{Row, same_key}
 use Rattle.vtl_cell.specs.declared.cell.Cell.TheVariants as c
-use Rattle.vtl_cell.proofs.Aparts.{list_any-Perm}
-use Rattle.vtl_cell.proofs.Perms.{Perm-append, Perm-filter, Perm-map, Perm-same}
+use Rattle.vtl_lists.proofs.Aparts.{list_any-Perm}
+use Rattle.vtl_lists.proofs.Perms.{Perm-append, Perm-filter, Perm-map, Perm-same}
 use Rattle.vtl_syntax.specs.declared.word_groups.Retain.{Retain}
 use Rattle.vtl_tree.specs.DataSet.{Distinct, IsDataSet, look}
 use Rattle.vtl_tree.specs.Environment.{DataSet}

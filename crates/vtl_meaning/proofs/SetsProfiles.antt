@@ -5,10 +5,10 @@ use Rattle.std.proofs.Common.{◌≡◌, ℕ, Bool, true, false, cond, List, [],
 use Rattle.vtl_cell.specs.Kinds.{is_null}
 use Rattle.vtl_cell.specs.Profile.{IsOfProfile}
 use Rattle.vtl_cell.specs.Row.{Row, same_key, same_row}
-use Rattle.vtl_cell.specs.Settings.{Settings}
+use Rattle.vtl_decimal.specs.Settings.{Settings}
 use Rattle.vtl_cell.specs.declared.cell.Cell.{Cell}
 use Rattle.vtl_cell.specs.declared.cell.Cell.TheVariants as c
-use Rattle.vtl_cell.proofs.Sorts.{AllByRecursion-filter}
+use Rattle.vtl_lists.proofs.Sorts.{AllByRecursion-filter}
 use Rattle.vtl_syntax.specs.declared.word_groups.Retain.{Retain}
 use Rattle.vtl_tree.specs.DataSet.{AreOfProfile}
 use Rattle.vtl_tree.specs.Environment.{DataSet}
@@ -17,7 +17,7 @@ use Rattle.vtl_tree.specs.declared.structure.Component.{Component}
 use Rattle.vtl_tree.specs.declared.structure.Structure.{Structure}
 use Rattle.vtl_tuples.specs.Keys.{each_once}
 use Rattle.vtl_meaning.specs.Agreement.{has_agreeing, values_in}
-use Rattle.vtl_windows.specs.Columns.{measures_of, place_of, places_in}
+use Rattle.check_shapes.specs.Columns.{measures_of, place_of, places_in}
 use Rattle.vtl_meaning.specs.LookUps.{value_named}
 use Rattle.vtl_meaning.specs.Operators.{left_of}
 use Rattle.vtl_meaning.specs.Sets.{all_left_of, difference_of, existence_of, has_point, intersection_of, is_retained, reduced, symmetric_difference_of, union_of, with_answer}

@@ -5,12 +5,12 @@ use Rattle.std.proofs.Common.{◌≡◌, ℕ, ◌+◌, ◌<◌, Bool, true, fals
 use Rattle.std.proofs.lemmas.List.{append-nil, length-take-le, map-append}
 use Rattle.std.proofs.lemmas.List.Elements.{filter-append}
 use Rattle.std.proofs.Math.Seq.{take-append_seam}
-use Rattle.vtl_cell.specs.Apart.{all_apart}
+use Rattle.vtl_lists.specs.Apart.{all_apart}
 use Rattle.vtl_cell.specs.Kinds.{is_null}
 use Rattle.vtl_cell.specs.Row.{Row, column_of, same_key, same_row}
 use Rattle.vtl_cell.specs.declared.cell.Cell.{Cell}
 use Rattle.vtl_cell.specs.declared.cell.Cell.TheVariants as c
-use Rattle.vtl_cell.proofs.Aparts.{apart_parts}
+use Rattle.vtl_lists.proofs.Aparts.{apart_parts}
 use Rattle.vtl_cell.proofs.Rows.{same_row-refl}
 use Rattle.vtl_rows.specs.Tables.{cells_at}
 use Rattle.vtl_tree.specs.DataSet.{Distinct, IsDataSet, is_point, look}
@@ -22,13 +22,13 @@ use Rattle.vtl_tree.specs.declared.structure.Role.TheVariants as role
 use Rattle.vtl_tree.specs.declared.structure.Structure.{Structure}
 use Rattle.vtl_tuples.specs.Keys.{each_once}
 use Rattle.vtl_tuples.proofs.Lists.{filter_each, flat_map_same, map-flat_map, map-map, map_same}
-use Rattle.vtl_windows.specs.Choices.{is_chosen, is_identifier}
-use Rattle.vtl_windows.specs.Clauses.{first_kind, names_column}
-use Rattle.vtl_windows.specs.Measures.{made}
-use Rattle.vtl_windows.specs.Names.{component_of, is_among}
-use Rattle.vtl_windows.specs.choices.Choice.TheVariants as choice
+use Rattle.check_shapes.specs.Choices.{is_chosen, is_identifier}
+use Rattle.check_shapes.specs.Clauses.{first_kind, names_column}
+use Rattle.check_shapes.specs.Measures.{made}
+use Rattle.check_shapes.specs.Names.{component_of, is_among}
+use Rattle.check_shapes.specs.declared.choices.Choice.TheVariants as choice
 use Rattle.vtl_meaning.specs.Agreement.{values_in}
-use Rattle.vtl_windows.specs.Columns.{identifiers_of, measures_of, place_of, places_in}
+use Rattle.check_shapes.specs.Columns.{identifiers_of, measures_of, place_of, places_in}
 use Rattle.vtl_meaning.specs.LookUps.{value_named, values_named}
 use Rattle.vtl_meaning.specs.Made.{IsColumnAt, IsUnpivoted}
 use Rattle.vtl_meaning.specs.Points.{with_points}

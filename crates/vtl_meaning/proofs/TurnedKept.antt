@@ -2,14 +2,14 @@
 use Rattle.std.specs.List.{AllByRecursion, cons_option, filter, filter_map, find, flat_map}
 use Rattle.std.specs.Option.{option_map_or, option_to_list}
 use Rattle.std.proofs.Common.{◌≡◌, ℕ, arith, length, length-append, append_assoc, Bool, true, false, not, cond, ◌&&◌, List, [], ◌∷◌, ◌++◌, map, take, Option, Some, None, refl, sym, ap, ◌∙◌, subst, true≢false}
-use Rattle.vtl_cell.specs.Apart.{all_apart}
+use Rattle.vtl_lists.specs.Apart.{all_apart}
 use Rattle.vtl_cell.specs.Kinds.{is_null}
 use Rattle.vtl_cell.specs.Row.{Row, same_key, same_row}
 use Rattle.vtl_cell.specs.declared.cell.Cell.{Cell}
 use Rattle.vtl_cell.specs.declared.cell.Cell.TheVariants as c
-use Rattle.vtl_cell.proofs.Aparts.{all_apart-filter, apart_parts}
+use Rattle.vtl_lists.proofs.Aparts.{all_apart-filter, apart_parts}
 use Rattle.vtl_cell.proofs.Rows.{same_row-is, same_row-refl}
-use Rattle.vtl_cell.proofs.Sorts.{AllByRecursion-filter}
+use Rattle.vtl_lists.proofs.Sorts.{AllByRecursion-filter}
 use Rattle.vtl_rows.specs.Tables.{fits_kinds}
 use Rattle.vtl_tree.specs.DataSet.{IsDataSet, is_point}
 use Rattle.vtl_tree.specs.Environment.{DataSet}
@@ -19,12 +19,12 @@ use Rattle.vtl_tree.specs.declared.structure.Role.TheVariants as role
 use Rattle.vtl_tree.specs.declared.structure.Structure.{Structure}
 use Rattle.vtl_tuples.specs.Keys.{each_once}
 use Rattle.vtl_tuples.proofs.Onces.{once_apart}
-use Rattle.vtl_windows.specs.Choices.{is_chosen, is_identifier}
-use Rattle.vtl_windows.specs.Clauses.{first_kind, names_column}
-use Rattle.vtl_windows.specs.Names.{is_among}
-use Rattle.vtl_windows.specs.choices.Choice.TheVariants as choice
+use Rattle.check_shapes.specs.Choices.{is_chosen, is_identifier}
+use Rattle.check_shapes.specs.Clauses.{first_kind, names_column}
+use Rattle.check_shapes.specs.Names.{is_among}
+use Rattle.check_shapes.specs.declared.choices.Choice.TheVariants as choice
 use Rattle.vtl_meaning.specs.Agreement.{key_of, values_in}
-use Rattle.vtl_windows.specs.Columns.{identifiers_of, kind_named, measures_of, others_of, place_of}
+use Rattle.check_shapes.specs.Columns.{identifiers_of, kind_named, measures_of, others_of, place_of}
 use Rattle.vtl_meaning.specs.LookUps.{value_named}
 use Rattle.vtl_meaning.specs.Made.{AreAmong, IsColumnAt, IsPivoted, IsUnpivoted}
 use Rattle.vtl_meaning.specs.Turned.{coded_value, codes_of, is_coded, named_point, other_identifiers, pivot_of, pivoted_point, unpivot_of, unpivoted_points}

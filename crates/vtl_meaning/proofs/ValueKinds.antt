@@ -1,9 +1,9 @@
 -- The value of a typed expression is null or of exactly its kind.
 use Rattle.std.proofs.Common.{◌≡◌, ℕ, zero, suc, Bool, true, false, List, [], ◌∷◌, map, Result, Ok, Err, Option, Some, None, refl, subst}
 use Rattle.std.specs.Prelude.{ℤ, IfOk, ◌&&◌, not, if◌then◌else◌}
-use Rattle.vtl_cell.specs.number.Fault.{Fault as DecimalFault}
-use Rattle.vtl_cell.specs.Range.{fit_number}
-use Rattle.vtl_cell.specs.Settings.{Settings}
+use Rattle.vtl_decimal.specs.declared.number.Fault.{Fault as DecimalFault}
+use Rattle.vtl_decimal.specs.Range.{fit_number}
+use Rattle.vtl_decimal.specs.Settings.{Settings}
 use Rattle.vtl_cell.specs.Conversion.{as_kind}
 use Rattle.vtl_cell.specs.Kinds.{is_null, is_of, kind_of}
 use Rattle.vtl_cell.specs.Outcome.{Outcome, after}
@@ -28,7 +28,7 @@ use Rattle.vtl_tree.specs.Structure.{same_role}
 use Rattle.vtl_tree.specs.Value.{called, value, values}
 use Rattle.vtl_tree.specs.declared.structure.Component.{Component}
 use Rattle.vtl_tree.specs.declared.structure.Role.TheVariants as role
-use Rattle.vtl_windows.specs.Kinds.{exp_kind}
+use Rattle.check_values.specs.Kinds.{exp_kind}
 use Rattle.vtl_meaning.specs.Made.{AreTyped, IsColumnAt, IsTyped, kinds_in}
 
 -- null, or of exactly this kind; and the same of a value that may have a fault

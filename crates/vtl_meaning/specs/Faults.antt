@@ -1,7 +1,7 @@
 -- The fault of an operator: division by zero where any whole value has it, else out of range where any has it.
 use Rattle.std.specs.Prelude.{Bool, true, false, cond, List, Ok, Err}
 use Rattle.std.specs.List.{list_any}
-use Rattle.vtl_cell.specs.Settings.{Settings}
+use Rattle.vtl_decimal.specs.Settings.{Settings}
 use Rattle.vtl_cell.specs.declared.cell.Cell.{Cell}
 use Rattle.vtl_cell.specs.Outcome.{Fault, DivZero, Range, Outcome}
 use Rattle.vtl_cell.specs.Row.{Row}

@@ -2,7 +2,7 @@
 use Rattle.std.specs.Prelude.{ℕ, Bool, not, List, [], ◌∷◌, ◌++◌, cond, filter, map, Option, Some, None, option_map, slice_get}
 use Rattle.std.specs.List.{flat_map, list_any}
 use Rattle.std.specs.Option.{option_and_then, option_map_or}
-use Rattle.vtl_cell.specs.Each.{cons_if}
+use Rattle.vtl_lists.specs.Each.{cons_if}
 use Rattle.vtl_cell.specs.Row.{Row, same_row}
 use Rattle.vtl_tree.specs.DataSet.{IsDataSet, look}
 use Rattle.vtl_tree.specs.Environment.{DataSet}
@@ -11,7 +11,7 @@ use Rattle.vtl_tree.specs.declared.structure.Component.{Component}
 use Rattle.vtl_tree.specs.declared.structure.Structure.{Structure}
 use Rattle.vtl_tuples.specs.Keys.{item_at}
 use Rattle.vtl_meaning.specs.Agreement.{OperandPoint, first_agreeing, key_of, operand_point, operand_points, values_in}
-use Rattle.vtl_windows.specs.Columns.{identifiers_of}
+use Rattle.check_shapes.specs.Columns.{identifiers_of}
 use Rattle.vtl_meaning.specs.Joined.{Part, Tuple, is_whole, part_of, present, tuple_point}
 use Rattle.vtl_meaning.specs.LookUps.{part_for}
 use Rattle.vtl_meaning.specs.Made.{AreAmong}

@@ -4,7 +4,7 @@ use Rattle.vtl_cell.specs.Kinds.{is_null}
 use Rattle.vtl_cell.specs.declared.cell.Cell.TheVariants as c
 use Rattle.vtl_cell.specs.declared.operator.ScalarOp.{ScalarOp}
 use Rattle.vtl_cell.specs.declared.operator.ScalarOp.TheVariants as op
-use Rattle.vtl_windows.specs.KindsLiterals.{largest_place, lies_between}
+use Rattle.vtl_cell.specs.Literals.{largest_place, lies_between}
 use Rattle.vtl_tree.specs.CompExp.{CompExp, CompExps, call, comp_exp, const, no_comp_exps}
 
 -- the most digits behind the point that `round` and `trunc` may be asked for, and before it

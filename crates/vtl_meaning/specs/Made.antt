@@ -3,8 +3,8 @@ use Rattle.std.specs.Prelude.{◌≡◌, ◌==◌, ℕ, zero, suc, Bool, true, f
 use Rattle.std.specs.List.{AllByRecursion, flat_map, list_any}
 use Rattle.std.specs.Map.{lookup}
 use Rattle.std.specs.Option.{IfSome, is_none}
-use Rattle.vtl_cell.specs.Settings.{Settings}
-use Rattle.vtl_cell.specs.Apart.{all_apart}
+use Rattle.vtl_decimal.specs.Settings.{Settings}
+use Rattle.vtl_lists.specs.Apart.{all_apart}
 use Rattle.vtl_cell.specs.Profile.{IsOfProfile}
 use Rattle.vtl_cell.specs.ScalarKinds.{kinds_of, meets}
 use Rattle.vtl_cell.specs.declared.kind.Kind.{Kind}
@@ -30,20 +30,20 @@ use Rattle.vtl_nodes.specs.declared.calls.Window.{Window}
 use Rattle.vtl_nodes.specs.declared.clauses.SubItem.{SubItem}
 use Rattle.check_joins.specs.Joins as joins
 use Rattle.check_joins.specs.declared.joins.Operand.{Operand}
-use Rattle.vtl_windows.specs.Choices.{chosen}
-use Rattle.vtl_windows.specs.Clauses.{first_kind, names_column, pivot_components}
-use Rattle.vtl_windows.specs.Measures.{bool_var, given_measures, is_miscounted, made}
-use Rattle.vtl_windows.specs.Operands.{agree, agreed_identifiers}
-use Rattle.vtl_windows.specs.Pairs.{contains, pair_identifiers}
-use Rattle.vtl_windows.specs.choices.Choice.TheVariants as choice
-use Rattle.vtl_windows.specs.names.Wanted.TheVariants as wanted
-use Rattle.vtl_windows.specs.operands.Compared.TheVariants as compared
-use Rattle.vtl_windows.specs.Kinds.{exp_kind}
-use Rattle.vtl_windows.specs.AggregateKinds.{aggregate_kind}
-use Rattle.vtl_windows.specs.AggregateShapes.{IsAggregated}
+use Rattle.check_shapes.specs.Choices.{chosen}
+use Rattle.check_shapes.specs.Clauses.{first_kind, names_column, pivot_components}
+use Rattle.check_shapes.specs.Measures.{bool_var, given_measures, is_miscounted, made}
+use Rattle.check_shapes.specs.Operands.{agree, agreed_identifiers}
+use Rattle.check_shapes.specs.Pairs.{contains, pair_identifiers}
+use Rattle.check_shapes.specs.declared.choices.Choice.TheVariants as choice
+use Rattle.check_shapes.specs.declared.names.Wanted.TheVariants as wanted
+use Rattle.check_shapes.specs.declared.operands.Compared.TheVariants as compared
+use Rattle.check_values.specs.Kinds.{exp_kind}
+use Rattle.vtl_cell.specs.AggregateKinds.{aggregate_kind}
+use Rattle.vtl_aggregates.specs.Shapes.{IsAggregated}
 use Rattle.vtl_windows.specs.Shapes.{IsAnalyzed}
 use Rattle.vtl_meaning.specs.Agreement.{common_identifiers}
-use Rattle.vtl_windows.specs.Columns.{identifiers_of, kind_named, measures_of, others_of, place_of}
+use Rattle.check_shapes.specs.Columns.{identifiers_of, kind_named, measures_of, others_of, place_of}
 use Rattle.vtl_meaning.specs.Joined.{reference_place}
 use Rattle.vtl_meaning.specs.Literals.{HasLiterals}
 use Rattle.vtl_meaning.specs.Meaning.{Statement}

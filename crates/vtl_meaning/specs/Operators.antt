@@ -4,7 +4,7 @@ use Rattle.std.specs.Prelude.{ℕ, List, [], ◌∷◌, ◌++◌, map, filter, l
 use Rattle.std.specs.List.{flat_map, list_all}
 use Rattle.std.specs.Option.{option_map_or, option_to_list}
 use Rattle.std.specs.Prelude.{option_map}
-use Rattle.vtl_cell.specs.Settings.{Settings}
+use Rattle.vtl_decimal.specs.Settings.{Settings}
 use Rattle.vtl_cell.specs.declared.cell.Cell.TheVariants as c
 use Rattle.vtl_cell.specs.declared.operator.ScalarOp.{ScalarOp}
 use Rattle.vtl_cell.specs.Order.{same_cell}
@@ -21,8 +21,8 @@ use Rattle.vtl_tree.specs.declared.structure.Structure.{Structure}
 use Rattle.vtl_nodes.specs.Trees as nodes
 use Rattle.vtl_nodes.specs.Trees.{ItemTree, MeasureTree, ValueTree}
 use Rattle.vtl_nodes.specs.declared.clauses.SubItem.{SubItem}
-use Rattle.vtl_windows.specs.Pairs.{contains}
-use Rattle.vtl_windows.specs.Columns.{column_behind, column_named, columns_named, identifiers_of, measures_of, place_of, places_in}
+use Rattle.check_shapes.specs.Pairs.{contains}
+use Rattle.check_shapes.specs.Columns.{column_behind, column_named, columns_named, identifiers_of, measures_of, place_of, places_in}
 use Rattle.vtl_meaning.specs.Points.{each_point, paired, partner, shown, with_points}
 
 -- an expression for each measure of an operand and the one of the result that it becomes

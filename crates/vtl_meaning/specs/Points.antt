@@ -2,7 +2,7 @@
 use Rattle.std.specs.Prelude.{Ok, Err, List, ◌++◌, map, Option, option_map}
 use Rattle.std.specs.List.{flat_map}
 use Rattle.std.specs.Option.{option_to_list}
-use Rattle.vtl_cell.specs.Settings.{Settings}
+use Rattle.vtl_decimal.specs.Settings.{Settings}
 use Rattle.vtl_cell.specs.declared.cell.Cell.{Cell}
 use Rattle.vtl_cell.specs.declared.cell.Cell.TheVariants as c
 use Rattle.vtl_cell.specs.Outcome.{Fault, Outcome, fault_in, faults_by, unless}
@@ -15,7 +15,7 @@ use Rattle.vtl_tree.specs.Structure.{columns_of, key_width}
 use Rattle.vtl_tree.specs.Value.{value}
 use Rattle.vtl_tree.specs.declared.structure.Component.{Component}
 use Rattle.vtl_tree.specs.declared.structure.Structure.{Structure}
-use Rattle.vtl_windows.specs.Columns.{identifiers_of, places_in}
+use Rattle.check_shapes.specs.Columns.{identifiers_of, places_in}
 
 -- the data set of these points
 abbrev pub with_points : Structure → List Row → DataSet

@@ -3,7 +3,7 @@ use Rattle.std.specs.Prelude.{◌≡◌, ℕ, pos, Bool, true, ◌&&◌}
 use Rattle.std.specs.Int.RustNames.{int_le}
 use Rattle.std.specs.List.{AllByRecursion}
 use Rattle.std.specs.Option.{option_map_or}
-use Rattle.vtl_windows.specs.KindsLiterals.{longest_reach}
+use Rattle.vtl_cell.specs.Literals.{longest_reach}
 use Rattle.vtl_nodes.specs.Trees as nodes
 use Rattle.vtl_nodes.specs.Trees.{AnalyticTree, ValueTree}
 use Rattle.vtl_nodes.specs.declared.calls.AnalyticOp.{AnalyticOp}

@@ -13,17 +13,17 @@ use Rattle.vtl_nodes.specs.Trees.{ItemTree, MeasureTree}
 use Rattle.vtl_syntax.specs.declared.word_groups.JoinKind.{JoinKind}
 use Rattle.check_joins.specs.Joins.{held_names, joined_components}
 use Rattle.check_joins.specs.declared.joins.Operand.{Operand}
-use Rattle.vtl_windows.specs.Choices.{chosen}
-use Rattle.vtl_windows.specs.Clauses.{calculated, is_new, renamed, target_component}
-use Rattle.vtl_windows.specs.Measures.{Gives}
-use Rattle.vtl_windows.specs.Names.{component_of, serves}
-use Rattle.vtl_windows.specs.choices.Choice.{Choice}
-use Rattle.vtl_windows.specs.measures.Outcome.{Outcome}
-use Rattle.vtl_windows.specs.measures.Outcome.TheVariants as outcome
-use Rattle.vtl_windows.specs.names.Wanted.{Wanted}
-use Rattle.vtl_windows.specs.renaming.Renaming.{Renaming}
-use Rattle.vtl_windows.specs.targets.Target.{Target}
-use Rattle.vtl_windows.specs.Kinds.{exp_kind}
+use Rattle.check_shapes.specs.Choices.{chosen}
+use Rattle.check_shapes.specs.Clauses.{calculated, is_new, renamed, target_component}
+use Rattle.check_shapes.specs.Measures.{Gives}
+use Rattle.check_shapes.specs.Names.{component_of, serves}
+use Rattle.check_shapes.specs.declared.choices.Choice.{Choice}
+use Rattle.check_shapes.specs.declared.measures.Outcome.{Outcome}
+use Rattle.check_shapes.specs.declared.measures.Outcome.TheVariants as outcome
+use Rattle.check_shapes.specs.declared.names.Wanted.{Wanted}
+use Rattle.check_shapes.specs.declared.renaming.Renaming.{Renaming}
+use Rattle.check_shapes.specs.declared.targets.Target.{Target}
+use Rattle.check_values.specs.Kinds.{exp_kind}
 use Rattle.vtl_meaning.specs.Operators.{value_exp}
 
 -- a structure whose components all have kinds

@@ -29,7 +29,3 @@ pub use set_laws::{
     set_operators_do_not_see_order, set_operators_keep_data_sets, unions_are_folds,
 };
 pub use structures::structures_are_determined;
-pub use vtl_nodes::{
-    AggItems, AggSpec, AggTarget, CalcItem, CalcValue, JoinOperand, MeasureOp, Node, NodeForm,
-    SubItem,
-};

@@ -1,6 +1,6 @@
 // The law of the structures of results.
 ghost use Rattle.std.specs.Prelude.{◌≡◌, List, true};
-ghost use Rattle.vtl_cell.specs.Settings.{Settings};
+ghost use Rattle.vtl_decimal.specs.Settings.{Settings};
 ghost use Rattle.vtl_cell.specs.declared.operator.ScalarOp.{ScalarOp};
 ghost use Rattle.vtl_nodes.specs.Trees.{FormTree, ItemTree, MeasureTree};
 ghost use Rattle.vtl_nodes.specs.declared.clauses.SubItem.{SubItem};

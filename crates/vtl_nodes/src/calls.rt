@@ -1,6 +1,7 @@
 // Calls over groups and over windows.
 
-use vtl_cell::{Cell, List, Txt};
+use vtl_cell::Cell;
+use vtl_text::{List, Txt};
 
 /// An analytic call: a value of each point from the points of its window.
 #[derive(Drop)]

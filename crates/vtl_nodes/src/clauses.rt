@@ -1,7 +1,8 @@
 // What clauses make and name.
 
 use crate::AnalyticCall;
-use vtl_cell::{Cell, Txt};
+use vtl_cell::Cell;
+use vtl_text::Txt;
 use vtl_tree::{CompExpr, Role};
 
 /// A target of `calc`.

@@ -4,8 +4,9 @@ use crate::{
     AggSpec, AnalyticSpec, CalcItem, CheckSpec, DatapointRules, HierRules, JoinSpec, SubItem,
 };
 use check_shapes::Renaming;
-use vtl_cell::{List, ScalarOp, Txt};
+use vtl_cell::ScalarOp;
 use vtl_syntax::{CheckOut, HierInput, HierOut, Mode, Retain};
+use vtl_text::{List, Txt};
 use vtl_tree::{CompExpr, Structure};
 
 /// A typed expression whose value is a data set.

@@ -1,7 +1,7 @@
 // Rulesets as calls hold them.
 
-use vtl_cell::{List, Txt};
 use vtl_syntax::HierRule;
+use vtl_text::{List, Txt};
 use vtl_tree::CompExpr;
 
 /// A datapoint ruleset, typed over the components of an operand.

@@ -1,8 +1,9 @@
 // What the operators on data sets are given besides their operands.
 
 use crate::{AnalyticOp, CalcItem, Window};
-use vtl_cell::{AggKind, List, Txt};
+use vtl_cell::AggKind;
 use vtl_syntax::{BasicOut, JoinKind};
+use vtl_text::{List, Txt};
 use vtl_tree::{AggCall, CompExpr, Role};
 
 /// What an aggregate operator makes of each group.

@@ -3,8 +3,8 @@ use Rattle.std.proofs.Common.{◌≡◌, ℕ, zero, suc, ◌+◌, ◌<◌, ◌�
 use Rattle.std.specs.List.{list_any, AllByRecursion}
 use Rattle.std.proofs.lemmas.List.{take_more, take_all, take-append-drop}
 use Rattle.std.proofs.lemmas.List.Folds.{list_any-append}
-use Rattle.vtl_cell.specs.Apart.{all_apart}
-use Rattle.vtl_cell.proofs.Aparts.{apart_parts, apart_more}
+use Rattle.vtl_lists.specs.Apart.{all_apart}
+use Rattle.vtl_lists.proofs.Aparts.{apart_parts, apart_more}
 use Rattle.vtl_cell.specs.Row.{Row}
 use Rattle.vtl_rows.specs.Keys.{IsFirstSame, FindsSame}
 use Rattle.vtl_rows.specs.Places.{row_at}

@@ -10,7 +10,7 @@ use Rattle.std.proofs.lemmas.List.{get_or_default}
 use Rattle.std.proofs.lemmas.List.FromFn.{get_or-range_with_len, length-range_with_len}
 use Rattle.std.proofs.lemmas.List.MinMax.{ranks_by}
 use Rattle.std.proofs.lemmas.List.Sorted.{All-permutation, IsPermutation-sym, sorted_far}
-use Rattle.vtl_cell.specs.Sorting.{le_by}
+use Rattle.vtl_lists.specs.Sorting.{le_by}
 use Rattle.vtl_cell.proofs.Keys.{by_keys_total}
 use Rattle.vtl_cell.proofs.Rows.{split_and}
 use Rattle.vtl_cell.specs.Row.{Row}

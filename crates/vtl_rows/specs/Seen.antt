@@ -2,7 +2,7 @@
 use Rattle.std.specs.Prelude.{◌≡◌, ℕ, ◌+◌, ◌<◌, ◌≤◌, ◌^◌, ◌/◌, ◌==◌, ◌&&◌, Bool, true, false, List, Option, None, Some, length, map, take, slice_index_or, bit_and}
 use Rattle.std.specs.List.{fold, range_with_len}
 use Rattle.std.specs.Hash.FoldHasher as folding
-use Rattle.vtl_cell.specs.Apart.{all_apart}
+use Rattle.vtl_lists.specs.Apart.{all_apart}
 use Rattle.vtl_cell.specs.Row.{Row, column_of}
 use Rattle.vtl_cell.specs.declared.cell.Cell.{Cell}
 use Rattle.vtl_cell.specs.contracts.cell.CellHash.TheImpl.{hash_input-value}

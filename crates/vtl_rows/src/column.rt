@@ -1,6 +1,7 @@
 // Columns, and the columns that rows are sorted by.
 
-use vtl_cell::{Kind, Txt};
+use vtl_cell::Kind;
+use vtl_text::Txt;
 
 /// A column of a table: its name, and the kind of its cells.
 #[derive(Debug)]

@@ -7,7 +7,7 @@ use crate::{SharedTable, Table};
 use indexmap::IndexMap;
 use std::alloc::{AllocError, Global};
 use std::marker::Model;
-use vtl_cell::Txt;
+use vtl_text::Txt;
 
 /// Named tables. A contract sees the list of the names with their tables, in the order in which they were put.
 #[derive(Drop)]

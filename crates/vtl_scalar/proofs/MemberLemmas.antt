@@ -17,13 +17,13 @@ use Rattle.std.specs.Prelude.{◌||◌, ◌&&◌, ◌==◌, not, if◌then◌els
 use Rattle.std.specs.declared.cmp.Ordering.{Ordering}
 use Rattle.std.specs.declared.cmp.Ordering.TheVariants.{Less, Equal, Greater}
 use Rattle.vtl_cell.proofs.Orders.{cell_cmp_total, derived_is}
-use Rattle.vtl_cell.proofs.Perms.{AllByRecursion-Perm, Perm-append, Perm-append_back, Perm-append_comm, Perm-from_IsPermutation, Perm-middle, Perm-same, length-Perm}
+use Rattle.vtl_lists.proofs.Perms.{AllByRecursion-Perm, Perm-append, Perm-append_back, Perm-append_comm, Perm-from_IsPermutation, Perm-middle, Perm-same, length-Perm}
 use Rattle.vtl_cell.specs.Kinds.{is_null}
 use Rattle.vtl_cell.specs.Order.{cell_cmp, kind_rank}
-use Rattle.vtl_cell.specs.Perm.{Perm, empty, keep, cross, chain}
+use Rattle.vtl_lists.specs.Perm.{Perm, empty, keep, cross, chain}
 use Rattle.vtl_cell.specs.ScalarArithmetic.{units}
 use Rattle.vtl_cell.specs.ScalarComparison.{combined, compared, member_of, membership_of, order_of, order_within}
-use Rattle.vtl_cell.specs.Settings.{Settings}
+use Rattle.vtl_decimal.specs.Settings.{Settings}
 use Rattle.vtl_cell.specs.contracts.cell.CellOrd.TheImpl.{cmp-value}
 use Rattle.vtl_cell.specs.declared.cell.Cell.{Cell}
 use Rattle.vtl_cell.specs.declared.cell.Cell.TheVariants as c

@@ -9,7 +9,8 @@ ghost use Rattle.vtl_scalar.specs.Given.{given_cell};
 
 use crate::{ScalarErr, apply_one, apply_three, apply_two, to_kind};
 use std::alloc::{AllocError, Global};
-use vtl_cell::{Cell, Kind, Profile, ScalarOp, clone_cell};
+use vtl_cell::{Cell, Kind, ScalarOp, clone_cell};
+use vtl_decimal::Profile;
 
 /// A value that an expression gives: one that stands in a row or in the expression is lent.
 pub enum Given<'v> {

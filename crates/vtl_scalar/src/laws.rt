@@ -2,7 +2,7 @@
 ghost use Rattle.std.specs.Prelude.{◌≡◌, ◌≤◌, ◌∷◌, ℤ, List, map, false, IfOk, Ok, Some, true, IsOk};
 ghost use Rattle.std.specs.List.{AllByRecursion, list_any};
 ghost use Rattle.vtl_cell.specs.Kinds.{is_null, kind_of};
-ghost use Rattle.vtl_cell.specs.Perm.{Perm};
+ghost use Rattle.vtl_lists.specs.Perm.{Perm};
 ghost use Rattle.vtl_cell.specs.Profile.{IsOfProfile};
 ghost use Rattle.vtl_cell.specs.ScalarArithmetic.{as_number, units};
 ghost use Rattle.vtl_cell.specs.ScalarComparison.{membership_of};

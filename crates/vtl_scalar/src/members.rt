@@ -1,7 +1,7 @@
 // Sets that many values are looked up in.
 ghost use Rattle.std.specs.Prelude.{◌≡◌, ◌<◌, ◌∷◌, IfOk, length, true};
 ghost use Rattle.std.specs.List.{list_all};
-ghost use Rattle.vtl_cell.specs.Perm.{Perm};
+ghost use Rattle.vtl_lists.specs.Perm.{Perm};
 ghost use Rattle.vtl_cell.specs.ScalarComparison.{member_of, membership_of};
 ghost use Rattle.vtl_scalar.specs.Members.{AreInOrder, are_of_one_kind, is_of_one_kind};
 
@@ -9,7 +9,8 @@ use crate::comparison::{member, order};
 use std::alloc::{AllocError, Global};
 use std::cmp::Ordering;
 use std::marker::Model;
-use vtl_cell::{Cell, Profile, clone_cell};
+use vtl_cell::{Cell, clone_cell};
+use vtl_decimal::Profile;
 
 // Whether two cells are of one kind; an integer and a number are of two.
 fn is_of_one_kind(a: &Cell, b: &Cell) -> bool

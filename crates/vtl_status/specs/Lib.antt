@@ -1,11 +1,2 @@
-pub use Rattle.vtl_csv.specs.CsvText
-pub use Rattle.vtl_csv.specs.Declarations
-pub use Rattle.vtl_csv.specs.InputFields
-pub use Rattle.vtl_csv.specs.InputFile
-pub use Rattle.vtl_csv.specs.InputSteps
-pub use Rattle.vtl_csv.specs.Plain
-pub use Rattle.vtl_csv.specs.StructuresFile
-pub use Rattle.vtl_csv.specs.TableText
-pub use Rattle.vtl_csv.specs.declared.input
 pub mod PartView
 pub mod StatusLine

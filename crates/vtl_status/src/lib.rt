@@ -9,4 +9,3 @@
 mod status;
 
 pub use status::{Status, tell};
-pub use vtl_csv::{InputErr, StructErr, read_dataset, read_structures, write_dataset, write_rows};

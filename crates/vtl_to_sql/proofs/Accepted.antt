@@ -3,30 +3,30 @@ use Rattle.std.proofs.Common.{inl, inr, ◌≡◌, ◌≤◌, ℕ, Bool, true, f
 use Rattle.std.proofs.lemmas.Bool.{and_parts, false≢true}
 use Rattle.std.specs.List.{AllByRecursion}
 use Rattle.std.specs.Map.{lookup}
-use Rattle.vtl_cell.specs.Settings.{Settings}
-use Rattle.vtl_cell.specs.Words.{is_name}
+use Rattle.vtl_decimal.specs.Settings.{Settings}
+use Rattle.vtl_text.specs.Words.{is_name}
 use Rattle.vtl_syntax.specs.Depth.{depth_limit}
 use Rattle.vtl_syntax.specs.Written.{AreWritten}
 use Rattle.vtl_tree.specs.Structure.{same_name}
 use Rattle.vtl_tree.specs.Structures.{AreStructures, Named, has_name}
 use Rattle.vtl_tree.specs.declared.structure.Structure.{Structure}
-use Rattle.rules_to_sql.specs.Meaning.{are_nodes_built, are_operands_built, is_built, is_built_form}
-use Rattle.rules_to_sql.specs.Nodes.{all_nodes, nodes_in, operand_nodes}
-use Rattle.rules_to_sql.specs.Trees as nodes
-use Rattle.rules_to_sql.specs.Trees.{FormTree, NodeTree, NodeTrees, OperandTrees, structure_of}
-use Rattle.rules_to_sql.specs.Checked.{IsTyped, TypedScript, nodes_of, tree_of}
-use Rattle.rules_to_sql.specs.LawsNames.{names_at, names_in, names_of}
-use Rattle.rules_to_sql.specs.Transformations.{Transformation, transformations}
-use Rattle.rules_to_sql.specs.Uses.{reads}
-use Rattle.rules_to_sql.proofs.NameLemmas.{names_append}
-use Rattle.rules_to_sql.specs.BackendStatements.{statements_of, with_nodes}
-use Rattle.rules_to_sql.specs.Depths.{node_depth}
-use Rattle.rules_to_sql.specs.LawsScripts.{AreKnownAlike, AreMadeFrom}
-use Rattle.rules_to_sql.proofs.DepthBounds.{node-below}
-use Rattle.rules_to_sql.proofs.DepthScripts.{written-depth}
-use Rattle.rules_to_sql.proofs.Lists as lists
-use Rattle.rules_to_sql.proofs.Over.{made_over}
-use Rattle.rules_to_sql.proofs.Scripts.{script-made}
+use Rattle.vtl_meaning.specs.Meaning.{are_nodes_built, are_operands_built, is_built, is_built_form}
+use Rattle.vtl_nodes.specs.Nodes.{all_nodes, nodes_in, operand_nodes}
+use Rattle.vtl_nodes.specs.Trees as nodes
+use Rattle.vtl_nodes.specs.Trees.{FormTree, NodeTree, NodeTrees, OperandTrees, structure_of}
+use Rattle.vtl_check.specs.Checked.{IsTyped, TypedScript, nodes_of, tree_of}
+use Rattle.vtl_check.specs.Names.{names_at, names_in, names_of}
+use Rattle.vtl_check.specs.Transformations.{Transformation, transformations}
+use Rattle.vtl_check.specs.Uses.{reads}
+use Rattle.vtl_check.proofs.NameLemmas.{names_append}
+use Rattle.vtl_backend.specs.Statements.{statements_of, with_nodes}
+use Rattle.check_laws.specs.Depths.{node_depth}
+use Rattle.check_laws.specs.Scripts.{AreKnownAlike, AreMadeFrom}
+use Rattle.check_laws.proofs.DepthBounds.{node-below}
+use Rattle.check_laws.proofs.DepthScripts.{written-depth}
+use Rattle.check_laws.proofs.Lists as lists
+use Rattle.check_laws.proofs.Over.{made_over}
+use Rattle.check_laws.proofs.Scripts.{script-made}
 use Rattle.vtl_to_sql.specs.Accepted.{AreFew, AreHeld, HoldsParts, are_translated, is_translated}
 use Rattle.vtl_to_sql.specs.Conditions.{AreTranslated, IsScript}
 use Rattle.vtl_to_sql.proofs.AcceptedComponents.{AreKnownNamed, declared_named}

@@ -6,17 +6,17 @@ use Rattle.std.specs.Prelude.{ℤ}
 use Rattle.std.specs.Result.{result_ok}
 use Rattle.std.proofs.lemmas.Bool.{false≢true}
 use Rattle.std.proofs.lemmas.List.{map-append}
-use Rattle.vtl_cell.specs.Apart.{all_apart}
+use Rattle.vtl_lists.specs.Apart.{all_apart}
 use Rattle.vtl_cell.specs.Conversion.{as_kind}
-use Rattle.vtl_cell.specs.Range.{fit_number}
-use Rattle.vtl_cell.specs.Results.{◌>>=◌}
+use Rattle.vtl_decimal.specs.Range.{fit_number}
+use Rattle.vtl_lists.specs.Results.{◌>>=◌}
 use Rattle.vtl_cell.specs.ScalarArithmetic.{number, units}
-use Rattle.vtl_cell.specs.Settings.{Settings}
+use Rattle.vtl_decimal.specs.Settings.{Settings}
 use Rattle.vtl_cell.specs.declared.cell.Cell.{Cell}
 use Rattle.vtl_cell.specs.declared.cell.Cell.TheVariants as c
 use Rattle.vtl_cell.specs.declared.kind.Kind.{Kind}
 use Rattle.vtl_cell.specs.declared.kind.Kind.TheVariants as k
-use Rattle.vtl_cell.specs.number.Fault.{Fault}
+use Rattle.vtl_decimal.specs.declared.number.Fault.{Fault}
 use Rattle.vtl_text.proofs.Apart.{apart_push}
 use Rattle.vtl_tree.specs.CompExp.{CompExp}
 use Rattle.vtl_tree.specs.Structure.{same_name}
@@ -32,39 +32,39 @@ use Rattle.vtl_syntax.specs.declared.parts.Literal.{Literal}
 use Rattle.vtl_syntax.specs.declared.parts.RenamePart.{RenamePart}
 use Rattle.vtl_syntax.specs.declared.parts.SubPart.{SubPart}
 use Rattle.vtl_syntax.specs.declared.word_groups.WrittenRole.{WrittenRole}
-use Rattle.rules_to_sql.specs.Meaning.{is_built_form}
-use Rattle.rules_to_sql.specs.Trees as nodes
-use Rattle.rules_to_sql.specs.Trees.{FormTree, ItemTree, NodeTree, structure_of}
-use Rattle.rules_to_sql.specs.clauses.SubItem.{SubItem}
+use Rattle.vtl_meaning.specs.Meaning.{is_built_form}
+use Rattle.vtl_nodes.specs.Trees as nodes
+use Rattle.vtl_nodes.specs.Trees.{FormTree, ItemTree, NodeTree, structure_of}
+use Rattle.vtl_nodes.specs.declared.clauses.SubItem.{SubItem}
 use Rattle.vtl_syntax.specs.Trees as tree
 use Rattle.vtl_syntax.specs.Trees.{Calcs, TargetsTree}
 use Rattle.vtl_syntax.specs.Written.{AreMoreCalcs, AreWrittenCalcs, AreWrittenTargets}
-use Rattle.rules_to_sql.specs.Groupings.{grouping_of}
-use Rattle.rules_to_sql.specs.Places.{at_points}
-use Rattle.rules_to_sql.specs.Targets.{aggr_clause, aggr_name, aggr_tree, calc_name, call_in, is_aggregate, item_of, made_as, with_item, with_made}
-use Rattle.rules_to_sql.specs.Typing.{aggrs_typed, calc_value, calcs_typed, having_typed, over_operand, targets_typed, typed}
-use Rattle.rules_to_sql.specs.targets.Made.{Made}
+use Rattle.check_values.specs.Groupings.{grouping_of}
+use Rattle.check_operators.specs.Places.{at_points}
+use Rattle.check_clauses.specs.Targets.{aggr_clause, aggr_name, aggr_tree, calc_name, call_in, is_aggregate, item_of, made_as, with_item, with_made}
+use Rattle.check_expressions.specs.Typing.{aggrs_typed, calc_value, calcs_typed, having_typed, over_operand, targets_typed, typed}
+use Rattle.check_clauses.specs.declared.targets.Made.{Made}
 use Rattle.check_faults.specs.declared.rules.Rule.{Rule}
 use Rattle.check_shapes.specs.Clauses.{calc_form}
 use Rattle.check_shapes.specs.Names.{component_of, is_among, known, known_as, name_tests}
 use Rattle.check_shapes.specs.declared.names.Wanted.TheVariants as wanted
 use Rattle.check_shapes.specs.declared.renaming.Renaming.{Renaming}
-use Rattle.rules_to_sql.specs.ValuesColumns.{name_of}
-use Rattle.rules_to_sql.specs.Groupings.{grouping_typed}
-use Rattle.rules_to_sql.specs.ValuesLiterals.{kind_met, literal_cell, literal_kind, valued}
-use Rattle.rules_to_sql.specs.Clauses as clauses
-use Rattle.rules_to_sql.specs.Clauses.{cell_as, filter_form, kept_of, keeping_form, keeping_tree, name_known, names_typed, old_names, references_in, renamed_of, renaming_form, renaming_known, renaming_to, renamings_typed, sub_form, sub_item, sub_known, sub_names, sub_of, sub_value, subs_typed}
-use Rattle.rules_to_sql.specs.Places.{Env, at_groups}
-use Rattle.rules_to_sql.specs.Targets.{calc_clause, is_analytic, target_of}
-use Rattle.rules_to_sql.specs.Typed.{TypedTree, components_in, condition_in, value_in}
-use Rattle.rules_to_sql.specs.places.Joined.{Joined}
-use Rattle.rules_to_sql.specs.places.Place.{Place}
-use Rattle.rules_to_sql.specs.places.Place.TheVariants as place
-use Rattle.rules_to_sql.specs.Gives.{Gives}
-use Rattle.rules_to_sql.proofs.Columns.{among-any}
-use Rattle.rules_to_sql.proofs.Lists as lists
-use Rattle.rules_to_sql.proofs.Literals.{IsCell, literal-cell, valued-gives}
-use Rattle.rules_to_sql.proofs.Steps.{after, tested, then}
+use Rattle.check_values.specs.Columns.{name_of}
+use Rattle.check_values.specs.Groupings.{grouping_typed}
+use Rattle.check_values.specs.Literals.{kind_met, literal_cell, literal_kind, valued}
+use Rattle.check_clauses.specs.Clauses as clauses
+use Rattle.check_clauses.specs.Clauses.{cell_as, filter_form, kept_of, keeping_form, keeping_tree, name_known, names_typed, old_names, references_in, renamed_of, renaming_form, renaming_known, renaming_to, renamings_typed, sub_form, sub_item, sub_known, sub_names, sub_of, sub_value, subs_typed}
+use Rattle.check_operators.specs.Places.{Env, at_groups}
+use Rattle.check_clauses.specs.Targets.{calc_clause, is_analytic, target_of}
+use Rattle.check_operators.specs.Typed.{TypedTree, components_in, condition_in, value_in}
+use Rattle.check_operators.specs.declared.places.Joined.{Joined}
+use Rattle.check_operators.specs.declared.places.Place.{Place}
+use Rattle.check_operators.specs.declared.places.Place.TheVariants as place
+use Rattle.check_laws.specs.Gives.{Gives}
+use Rattle.check_laws.proofs.Columns.{among-any}
+use Rattle.check_laws.proofs.Lists as lists
+use Rattle.check_laws.proofs.Literals.{IsCell, literal-cell, valued-gives}
+use Rattle.check_laws.proofs.Steps.{after, tested, then}
 use Rattle.vtl_to_sql.proofs.AcceptedWords.{AreValues, FormHasWords, IsAt, IsColumnName, IsFilled, IsWorded, component_named, form_renamings, from_outside}
 
 module _ (p : Settings) (b : Bool) (rs : List Renaming) where

@@ -8,24 +8,24 @@ use Rattle.std.specs.Prelude.{nat_le}
 use lib.Utf8.{encode}
 use Rattle.vtl_cell.specs.declared.kind.Kind.{Kind}
 use Rattle.vtl_cell.specs.declared.kind.Kind.TheVariants as k
-use Rattle.vtl_cell.specs.Words.{is_component_name}
-use Rattle.vtl_cell.specs.Apart.{all_apart}
+use Rattle.vtl_text.specs.Words.{is_component_name}
+use Rattle.vtl_lists.specs.Apart.{all_apart}
 use Rattle.vtl_tree.specs.Structure.{columns_of, most_components, names_of, of_role, same_name, same_role}
 use Rattle.vtl_tree.specs.Structures.{AreStructures, Named, are_codes, codes_fit, is_declarable, is_declarable_component, is_declarable_entry, is_null_kind, is_string_identifier, is_text_kind}
 use Rattle.vtl_tree.specs.declared.structure.Component.{Component}
 use Rattle.vtl_tree.specs.declared.structure.Role.{Role}
 use Rattle.vtl_tree.specs.declared.structure.Role.TheVariants as role
 use Rattle.vtl_tree.specs.declared.structure.Structure.{Structure}
-use Rattle.rules_to_sql.specs.AggregateShapes as aggregates
-use Rattle.rules_to_sql.specs.AggregateShapes.{made_components}
-use Rattle.rules_to_sql.specs.AnalyticShapes.{analyzed_components, of_measure, target_of}
-use Rattle.rules_to_sql.specs.Columns.{identifiers_of, kind_named}
-use Rattle.rules_to_sql.specs.Shapes.{calculated_components}
-use Rattle.rules_to_sql.specs.Trees as nodes
-use Rattle.rules_to_sql.specs.Trees.{AnalyticTree}
-use Rattle.rules_to_sql.specs.Turned.{codes_of}
-use Rattle.rules_to_sql.specs.specifications.AggItems.{AggItems}
-use Rattle.rules_to_sql.specs.specifications.AggItems.TheVariants as items
+use Rattle.vtl_aggregates.specs.Shapes as aggregates
+use Rattle.vtl_aggregates.specs.Shapes.{made_components}
+use Rattle.vtl_windows.specs.Shapes.{analyzed_components, of_measure, target_of}
+use Rattle.check_shapes.specs.Columns.{identifiers_of, kind_named}
+use Rattle.vtl_meaning.specs.Shapes.{calculated_components}
+use Rattle.vtl_nodes.specs.Trees as nodes
+use Rattle.vtl_nodes.specs.Trees.{AnalyticTree}
+use Rattle.vtl_meaning.specs.Turned.{codes_of}
+use Rattle.vtl_nodes.specs.declared.specifications.AggItems.{AggItems}
+use Rattle.vtl_nodes.specs.declared.specifications.AggItems.TheVariants as items
 use Rattle.check_shapes.specs.Choices.{chosen, is_chosen, is_identifier}
 use Rattle.check_shapes.specs.Clauses.{calculated, code_measure, first_kind, is_new, names_column, new_name, pivot_components, renamed, retargeted, target_component}
 use Rattle.check_shapes.specs.Clauses as clauses
@@ -38,8 +38,8 @@ use Rattle.check_shapes.specs.declared.measures.Outcome.{Outcome}
 use Rattle.check_shapes.specs.declared.measures.Outcome.TheVariants as outcome
 use Rattle.check_shapes.specs.declared.renaming.Renaming.{Renaming}
 use Rattle.check_shapes.specs.declared.targets.Target.{Target}
-use Rattle.rules_to_sql.proofs.Columns.{at-found, found-filter, kind-found, of-columns}
-use Rattle.rules_to_sql.proofs.Lists as lists
+use Rattle.check_laws.proofs.Columns.{at-found, found-filter, kind-found, of-columns}
+use Rattle.check_laws.proofs.Lists as lists
 use Rattle.sql_tree.specs.Formed.{IsName}
 use Rattle.vtl_to_sql.specs.Conditions.{HaveNames}
 use Rattle.vtl_to_sql.proofs.AcceptedWords.{AreRenamings, CallsHaveNames, HasCodes, IsColumnName, TargetsHaveNames}

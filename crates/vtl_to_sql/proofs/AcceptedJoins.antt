@@ -4,9 +4,9 @@ use Rattle.std.proofs.Common.{◌≡◌, ℕ, inr, true, false, List, [], ◌∷
 use Rattle.std.proofs.lemmas.Bool.{and_parts, false≢true}
 use Rattle.std.specs.List.{AllByRecursion, filter}
 use Rattle.std.specs.Option.{IfSome}
-use Rattle.vtl_cell.specs.Results.{◌>>=◌}
-use Rattle.vtl_cell.specs.Settings.{Settings}
-use Rattle.vtl_cell.specs.Words.{is_name}
+use Rattle.vtl_lists.specs.Results.{◌>>=◌}
+use Rattle.vtl_decimal.specs.Settings.{Settings}
+use Rattle.vtl_text.specs.Words.{is_name}
 use Rattle.vtl_syntax.specs.Trees as tree
 use Rattle.vtl_syntax.specs.Trees.{Exp, MaybeExp, MaybeTargets}
 use Rattle.vtl_syntax.specs.Written as written
@@ -15,26 +15,26 @@ use Rattle.vtl_syntax.specs.declared.parts.Comp.TheVariants as comp
 use Rattle.vtl_syntax.specs.declared.parts.Keeping.{Keeping}
 use Rattle.vtl_syntax.specs.declared.parts.RenamePart.{RenamePart}
 use Rattle.vtl_syntax.specs.declared.word_groups.JoinKind.{JoinKind}
-use Rattle.rules_to_sql.specs.Made as made
-use Rattle.rules_to_sql.specs.Meaning.{are_operands_built, is_built}
-use Rattle.rules_to_sql.specs.Trees as nodes
-use Rattle.rules_to_sql.specs.Trees.{NodeTree, OperandTree, operands_of}
-use Rattle.rules_to_sql.specs.Joins.{held_names, last_renamings}
+use Rattle.vtl_meaning.specs.Made as made
+use Rattle.vtl_meaning.specs.Meaning.{are_operands_built, is_built}
+use Rattle.vtl_nodes.specs.Trees as nodes
+use Rattle.vtl_nodes.specs.Trees.{NodeTree, OperandTree, operands_of}
+use Rattle.check_joins.specs.Joins.{held_names, last_renamings}
 use Rattle.check_faults.specs.Rules.{ruled}
 use Rattle.check_faults.specs.declared.rules.Rule.{Rule}
 use Rattle.check_faults.specs.declared.rules.Rule.TheVariants as rule
 use Rattle.check_shapes.specs.Names.{is_among}
 use Rattle.check_shapes.specs.declared.renaming.Renaming.{Renaming}
-use Rattle.rules_to_sql.specs.Clauses.{filter_form}
-use Rattle.rules_to_sql.specs.JoinOperands.{PartTyped, alias_of, aliases_in, is_left, joined_node, joined_of, last_naming, left_names, new_alias, operand_in, operands_in, own_alias, shape_of, using_names, with_part}
-use Rattle.rules_to_sql.specs.Places.{Env, at_points}
-use Rattle.rules_to_sql.specs.Typed.{TypedTree, components_in, dataset_in}
-use Rattle.rules_to_sql.specs.Typing.{as_dataset, body_end, filter_step, filtered_join, join_end, keeping_step, last_step, renaming_step, targets_step, typed}
-use Rattle.rules_to_sql.specs.places.Joined.{Joined}
-use Rattle.rules_to_sql.specs.places.Place.TheVariants as place
-use Rattle.rules_to_sql.specs.Gives.{Gives}
-use Rattle.rules_to_sql.proofs.Lists as lists
-use Rattle.rules_to_sql.proofs.Steps.{after, tested, then}
+use Rattle.check_clauses.specs.Clauses.{filter_form}
+use Rattle.check_clauses.specs.JoinOperands.{PartTyped, alias_of, aliases_in, is_left, joined_node, joined_of, last_naming, left_names, new_alias, operand_in, operands_in, own_alias, shape_of, using_names, with_part}
+use Rattle.check_operators.specs.Places.{Env, at_points}
+use Rattle.check_operators.specs.Typed.{TypedTree, components_in, dataset_in}
+use Rattle.check_expressions.specs.Typing.{as_dataset, body_end, filter_step, filtered_join, join_end, keeping_step, last_step, renaming_step, targets_step, typed}
+use Rattle.check_operators.specs.declared.places.Joined.{Joined}
+use Rattle.check_operators.specs.declared.places.Place.TheVariants as place
+use Rattle.check_laws.specs.Gives.{Gives}
+use Rattle.check_laws.proofs.Lists as lists
+use Rattle.check_laws.proofs.Steps.{after, tested, then}
 use Rattle.vtl_to_sql.proofs.AcceptedClauses.{clause_at, filter_at, keeping_at, renaming_at, targets_at}
 use Rattle.vtl_to_sql.proofs.AcceptedOperators.{dataset_in_worded, tree_step}
 use Rattle.vtl_to_sql.proofs.AcceptedWords.{IsAt, IsTreeWorded, IsWorded, OperandsHaveWords, from_outside}

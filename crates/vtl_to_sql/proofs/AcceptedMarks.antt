@@ -7,21 +7,21 @@ use Rattle.std.specs.List.{AllByRecursion, filter, list_all, list_any}
 use Rattle.std.specs.Prelude.{◌==◌, find, slice_get}
 use Rattle.std.specs.Char.{is_control}
 use lib.Utf8.{encode}
-use Rattle.vtl_cell.specs.Words.{fits_name, is_component_character, is_component_name, is_name}
+use Rattle.vtl_text.specs.Words.{fits_name, is_component_character, is_component_name, is_name}
 use Rattle.vtl_syntax.specs.declared.word_groups.JoinKind.{JoinKind}
 use Rattle.vtl_syntax.specs.declared.word_groups.JoinKind.TheVariants as join
 use Rattle.vtl_tree.specs.Structure.{same_name}
 use Rattle.vtl_tree.specs.declared.structure.Component.{Component}
-use Rattle.rules_to_sql.proofs.Places.{same_name-is, same_name-refl}
-use Rattle.rules_to_sql.specs.Joins.{all_own, contains_all, held_names, is_cross, is_held, is_marked, is_part, is_shared, joined, joined_components, joined_identifiers, joined_name, last_renamings, marked, own, own_renamings, reference, structures_of}
-use Rattle.rules_to_sql.specs.Joins as joins
-use Rattle.rules_to_sql.specs.joins.Operand.{Operand}
+use Rattle.vtl_meaning.proofs.Places.{same_name-is, same_name-refl}
+use Rattle.check_joins.specs.Joins.{all_own, contains_all, held_names, is_cross, is_held, is_marked, is_part, is_shared, joined, joined_components, joined_identifiers, joined_name, last_renamings, marked, own, own_renamings, reference, structures_of}
+use Rattle.check_joins.specs.Joins as joins
+use Rattle.check_joins.specs.declared.joins.Operand.{Operand}
 use Rattle.check_shapes.specs.Choices.{is_identifier}
 use Rattle.check_shapes.specs.Clauses.{new_name, renamed}
 use Rattle.check_shapes.specs.Names.{component_of}
 use Rattle.check_shapes.specs.declared.renaming.Renaming.{Renaming}
-use Rattle.rules_to_sql.specs.JoinOperands.{is_left}
-use Rattle.rules_to_sql.proofs.Lists as lists
+use Rattle.check_clauses.specs.JoinOperands.{is_left}
+use Rattle.check_laws.proofs.Lists as lists
 use Rattle.sql_lexer.specs.Spelling as sql
 use Rattle.sql_lexer.specs.Spelling.{has_no_control, size}
 use Rattle.sql_lexer.specs.Spelling.{is_name as is_sql_name}

@@ -2,20 +2,20 @@
 use Rattle.std.proofs.Common.{◌≡◌, inl, inr, Bool, true, false, cond, ◌&&◌, List, [], ◌∷◌, map, Some, None, refl, sym, ap, ◌∙◌, subst}
 use Rattle.std.proofs.lemmas.Bool.{and_parts, false≢true}
 use Rattle.std.specs.List.{AllByRecursion, filter}
-use Rattle.vtl_cell.specs.Settings.{Settings}
+use Rattle.vtl_decimal.specs.Settings.{Settings}
 use Rattle.vtl_tree.specs.Structure.{columns_of, of_role, same_name, same_role}
 use Rattle.vtl_tree.specs.Structures.{Named}
 use Rattle.vtl_tree.specs.declared.structure.Component.{Component}
 use Rattle.vtl_tree.specs.declared.structure.Role.TheVariants as role
 use Rattle.vtl_tree.specs.declared.structure.Structure.{Structure}
-use Rattle.rules_to_sql.specs.AggregateShapes.{made_components}
-use Rattle.rules_to_sql.specs.Columns.{kind_named, measures_of}
-use Rattle.rules_to_sql.specs.Made.{AreCombined, AreMade, AreMadeOperands, IsCombined, IsMade, IsMadeForm, node_structures, operands_in}
-use Rattle.rules_to_sql.specs.Shapes.{given_between, given_of_two, outcome_of, target_of}
-use Rattle.rules_to_sql.specs.Trees as nodes
-use Rattle.rules_to_sql.specs.Trees.{FormTree, NodeTree, NodeTrees, OperandTrees, structure_of}
-use Rattle.rules_to_sql.specs.Meaning.{are_nodes_built, are_operands_built, is_built, is_built_form}
-use Rattle.rules_to_sql.specs.Joins.{held_names}
+use Rattle.vtl_aggregates.specs.Shapes.{made_components}
+use Rattle.check_shapes.specs.Columns.{kind_named, measures_of}
+use Rattle.vtl_meaning.specs.Made.{AreCombined, AreMade, AreMadeOperands, IsCombined, IsMade, IsMadeForm, node_structures, operands_in}
+use Rattle.vtl_meaning.specs.Shapes.{given_between, given_of_two, outcome_of, target_of}
+use Rattle.vtl_nodes.specs.Trees as nodes
+use Rattle.vtl_nodes.specs.Trees.{FormTree, NodeTree, NodeTrees, OperandTrees, structure_of}
+use Rattle.vtl_meaning.specs.Meaning.{are_nodes_built, are_operands_built, is_built, is_built_form}
+use Rattle.check_joins.specs.Joins.{held_names}
 use Rattle.check_shapes.specs.Choices.{chosen}
 use Rattle.check_shapes.specs.Clauses.{first_kind, names_column, renamed}
 use Rattle.check_shapes.specs.Measures.{bool_var, given_measures, made}
@@ -23,7 +23,7 @@ use Rattle.check_shapes.specs.Operands.{agreed_identifiers}
 use Rattle.check_shapes.specs.Pairs.{pair_identifiers}
 use Rattle.check_shapes.specs.declared.choices.Choice.TheVariants as choice
 use Rattle.check_shapes.specs.declared.renaming.Renaming.{Renaming}
-use Rattle.rules_to_sql.proofs.Lists as lists
+use Rattle.check_laws.proofs.Lists as lists
 use Rattle.vtl_to_sql.proofs.AcceptedComponents.{AreKnownNamed, ArePlain, Fits, IsPlain, agreed_named, all_weaker, analyzed_named, bool_var_named, calculated_named, chosen_named, found_named, given_named, made_named, pair_named, pivot_named, plain, renamed_named, role_named}
 use Rattle.vtl_to_sql.proofs.AcceptedMarks.{IsOperandPlain, given_back_named, joined_named, last_named}
 use Rattle.vtl_to_sql.proofs.AcceptedWords.{AreRenamings, FormHasWords, HasWords, HaveWords, IsColumnName, OperandsHaveWords, form_renamings, renamings_below}

@@ -7,9 +7,9 @@ use Rattle.std.proofs.lemmas.List.Filters.{length-filter_both}
 use Rattle.std.specs.List.{AllByRecursion, filter, flat_map, list_any}
 use Rattle.std.specs.Option.{IfSome}
 use Rattle.std.specs.Prelude.{option_to_list}
-use Rattle.vtl_cell.specs.Apart.{all_apart}
+use Rattle.vtl_lists.specs.Apart.{all_apart}
 use Rattle.vtl_cell.specs.Held.{IsHeld}
-use Rattle.vtl_cell.specs.Settings.{Settings}
+use Rattle.vtl_decimal.specs.Settings.{Settings}
 use Rattle.vtl_cell.specs.declared.kind.Kind.{Kind}
 use Rattle.vtl_lists.proofs.Aparts.{apart_parts}
 use Rattle.vtl_syntax.specs.Depth.{depth_limit}
@@ -19,19 +19,19 @@ use Rattle.vtl_tree.specs.Structures.{Named}
 use Rattle.vtl_tree.specs.declared.structure.Component.{Component}
 use Rattle.vtl_tree.specs.declared.structure.Role.TheVariants as role
 use Rattle.vtl_tree.specs.declared.structure.Structure.{Structure}
-use Rattle.rules_to_sql.proofs.Places.{same_name-is, same_name-refl}
-use Rattle.rules_to_sql.specs.Columns.{identifiers_of, kind_named, place_of}
-use Rattle.rules_to_sql.specs.Made.{AreMade, AreMadeOperands, IsColumnAt, IsMade, IsMadeForm, IsSub}
-use Rattle.rules_to_sql.specs.Nodes.{all_nodes, form_nodes, nodes_in, operand_nodes}
-use Rattle.rules_to_sql.specs.Operators.{calculated_exps, measured_exps, pair_exps}
-use Rattle.rules_to_sql.specs.Shapes.{IsShaped}
-use Rattle.rules_to_sql.specs.Trees as nodes
-use Rattle.rules_to_sql.specs.Trees.{AnalyticTree, FormTree, ItemTree, NodeTree, NodeTrees, OperandTrees, ValueTree, structure_of}
-use Rattle.rules_to_sql.specs.clauses.SubItem.{SubItem}
-use Rattle.rules_to_sql.specs.Depths.{analytic_exps, exps_in, held_exps, item_exps, made_exps, value_exps}
-use Rattle.rules_to_sql.proofs.DepthBounds.{AreNodesUpTo, AreUpTo, IsUpTo}
-use Rattle.rules_to_sql.proofs.Inner.{made-shaped}
-use Rattle.rules_to_sql.proofs.Lists as lists
+use Rattle.vtl_meaning.proofs.Places.{same_name-is, same_name-refl}
+use Rattle.check_shapes.specs.Columns.{identifiers_of, kind_named, place_of}
+use Rattle.vtl_meaning.specs.Made.{AreMade, AreMadeOperands, IsColumnAt, IsMade, IsMadeForm, IsSub}
+use Rattle.vtl_nodes.specs.Nodes.{all_nodes, form_nodes, nodes_in, operand_nodes}
+use Rattle.vtl_meaning.specs.Operators.{calculated_exps, measured_exps, pair_exps}
+use Rattle.vtl_meaning.specs.Shapes.{IsShaped}
+use Rattle.vtl_nodes.specs.Trees as nodes
+use Rattle.vtl_nodes.specs.Trees.{AnalyticTree, FormTree, ItemTree, NodeTree, NodeTrees, OperandTrees, ValueTree, structure_of}
+use Rattle.vtl_nodes.specs.declared.clauses.SubItem.{SubItem}
+use Rattle.check_laws.specs.Depths.{analytic_exps, exps_in, held_exps, item_exps, made_exps, value_exps}
+use Rattle.check_laws.proofs.DepthBounds.{AreNodesUpTo, AreUpTo, IsUpTo}
+use Rattle.check_laws.proofs.Inner.{made-shaped}
+use Rattle.check_laws.proofs.Lists as lists
 use Rattle.rules_to_sql.specs.Held.{HoldsValues}
 use Rattle.vtl_to_sql.specs.Accepted.{AllHoldValues, AnalyticHoldsValues, FormHoldsParts, HoldsParts, MadeHoldsValues, NodesHoldParts, OperandsHoldParts, are_nodes_translated, are_operands_translated, is_form_translated, is_translated}
 use Rattle.vtl_to_sql.specs.Conditions.{AllCanBeWritten, AreNodesTranslated, AreOperandsTranslated, CallsCanBeWritten, CanBeWritten, HasValue, IsFormTranslated, IsTranslated, ValueCanBeWritten}

@@ -4,9 +4,9 @@ use Rattle.std.specs.List.{AllByRecursion}
 use Rattle.std.specs.Map.{lookup}
 use Rattle.std.specs.Option.{IfSome, is_some}
 use Rattle.std.proofs.lemmas.Bool.{and_parts}
-use Rattle.vtl_cell.specs.Results.{◌>>=◌}
+use Rattle.vtl_lists.specs.Results.{◌>>=◌}
 use Rattle.vtl_cell.specs.ScalarArithmetic.{number}
-use Rattle.vtl_cell.specs.Settings.{Settings}
+use Rattle.vtl_decimal.specs.Settings.{Settings}
 use Rattle.vtl_cell.specs.declared.kind.Kind.{Kind}
 use Rattle.vtl_cell.specs.declared.operator.ScalarOp.{ScalarOp}
 use Rattle.vtl_tree.specs.CompExp.{CompExp, const}
@@ -19,32 +19,32 @@ use Rattle.vtl_syntax.specs.declared.parts.Comp.TheVariants as comp
 use Rattle.vtl_syntax.specs.declared.parts.GroupPart.{GroupPart}
 use Rattle.vtl_syntax.specs.declared.parts.Literal.{Literal}
 use Rattle.vtl_syntax.specs.declared.word_groups.AggregateName.{AggregateName}
-use Rattle.rules_to_sql.specs.Meaning.{is_built}
-use Rattle.rules_to_sql.specs.Trees as nodes
-use Rattle.rules_to_sql.specs.Trees.{FormTree, NodeTree}
-use Rattle.rules_to_sql.specs.calls.Window.{Window}
+use Rattle.vtl_meaning.specs.Meaning.{is_built}
+use Rattle.vtl_nodes.specs.Trees as nodes
+use Rattle.vtl_nodes.specs.Trees.{FormTree, NodeTree}
+use Rattle.vtl_nodes.specs.declared.calls.Window.{Window}
 use Rattle.check_faults.specs.Rules.{ruled}
 use Rattle.check_faults.specs.declared.rules.Rule.{Rule}
 use Rattle.check_faults.specs.declared.rules.Rule.TheVariants as rule
 use Rattle.check_shapes.specs.Names.{is_among}
-use Rattle.rules_to_sql.specs.ValuesColumns.{column_typed, name_of}
-use Rattle.rules_to_sql.specs.Groupings.{grouping_typed}
-use Rattle.rules_to_sql.specs.LawsKinds.{exp_kind}
-use Rattle.rules_to_sql.specs.Aggregates.{aggregate_kind, aggregate_node, aggregate_tree, aggregate_value, count_call, count_kind, group_call, group_call_by, is_misused, operand_name}
-use Rattle.rules_to_sql.specs.CheckOperators.{Operands, if_placed, on_choice, on_datasets, on_measures, on_operands, on_pair, operator_form, no_operands, parted, set_form, membership, with_operand, with_value}
-use Rattle.rules_to_sql.specs.Places.{Env, Written, alone, at_groups, component_typed, known_by, member_inside, member_written, name_typed, written_typed}
-use Rattle.rules_to_sql.specs.CheckSets.{member_of}
-use Rattle.rules_to_sql.specs.Typed as typed
-use Rattle.rules_to_sql.specs.Typed.{TypedTree, value, dataset, components_in, dataset_in, of_value}
-use Rattle.rules_to_sql.specs.Typing.{Having, as_dataset, behind, grouped_of, or_component, own_groups}
-use Rattle.rules_to_sql.specs.Windowed.{given_structure, or_count, over_dataset, over_form, over_node, over_typed}
-use Rattle.rules_to_sql.specs.check_calls.Call.{Call}
-use Rattle.rules_to_sql.specs.places.Inside.{Inside}
-use Rattle.rules_to_sql.specs.places.Place.{Place}
-use Rattle.rules_to_sql.specs.places.Place.TheVariants as place
-use Rattle.rules_to_sql.specs.Gives.{Gives}
-use Rattle.rules_to_sql.proofs.Lists as lists
-use Rattle.rules_to_sql.proofs.Steps.{after, then}
+use Rattle.check_values.specs.Columns.{column_typed, name_of}
+use Rattle.check_values.specs.Groupings.{grouping_typed}
+use Rattle.check_values.specs.Kinds.{exp_kind}
+use Rattle.check_groups.specs.Aggregates.{aggregate_kind, aggregate_node, aggregate_tree, aggregate_value, count_call, count_kind, group_call, group_call_by, is_misused, operand_name}
+use Rattle.check_operators.specs.Operators.{Operands, if_placed, on_choice, on_datasets, on_measures, on_operands, on_pair, operator_form, no_operands, parted, set_form, membership, with_operand, with_value}
+use Rattle.check_operators.specs.Places.{Env, Written, alone, at_groups, component_typed, known_by, member_inside, member_written, name_typed, written_typed}
+use Rattle.check_operators.specs.Sets.{member_of}
+use Rattle.check_operators.specs.Typed as typed
+use Rattle.check_operators.specs.Typed.{TypedTree, value, dataset, components_in, dataset_in, of_value}
+use Rattle.check_expressions.specs.Typing.{Having, as_dataset, behind, grouped_of, or_component, own_groups}
+use Rattle.check_groups.specs.Windowed.{given_structure, or_count, over_dataset, over_form, over_node, over_typed}
+use Rattle.check_groups.specs.declared.calls.Call.{Call}
+use Rattle.check_operators.specs.declared.places.Inside.{Inside}
+use Rattle.check_operators.specs.declared.places.Place.{Place}
+use Rattle.check_operators.specs.declared.places.Place.TheVariants as place
+use Rattle.check_laws.specs.Gives.{Gives}
+use Rattle.check_laws.proofs.Lists as lists
+use Rattle.check_laws.proofs.Steps.{after, then}
 use Rattle.vtl_to_sql.proofs.AcceptedWords.{FormIsWorded, IsTreeWorded, IsWorded}
 
 module _ (p : Settings) where

@@ -5,19 +5,19 @@ use Rattle.std.proofs.lemmas.List.{map-append}
 use Rattle.std.proofs.lemmas.List.Folds.{list_any-append}
 use Rattle.std.specs.List.{AllByRecursion, list_all, list_any}
 use Rattle.std.specs.Map.{keys_of, lookup}
-use Rattle.vtl_cell.specs.Apart.{all_apart}
-use Rattle.vtl_cell.specs.Words.{is_word}
+use Rattle.vtl_lists.specs.Apart.{all_apart}
+use Rattle.vtl_text.specs.Words.{is_word}
 use Rattle.vtl_text.proofs.Apart.{apart_push}
 use Rattle.vtl_tree.specs.Structure.{same_name}
 use Rattle.vtl_tree.specs.Structures.{AreStructures, Named, has_name, is_declarable, is_declarable_entry}
 use Rattle.vtl_tree.specs.declared.structure.Structure.{Structure}
-use Rattle.rules_to_sql.proofs.Places.{same_name-is, same_name-refl}
-use Rattle.rules_to_sql.specs.Trees.{NodeTree}
-use Rattle.rules_to_sql.specs.LawsNames.{names_of}
-use Rattle.rules_to_sql.specs.Uses.{read_behind, reads, with_declared, with_new}
-use Rattle.rules_to_sql.proofs.KnownLemmas.{has_name-lookup}
-use Rattle.rules_to_sql.specs.LawsScripts.{AreKnownAlike}
-use Rattle.rules_to_sql.proofs.Lists as lists
+use Rattle.vtl_meaning.proofs.Places.{same_name-is, same_name-refl}
+use Rattle.vtl_nodes.specs.Trees.{NodeTree}
+use Rattle.vtl_check.specs.Names.{names_of}
+use Rattle.vtl_check.specs.Uses.{read_behind, reads, with_declared, with_new}
+use Rattle.vtl_check.proofs.KnownLemmas.{has_name-lookup}
+use Rattle.check_laws.specs.Scripts.{AreKnownAlike}
+use Rattle.check_laws.proofs.Lists as lists
 use Rattle.vtl_to_sql.specs.Conditions.{AreReadable}
 
 abbrev pub IsWord : List ℕ → Type 0

@@ -1,26 +1,26 @@
 -- The nodes of a typed, written script have its words.
 use Rattle.std.proofs.Common.{◌≡◌, ℕ, suc, ◌+◌, true, List, [], ◌∷◌, ◌++◌, subst}
 use Rattle.std.specs.List.{AllByRecursion}
-use Rattle.vtl_cell.specs.Results.{◌>>=◌}
-use Rattle.vtl_cell.specs.Words.{is_name}
+use Rattle.vtl_lists.specs.Results.{◌>>=◌}
+use Rattle.vtl_text.specs.Words.{is_name}
 use Rattle.vtl_syntax.specs.Trees as tree
 use Rattle.vtl_syntax.specs.Trees.{Exp, ScriptTree}
 use Rattle.vtl_syntax.specs.Written.{AreWritten, IsWrittenExp}
 use Rattle.vtl_tree.specs.Structures.{has_name}
-use Rattle.rules_to_sql.specs.Trees.{NodeTree}
+use Rattle.vtl_nodes.specs.Trees.{NodeTree}
 use Rattle.check_faults.specs.Rules.{ruled}
 use Rattle.check_faults.specs.declared.rules.Rule.TheVariants as rule
-use Rattle.rules_to_sql.specs.Places.{Env}
-use Rattle.rules_to_sql.specs.places.Place.TheVariants as place
-use Rattle.rules_to_sql.specs.Checked.{IsTyped, TypedScript, env_over, nodes_of, tree_of}
-use Rattle.rules_to_sql.specs.Count.{count}
-use Rattle.rules_to_sql.specs.Script.{assigned, is_too_much, transformations_typed, value_typed, with_result}
-use Rattle.rules_to_sql.specs.Transformations.{transformations, transformations_from}
-use Rattle.rules_to_sql.specs.Typing.{typed}
-use Rattle.rules_to_sql.specs.Gives.{Gives}
-use Rattle.rules_to_sql.proofs.Lists as lists
-use Rattle.rules_to_sql.proofs.Scripts.{at-then}
-use Rattle.rules_to_sql.proofs.Steps.{after, tested, then}
+use Rattle.check_operators.specs.Places.{Env}
+use Rattle.check_operators.specs.declared.places.Place.TheVariants as place
+use Rattle.vtl_check.specs.Checked.{IsTyped, TypedScript, env_over, nodes_of, tree_of}
+use Rattle.vtl_check.specs.Count.{count}
+use Rattle.vtl_check.specs.Script.{assigned, is_too_much, transformations_typed, value_typed, with_result}
+use Rattle.vtl_check.specs.Transformations.{transformations, transformations_from}
+use Rattle.check_expressions.specs.Typing.{typed}
+use Rattle.check_laws.specs.Gives.{Gives}
+use Rattle.check_laws.proofs.Lists as lists
+use Rattle.check_laws.proofs.Scripts.{at-then}
+use Rattle.check_laws.proofs.Steps.{after, tested, then}
 use Rattle.vtl_to_sql.proofs.AcceptedTyping.{worded}
 use Rattle.vtl_to_sql.proofs.AcceptedOperators.{dataset_step}
 use Rattle.vtl_to_sql.proofs.AcceptedWords.{IsWorded}

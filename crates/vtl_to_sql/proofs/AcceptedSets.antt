@@ -3,9 +3,9 @@ use Rattle.std.proofs.Common.{◌≡◌, true, List, [], ◌∷◌, ◌++◌, Op
 use Rattle.std.proofs.lemmas.Bool.{and_parts, false≢true}
 use Rattle.std.specs.List.{AllByRecursion, list_all}
 use Rattle.std.specs.Prelude.{ℕ, option_to_list, unwrap_or}
-use Rattle.vtl_cell.specs.Results.{◌>>=◌}
-use Rattle.vtl_cell.specs.Settings.{Settings}
-use Rattle.vtl_cell.specs.Words.{is_component_name}
+use Rattle.vtl_lists.specs.Results.{◌>>=◌}
+use Rattle.vtl_decimal.specs.Settings.{Settings}
+use Rattle.vtl_text.specs.Words.{is_component_name}
 use Rattle.vtl_syntax.specs.Trees.{Exp, MaybeExp}
 use Rattle.vtl_syntax.specs.Written as written
 use Rattle.vtl_syntax.specs.declared.parts.Comp.{Comp}
@@ -19,10 +19,10 @@ use Rattle.vtl_syntax.specs.declared.word_groups.SetOpName.{SetOpName}
 use Rattle.vtl_syntax.specs.declared.word_groups.SetOpName.TheVariants as set
 use Rattle.vtl_tree.specs.declared.structure.Component.{Component}
 use Rattle.vtl_tree.specs.declared.structure.Structure.{Structure}
-use Rattle.rules_to_sql.specs.Meaning.{are_nodes_built, is_built}
-use Rattle.rules_to_sql.specs.Trees as nodes
-use Rattle.rules_to_sql.specs.Trees.{NodeTree, maybe_node, nodes_of, structure_of}
-use Rattle.rules_to_sql.specs.specifications.CheckSpec.{CheckSpec}
+use Rattle.vtl_meaning.specs.Meaning.{are_nodes_built, is_built}
+use Rattle.vtl_nodes.specs.Trees as nodes
+use Rattle.vtl_nodes.specs.Trees.{NodeTree, maybe_node, nodes_of, structure_of}
+use Rattle.vtl_nodes.specs.declared.specifications.CheckSpec.{CheckSpec}
 use Rattle.check_faults.specs.Rules.{ruled}
 use Rattle.check_faults.specs.declared.rules.Rule.{Rule}
 use Rattle.check_faults.specs.declared.rules.Rule.TheVariants as rule
@@ -31,21 +31,21 @@ use Rattle.check_shapes.specs.Names.{known}
 use Rattle.check_shapes.specs.Pairs as pairs
 use Rattle.check_shapes.specs.Shape.{shaped}
 use Rattle.check_shapes.specs.declared.names.Wanted.TheVariants as wanted
-use Rattle.rules_to_sql.specs.ValuesColumns.{name_of}
-use Rattle.rules_to_sql.specs.Clauses as clauses
-use Rattle.rules_to_sql.specs.Clauses.{pivot_names, pivot_of, unpivot_of}
-use Rattle.rules_to_sql.specs.CheckSets.{check_form, check_spec, datasets_behind, datasets_in, difference_form, difference_tree, exists_form, imbalance_in, set_of, set_tree, sets_form, structures_in}
-use Rattle.rules_to_sql.specs.Places.{Env}
-use Rattle.rules_to_sql.specs.places.Place.TheVariants as place
-use Rattle.rules_to_sql.specs.Typing as typing
-use Rattle.rules_to_sql.specs.Typing.{maybe_typed}
-use Rattle.rules_to_sql.specs.Typed as typed
-use Rattle.rules_to_sql.specs.Typed.{TypedTree, components_in, dataset_in}
-use Rattle.rules_to_sql.specs.Gives.{Gives}
-use Rattle.rules_to_sql.proofs.Left.{IsNamed, known-gives}
-use Rattle.rules_to_sql.proofs.Lists as lists
-use Rattle.rules_to_sql.proofs.Steps.{after, tested-then, then}
-use Rattle.rules_to_sql.proofs.Tests.{not-false}
+use Rattle.check_values.specs.Columns.{name_of}
+use Rattle.check_clauses.specs.Clauses as clauses
+use Rattle.check_clauses.specs.Clauses.{pivot_names, pivot_of, unpivot_of}
+use Rattle.check_operators.specs.Sets.{check_form, check_spec, datasets_behind, datasets_in, difference_form, difference_tree, exists_form, imbalance_in, set_of, set_tree, sets_form, structures_in}
+use Rattle.check_operators.specs.Places.{Env}
+use Rattle.check_operators.specs.declared.places.Place.TheVariants as place
+use Rattle.check_expressions.specs.Typing as typing
+use Rattle.check_expressions.specs.Typing.{maybe_typed}
+use Rattle.check_operators.specs.Typed as typed
+use Rattle.check_operators.specs.Typed.{TypedTree, components_in, dataset_in}
+use Rattle.check_laws.specs.Gives.{Gives}
+use Rattle.check_laws.proofs.Left.{IsNamed, known-gives}
+use Rattle.check_laws.proofs.Lists as lists
+use Rattle.check_laws.proofs.Steps.{after, tested-then, then}
+use Rattle.check_laws.proofs.Tests.{not-false}
 use Rattle.vtl_to_sql.proofs.AcceptedWords.{FormIsWorded, HasCodes, HaveWords, IsTreeWorded, IsWorded, component_named}
 use Rattle.vtl_to_sql.proofs.AcceptedOperators.{dataset_in_worded, dataset_worded}
 

@@ -1,13 +1,13 @@
 -- The next number of a table counts the tables that are made.
 use Rattle.std.proofs.Common.{◌≡◌, ℕ, ◌+◌, List, [], ◌∷◌, ◌++◌, length, arith, length-append}
-use Rattle.vtl_cell.specs.Settings.{Settings}
+use Rattle.vtl_decimal.specs.Settings.{Settings}
 use Rattle.vtl_tree.specs.declared.structure.Structure.{Structure}
 use Rattle.vtl_syntax.specs.declared.word_groups.JoinKind.{JoinKind}
 use Rattle.vtl_syntax.specs.declared.word_groups.JoinKind.TheVariants as join
-use Rattle.rules_to_sql.specs.Made.{operands_in}
-use Rattle.rules_to_sql.specs.Trees as nodes
-use Rattle.rules_to_sql.specs.Trees.{FormTree, NodeTree, NodeTrees, OperandTrees, structure_of}
-use Rattle.rules_to_sql.specs.Joins.{structures_of}
+use Rattle.vtl_meaning.specs.Made.{operands_in}
+use Rattle.vtl_nodes.specs.Trees as nodes
+use Rattle.vtl_nodes.specs.Trees.{FormTree, NodeTree, NodeTrees, OperandTrees, structure_of}
+use Rattle.check_joins.specs.Joins.{structures_of}
 use Rattle.sql_tree.specs.Trees.{QueryTree, Text}
 use Rattle.vtl_to_sql.specs.Queries.{intersection_query, union_query}
 use Rattle.vtl_to_sql.specs.FullJoins.{key_structure, keys_query, once_query}

@@ -2,27 +2,27 @@
 use Rattle.std.proofs.Common.{false, true, ◌||◌, List, [], Some, None, Ok, Err}
 use Rattle.std.specs.List.{AllByRecursion}
 use Rattle.std.specs.Option.{IfSome, is_some}
-use Rattle.vtl_cell.specs.Results.{◌>>=◌}
+use Rattle.vtl_lists.specs.Results.{◌>>=◌}
 use Rattle.vtl_cell.specs.declared.operator.ScalarOp.TheVariants as op
 use Rattle.vtl_syntax.specs.Trees as tree
 use Rattle.vtl_syntax.specs.Trees.{ClauseTree, Exp, Exps, MaybeExp, Parts}
 use Rattle.vtl_syntax.specs.Written.{AreMoreExps, AreMoreParts, AreWrittenExps, AreWrittenParts, IsWrittenClause, IsWrittenExp, IsWrittenMaybe}
-use Rattle.rules_to_sql.specs.Trees.{NodeTree}
+use Rattle.vtl_nodes.specs.Trees.{NodeTree}
 use Rattle.check_faults.specs.declared.rules.Rule.TheVariants as rule
-use Rattle.rules_to_sql.specs.ValuesLiterals.{constant_typed, literals_fit}
-use Rattle.rules_to_sql.specs.ValuesOperators.{exps_length, of_binary, of_function, of_unary, takes}
-use Rattle.rules_to_sql.specs.Clauses.{filter_form, keeping_form, renaming_form}
-use Rattle.rules_to_sql.specs.JoinOperands.{PartTyped, with_part}
-use Rattle.rules_to_sql.specs.CheckOperators.{operator_form}
-use Rattle.rules_to_sql.specs.Places.{Env, at_points, in_aggregate}
-use Rattle.rules_to_sql.specs.CheckSets.{difference_form, exists_form, member_of, sets_form}
-use Rattle.rules_to_sql.specs.Typed.{TypedTree, dataset_in}
-use Rattle.rules_to_sql.specs.Typing.{as_dataset, behind, clause_typed, grouped_of, has_exp, having_typed, maybe_typed, operands_typed, parts_typed, targets_typed, typed}
-use Rattle.rules_to_sql.specs.Windowed.{over_typed}
-use Rattle.rules_to_sql.specs.places.Place.{Place}
-use Rattle.rules_to_sql.specs.places.Place.TheVariants as place
-use Rattle.rules_to_sql.specs.Gives.{Gives}
-use Rattle.rules_to_sql.proofs.Steps.{after, then}
+use Rattle.check_values.specs.Literals.{constant_typed, literals_fit}
+use Rattle.check_values.specs.Operators.{exps_length, of_binary, of_function, of_unary, takes}
+use Rattle.check_clauses.specs.Clauses.{filter_form, keeping_form, renaming_form}
+use Rattle.check_clauses.specs.JoinOperands.{PartTyped, with_part}
+use Rattle.check_operators.specs.Operators.{operator_form}
+use Rattle.check_operators.specs.Places.{Env, at_points, in_aggregate}
+use Rattle.check_operators.specs.Sets.{difference_form, exists_form, member_of, sets_form}
+use Rattle.check_operators.specs.Typed.{TypedTree, dataset_in}
+use Rattle.check_expressions.specs.Typing.{as_dataset, behind, clause_typed, grouped_of, has_exp, having_typed, maybe_typed, operands_typed, parts_typed, targets_typed, typed}
+use Rattle.check_groups.specs.Windowed.{over_typed}
+use Rattle.check_operators.specs.declared.places.Place.{Place}
+use Rattle.check_operators.specs.declared.places.Place.TheVariants as place
+use Rattle.check_laws.specs.Gives.{Gives}
+use Rattle.check_laws.proofs.Steps.{after, then}
 use Rattle.vtl_to_sql.proofs.AcceptedClauses.{filter_at, keeping_at, renaming_at, sub_worded, targets_at}
 use Rattle.vtl_to_sql.proofs.AcceptedJoins.{IsPart, joins_worded, part_worded}
 use Rattle.vtl_to_sql.proofs.AcceptedOperators.{behind_worded, dataset_step, grouped_worded, member_worded, names_worded, operator_step, or_component_worded, over_worded, set_step, tree_step, two_step, value_worded}

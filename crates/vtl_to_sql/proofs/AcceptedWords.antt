@@ -4,11 +4,11 @@ use Rattle.std.proofs.lemmas.Bool.{and_from, and_parts, false≢true}
 use Rattle.std.proofs.lemmas.Bool.Decides.{nat_tests}
 use Rattle.std.specs.List.{AllByRecursion, filter, list_all}
 use Rattle.std.specs.Prelude.{◌==◌}
-use Rattle.vtl_cell.specs.Apart.{all_apart}
+use Rattle.vtl_lists.specs.Apart.{all_apart}
 use Rattle.vtl_cell.specs.Kinds.{is_null}
 use Rattle.vtl_cell.specs.Profile.{IsOfProfile}
-use Rattle.vtl_cell.specs.Settings.{Settings}
-use Rattle.vtl_cell.specs.Words.{fits_name, is_component_character, is_component_name, is_name, is_reserved, is_word, is_word_character, starts_with_letter}
+use Rattle.vtl_decimal.specs.Settings.{Settings}
+use Rattle.vtl_text.specs.Words.{fits_name, is_component_character, is_component_name, is_name, is_reserved, is_word, is_word_character, starts_with_letter}
 use Rattle.vtl_cell.specs.declared.cell.Cell.{Cell}
 use Rattle.vtl_tree.specs.Structure.{same_name}
 use Rattle.vtl_tree.specs.declared.structure.Component.{Component}
@@ -16,23 +16,23 @@ use Rattle.vtl_tree.specs.declared.structure.Structure.{Structure}
 use Rattle.vtl_syntax.specs.Written as written
 use Rattle.vtl_syntax.specs.declared.parts.Comp.{Comp}
 use Rattle.vtl_syntax.specs.declared.parts.Comp.TheVariants as comp
-use Rattle.rules_to_sql.specs.Made.{operands_in}
-use Rattle.rules_to_sql.specs.Meaning.{is_built, is_built_form}
-use Rattle.rules_to_sql.specs.Trees as nodes
-use Rattle.rules_to_sql.specs.Trees.{AnalyticTree, FormTree, NodeTree, NodeTrees, OperandTrees, structure_of}
-use Rattle.rules_to_sql.specs.clauses.SubItem.{SubItem}
-use Rattle.rules_to_sql.specs.specifications.AggItems.{AggItems}
-use Rattle.rules_to_sql.specs.specifications.AggItems.TheVariants as items
+use Rattle.vtl_meaning.specs.Made.{operands_in}
+use Rattle.vtl_meaning.specs.Meaning.{is_built, is_built_form}
+use Rattle.vtl_nodes.specs.Trees as nodes
+use Rattle.vtl_nodes.specs.Trees.{AnalyticTree, FormTree, NodeTree, NodeTrees, OperandTrees, structure_of}
+use Rattle.vtl_nodes.specs.declared.clauses.SubItem.{SubItem}
+use Rattle.vtl_nodes.specs.declared.specifications.AggItems.{AggItems}
+use Rattle.vtl_nodes.specs.declared.specifications.AggItems.TheVariants as items
 use Rattle.check_faults.specs.declared.rules.Rule.{Rule}
-use Rattle.rules_to_sql.specs.Joins.{held_names, last_renamings}
+use Rattle.check_joins.specs.Joins.{held_names, last_renamings}
 use Rattle.check_shapes.specs.declared.names.Wanted.TheVariants as wanted
 use Rattle.check_shapes.specs.declared.renaming.Renaming.{Renaming}
-use Rattle.rules_to_sql.specs.ValuesColumns.{name_of}
-use Rattle.rules_to_sql.specs.Clauses.{sub_names}
-use Rattle.rules_to_sql.specs.JoinOperands.{is_left}
-use Rattle.rules_to_sql.specs.Typed.{TypedTree, value, dataset, components_in}
-use Rattle.rules_to_sql.specs.Gives.{Gives}
-use Rattle.rules_to_sql.proofs.Left.{IsNamed}
+use Rattle.check_values.specs.Columns.{name_of}
+use Rattle.check_clauses.specs.Clauses.{sub_names}
+use Rattle.check_clauses.specs.JoinOperands.{is_left}
+use Rattle.check_operators.specs.Typed.{TypedTree, value, dataset, components_in}
+use Rattle.check_laws.specs.Gives.{Gives}
+use Rattle.check_laws.proofs.Left.{IsNamed}
 use Rattle.vtl_to_sql.proofs.Names.{all_pass, word_characters}
 
 -- ---- names

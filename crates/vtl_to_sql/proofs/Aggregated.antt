@@ -11,7 +11,7 @@ use Rattle.vtl_cell.specs.Outcome.{Fault, Outcome, after, fault_in, faults_by, j
 use Rattle.vtl_cell.specs.Outcomes.{branch, first_chosen, is_true}
 use Rattle.vtl_cell.specs.Row.{Row}
 use Rattle.vtl_cell.specs.ScalarKinds.{common_kind, meets}
-use Rattle.vtl_cell.specs.Settings.{Settings}
+use Rattle.vtl_decimal.specs.Settings.{Settings}
 use Rattle.vtl_cell.specs.declared.cell.Cell.{Cell}
 use Rattle.vtl_cell.specs.declared.cell.Cell.TheVariants as c
 use Rattle.vtl_cell.specs.declared.kind.Kind.{Kind}
@@ -26,38 +26,38 @@ use Rattle.vtl_tree.specs.declared.structure.Component.{Component}
 use Rattle.vtl_tree.specs.declared.structure.Structure.{Structure}
 use Rattle.vtl_tuples.proofs.Lists.{map_same}
 use Rattle.check_shapes.specs.Names.{component_of}
-use Rattle.rules_to_sql.specs.AggregateKinds.{aggregate_kind}
-use Rattle.rules_to_sql.specs.AggregatePoints.{Condition, Made, aggregate_of, call_for, cell_or_null, condition_fault, condition_of, group_fault, group_point, is_kept, made_of}
-use Rattle.rules_to_sql.specs.AggregateShapes.{IsMadeColumn, given_kind, given_of}
-use Rattle.rules_to_sql.specs.Columns.{columns_named, identifiers_of, kind_named, others_of, place_of, places_in}
-use Rattle.rules_to_sql.specs.GroupExpressions.{aggregated}
-use Rattle.rules_to_sql.specs.Groups.{keys_by, places_named}
-use Rattle.rules_to_sql.specs.Made.{Aggregates, IsColumnAt, IsGroupCondition, IsGrouped, IsTypedInGroups}
-use Rattle.rules_to_sql.specs.Points.{with_points}
-use Rattle.rules_to_sql.specs.Trees.{AggTree}
-use Rattle.rules_to_sql.proofs.Columns.{at-place, kind-found}
-use Rattle.rules_to_sql.proofs.GroupLooks.{all_points, one_key}
-use Rattle.rules_to_sql.proofs.GroupPoints.{kept_are, point_is}
+use Rattle.vtl_cell.specs.AggregateKinds.{aggregate_kind}
+use Rattle.vtl_aggregates.specs.Aggregates.{Condition, Made, aggregate_of, call_for, cell_or_null, condition_fault, condition_of, group_fault, group_point, is_kept, made_of}
+use Rattle.vtl_aggregates.specs.Shapes.{IsMadeColumn, given_kind, given_of}
+use Rattle.check_shapes.specs.Columns.{columns_named, identifiers_of, kind_named, others_of, place_of, places_in}
+use Rattle.vtl_aggregates.specs.Expressions.{aggregated}
+use Rattle.vtl_aggregates.specs.Groups.{keys_by, places_named}
+use Rattle.vtl_meaning.specs.Made.{Aggregates, IsColumnAt, IsGroupCondition, IsGrouped, IsTypedInGroups}
+use Rattle.vtl_meaning.specs.Points.{with_points}
+use Rattle.vtl_nodes.specs.Trees.{AggTree}
+use Rattle.check_laws.proofs.Columns.{at-place, kind-found}
+use Rattle.vtl_aggregates.proofs.GroupLooks.{all_points, one_key}
+use Rattle.vtl_aggregates.proofs.GroupPoints.{kept_are, point_is}
 use Rattle.rules_to_sql.proofs.OverGroups.{group_fits, group_formed, group_kind, group_value_is}
-use Rattle.rules_to_sql.proofs.OwnColumns.{columns_apart, own_among}
-use Rattle.rules_to_sql.proofs.Places.{all_more, columns_split, identifiers_apart}
-use Rattle.rules_to_sql.proofs.ValueKinds.{point_parts}
+use Rattle.vtl_meaning.proofs.OwnColumns.{columns_apart, own_among}
+use Rattle.vtl_meaning.proofs.Places.{all_more, columns_split, identifiers_apart}
+use Rattle.vtl_meaning.proofs.ValueKinds.{point_parts}
 use Rattle.sql_tree.specs.Formed.{IsColumn, IsExp, IsMaybeExp, IsName, exp_depth}
 use Rattle.sql_tree.specs.Trees.{Exp, SelectTree, Text}
 use Rattle.sql_tree.specs.declared.parts.Column.{Column}
-use Rattle.rules_to_sql.specs.Expressions.{site}
-use Rattle.rules_to_sql.specs.Fits.{IsCondition, IsMaybeCondition, IsSeen}
-use Rattle.rules_to_sql.specs.Kinds.{kind_in}
-use Rattle.rules_to_sql.specs.MeantGroups.{rows_with}
-use Rattle.rules_to_sql.specs.MeantGroups as sql
+use Rattle.sql_check_parts.specs.Expressions.{site}
+use Rattle.sql_check_laws.specs.Fits.{IsCondition, IsMaybeCondition, IsSeen}
+use Rattle.sql_check_parts.specs.Kinds.{kind_in}
+use Rattle.sql_meaning.specs.Groups.{rows_with}
+use Rattle.sql_meaning.specs.Groups as sql
 use Rattle.rules_to_sql.specs.Names.{Names}
-use Rattle.rules_to_sql.specs.Queries.{is_grouped}
-use Rattle.rules_to_sql.specs.Scopes.{Scope, grouping_of, or_null}
-use Rattle.rules_to_sql.specs.Scripts.{Data, base_of, tables_in}
-use Rattle.rules_to_sql.specs.Selects.{having_fault, kept_keys}
-use Rattle.rules_to_sql.specs.Tables.{Base}
+use Rattle.sql_check_parts.specs.Queries.{is_grouped}
+use Rattle.sql_check_parts.specs.Scopes.{Scope, grouping_of, or_null}
+use Rattle.sql_meaning.specs.Scripts.{Data, base_of, tables_in}
+use Rattle.sql_meaning.specs.Selects.{having_fault, kept_keys}
+use Rattle.sql_meaning.specs.Tables.{Base}
 use Rattle.rules_to_sql.specs.ToSql.{aggregate_to_sql, group_columns, to_sql}
-use Rattle.rules_to_sql.specs.Values.{View, at_groups, place_in, value as sql_value}
+use Rattle.sql_meaning.specs.Values.{View, at_groups, place_in, value as sql_value}
 use Rattle.vtl_to_sql.specs.Conditions.{CanBeWritten, HaveNames}
 use Rattle.vtl_to_sql.specs.Grouped.{aggregate_query, aggregated_exps, kept_where, made_exp, where_rows}
 use Rattle.vtl_to_sql.specs.Queries.{all_to_sql, first_alias, items_as, of_one, source_as}

@@ -2,8 +2,8 @@
 use Rattle.std.proofs.Common.{◌≡◌, Bool, true, false, ◌||◌, None, refl}
 use Rattle.sql_tree.specs.Trees as tree
 use Rattle.sql_tree.specs.Trees.{Branches, Exp, Exps}
-use Rattle.rules_to_sql.specs.Fits.{AllFit, BranchesFit, Fits}
-use Rattle.rules_to_sql.specs.Expressions.{Site, branches_aggregate, has_aggregate, some_aggregate}
+use Rattle.sql_check_laws.specs.Fits.{AllFit, BranchesFit, Fits}
+use Rattle.sql_check_parts.specs.Expressions.{Site, branches_aggregate, has_aggregate, some_aggregate}
 
 pub neither : (a b : Bool) → a ≡ false → b ≡ false → (a || b) ≡ false
 neither false b h i = i

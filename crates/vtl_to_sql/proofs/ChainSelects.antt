@@ -3,7 +3,7 @@ use Rattle.std.proofs.Common.{◌≡◌, ◌<◌, ◌^◌, ℕ, true, List, [], 
 use Rattle.std.specs.Prelude.{fold, is_some}
 use Rattle.std.specs.List.{AllByRecursion, flat_map}
 use Rattle.vtl_cell.specs.Row.{Row}
-use Rattle.vtl_cell.specs.Settings.{Settings}
+use Rattle.vtl_decimal.specs.Settings.{Settings}
 use Rattle.vtl_tree.specs.CompExp.{CompExp}
 use Rattle.vtl_tree.specs.DataSet.{is_point}
 use Rattle.vtl_tree.specs.Environment.{DataSet}
@@ -12,18 +12,18 @@ use Rattle.vtl_tree.specs.declared.structure.Component.{Component}
 use Rattle.vtl_tree.specs.declared.structure.Structure.{Structure}
 use Rattle.std.proofs.lemmas.List.Folds.{flat_map-map}
 use Rattle.vtl_tuples.proofs.Lists.{flat_map_each}
-use Rattle.rules_to_sql.specs.Joined.{structures_of}
-use Rattle.rules_to_sql.specs.Made.{AreFor}
-use Rattle.rules_to_sql.specs.Points.{each_point}
-use Rattle.rules_to_sql.proofs.OwnColumns.{columns_apart}
-use Rattle.rules_to_sql.proofs.Places.{all_more}
+use Rattle.vtl_meaning.specs.Joined.{structures_of}
+use Rattle.vtl_meaning.specs.Made.{AreFor}
+use Rattle.vtl_meaning.specs.Points.{each_point}
+use Rattle.vtl_meaning.proofs.OwnColumns.{columns_apart}
+use Rattle.vtl_meaning.proofs.Places.{all_more}
 use Rattle.sql_tree.specs.Trees.{JoinTree, SelectTree, Text}
 use Rattle.sql_tree.specs.declared.word_groups.JoinKind.{JoinKind}
-use Rattle.rules_to_sql.specs.TypedSelects.{AreJoinsTyped}
-use Rattle.rules_to_sql.specs.Queries.{first_scope, joined_scope, scope_of}
-use Rattle.rules_to_sql.specs.Scopes.{add_source}
-use Rattle.rules_to_sql.specs.From.{kept_of, source_rows, with_join}
-use Rattle.rules_to_sql.specs.Scripts.{Data, base_of, tables_in}
+use Rattle.sql_check_laws.specs.Selects.{AreJoinsTyped}
+use Rattle.sql_check_parts.specs.Queries.{first_scope, joined_scope, scope_of}
+use Rattle.sql_check_parts.specs.Scopes.{add_source}
+use Rattle.sql_meaning.specs.From.{kept_of, source_rows, with_join}
+use Rattle.sql_meaning.specs.Scripts.{Data, base_of, tables_in}
 use Rattle.vtl_to_sql.specs.Conditions.{AllCanBeWritten, HaveNames}
 use Rattle.vtl_to_sql.specs.Joins.{alias_of, chain_select, many_at, width_of}
 use Rattle.vtl_to_sql.specs.Queries.{source_as}

@@ -9,7 +9,7 @@ use Rattle.vtl_cell.specs.Outcome.{Fault, fault_in, faults_by, join}
 use Rattle.vtl_cell.specs.Outcomes.{is_true}
 use Rattle.vtl_cell.specs.Row.{Row, same_row}
 use Rattle.vtl_cell.specs.ScalarKinds.{meets}
-use Rattle.vtl_cell.specs.Settings.{Settings}
+use Rattle.vtl_decimal.specs.Settings.{Settings}
 use Rattle.vtl_cell.specs.declared.cell.Cell.TheVariants as c
 use Rattle.vtl_cell.specs.declared.kind.Kind.TheVariants as k
 use Rattle.vtl_rows.specs.Tables.{cells_at}
@@ -20,26 +20,26 @@ use Rattle.vtl_tree.specs.Value.{value}
 use Rattle.vtl_tree.specs.declared.structure.Component.{Component}
 use Rattle.vtl_tree.specs.declared.structure.Structure.{Structure}
 use Rattle.vtl_tuples.proofs.Lists.{filter_same, flat_map-flat_map, flat_map_each, flat_map_same}
-use Rattle.rules_to_sql.specs.Columns.{places_in}
-use Rattle.rules_to_sql.specs.Joined.{structures_of}
-use Rattle.rules_to_sql.specs.Made.{IsTyped}
-use Rattle.rules_to_sql.proofs.JoinParts.{found_is}
-use Rattle.rules_to_sql.proofs.OwnColumns.{columns_apart}
-use Rattle.rules_to_sql.proofs.Places.{all_append, all_more, point_append, point_length}
+use Rattle.check_shapes.specs.Columns.{places_in}
+use Rattle.vtl_meaning.specs.Joined.{structures_of}
+use Rattle.vtl_meaning.specs.Made.{IsTyped}
+use Rattle.vtl_meaning.proofs.JoinParts.{found_is}
+use Rattle.vtl_meaning.proofs.OwnColumns.{columns_apart}
+use Rattle.vtl_meaning.proofs.Places.{all_append, all_more, point_append, point_length}
 use Rattle.sql_tree.specs.Formed.{IsJoin, IsName}
 use Rattle.sql_tree.specs.Trees.{Exp, JoinTree, Text, on}
 use Rattle.sql_tree.specs.declared.word_groups.JoinKind.{JoinKind}
 use Rattle.sql_tree.specs.declared.word_groups.JoinKind.TheVariants as joining
-use Rattle.rules_to_sql.specs.Fits.{IsCondition}
-use Rattle.rules_to_sql.specs.TypedSelects.{AreJoinsTyped}
-use Rattle.rules_to_sql.specs.Expressions.{site}
-use Rattle.rules_to_sql.specs.Queries.{joined_scope}
-use Rattle.rules_to_sql.specs.Scopes.{Scope, columns_of as table_columns, or_nothing, row_of, with_source}
-use Rattle.rules_to_sql.specs.From as from
-use Rattle.rules_to_sql.specs.From.{Joined, fault_at, holds, join_on, joined_rows, nulls, or_alone, pairs, partners, partners_or_alone, with_join}
-use Rattle.rules_to_sql.specs.Scripts.{Data, base_of, tables_in}
-use Rattle.rules_to_sql.specs.Tables.{Base}
-use Rattle.rules_to_sql.specs.Values.{View, at_rows, value as sql_value}
+use Rattle.sql_check_laws.specs.Fits.{IsCondition}
+use Rattle.sql_check_laws.specs.Selects.{AreJoinsTyped}
+use Rattle.sql_check_parts.specs.Expressions.{site}
+use Rattle.sql_check_parts.specs.Queries.{joined_scope}
+use Rattle.sql_check_parts.specs.Scopes.{Scope, columns_of as table_columns, or_nothing, row_of, with_source}
+use Rattle.sql_meaning.specs.From as from
+use Rattle.sql_meaning.specs.From.{Joined, fault_at, holds, join_on, joined_rows, nulls, or_alone, pairs, partners, partners_or_alone, with_join}
+use Rattle.sql_meaning.specs.Scripts.{Data, base_of, tables_in}
+use Rattle.sql_meaning.specs.Tables.{Base}
+use Rattle.sql_meaning.specs.Values.{View, at_rows, value as sql_value}
 use Rattle.rules_to_sql.specs.Names.{AreNamesFormed, Names}
 use Rattle.rules_to_sql.specs.ToSql.{Naming, to_sql}
 use Rattle.vtl_to_sql.specs.Conditions.{CanBeWritten, HaveNames}

@@ -7,15 +7,15 @@ use Rattle.std.proofs.lemmas.List.{get_or_append_left, get_or-append-add, map-ap
 use Rattle.vtl_cell.specs.Kinds.{is_of}
 use Rattle.vtl_cell.specs.Outcome.{Fault, after, fault_in, faults_by, unless}
 use Rattle.vtl_cell.specs.Outcomes.{is_true}
-use Rattle.vtl_cell.specs.Perm.{Perm, empty, chain}
+use Rattle.vtl_lists.specs.Perm.{Perm, empty, chain}
 use Rattle.vtl_cell.specs.Row.{Row, column_of}
-use Rattle.vtl_cell.specs.Settings.{Settings}
+use Rattle.vtl_decimal.specs.Settings.{Settings}
 use Rattle.vtl_cell.specs.declared.cell.Cell.{Cell}
 use Rattle.vtl_cell.specs.declared.cell.Cell.TheVariants as c
 use Rattle.vtl_cell.specs.declared.kind.Kind.TheVariants as k
 use Rattle.vtl_cell.specs.declared.operator.ScalarOp.TheVariants as op
-use Rattle.vtl_cell.proofs.Perms.{Perm-append_back, Perm-append_comm, Perm-append_front, Perm-same}
-use Rattle.vtl_cell.proofs.Sorts.{AllByRecursion-filter}
+use Rattle.vtl_lists.proofs.Perms.{Perm-append_back, Perm-append_comm, Perm-append_front, Perm-same}
+use Rattle.vtl_lists.proofs.Sorts.{AllByRecursion-filter}
 use Rattle.vtl_rows.specs.Tables.{cells_at}
 use Rattle.vtl_tree.specs.Clauses.{filter_of}
 use Rattle.vtl_tree.specs.CompExp.{CompExp}
@@ -25,17 +25,17 @@ use Rattle.vtl_tree.specs.Value.{called, value}
 use Rattle.vtl_tree.specs.declared.structure.Component.{Component}
 use Rattle.vtl_tree.specs.declared.structure.Role.TheVariants as role
 use Rattle.vtl_tree.specs.declared.structure.Structure.{Structure}
-use Rattle.rules_to_sql.specs.Columns.{column_behind, columns_named, identifiers_of, kind_named, measures_of, others_of, place_of, places_in}
-use Rattle.rules_to_sql.specs.Made.{AreAmong, AreFor, HasIdentifiers, IsAlternative, IsChoice, IsColumnAt}
-use Rattle.rules_to_sql.specs.Operators.{choice_of, is_first_chosen, joined_point, taken_at, taken_from}
-use Rattle.rules_to_sql.specs.Points.{beside, each_point, paired, partner, point_fault, point_of, with_points}
-use Rattle.rules_to_sql.proofs.Kept.{column_front, column_within}
-use Rattle.rules_to_sql.proofs.OwnColumns.{columns_apart}
-use Rattle.rules_to_sql.proofs.Places.{columns_split, point_length}
-use Rattle.rules_to_sql.proofs.ValueKinds.{cell_is_of}
+use Rattle.check_shapes.specs.Columns.{column_behind, columns_named, identifiers_of, kind_named, measures_of, others_of, place_of, places_in}
+use Rattle.vtl_meaning.specs.Made.{AreAmong, AreFor, HasIdentifiers, IsAlternative, IsChoice, IsColumnAt}
+use Rattle.vtl_meaning.specs.Operators.{choice_of, is_first_chosen, joined_point, taken_at, taken_from}
+use Rattle.vtl_meaning.specs.Points.{beside, each_point, paired, partner, point_fault, point_of, with_points}
+use Rattle.vtl_meaning.proofs.Kept.{column_front, column_within}
+use Rattle.vtl_meaning.proofs.OwnColumns.{columns_apart}
+use Rattle.vtl_meaning.proofs.Places.{columns_split, point_length}
+use Rattle.vtl_meaning.proofs.ValueKinds.{cell_is_of}
 use Rattle.sql_tree.specs.Formed.{IsName}
 use Rattle.sql_tree.specs.Trees.{Text}
-use Rattle.rules_to_sql.specs.Scripts.{Data}
+use Rattle.sql_meaning.specs.Scripts.{Data}
 use Rattle.vtl_to_sql.specs.Conditions.{AllCanBeWritten, HaveNames}
 use Rattle.vtl_to_sql.specs.Means.{Means}
 use Rattle.vtl_to_sql.specs.Queries.{choose_query, chosen_exps, chosen_select, is_chosen, is_not_chosen, name_of_first}

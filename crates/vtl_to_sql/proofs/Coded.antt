@@ -9,7 +9,7 @@ use Rattle.vtl_cell.specs.Kinds.{is_null}
 use Rattle.vtl_cell.specs.Order.{cell_cmp, same_cell}
 use Rattle.vtl_cell.specs.Outcome.{Outcome, fault_in, faults_by, unless}
 use Rattle.vtl_cell.specs.Row.{Row, column_of, same_key, same_row}
-use Rattle.vtl_cell.specs.Settings.{Settings}
+use Rattle.vtl_decimal.specs.Settings.{Settings}
 use Rattle.vtl_cell.specs.declared.cell.Cell.{Cell}
 use Rattle.vtl_cell.specs.declared.cell.Cell.TheVariants as c
 use Rattle.vtl_cell.specs.declared.operator.AggKind.TheVariants as agg
@@ -20,16 +20,16 @@ use Rattle.vtl_tree.specs.DataSet.{IsDataSet, is_point}
 use Rattle.vtl_tree.specs.Structure.{columns_of, key_width}
 use Rattle.vtl_tree.specs.declared.structure.Component.{Component}
 use Rattle.vtl_tree.specs.declared.structure.Structure.{Structure}
-use Rattle.rules_to_sql.specs.Agreement.{values_in}
-use Rattle.rules_to_sql.specs.Columns.{identifiers_of, place_of, places_in}
-use Rattle.rules_to_sql.specs.LookUps.{value_named, values_named}
-use Rattle.rules_to_sql.specs.Turned.{is_coded, other_identifiers}
-use Rattle.rules_to_sql.proofs.JoinAgreements.{only_one}
-use Rattle.rules_to_sql.proofs.Kept.{alike_cells}
-use Rattle.rules_to_sql.proofs.Places.{key_cells, key_within}
-use Rattle.rules_to_sql.proofs.TurnedKept.{others_are}
-use Rattle.rules_to_sql.proofs.TurnedOrders.{alike_others}
-use Rattle.rules_to_sql.specs.Outcomes.{all_values, cell_or_null}
+use Rattle.vtl_meaning.specs.Agreement.{values_in}
+use Rattle.check_shapes.specs.Columns.{identifiers_of, place_of, places_in}
+use Rattle.vtl_meaning.specs.LookUps.{value_named, values_named}
+use Rattle.vtl_meaning.specs.Turned.{is_coded, other_identifiers}
+use Rattle.vtl_meaning.proofs.JoinAgreements.{only_one}
+use Rattle.vtl_meaning.proofs.Kept.{alike_cells}
+use Rattle.vtl_meaning.proofs.Places.{key_cells, key_within}
+use Rattle.vtl_meaning.proofs.TurnedKept.{others_are}
+use Rattle.vtl_meaning.proofs.TurnedOrders.{alike_others}
+use Rattle.sql_meaning.specs.Outcomes.{all_values, cell_or_null}
 
 -- ---- lists
 

@@ -3,16 +3,16 @@ use Rattle.std.proofs.Common.{◌≡◌, ℕ, ◌+◌, ◌<◌, ◌≤◌, ◌^�
 use Rattle.std.specs.List.{AllByRecursion}
 use Rattle.vtl_cell.specs.Outcome.{Outcome, after}
 use Rattle.vtl_cell.specs.Row.{Row}
-use Rattle.vtl_cell.specs.Settings.{Settings}
-use Rattle.vtl_cell.specs.Texts.{same_text}
-use Rattle.vtl_cell.specs.Words.{is_word}
+use Rattle.vtl_decimal.specs.Settings.{Settings}
+use Rattle.vtl_text.specs.Texts.{same_text}
+use Rattle.vtl_text.specs.Words.{is_word}
 use Rattle.vtl_tree.specs.Environment.{DataSet, Environment}
 use Rattle.vtl_tree.specs.declared.structure.Structure.{Structure}
-use Rattle.rules_to_sql.specs.Points.{with_points}
-use Rattle.rules_to_sql.proofs.Places.{all_append, all_more, same_name-refl}
+use Rattle.vtl_meaning.specs.Points.{with_points}
+use Rattle.vtl_meaning.proofs.Places.{all_append, all_more, same_name-refl}
 use Rattle.sql_tree.specs.Trees.{QueryTree, Text}
-use Rattle.rules_to_sql.specs.Scripts.{Data, base_of, tables_in}
-use Rattle.rules_to_sql.specs.Selects.{query_value}
+use Rattle.sql_meaning.specs.Scripts.{Data, base_of, tables_in}
+use Rattle.sql_meaning.specs.Selects.{query_value}
 use Rattle.vtl_to_sql.specs.Means.{AreEarlier, AreThere, Extends, IsEarlier, IsNumbered, Means, NodeGives, SourcesGive, Stands, StandsAs}
 use Rattle.vtl_to_sql.specs.Runs.{AreLawful, IsTable, held}
 use Rattle.vtl_to_sql.specs.Tables.{Made, Sources, and_then, numbered, over, stored, table_of, with_one, with_three, with_two}

@@ -7,7 +7,7 @@ use Rattle.std.proofs.lemmas.List.{get_or_append_left, get_or-append-add, length
 use Rattle.std.proofs.lemmas.List.Folds.{flat_map-map}
 use Rattle.grammar_forms.specs.Written.{Each}
 use Rattle.vtl_cell.specs.Row.{Row, column_of}
-use Rattle.vtl_cell.specs.Settings.{Settings}
+use Rattle.vtl_decimal.specs.Settings.{Settings}
 use Rattle.vtl_cell.specs.declared.cell.Cell.TheVariants as c
 use Rattle.vtl_tree.specs.CompExp.{CompExp}
 use Rattle.vtl_tree.specs.DataSet.{IsDataSet, is_point}
@@ -18,22 +18,22 @@ use Rattle.vtl_tree.specs.declared.structure.Structure.{Structure}
 use Rattle.vtl_tuples.specs.Tuples.{and_item, combinations, crossed_with}
 use Rattle.vtl_tuples.proofs.Folds.{crossed_each}
 use Rattle.vtl_tuples.proofs.Lists.{flat_map_each, map-flat_map, map-map, map_each, map_same}
-use Rattle.rules_to_sql.specs.Agreement.{OperandPoint, key_of, operand_point, operand_points}
-use Rattle.rules_to_sql.specs.Columns.{identifiers_of, measures_of}
-use Rattle.rules_to_sql.specs.Joined.{cross_tuples, crossed, present, structures_of, tuple_point, values_or_nulls}
-use Rattle.rules_to_sql.specs.Made.{AreFor, attributes_of, component_kinds, kinds_of_all}
-use Rattle.rules_to_sql.specs.Points.{each_point, point_of}
-use Rattle.rules_to_sql.proofs.Agreements.{own_values}
-use Rattle.rules_to_sql.proofs.JoinKept.{IsCombination, IsOperandPoint, combinations_are}
-use Rattle.rules_to_sql.proofs.JoinParts.{AreSets}
-use Rattle.rules_to_sql.proofs.Places.{all_map, all_more, all_of_map, point_append, point_length}
+use Rattle.vtl_meaning.specs.Agreement.{OperandPoint, key_of, operand_point, operand_points}
+use Rattle.check_shapes.specs.Columns.{identifiers_of, measures_of}
+use Rattle.vtl_meaning.specs.Joined.{cross_tuples, crossed, present, structures_of, tuple_point, values_or_nulls}
+use Rattle.vtl_meaning.specs.Made.{AreFor, attributes_of, component_kinds, kinds_of_all}
+use Rattle.vtl_meaning.specs.Points.{each_point, point_of}
+use Rattle.vtl_meaning.proofs.Agreements.{own_values}
+use Rattle.vtl_meaning.proofs.JoinKept.{IsCombination, IsOperandPoint, combinations_are}
+use Rattle.vtl_meaning.proofs.JoinParts.{AreSets}
+use Rattle.vtl_meaning.proofs.Places.{all_map, all_more, all_of_map, point_append, point_length}
 use Rattle.sql_tree.specs.Formed.{IsJoin}
 use Rattle.sql_tree.specs.Trees.{SelectTree, Text}
-use Rattle.rules_to_sql.specs.TypedSelects.{AreJoinsTyped}
-use Rattle.rules_to_sql.specs.Queries.{joined_scope, scope_of}
-use Rattle.rules_to_sql.specs.Scopes.{add_source}
-use Rattle.rules_to_sql.specs.From.{kept_of, pairs, source_rows, with_join}
-use Rattle.rules_to_sql.specs.Scripts.{Data, base_of, tables_in}
+use Rattle.sql_check_laws.specs.Selects.{AreJoinsTyped}
+use Rattle.sql_check_parts.specs.Queries.{joined_scope, scope_of}
+use Rattle.sql_check_parts.specs.Scopes.{add_source}
+use Rattle.sql_meaning.specs.From.{kept_of, pairs, source_rows, with_join}
+use Rattle.sql_meaning.specs.Scripts.{Data, base_of, tables_in}
 use Rattle.rules_to_sql.specs.Names.{Names}
 use Rattle.rules_to_sql.specs.ToSql.{Naming}
 use Rattle.vtl_to_sql.specs.Conditions.{HaveNames}

@@ -2,18 +2,18 @@
 use Rattle.std.proofs.Common.{◌≡◌, true, List, Ok, Err, sym, subst, ◌∙◌}
 use Rattle.vtl_cell.specs.Outcome.{Outcome}
 use Rattle.vtl_cell.specs.Outcomes.{Same}
-use Rattle.vtl_cell.specs.Perm.{Perm, chain}
+use Rattle.vtl_lists.specs.Perm.{Perm, chain}
 use Rattle.vtl_cell.specs.Row.{Row, same_key}
-use Rattle.vtl_cell.specs.Settings.{Settings}
-use Rattle.vtl_cell.proofs.Aparts.{all_apart-Perm}
-use Rattle.vtl_cell.proofs.Perms.{AllByRecursion-Perm, Perm-sym}
+use Rattle.vtl_decimal.specs.Settings.{Settings}
+use Rattle.vtl_lists.proofs.Aparts.{all_apart-Perm}
+use Rattle.vtl_lists.proofs.Perms.{AllByRecursion-Perm, Perm-sym}
 use Rattle.vtl_cell.proofs.Rows.{same_key-sym}
 use Rattle.vtl_tree.specs.DataSet.{IsDataSet, is_point}
 use Rattle.vtl_tree.specs.Structure.{columns_of, key_width}
 use Rattle.vtl_tree.specs.declared.structure.Structure.{Structure}
 use Rattle.sql_tree.specs.Trees.{QueryTree}
-use Rattle.rules_to_sql.specs.Scripts.{Data, base_of, tables_in}
-use Rattle.rules_to_sql.specs.Selects.{query_value}
+use Rattle.sql_meaning.specs.Scripts.{Data, base_of, tables_in}
+use Rattle.sql_meaning.specs.Selects.{query_value}
 use Rattle.vtl_to_sql.specs.Means.{IsQueryFor, Means}
 
 -- over these tables the query has exactly these rows, in this order, or this fault

@@ -4,8 +4,8 @@ use Rattle.std.specs.Prelude.{codes}
 use Rattle.std.specs.Fmt.{decimal}
 use Rattle.grammar_forms.specs.Written.{run}
 use Rattle.vtl_decimal.proofs.WritingLemmas.{decimal_last}
-use Rattle.vtl_cell.specs.Settings.{Settings}
-use Rattle.vtl_cell.specs.settings.Rounding.TheVariants.{HalfUp}
+use Rattle.vtl_decimal.specs.Settings.{Settings}
+use Rattle.vtl_decimal.specs.declared.settings.Rounding.TheVariants.{HalfUp}
 use Rattle.vtl_cell.specs.declared.cell.Cell.TheVariants as c
 use Rattle.vtl_cell.specs.declared.kind.Kind.TheVariants as k
 use Rattle.vtl_cell.specs.declared.operator.AggKind.{AggKind}
@@ -18,14 +18,14 @@ use Rattle.vtl_tree.specs.declared.structure.Role.TheVariants as role
 use Rattle.vtl_tree.specs.declared.structure.Structure.{Structure}
 use Rattle.check_shapes.specs.Measures.{made}
 use Rattle.vtl_syntax.specs.declared.word_groups.Retain.TheVariants as retain
-use Rattle.rules_to_sql.specs.Columns.{column_named}
-use Rattle.rules_to_sql.specs.Meaning.{Statement}
-use Rattle.rules_to_sql.specs.Trees as nodes
-use Rattle.rules_to_sql.specs.Trees.{AggTree, AnalyticTree, NodeTree}
-use Rattle.rules_to_sql.specs.calls.AnalyticOp.TheVariants as window
-use Rattle.rules_to_sql.specs.calls.OrderKey.{OrderKey}
-use Rattle.rules_to_sql.specs.calls.Window.{Window}
-use Rattle.rules_to_sql.specs.specifications.AggItems.TheVariants as items
+use Rattle.check_shapes.specs.Columns.{column_named}
+use Rattle.vtl_meaning.specs.Meaning.{Statement}
+use Rattle.vtl_nodes.specs.Trees as nodes
+use Rattle.vtl_nodes.specs.Trees.{AggTree, AnalyticTree, NodeTree}
+use Rattle.vtl_nodes.specs.declared.calls.AnalyticOp.TheVariants as window
+use Rattle.vtl_nodes.specs.declared.calls.OrderKey.{OrderKey}
+use Rattle.vtl_nodes.specs.declared.calls.Window.{Window}
+use Rattle.vtl_nodes.specs.declared.specifications.AggItems.TheVariants as items
 use Rattle.sql_lexer.specs.Spelling.{spelled}
 use Rattle.sql_tree.specs.Printing.{written_query, written_statement}
 use Rattle.sql_tree.specs.Trees.{QueryTree, StatementTree}

@@ -6,10 +6,10 @@ use Rattle.std.proofs.lemmas.Bool.{not-true}
 use Rattle.vtl_cell.specs.Kinds.{is_of}
 use Rattle.vtl_cell.specs.Outcome.{faults_by, join, unless}
 use Rattle.vtl_cell.specs.Row.{Row, column_of, same_row}
-use Rattle.vtl_cell.specs.Settings.{Settings}
+use Rattle.vtl_decimal.specs.Settings.{Settings}
 use Rattle.vtl_cell.specs.declared.cell.Cell.TheVariants as c
 use Rattle.vtl_cell.specs.declared.kind.Kind.TheVariants as k
-use Rattle.vtl_cell.proofs.Sorts.{AllByRecursion-filter}
+use Rattle.vtl_lists.proofs.Sorts.{AllByRecursion-filter}
 use Rattle.vtl_rows.specs.Tables.{cells_at}
 use Rattle.vtl_syntax.specs.declared.word_groups.Retain.{Retain}
 use Rattle.vtl_syntax.specs.declared.word_groups.Retain.TheVariants as retain
@@ -17,26 +17,26 @@ use Rattle.vtl_tree.specs.DataSet.{IsDataSet, is_point}
 use Rattle.vtl_tree.specs.Structure.{columns_of, names_of}
 use Rattle.vtl_tree.specs.declared.structure.Component.{Component}
 use Rattle.vtl_tree.specs.declared.structure.Structure.{Structure}
-use Rattle.rules_to_sql.specs.Agreement.{agree_in, common_identifiers, has_agreeing, has_identifier, key_of}
-use Rattle.rules_to_sql.specs.Columns.{columns_named, identifiers_of, others_of, place_of, places_in}
-use Rattle.rules_to_sql.specs.LookUps.{values_named}
-use Rattle.rules_to_sql.specs.Made.{AreAmong, IsColumnAt, IsExistence}
-use Rattle.rules_to_sql.specs.Points.{with_points}
-use Rattle.rules_to_sql.specs.Sets.{existence_of, is_retained, with_answer}
-use Rattle.rules_to_sql.proofs.LookUps.{named_cells}
-use Rattle.rules_to_sql.proofs.OwnColumns.{columns_apart}
+use Rattle.vtl_meaning.specs.Agreement.{agree_in, common_identifiers, has_agreeing, has_identifier, key_of}
+use Rattle.check_shapes.specs.Columns.{columns_named, identifiers_of, others_of, place_of, places_in}
+use Rattle.vtl_meaning.specs.LookUps.{values_named}
+use Rattle.vtl_meaning.specs.Made.{AreAmong, IsColumnAt, IsExistence}
+use Rattle.vtl_meaning.specs.Points.{with_points}
+use Rattle.vtl_meaning.specs.Sets.{existence_of, is_retained, with_answer}
+use Rattle.vtl_meaning.proofs.LookUps.{named_cells}
+use Rattle.vtl_meaning.proofs.OwnColumns.{columns_apart}
 use Rattle.vtl_tuples.proofs.Lists.{filter_each}
-use Rattle.rules_to_sql.proofs.SetsKept.{filter_true}
-use Rattle.rules_to_sql.proofs.Places.{all_front, columns_split, key_cells, key_within}
+use Rattle.vtl_meaning.proofs.SetsKept.{filter_true}
+use Rattle.vtl_meaning.proofs.Places.{all_front, columns_split, key_cells, key_within}
 use Rattle.sql_tree.specs.Formed.{IsExp, IsMaybeExp, IsName}
 use Rattle.sql_tree.specs.Trees.{Exp, Text}
-use Rattle.rules_to_sql.specs.Fits.{Fits, IsMaybeCondition}
-use Rattle.rules_to_sql.specs.Expressions.{site}
-use Rattle.rules_to_sql.specs.Kinds.{kind_in}
-use Rattle.rules_to_sql.specs.Scopes.{add_source, columns_of as table_columns}
-use Rattle.rules_to_sql.specs.From.{condition_fault, kept, source_rows}
-use Rattle.rules_to_sql.specs.Scripts.{Data, base_of, tables_in}
-use Rattle.rules_to_sql.specs.Values.{at_rows, value as sql_value}
+use Rattle.sql_check_laws.specs.Fits.{Fits, IsMaybeCondition}
+use Rattle.sql_check_parts.specs.Expressions.{site}
+use Rattle.sql_check_parts.specs.Kinds.{kind_in}
+use Rattle.sql_check_parts.specs.Scopes.{add_source, columns_of as table_columns}
+use Rattle.sql_meaning.specs.From.{condition_fault, kept, source_rows}
+use Rattle.sql_meaning.specs.Scripts.{Data, base_of, tables_in}
+use Rattle.sql_meaning.specs.Values.{at_rows, value as sql_value}
 use Rattle.vtl_to_sql.specs.Conditions.{HaveNames}
 use Rattle.vtl_to_sql.specs.Queries.{all_to_sql, answer_shown, existence_query, first_alias, is_matched, items_as, of_one, retained, select_as, source_as}
 use Rattle.vtl_to_sql.specs.Runs.{IsTable, entries, printable_depth}

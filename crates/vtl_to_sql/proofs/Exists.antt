@@ -8,7 +8,7 @@ use Rattle.vtl_cell.specs.Outcome.{fault_in, faults_by, join, unless}
 use Rattle.vtl_cell.specs.Outcomes.{is_true}
 use Rattle.vtl_cell.specs.Row.{Row, column_of, same_row}
 use Rattle.vtl_cell.specs.Scalars.{scalar_of}
-use Rattle.vtl_cell.specs.Settings.{Settings}
+use Rattle.vtl_decimal.specs.Settings.{Settings}
 use Rattle.vtl_cell.specs.declared.cell.Cell.{Cell}
 use Rattle.vtl_cell.specs.declared.cell.Cell.TheVariants as c
 use Rattle.vtl_cell.specs.declared.kind.Kind.{Kind}
@@ -17,18 +17,18 @@ use Rattle.vtl_cell.specs.declared.operator.ScalarOp.TheVariants as op
 use Rattle.vtl_rows.specs.Tables.{cells_at}
 use Rattle.vtl_tree.specs.DataSet.{is_point}
 use Rattle.vtl_tree.specs.declared.structure.Component.{Component}
-use Rattle.rules_to_sql.specs.Columns.{place_of, places_in}
-use Rattle.rules_to_sql.proofs.ValueKinds.{cell_is_of}
+use Rattle.check_shapes.specs.Columns.{place_of, places_in}
+use Rattle.vtl_meaning.proofs.ValueKinds.{cell_is_of}
 use Rattle.sql_tree.specs.Formed.{IsEquality, IsExp, IsName}
 use Rattle.sql_tree.specs.Trees.{Text, exists}
-use Rattle.rules_to_sql.specs.Fits.{Fits, IsCondition, Ties}
-use Rattle.rules_to_sql.specs.Exists.{Inner, inner_of}
-use Rattle.rules_to_sql.specs.Expressions.{site}
-use Rattle.rules_to_sql.specs.Scopes.{columns_of as table_columns}
-use Rattle.rules_to_sql.specs.From.{fault_at, holds}
-use Rattle.rules_to_sql.specs.Outcomes.{operated}
-use Rattle.rules_to_sql.specs.Tables.{Base}
-use Rattle.rules_to_sql.specs.Values.{View, at_rows, is_there, is_tied, place_in, value as sql_value}
+use Rattle.sql_check_laws.specs.Fits.{Fits, IsCondition, Ties}
+use Rattle.sql_check_parts.specs.Exists.{Inner, inner_of}
+use Rattle.sql_check_parts.specs.Expressions.{site}
+use Rattle.sql_check_parts.specs.Scopes.{columns_of as table_columns}
+use Rattle.sql_meaning.specs.From.{fault_at, holds}
+use Rattle.sql_meaning.specs.Outcomes.{operated}
+use Rattle.sql_meaning.specs.Tables.{Base}
+use Rattle.sql_meaning.specs.Values.{View, at_rows, is_there, is_tied, place_in, value as sql_value}
 use Rattle.rules_to_sql.specs.ToSql as to_sql
 use Rattle.vtl_to_sql.specs.Conditions.{HaveNames}
 use Rattle.vtl_to_sql.specs.Queries.{first_alias, is_matched, second_alias, source_as, tied}

@@ -1,20 +1,20 @@
 -- What is cited of the translation of expressions.
 use Rattle.std.proofs.Common.{◌≡◌, ◌≤◌, suc, List, None, sym, subst}
 use Rattle.vtl_cell.specs.Row.{Row}
-use Rattle.vtl_cell.specs.Settings.{Settings}
+use Rattle.vtl_decimal.specs.Settings.{Settings}
 use Rattle.vtl_tree.specs.CompExp.{CompExp}
 use Rattle.vtl_tree.specs.Value as points
 use Rattle.vtl_tree.specs.declared.structure.Component.{Component}
-use Rattle.rules_to_sql.specs.LawsKinds.{exp_kind}
-use Rattle.rules_to_sql.specs.Made.{IsTyped}
+use Rattle.check_values.specs.Kinds.{exp_kind}
+use Rattle.vtl_meaning.specs.Made.{IsTyped}
 use Rattle.sql_tree.specs.Formed.{Formed, exp_depth}
-use Rattle.rules_to_sql.specs.Fits.{Fits}
-use Rattle.rules_to_sql.specs.Expressions.{site}
-use Rattle.rules_to_sql.specs.Kinds.{kind_in}
-use Rattle.rules_to_sql.specs.Scopes.{Scope, Tables}
-use Rattle.rules_to_sql.specs.Tables.{Base}
-use Rattle.rules_to_sql.specs.Values.{at_rows, value}
-use Rattle.rules_to_sql.specs.Depths.{comp_depth}
+use Rattle.sql_check_laws.specs.Fits.{Fits}
+use Rattle.sql_check_parts.specs.Expressions.{site}
+use Rattle.sql_check_parts.specs.Kinds.{kind_in}
+use Rattle.sql_check_parts.specs.Scopes.{Scope, Tables}
+use Rattle.sql_meaning.specs.Tables.{Base}
+use Rattle.sql_meaning.specs.Values.{at_rows, value}
+use Rattle.check_laws.specs.Depths.{comp_depth}
 use Rattle.rules_to_sql.specs.Held.{HoldsValues}
 use Rattle.rules_to_sql.specs.Names.{AreNamesFormed, Names}
 use Rattle.rules_to_sql.specs.ToSql.{Naming, to_sql}

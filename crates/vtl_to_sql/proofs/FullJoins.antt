@@ -5,10 +5,10 @@ use Rattle.std.specs.Option.{option_to_list}
 use Rattle.std.proofs.lemmas.List.{length-map}
 use Rattle.std.proofs.lemmas.List.Concat.{flat_map_single}
 use Rattle.std.proofs.lemmas.List.Folds.{flat_map-map}
-use Rattle.vtl_cell.specs.Perm.{Perm, chain}
+use Rattle.vtl_lists.specs.Perm.{Perm, chain}
 use Rattle.vtl_cell.specs.Row.{Row, same_row}
-use Rattle.vtl_cell.specs.Settings.{Settings}
-use Rattle.vtl_cell.proofs.Perms.{Perm-map, Perm-same}
+use Rattle.vtl_decimal.specs.Settings.{Settings}
+use Rattle.vtl_lists.proofs.Perms.{Perm-map, Perm-same}
 use Rattle.vtl_rows.specs.Tables.{cells_at}
 use Rattle.vtl_tree.specs.CompExp.{CompExp}
 use Rattle.vtl_tree.specs.DataSet.{IsDataSet, is_point}
@@ -18,20 +18,20 @@ use Rattle.vtl_tree.specs.declared.structure.Component.{Component}
 use Rattle.vtl_tree.specs.declared.structure.Structure.{Structure}
 use Rattle.vtl_tuples.specs.Keys.{item_at}
 use Rattle.vtl_tuples.proofs.Lists.{filter_each, flat_map_same, map-flat_map, map-map, map_each, map_same}
-use Rattle.rules_to_sql.specs.Agreement.{common_identifiers, has_identifier, values_in}
-use Rattle.rules_to_sql.specs.Columns.{identifiers_of, measures_of, places_in}
-use Rattle.rules_to_sql.specs.Joined.{Tuple, part_of, structures_of, tuple_at, tuple_point}
-use Rattle.rules_to_sql.specs.Made.{AreAmong, AreFor, HasIdentifiers, attributes_of, component_kinds, kinds_of_all}
-use Rattle.rules_to_sql.specs.Points.{each_point, point_of, with_points}
-use Rattle.rules_to_sql.proofs.JoinAgreements.{covers, key_only, own_names}
-use Rattle.rules_to_sql.proofs.JoinParts.{AreSets, found_is}
-use Rattle.rules_to_sql.proofs.LookUps.{named_cells}
-use Rattle.rules_to_sql.proofs.OwnColumns.{own_identifiers}
-use Rattle.rules_to_sql.proofs.Places.{all_map, all_more, all_of_map, are_identifiers, identifiers_apart, point_length}
+use Rattle.vtl_meaning.specs.Agreement.{common_identifiers, has_identifier, values_in}
+use Rattle.check_shapes.specs.Columns.{identifiers_of, measures_of, places_in}
+use Rattle.vtl_meaning.specs.Joined.{Tuple, part_of, structures_of, tuple_at, tuple_point}
+use Rattle.vtl_meaning.specs.Made.{AreAmong, AreFor, HasIdentifiers, attributes_of, component_kinds, kinds_of_all}
+use Rattle.vtl_meaning.specs.Points.{each_point, point_of, with_points}
+use Rattle.vtl_meaning.proofs.JoinAgreements.{covers, key_only, own_names}
+use Rattle.vtl_meaning.proofs.JoinParts.{AreSets, found_is}
+use Rattle.vtl_meaning.proofs.LookUps.{named_cells}
+use Rattle.vtl_meaning.proofs.OwnColumns.{own_identifiers}
+use Rattle.vtl_meaning.proofs.Places.{all_map, all_more, all_of_map, are_identifiers, identifiers_apart, point_length}
 use Rattle.sql_tree.specs.Trees.{JoinTree, QueryTree, Text, on}
 use Rattle.sql_tree.specs.declared.word_groups.JoinKind.{JoinKind}
 use Rattle.sql_tree.specs.declared.word_groups.JoinKind.TheVariants as joining
-use Rattle.rules_to_sql.specs.Scripts.{Data}
+use Rattle.sql_meaning.specs.Scripts.{Data}
 use Rattle.rules_to_sql.specs.ToSql.{Naming, to_sql}
 use Rattle.vtl_to_sql.specs.Conditions.{HaveNames}
 use Rattle.vtl_to_sql.specs.FullJoins.{full_query, key_structure}

@@ -3,11 +3,11 @@ use Rattle.std.proofs.Common.{◌≡◌, ◌<◌, ◌+◌, ◌^◌, ℕ, true, L
 use Rattle.std.specs.List.{AllByRecursion, flat_map}
 use Rattle.std.proofs.lemmas.List.{length-map}
 use Rattle.vtl_cell.specs.Outcome.{Outcome, after}
-use Rattle.vtl_cell.specs.Perm.{Perm, empty, chain}
+use Rattle.vtl_lists.specs.Perm.{Perm, empty, chain}
 use Rattle.vtl_cell.specs.Row.{Row, same_row}
-use Rattle.vtl_cell.specs.Settings.{Settings}
-use Rattle.vtl_cell.specs.Words.{is_word}
-use Rattle.vtl_cell.proofs.Perms.{AllByRecursion-Perm, Perm-append, Perm-map, Perm-same, Perm-sym}
+use Rattle.vtl_decimal.specs.Settings.{Settings}
+use Rattle.vtl_text.specs.Words.{is_word}
+use Rattle.vtl_lists.proofs.Perms.{AllByRecursion-Perm, Perm-append, Perm-map, Perm-same, Perm-sym}
 use Rattle.vtl_syntax.specs.declared.word_groups.JoinKind.TheVariants as join
 use Rattle.vtl_rows.specs.Tables.{cells_at}
 use Rattle.vtl_tree.specs.DataSet.{is_point}
@@ -17,18 +17,18 @@ use Rattle.vtl_tree.specs.declared.structure.Component.{Component}
 use Rattle.vtl_tree.specs.declared.structure.Structure.{Structure}
 use Rattle.vtl_tuples.specs.Keys.{each_once}
 use Rattle.vtl_tuples.proofs.Lists.{map-map}
-use Rattle.rules_to_sql.specs.Agreement.{values_in}
-use Rattle.rules_to_sql.specs.Columns.{identifiers_of, measures_of, places_in}
-use Rattle.rules_to_sql.specs.Joined.{all_keys, join_of, keys_in, structures_of, tuple_at, tuple_point}
-use Rattle.rules_to_sql.specs.Made.{GoTogether, HasIdentifiers, IsJoined, attributes_of, kinds_of_all}
-use Rattle.rules_to_sql.specs.Orders.{SameOperands}
-use Rattle.rules_to_sql.specs.Points.{with_points}
-use Rattle.rules_to_sql.proofs.JoinKept.{HaveThem, all_keys_are, have_them, key_is, once_hold}
-use Rattle.rules_to_sql.proofs.JoinOrders.{join_order, once_respects, rows_apart}
-use Rattle.rules_to_sql.proofs.JoinParts.{AreSets}
-use Rattle.rules_to_sql.proofs.Places.{all_append, all_map, all_more, all_of_map, are_identifiers}
+use Rattle.vtl_meaning.specs.Agreement.{values_in}
+use Rattle.check_shapes.specs.Columns.{identifiers_of, measures_of, places_in}
+use Rattle.vtl_meaning.specs.Joined.{all_keys, join_of, keys_in, structures_of, tuple_at, tuple_point}
+use Rattle.vtl_meaning.specs.Made.{GoTogether, HasIdentifiers, IsJoined, attributes_of, kinds_of_all}
+use Rattle.vtl_meaning.specs.Orders.{SameOperands}
+use Rattle.vtl_meaning.specs.Points.{with_points}
+use Rattle.vtl_meaning.proofs.JoinKept.{HaveThem, all_keys_are, have_them, key_is, once_hold}
+use Rattle.vtl_meaning.proofs.JoinOrders.{join_order, once_respects, rows_apart}
+use Rattle.vtl_meaning.proofs.JoinParts.{AreSets}
+use Rattle.vtl_meaning.proofs.Places.{all_append, all_map, all_more, all_of_map, are_identifiers}
 use Rattle.sql_tree.specs.Trees.{QueryTree, Text}
-use Rattle.rules_to_sql.specs.Scripts.{Data, NamedFault}
+use Rattle.sql_meaning.specs.Scripts.{Data, NamedFault}
 use Rattle.vtl_to_sql.specs.Conditions.{HaveNames}
 use Rattle.vtl_to_sql.specs.FullJoins.{full_query, key_structure, keys_query, once_query, or_spare}
 use Rattle.vtl_to_sql.specs.Means.{AreEarlier, AreThere, Means, NodeGives, SourcesGive, StandsAs}

@@ -1,10 +1,10 @@
 -- The columns of a structure as those of a table.
 use Rattle.std.proofs.Common.{◌≡◌, ◌≤◌, ◌+◌, true, false, cond, List, [], ◌∷◌, ◌++◌, length, map, Some, refl, arith, length-append}
 use Rattle.std.specs.List.{AllByRecursion, filter}
-use Rattle.vtl_cell.specs.Apart.{all_apart}
+use Rattle.vtl_lists.specs.Apart.{all_apart}
 use Rattle.vtl_cell.specs.declared.kind.Kind.{Kind}
 use Rattle.vtl_cell.specs.declared.kind.Kind.TheVariants as k
-use Rattle.vtl_cell.proofs.Sorts.{AllByRecursion-filter}
+use Rattle.vtl_lists.proofs.Sorts.{AllByRecursion-filter}
 use Rattle.vtl_cell.specs.Literals.{is_null_kind}
 use Rattle.vtl_tree.specs.Structure.{columns_of, names_of, of_role, same_name, same_role}
 use Rattle.vtl_tree.specs.Structures as structures
@@ -12,11 +12,11 @@ use Rattle.vtl_tree.specs.declared.structure.Component.{Component}
 use Rattle.vtl_tree.specs.declared.structure.Role.{Role}
 use Rattle.vtl_tree.specs.declared.structure.Role.TheVariants as role
 use Rattle.vtl_tree.specs.declared.structure.Structure.{Structure}
-use Rattle.rules_to_sql.specs.Shapes.{IsShaped}
-use Rattle.rules_to_sql.proofs.OwnColumns.{columns_apart}
-use Rattle.rules_to_sql.proofs.Places.{all_append}
-use Rattle.rules_to_sql.specs.TypedSelects.{IsColumnKind}
-use Rattle.rules_to_sql.specs.Queries.{most_columns}
+use Rattle.vtl_meaning.specs.Shapes.{IsShaped}
+use Rattle.vtl_meaning.proofs.OwnColumns.{columns_apart}
+use Rattle.vtl_meaning.proofs.Places.{all_append}
+use Rattle.sql_check_laws.specs.Selects.{IsColumnKind}
+use Rattle.sql_check_parts.specs.Queries.{most_columns}
 use Rattle.vtl_to_sql.specs.Conditions.{HaveNames}
 
 abbrev pub kinds_in : List Component → List Kind

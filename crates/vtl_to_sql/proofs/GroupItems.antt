@@ -8,29 +8,29 @@ use Rattle.vtl_cell.specs.Conversion.{as_kind}
 use Rattle.vtl_cell.specs.Kinds.{is_of}
 use Rattle.vtl_cell.specs.Outcome.{Fault, Outcome, after, fault_in, faults_by, join, unless}
 use Rattle.vtl_cell.specs.Row.{Row}
-use Rattle.vtl_cell.specs.Settings.{Settings}
+use Rattle.vtl_decimal.specs.Settings.{Settings}
 use Rattle.vtl_cell.specs.declared.kind.Kind.{Kind}
 use Rattle.vtl_tree.specs.Structure.{columns_of, names_of}
 use Rattle.vtl_tree.specs.declared.structure.Component.{Component}
 use Rattle.vtl_tree.specs.declared.structure.Structure.{Structure}
-use Rattle.rules_to_sql.specs.Points.{cell_or_null}
+use Rattle.vtl_meaning.specs.Points.{cell_or_null}
 use Rattle.sql_tree.specs.Formed.{IsColumn, IsExp, IsItem as IsItemFormed, IsMaybeExp, IsSource}
 use Rattle.sql_tree.specs.Trees.{Exp, ItemTree, SelectTree}
 use Rattle.sql_tree.specs.declared.parts.Column.{Column}
 use Rattle.sql_tree.specs.declared.parts.Source.{Source}
-use Rattle.rules_to_sql.specs.Fits.{Fits, IsMaybeCondition, IsSeen}
-use Rattle.rules_to_sql.specs.TypedSelects.{IsItemTyped, IsSourceTyped}
-use Rattle.rules_to_sql.specs.Expressions.{site}
-use Rattle.rules_to_sql.specs.Kinds.{kind_in}
-use Rattle.rules_to_sql.specs.Queries.{groups_of, is_grouped, item_kind, item_name, scope_of}
-use Rattle.rules_to_sql.specs.Scopes.{Scope, grouping_of, repeats}
-use Rattle.rules_to_sql.specs.From.{source_rows}
-use Rattle.rules_to_sql.specs.MeantGroups.{keys_by, rows_with}
-use Rattle.rules_to_sql.specs.Outcomes.{row_at, row_fault}
-use Rattle.rules_to_sql.specs.Scripts.{Data, base_of, tables_in}
-use Rattle.rules_to_sql.specs.Selects.{group_item, group_rows, grouped_rows, having_fault, kept_keys, plain_rows, second_phase}
-use Rattle.rules_to_sql.specs.Tables.{Base}
-use Rattle.rules_to_sql.specs.Values.{at_groups, at_rows, place_in, value as sql_value}
+use Rattle.sql_check_laws.specs.Fits.{Fits, IsMaybeCondition, IsSeen}
+use Rattle.sql_check_laws.specs.Selects.{IsItemTyped, IsSourceTyped}
+use Rattle.sql_check_parts.specs.Expressions.{site}
+use Rattle.sql_check_parts.specs.Kinds.{kind_in}
+use Rattle.sql_check_parts.specs.Queries.{groups_of, is_grouped, item_kind, item_name, scope_of}
+use Rattle.sql_check_parts.specs.Scopes.{Scope, grouping_of, repeats}
+use Rattle.sql_meaning.specs.From.{source_rows}
+use Rattle.sql_meaning.specs.Groups.{keys_by, rows_with}
+use Rattle.sql_meaning.specs.Outcomes.{row_at, row_fault}
+use Rattle.sql_meaning.specs.Scripts.{Data, base_of, tables_in}
+use Rattle.sql_meaning.specs.Selects.{group_item, group_rows, grouped_rows, having_fault, kept_keys, plain_rows, second_phase}
+use Rattle.sql_meaning.specs.Tables.{Base}
+use Rattle.sql_meaning.specs.Values.{at_groups, at_rows, place_in, value as sql_value}
 use Rattle.vtl_to_sql.specs.Conditions.{HaveNames}
 use Rattle.vtl_to_sql.specs.Queries.{items_as}
 use Rattle.vtl_to_sql.specs.Runs.{printable_depth}

@@ -6,8 +6,8 @@ use Rattle.grammar_forms.specs.Written.{Each}
 use Rattle.vtl_cell.specs.Groups.{group_value}
 use Rattle.vtl_cell.specs.Outcome.{after}
 use Rattle.vtl_cell.specs.Row.{Row, column_of}
-use Rattle.vtl_cell.specs.Settings.{Settings}
-use Rattle.vtl_cell.specs.Texts.{same_text}
+use Rattle.vtl_decimal.specs.Settings.{Settings}
+use Rattle.vtl_text.specs.Texts.{same_text}
 use Rattle.vtl_cell.specs.declared.cell.Cell.TheVariants as c
 use Rattle.vtl_cell.specs.declared.operator.AggKind.TheVariants as agg
 use Rattle.vtl_rows.specs.Tables.{cells_at}
@@ -15,20 +15,20 @@ use Rattle.vtl_tree.specs.CompExp.{column}
 use Rattle.vtl_tree.specs.DataSet.{is_point}
 use Rattle.vtl_tree.specs.Structure.{names_of, same_name}
 use Rattle.vtl_tree.specs.declared.structure.Component.{Component}
-use Rattle.rules_to_sql.specs.Columns.{columns_named, place_of, places_in}
-use Rattle.rules_to_sql.specs.Made.{IsColumnAt}
-use Rattle.rules_to_sql.proofs.OwnColumns.{column_any}
-use Rattle.rules_to_sql.proofs.Places.{each, same_name-sym}
-use Rattle.rules_to_sql.proofs.ValueKinds.{cell_is_of}
+use Rattle.check_shapes.specs.Columns.{columns_named, place_of, places_in}
+use Rattle.vtl_meaning.specs.Made.{IsColumnAt}
+use Rattle.vtl_meaning.proofs.OwnColumns.{column_any}
+use Rattle.vtl_meaning.proofs.Places.{each, same_name-sym}
+use Rattle.vtl_meaning.proofs.ValueKinds.{cell_is_of}
 use Rattle.sql_tree.specs.Formed.{IsColumn}
 use Rattle.sql_tree.specs.declared.parts.Column.{Column}
-use Rattle.rules_to_sql.specs.Fits.{IsSeen}
+use Rattle.sql_check_laws.specs.Fits.{IsSeen}
 use Rattle.rules_to_sql.specs.Names.{Names}
-use Rattle.rules_to_sql.specs.Scopes.{Scope, or_null}
-use Rattle.rules_to_sql.specs.Scripts.{Data, base_of}
-use Rattle.rules_to_sql.specs.Tables.{Base}
+use Rattle.sql_check_parts.specs.Scopes.{Scope, or_null}
+use Rattle.sql_meaning.specs.Scripts.{Data, base_of}
+use Rattle.sql_meaning.specs.Tables.{Base}
 use Rattle.rules_to_sql.specs.ToSql.{group_columns}
-use Rattle.rules_to_sql.specs.Values.{at_groups, place_in, value as sql_value}
+use Rattle.sql_meaning.specs.Values.{at_groups, place_in, value as sql_value}
 use Rattle.rules_to_sql.proofs.OverGroups.{group_fits, group_value_is}
 use Rattle.vtl_to_sql.specs.Conditions.{HaveNames}
 use Rattle.vtl_to_sql.specs.Queries.{all_to_sql, first_alias, of_one}

@@ -3,19 +3,19 @@ use Rattle.std.proofs.Common.{◌≡◌, Bool, cond, List, [], ◌∷◌, ◌++�
 use Rattle.std.proofs.lemmas.List.{map-append}
 use Rattle.std.specs.List.{AllByRecursion}
 use Rattle.std.specs.Option.{option_map_or}
-use Rattle.vtl_cell.specs.Settings.{Settings}
+use Rattle.vtl_decimal.specs.Settings.{Settings}
 use Rattle.vtl_cell.specs.declared.cell.Cell.TheVariants as c
 use Rattle.vtl_tree.specs.CompExp.{aggregate, const}
 use Rattle.vtl_tree.specs.Structure.{columns_of}
 use Rattle.vtl_tree.specs.declared.expression.AggCall.{AggCall}
 use Rattle.vtl_tree.specs.declared.structure.Component.{Component}
 use Rattle.vtl_tree.specs.declared.structure.Structure.{Structure}
-use Rattle.rules_to_sql.specs.AggregatePoints.{call_for}
-use Rattle.rules_to_sql.specs.Columns.{columns_named, identifiers_of, others_of}
+use Rattle.vtl_aggregates.specs.Aggregates.{call_for}
+use Rattle.check_shapes.specs.Columns.{columns_named, identifiers_of, others_of}
 use Rattle.rules_to_sql.specs.ToSql.{group_columns, to_sql}
-use Rattle.rules_to_sql.specs.Trees.{AggTree}
-use Rattle.rules_to_sql.specs.specifications.AggItems.{AggItems}
-use Rattle.rules_to_sql.proofs.Places.{IsIdentifier, IsOther, are_identifiers, are_others, columns_split}
+use Rattle.vtl_nodes.specs.Trees.{AggTree}
+use Rattle.vtl_nodes.specs.declared.specifications.AggItems.{AggItems}
+use Rattle.vtl_meaning.proofs.Places.{IsIdentifier, IsOther, are_identifiers, are_others, columns_split}
 use Rattle.sql_tree.specs.Trees.{Exp, Text, constant}
 use Rattle.sql_tree.specs.declared.parts.Constant.TheVariants as constants
 use Rattle.vtl_to_sql.specs.Grouped.{aggregate_query, aggregated_exps, kept_where, made_exp}

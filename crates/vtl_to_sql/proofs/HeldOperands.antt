@@ -3,20 +3,20 @@ use Rattle.std.proofs.Common.{◌≡◌, ◌<◌, ◌+◌, ◌^◌, ℕ, false, 
 use Rattle.std.specs.Prelude.{if◌then◌else◌, unwrap_or}
 use Rattle.std.specs.List.{AllByRecursion}
 use Rattle.std.specs.Map.{keys_of}
-use Rattle.vtl_cell.specs.Settings.{Settings}
+use Rattle.vtl_decimal.specs.Settings.{Settings}
 use Rattle.vtl_tree.specs.Environment.{DataSet}
 use Rattle.vtl_tree.specs.Structure.{columns_of}
 use Rattle.vtl_tree.specs.declared.structure.Component.{Component}
-use Rattle.rules_to_sql.specs.Joined.{structures_of}
-use Rattle.rules_to_sql.specs.Orders.{SameOperands}
-use Rattle.rules_to_sql.specs.Points.{with_points}
-use Rattle.rules_to_sql.proofs.JoinParts.{AreSets}
-use Rattle.rules_to_sql.proofs.OwnColumns.{columns_apart}
-use Rattle.rules_to_sql.proofs.Places.{all_append}
+use Rattle.vtl_meaning.specs.Joined.{structures_of}
+use Rattle.vtl_meaning.specs.Orders.{SameOperands}
+use Rattle.vtl_meaning.specs.Points.{with_points}
+use Rattle.vtl_meaning.proofs.JoinParts.{AreSets}
+use Rattle.vtl_meaning.proofs.OwnColumns.{columns_apart}
+use Rattle.vtl_meaning.proofs.Places.{all_append}
 use Rattle.sql_tree.specs.Formed.{IsName}
 use Rattle.sql_tree.specs.Trees.{Text}
-use Rattle.rules_to_sql.specs.Scopes.{add_source, columns_of as table_columns, is_among, with_source}
-use Rattle.rules_to_sql.specs.Scripts.{Data, base_of, no_table, tables_in}
+use Rattle.sql_check_parts.specs.Scopes.{add_source, columns_of as table_columns, is_among, with_source}
+use Rattle.sql_meaning.specs.Scripts.{Data, base_of, no_table, tables_in}
 use Rattle.vtl_to_sql.specs.Conditions.{HaveNames}
 use Rattle.vtl_to_sql.specs.Joins.{alias_of}
 use Rattle.vtl_to_sql.specs.Means.{AreThere}

@@ -19,12 +19,12 @@ use Rattle.check_shapes.specs.Names.{component_of}
 use Rattle.check_shapes.specs.Operands.{is_alike, is_there}
 use Rattle.check_shapes.specs.Pairs.{contains}
 use Rattle.check_shapes.specs.declared.operands.Compared.TheVariants as compared
-use Rattle.rules_to_sql.specs.Columns.{identifiers_of, kind_named, others_of, place_of}
-use Rattle.rules_to_sql.specs.Made.{AreAmong, IsColumnAt}
-use Rattle.rules_to_sql.proofs.Kept.{column_front, column_within, place_front}
-use Rattle.rules_to_sql.proofs.OwnColumns.{columns_apart, own_identifiers}
-use Rattle.rules_to_sql.proofs.Places.{all_filtered, columns_split, place_here, place_later, same_name-is}
-use Rattle.rules_to_sql.proofs.ValueKinds.{point_parts}
+use Rattle.check_shapes.specs.Columns.{identifiers_of, kind_named, others_of, place_of}
+use Rattle.vtl_meaning.specs.Made.{AreAmong, IsColumnAt}
+use Rattle.vtl_meaning.proofs.Kept.{column_front, column_within, place_front}
+use Rattle.vtl_meaning.proofs.OwnColumns.{columns_apart, own_identifiers}
+use Rattle.vtl_meaning.proofs.Places.{all_filtered, columns_split, place_here, place_later, same_name-is}
+use Rattle.vtl_meaning.proofs.ValueKinds.{point_parts}
 use Rattle.vtl_to_sql.proofs.OneOperand.{kind_at}
 
 -- ---- cells that are there

@@ -1,5 +1,5 @@
 -- What an INPUT asks of its rows is what the structure asks of the points of a data set.
-use Rattle.rules_to_sql.proofs.ValueKinds.{point_from, point_parts}
+use Rattle.vtl_meaning.proofs.ValueKinds.{point_from, point_parts}
 use Rattle.sql_tree.specs.Trees.{Text}
 use Rattle.std.specs.Option.{option_map_or}
 use Rattle.std.proofs.Common.{◌≡◌, ℕ, zero, suc, Bool, true, false, not, ◌&&◌, ◌||◌, List, [], ◌∷◌, ◌++◌, length, map, Option, Some, None, refl, ap, sym, ◌∙◌, subst, true≢false}
@@ -7,7 +7,7 @@ use Rattle.std.specs.Prelude.{take, unwrap_or}
 use Rattle.std.specs.List.{AllByRecursion, list_any}
 use Rattle.std.proofs.lemmas.Bool.{and_from, and_parts}
 use Rattle.std.proofs.lemmas.List.{length-map}
-use Rattle.vtl_cell.specs.Apart.{all_apart}
+use Rattle.vtl_lists.specs.Apart.{all_apart}
 use Rattle.vtl_cell.specs.Kinds.{is_null, is_of}
 use Rattle.vtl_cell.specs.Row.{Row, same_key}
 use Rattle.vtl_cell.specs.declared.cell.Cell.{Cell}
@@ -21,11 +21,11 @@ use Rattle.vtl_tree.specs.Structures.{are_codes, codes_fit, is_text_kind, is_str
 use Rattle.vtl_tree.specs.declared.structure.Component.{Component}
 use Rattle.vtl_tree.specs.declared.structure.Role.TheVariants as role
 use Rattle.vtl_tree.specs.declared.structure.Structure.{Structure}
-use Rattle.rules_to_sql.specs.Columns.{identifiers_of, others_of}
-use Rattle.rules_to_sql.proofs.Places.{IsIdentifier, IsOther, all_more, are_identifiers, are_others, columns_split}
-use Rattle.rules_to_sql.specs.Inputs as asked
-use Rattle.rules_to_sql.specs.Inputs.{IsInputData, has_whole_key}
-use Rattle.rules_to_sql.specs.Tables.{RowsFit, kinds_of}
+use Rattle.check_shapes.specs.Columns.{identifiers_of, others_of}
+use Rattle.vtl_meaning.proofs.Places.{IsIdentifier, IsOther, all_more, are_identifiers, are_others, columns_split}
+use Rattle.sql_meaning.specs.Inputs as asked
+use Rattle.sql_meaning.specs.Inputs.{IsInputData, has_whole_key}
+use Rattle.sql_meaning.specs.Tables.{RowsFit, kinds_of}
 use Rattle.vtl_to_sql.specs.Inputs.{AreAsked, are_listed, is_listed}
 use Rattle.vtl_to_sql.specs.Runs.{entries}
 use Rattle.vtl_to_sql.specs.Scripts.{input_column, input_of}

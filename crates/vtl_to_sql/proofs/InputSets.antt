@@ -1,11 +1,11 @@
 -- The rows that INPUTs take are those of data sets, over which the script means what it exports.
 use Rattle.std.proofs.Common.{◌≡◌, true, List, [], ◌∷◌, refl, ap}
 use Rattle.std.specs.List.{AllByRecursion}
-use Rattle.vtl_cell.specs.Settings.{Settings}
-use Rattle.vtl_cell.proofs.Perms.{Perm-refl}
+use Rattle.vtl_decimal.specs.Settings.{Settings}
+use Rattle.vtl_lists.proofs.Perms.{Perm-refl}
 use Rattle.vtl_tree.specs.Structures.{Named, is_declarable}
-use Rattle.rules_to_sql.specs.Meaning.{AreDataSets, Statement, known_in, meaning}
-use Rattle.rules_to_sql.specs.Scripts.{Inputs, rows_read, script_value}
+use Rattle.vtl_meaning.specs.Meaning.{AreDataSets, Statement, known_in, meaning}
+use Rattle.sql_meaning.specs.Scripts.{Inputs, rows_read, script_value}
 use Rattle.vtl_to_sql.specs.Conditions.{IsScript}
 use Rattle.vtl_to_sql.specs.Exports.{AreRead, exported_as}
 use Rattle.vtl_to_sql.specs.Inputs.{AreTaken, sets_read}

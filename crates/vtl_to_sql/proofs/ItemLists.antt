@@ -11,8 +11,8 @@ use Rattle.vtl_cell.specs.declared.cell.Cell.TheVariants as c
 use Rattle.vtl_cell.specs.declared.kind.Kind.TheVariants as k
 use Rattle.vtl_tree.specs.declared.structure.Component.{Component}
 use Rattle.sql_tree.specs.Trees.{Exp, Text}
-use Rattle.rules_to_sql.specs.Scopes.{Scope}
-use Rattle.rules_to_sql.specs.Tables.{Base}
+use Rattle.sql_check_parts.specs.Scopes.{Scope}
+use Rattle.sql_meaning.specs.Tables.{Base}
 use Rattle.vtl_to_sql.specs.Turned.{text_constant}
 use Rattle.vtl_to_sql.proofs.Givens.{kinds_in}
 use Rattle.vtl_to_sql.proofs.SelectItems.{AreItems, IsItem, Valued}

@@ -4,16 +4,16 @@ use Rattle.std.specs.Prelude.{slice_get}
 use Rattle.std.specs.List.{AllByRecursion, filter}
 use Rattle.std.proofs.lemmas.Bool.{le-ltb, lt-ltb}
 use Rattle.std.proofs.lemmas.List.{map-append}
-use Rattle.vtl_cell.specs.Settings.{Settings}
+use Rattle.vtl_decimal.specs.Settings.{Settings}
 use Rattle.vtl_cell.specs.declared.operator.ScalarOp.TheVariants as op
 use Rattle.vtl_tree.specs.Structure.{columns_of, names_of, same_name}
 use Rattle.vtl_tree.specs.declared.structure.Component.{Component}
 use Rattle.vtl_tree.specs.declared.structure.Structure.{Structure}
 use Rattle.check_shapes.specs.Names.{is_among}
-use Rattle.rules_to_sql.specs.Agreement.{common_identifiers, has_identifier}
-use Rattle.rules_to_sql.specs.Columns.{column_behind, identifiers_of, measures_of, place_of}
-use Rattle.rules_to_sql.specs.Made.{attributes_of}
-use Rattle.rules_to_sql.proofs.Places.{same_name-refl}
+use Rattle.vtl_meaning.specs.Agreement.{common_identifiers, has_identifier}
+use Rattle.check_shapes.specs.Columns.{column_behind, identifiers_of, measures_of, place_of}
+use Rattle.vtl_meaning.specs.Made.{attributes_of}
+use Rattle.vtl_meaning.proofs.Places.{same_name-refl}
 use Rattle.sql_tree.specs.Trees as tree
 use Rattle.sql_tree.specs.Trees.{Exp, JoinTree, QueryTree, Text}
 use Rattle.sql_tree.specs.declared.word_groups.JoinKind.{JoinKind}

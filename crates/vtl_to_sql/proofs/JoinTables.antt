@@ -4,7 +4,7 @@ use Rattle.std.specs.Borrow.{Bor}
 use Rattle.std.specs.Prelude.{Vec}
 use Rattle.std.specs.declared.alloc.Global.{Global}
 use Rattle.std.proofs.lemmas.List.{map-append}
-use Rattle.vtl_cell.specs.Settings.{Settings}
+use Rattle.vtl_decimal.specs.Settings.{Settings}
 use Rattle.vtl_syntax.specs.declared.word_groups.JoinKind.{JoinKind}
 use Rattle.vtl_syntax.specs.declared.word_groups.JoinKind.TheVariants as join
 use Rattle.vtl_tree.specs.Shown.{shown}
@@ -17,8 +17,8 @@ use Rattle.vtl_nodes.specs.declared.nodes.JoinOperand.{JoinOperand}
 use Rattle.vtl_nodes.specs.declared.nodes.NodeForm as forms
 use Rattle.vtl_nodes.specs.declared.nodes.NodeForm.{NodeForm}
 use Rattle.vtl_nodes.specs.declared.nodes.NodeForm.TheVariants as form
-use Rattle.rules_to_sql.specs.Joins.{structures_of}
-use Rattle.rules_to_sql.specs.Made.{operands_in}
+use Rattle.check_joins.specs.Joins.{structures_of}
+use Rattle.vtl_meaning.specs.Made.{operands_in}
 use Rattle.sql_tree.specs.Trees.{QueryTree, StatementTree, Text}
 use Rattle.vtl_to_sql.specs.FullJoins.{full_query, key_structure, keys_query, once_query}
 use Rattle.vtl_to_sql.specs.Scripts.{create_for}

@@ -5,7 +5,7 @@ use Rattle.std.specs.List.{AllByRecursion, flat_map}
 use Rattle.std.proofs.lemmas.List.{map-append}
 use Rattle.vtl_cell.specs.Outcome.{fault_in, faults_by, join, unless}
 use Rattle.vtl_cell.specs.Row.{Row, column_of}
-use Rattle.vtl_cell.specs.Settings.{Settings}
+use Rattle.vtl_decimal.specs.Settings.{Settings}
 use Rattle.vtl_cell.specs.declared.cell.Cell.TheVariants as c
 use Rattle.vtl_cell.specs.declared.kind.Kind.{Kind}
 use Rattle.vtl_tree.specs.CompExp.{CompExp}
@@ -13,15 +13,15 @@ use Rattle.vtl_tree.specs.Structure.{IsStructure, columns_of}
 use Rattle.vtl_tree.specs.Value.{value}
 use Rattle.vtl_tree.specs.declared.structure.Component.{Component}
 use Rattle.vtl_tree.specs.declared.structure.Structure.{Structure}
-use Rattle.rules_to_sql.specs.LawsKinds.{exp_kind}
-use Rattle.rules_to_sql.specs.Columns.{column_behind, identifiers_of, kind_named, measures_of, place_of}
-use Rattle.rules_to_sql.specs.Joined.{Part, values_or_nulls}
-use Rattle.rules_to_sql.specs.Made.{AreAmong, AreFor, IsColumnAt, IsTyped, attributes_of, component_kinds, kinds_of_all}
-use Rattle.rules_to_sql.specs.Points.{each_point, point_fault, point_of}
-use Rattle.rules_to_sql.proofs.Kept.{column_front, column_within}
-use Rattle.rules_to_sql.proofs.OwnColumns.{among_front, columns_apart, own_columns, own_identifiers, own_measures}
-use Rattle.rules_to_sql.proofs.Places.{all_append, all_back, columns_split}
-use Rattle.rules_to_sql.specs.From.{nulls}
+use Rattle.check_values.specs.Kinds.{exp_kind}
+use Rattle.check_shapes.specs.Columns.{column_behind, identifiers_of, kind_named, measures_of, place_of}
+use Rattle.vtl_meaning.specs.Joined.{Part, values_or_nulls}
+use Rattle.vtl_meaning.specs.Made.{AreAmong, AreFor, IsColumnAt, IsTyped, attributes_of, component_kinds, kinds_of_all}
+use Rattle.vtl_meaning.specs.Points.{each_point, point_fault, point_of}
+use Rattle.vtl_meaning.proofs.Kept.{column_front, column_within}
+use Rattle.vtl_meaning.proofs.OwnColumns.{among_front, columns_apart, own_columns, own_identifiers, own_measures}
+use Rattle.vtl_meaning.proofs.Places.{all_append, all_back, columns_split}
+use Rattle.sql_meaning.specs.From.{nulls}
 use Rattle.vtl_to_sql.specs.Conditions.{AllCanBeWritten, CanBeWritten}
 use Rattle.vtl_to_sql.specs.Joins.{Placed, columns_at, columns_in, joined_exps, placed_at, placed_around, placed_from, width_of, without}
 use Rattle.vtl_to_sql.proofs.Chains.{cells_or_nulls}

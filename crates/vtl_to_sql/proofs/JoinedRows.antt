@@ -4,18 +4,18 @@ use Rattle.std.specs.Prelude.{Bool, is_some, slice_get}
 use Rattle.std.specs.List.{AllByRecursion, flat_map, list_all}
 use Rattle.std.proofs.lemmas.List.{get_or_append_left, get_or-append-add, length-map, map-append}
 use Rattle.vtl_cell.specs.Row.{Row, column_of}
-use Rattle.vtl_cell.specs.Settings.{Settings}
+use Rattle.vtl_decimal.specs.Settings.{Settings}
 use Rattle.vtl_cell.specs.declared.cell.Cell.TheVariants as c
 use Rattle.vtl_tree.specs.DataSet.{is_point}
 use Rattle.vtl_tree.specs.Environment.{DataSet}
 use Rattle.vtl_tree.specs.Structure.{IsStructure, columns_of}
 use Rattle.vtl_tree.specs.declared.structure.Component.{Component}
 use Rattle.vtl_tree.specs.declared.structure.Structure.{Structure}
-use Rattle.rules_to_sql.specs.Columns.{identifiers_of, measures_of}
-use Rattle.rules_to_sql.specs.Joined.{Part, Tuple, part_of, structures_of, tuple_point, values_or_nulls}
-use Rattle.rules_to_sql.specs.Made.{AreFor, attributes_of, component_kinds, kinds_of_all}
-use Rattle.rules_to_sql.specs.Points.{point_of}
-use Rattle.rules_to_sql.proofs.Places.{point_length}
+use Rattle.check_shapes.specs.Columns.{identifiers_of, measures_of}
+use Rattle.vtl_meaning.specs.Joined.{Part, Tuple, part_of, structures_of, tuple_point, values_or_nulls}
+use Rattle.vtl_meaning.specs.Made.{AreFor, attributes_of, component_kinds, kinds_of_all}
+use Rattle.vtl_meaning.specs.Points.{point_of}
+use Rattle.vtl_meaning.proofs.Places.{point_length}
 use Rattle.sql_tree.specs.declared.word_groups.JoinKind.TheVariants as joining
 use Rattle.vtl_to_sql.specs.Joins.{Placed, columns_in, joined_exps, placed_around, placed_from, width_of, without}
 use Rattle.vtl_to_sql.proofs.Chains.{cells_or_nulls, extended_by}

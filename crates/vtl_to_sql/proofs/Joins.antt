@@ -3,23 +3,23 @@ use Rattle.std.proofs.Common.{◌≡◌, ◌≤◌, ◌<◌, ◌+◌, ◌^◌, �
 use Rattle.std.specs.List.{AllByRecursion}
 use Rattle.std.proofs.lemmas.List.{length-map}
 use Rattle.vtl_cell.specs.Outcome.{Outcome, after}
-use Rattle.vtl_cell.specs.Perm.{Perm}
-use Rattle.vtl_cell.specs.Settings.{Settings}
-use Rattle.vtl_cell.specs.Words.{is_word}
+use Rattle.vtl_lists.specs.Perm.{Perm}
+use Rattle.vtl_decimal.specs.Settings.{Settings}
+use Rattle.vtl_text.specs.Words.{is_word}
 use Rattle.vtl_syntax.specs.declared.word_groups.JoinKind.{JoinKind}
 use Rattle.vtl_syntax.specs.declared.word_groups.JoinKind.TheVariants as join
 use Rattle.vtl_tree.specs.Environment.{DataSet}
 use Rattle.vtl_tree.specs.Structure.{columns_of}
 use Rattle.vtl_tree.specs.declared.structure.Structure.{Structure}
-use Rattle.rules_to_sql.specs.Joined.{join_of, joined_of, reference_place, structures_of}
-use Rattle.rules_to_sql.specs.Made.{IsJoined}
-use Rattle.rules_to_sql.proofs.JoinKept.{IsReference, join_with, reference_is}
-use Rattle.rules_to_sql.proofs.JoinOrders.{join_order}
-use Rattle.rules_to_sql.proofs.JoinParts.{AreSets}
-use Rattle.rules_to_sql.proofs.Places.{all_map, all_of_map}
+use Rattle.vtl_meaning.specs.Joined.{join_of, joined_of, reference_place, structures_of}
+use Rattle.vtl_meaning.specs.Made.{IsJoined}
+use Rattle.vtl_meaning.proofs.JoinKept.{IsReference, join_with, reference_is}
+use Rattle.vtl_meaning.proofs.JoinOrders.{join_order}
+use Rattle.vtl_meaning.proofs.JoinParts.{AreSets}
+use Rattle.vtl_meaning.proofs.Places.{all_map, all_of_map}
 use Rattle.sql_tree.specs.Trees.{QueryTree, Text}
 use Rattle.sql_tree.specs.declared.word_groups.JoinKind.TheVariants as joining
-use Rattle.rules_to_sql.specs.Scripts.{Data}
+use Rattle.sql_meaning.specs.Scripts.{Data}
 use Rattle.vtl_to_sql.specs.Conditions.{HaveNames}
 use Rattle.vtl_to_sql.specs.Joins.{cross_query, reference_query}
 use Rattle.vtl_to_sql.specs.Means.{AreEarlier, AreThere, Means, NodeGives, SourcesGive}

@@ -1,12 +1,12 @@
 -- The queries of a full join's tables of identifiers, as they are written.
 use Rattle.std.proofs.Common.{◌≡◌, List, [], ◌∷◌, length, map, None, refl, ap, ◌∙◌, arith}
-use Rattle.vtl_cell.specs.Settings.{Settings}
+use Rattle.vtl_decimal.specs.Settings.{Settings}
 use Rattle.vtl_tree.specs.Structure.{columns_of, names_of}
 use Rattle.vtl_tree.specs.declared.structure.Component.{Component}
 use Rattle.vtl_tree.specs.declared.structure.Structure.{Structure}
-use Rattle.rules_to_sql.specs.Columns.{identifiers_of}
+use Rattle.check_shapes.specs.Columns.{identifiers_of}
 use Rattle.rules_to_sql.specs.ToSql.{group_columns}
-use Rattle.rules_to_sql.proofs.Places.{are_identifiers}
+use Rattle.vtl_meaning.proofs.Places.{are_identifiers}
 use Rattle.sql_tree.specs.Trees.{Text}
 use Rattle.vtl_to_sql.specs.FullJoins.{key_exps, key_select, keys_query, once_query, or_spare}
 use Rattle.vtl_to_sql.specs.Items.{for_each_two, from_one, renamed_item}

@@ -3,7 +3,7 @@ use Rattle.std.proofs.Common.{◌≡◌, true, List, [], ◌∷◌, map, None, O
 use Rattle.std.specs.List.{AllByRecursion, flat_map}
 use Rattle.std.proofs.lemmas.List.Folds.{flat_map-map}
 use Rattle.vtl_cell.specs.Row.{Row}
-use Rattle.vtl_cell.specs.Settings.{Settings}
+use Rattle.vtl_decimal.specs.Settings.{Settings}
 use Rattle.vtl_cell.specs.declared.cell.Cell.TheVariants as c
 use Rattle.vtl_rows.specs.Tables.{cells_at}
 use Rattle.vtl_tree.specs.CompExp.{const}
@@ -13,17 +13,17 @@ use Rattle.vtl_tree.specs.Structure.{IsStructure, columns_of}
 use Rattle.vtl_tree.specs.declared.structure.Component.{Component}
 use Rattle.vtl_tree.specs.declared.structure.Structure.{Structure}
 use Rattle.vtl_tuples.proofs.Lists.{map-flat_map, map-map, map_each}
-use Rattle.rules_to_sql.specs.Agreement.{values_in}
-use Rattle.rules_to_sql.specs.Columns.{identifiers_of, others_of, places_in}
-use Rattle.rules_to_sql.specs.Joined.{keys_in, structures_of}
-use Rattle.rules_to_sql.specs.Made.{AreAmong, AreFor}
-use Rattle.rules_to_sql.specs.Points.{each_point}
-use Rattle.rules_to_sql.proofs.JoinParts.{AreSets}
-use Rattle.rules_to_sql.proofs.LookUps.{named_cells}
-use Rattle.rules_to_sql.proofs.OwnColumns.{among_front, columns_apart}
-use Rattle.rules_to_sql.proofs.Places.{are_identifiers, columns_split}
+use Rattle.vtl_meaning.specs.Agreement.{values_in}
+use Rattle.check_shapes.specs.Columns.{identifiers_of, others_of, places_in}
+use Rattle.vtl_meaning.specs.Joined.{keys_in, structures_of}
+use Rattle.vtl_meaning.specs.Made.{AreAmong, AreFor}
+use Rattle.vtl_meaning.specs.Points.{each_point}
+use Rattle.vtl_meaning.proofs.JoinParts.{AreSets}
+use Rattle.vtl_meaning.proofs.LookUps.{named_cells}
+use Rattle.vtl_meaning.proofs.OwnColumns.{among_front, columns_apart}
+use Rattle.vtl_meaning.proofs.Places.{are_identifiers, columns_split}
 use Rattle.sql_tree.specs.Trees.{Text}
-use Rattle.rules_to_sql.specs.Scripts.{Data}
+use Rattle.sql_meaning.specs.Scripts.{Data}
 use Rattle.vtl_to_sql.specs.Conditions.{AllCanBeWritten, HaveNames}
 use Rattle.vtl_to_sql.specs.FullJoins.{key_exps, key_select, key_structure, keys_query, or_spare}
 use Rattle.vtl_to_sql.proofs.Exact.{IsExactly, exactly_same}

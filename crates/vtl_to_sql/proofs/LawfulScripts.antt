@@ -8,33 +8,33 @@ use Rattle.std.proofs.lemmas.Bool.Decides.{nat_tests}
 use Rattle.std.proofs.lemmas.Fmt.{decimal_digit}
 use Rattle.std.proofs.lemmas.List.{length-map}
 use Rattle.grammar_forms.specs.Written.{Each}
-use Rattle.vtl_cell.specs.Apart.{all_apart}
-use Rattle.vtl_cell.specs.Settings.{Settings}
-use Rattle.vtl_cell.specs.Texts.{same_text}
-use Rattle.vtl_cell.specs.Words.{is_word}
+use Rattle.vtl_lists.specs.Apart.{all_apart}
+use Rattle.vtl_decimal.specs.Settings.{Settings}
+use Rattle.vtl_text.specs.Texts.{same_text}
+use Rattle.vtl_text.specs.Words.{is_word}
 use Rattle.vtl_cell.specs.declared.kind.Kind.{Kind}
 use Rattle.vtl_cell.specs.declared.kind.Kind.TheVariants as k
-use Rattle.vtl_cell.proofs.Aparts.{apart_more}
+use Rattle.vtl_lists.proofs.Aparts.{apart_more}
 use Rattle.vtl_cell.specs.Literals.{lies_between}
 use Rattle.vtl_tree.specs.Structure.{IsStructure, columns_of, names_of, same_name}
 use Rattle.vtl_tree.specs.Structures as structures
 use Rattle.vtl_tree.specs.Structures.{Named}
 use Rattle.vtl_tree.specs.declared.structure.Component.{Component}
 use Rattle.vtl_tree.specs.declared.structure.Structure.{Structure}
-use Rattle.rules_to_sql.specs.Columns.{identifiers_of, others_of}
-use Rattle.rules_to_sql.specs.Made.{IsMade}
-use Rattle.rules_to_sql.specs.Meaning.{Outputs, Statement, meaning}
-use Rattle.rules_to_sql.specs.Shapes.{IsShaped}
-use Rattle.rules_to_sql.specs.Trees as nodes
-use Rattle.rules_to_sql.specs.Trees.{NodeTree, structure_of}
-use Rattle.rules_to_sql.proofs.Places.{all_front, each, all_more, columns_split, same_name-sym}
+use Rattle.check_shapes.specs.Columns.{identifiers_of, others_of}
+use Rattle.vtl_meaning.specs.Made.{IsMade}
+use Rattle.vtl_meaning.specs.Meaning.{Outputs, Statement, meaning}
+use Rattle.vtl_meaning.specs.Shapes.{IsShaped}
+use Rattle.vtl_nodes.specs.Trees as nodes
+use Rattle.vtl_nodes.specs.Trees.{NodeTree, structure_of}
+use Rattle.vtl_meaning.proofs.Places.{all_front, each, all_more, columns_split, same_name-sym}
 use Rattle.sql_tree.specs.Formed.{IsInputColumn, IsName, IsStatement, PrintableScript, is_column_kind}
-use Rattle.rules_to_sql.specs.Statements.{AreTyped}
-use Rattle.rules_to_sql.proofs.TypedStatements.{script_typed, typed_behind}
-use Rattle.rules_to_sql.specs.Queries.{query_columns}
-use Rattle.rules_to_sql.specs.Scopes.{Tables, columns_of as table_columns, is_among}
-use Rattle.rules_to_sql.specs.TypingStatements.{IsTypedScript, is_taken, nothing}
-use Rattle.rules_to_sql.specs.Scripts.{Data, tables_in}
+use Rattle.sql_check_laws.specs.Statements.{AreTyped}
+use Rattle.sql_check_laws.proofs.TypedStatements.{script_typed, typed_behind}
+use Rattle.sql_check_parts.specs.Queries.{query_columns}
+use Rattle.sql_check_parts.specs.Scopes.{Tables, columns_of as table_columns, is_among}
+use Rattle.sql_check_parts.specs.Statements.{IsTypedScript, is_taken, nothing}
+use Rattle.sql_meaning.specs.Scripts.{Data, tables_in}
 use Rattle.vtl_to_sql.specs.Conditions.{AreTranslated, HaveNames, IsScript}
 use Rattle.vtl_to_sql.specs.Exports.{tables_read}
 use Rattle.vtl_to_sql.specs.Means.{AreStored, ScriptGives, Stores}

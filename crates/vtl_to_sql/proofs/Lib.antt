@@ -1,12 +1,3 @@
-pub use Rattle.rules_to_sql.proofs.Inner
-pub use Rattle.rules_to_sql.proofs.OwnColumns
-pub use Rattle.rules_to_sql.proofs.Places
-pub use Rattle.rules_to_sql.proofs.Scripts
-pub use Rattle.rules_to_sql.proofs.ScriptsKept
-pub use Rattle.rules_to_sql.proofs.Sets
-pub use Rattle.rules_to_sql.proofs.SetsFolds
-pub use Rattle.rules_to_sql.proofs.Sound
-pub use Rattle.rules_to_sql.proofs.Steps
 pub mod Names
 pub mod Running
 pub mod Composition

@@ -6,10 +6,10 @@ use Rattle.vtl_cell.specs.declared.cell.Cell.TheVariants as c
 use Rattle.vtl_tree.specs.DataSet.{is_point}
 use Rattle.vtl_tree.specs.declared.structure.Component.{Component}
 use Rattle.vtl_tree.specs.declared.structure.Role.TheVariants as role
-use Rattle.rules_to_sql.specs.Made.{IsColumnAt}
-use Rattle.rules_to_sql.proofs.ValueKinds.{null_is_of, point_from, point_parts}
-use Rattle.rules_to_sql.specs.Scopes.{Scope}
-use Rattle.rules_to_sql.specs.From.{nulls}
+use Rattle.vtl_meaning.specs.Made.{IsColumnAt}
+use Rattle.vtl_meaning.proofs.ValueKinds.{null_is_of, point_from, point_parts}
+use Rattle.sql_check_parts.specs.Scopes.{Scope}
+use Rattle.sql_meaning.specs.From.{nulls}
 use Rattle.rules_to_sql.specs.Names.{AreNamesFormed, Names}
 use Rattle.rules_to_sql.specs.ToSql.{Naming}
 

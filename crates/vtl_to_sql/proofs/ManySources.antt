@@ -5,15 +5,15 @@ use Rattle.std.specs.List.{AllByRecursion, flat_map}
 use Rattle.std.specs.Map.{keys_of, lookup}
 use Rattle.std.proofs.lemmas.Bool.{le-ltb, lt-ltb}
 use Rattle.std.proofs.lemmas.List.{length-map}
-use Rattle.vtl_cell.specs.Texts.{same_text}
+use Rattle.vtl_text.specs.Texts.{same_text}
 use Rattle.vtl_text.specs.Words.{is_word}
 use Rattle.vtl_cell.specs.declared.kind.Kind.{Kind}
 use Rattle.vtl_tree.specs.declared.structure.Component.{Component}
-use Rattle.rules_to_sql.specs.Made.{IsColumnAt}
-use Rattle.rules_to_sql.proofs.Places.{same_name-refl}
+use Rattle.vtl_meaning.specs.Made.{IsColumnAt}
+use Rattle.vtl_meaning.proofs.Places.{same_name-refl}
 use Rattle.sql_tree.specs.Formed.{IsName}
 use Rattle.sql_tree.specs.declared.parts.Column.{Column}
-use Rattle.rules_to_sql.specs.Scopes.{Scope, found, is_among, numbered, placed_from, row_of, value_among}
+use Rattle.sql_check_parts.specs.Scopes.{Scope, found, is_among, numbered, placed_from, row_of, value_among}
 use Rattle.rules_to_sql.specs.Names.{AreNamesFormed, Names}
 use Rattle.rules_to_sql.specs.ToSql.{column_of}
 use Rattle.vtl_to_sql.specs.Conditions.{HaveNames}

@@ -14,14 +14,14 @@ use Rattle.std.proofs.lemmas.Str.{encodes-IsAscii, length-le-encodes}
 use Rattle.std.proofs.lemmas.Str.Parse.{numerals_by_value, tells_all_ascii_digits}
 use lib.Utf8.{encode}
 use Rattle.vtl_decimal.proofs.SplitLemmas.{at, at_end, before_first-append}
-use Rattle.vtl_cell.specs.Texts.{same_text}
-use Rattle.vtl_cell.specs.Words.{fits_name, is_component_character, is_component_name, is_word, is_word_character, starts_with_letter}
-use Rattle.rules_to_sql.proofs.Places.{same_name-is, same_name-refl}
+use Rattle.vtl_text.specs.Texts.{same_text}
+use Rattle.vtl_text.specs.Words.{fits_name, is_component_character, is_component_name, is_word, is_word_character, starts_with_letter}
+use Rattle.vtl_meaning.proofs.Places.{same_name-is, same_name-refl}
 use Rattle.sql_lexer.specs.Spelling.{has_no_control, is_name, size}
 use Rattle.sql_lexer.specs.Spelling as sql
 use Rattle.sql_lexer.proofs.NameParts.{size-append}
 use Rattle.sql_tree.specs.Trees.{Text}
-use Rattle.rules_to_sql.specs.Scripts.{dollar, fault_name}
+use Rattle.sql_meaning.specs.Scripts.{dollar, fault_name}
 use Rattle.vtl_to_sql.specs.Tables.{numbered}
 
 -- ---- words

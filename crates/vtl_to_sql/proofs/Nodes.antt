@@ -1,6 +1,6 @@
 -- The tables of an expression on data sets mean it.
 use Rattle.vtl_to_sql.proofs.Existences.{existence_means}
-use Rattle.rules_to_sql.proofs.SetsOrders.{existence_order}
+use Rattle.vtl_meaning.proofs.SetsOrders.{existence_order}
 use Rattle.sql_tree.specs.Formed.{IsName}
 use Rattle.std.proofs.Common.{◌≡◌, ◌+◌, ◌<◌, ◌^◌, ℕ, true, ◌&&◌, List, [], ◌∷◌, ◌++◌, length, Ok, Err, refl, sym, subst, arith, append-nil, length-append, ap, ◌≤◌}
 use Rattle.std.specs.Prelude.{fold}
@@ -9,42 +9,42 @@ use Rattle.std.proofs.lemmas.Bool.{and_from}
 use Rattle.std.proofs.lemmas.List.{length-map}
 use Rattle.vtl_cell.specs.Outcome.{Outcome, after}
 use Rattle.vtl_cell.specs.Row.{Row}
-use Rattle.vtl_cell.specs.Settings.{Settings}
-use Rattle.vtl_cell.specs.Words.{is_word}
+use Rattle.vtl_decimal.specs.Settings.{Settings}
+use Rattle.vtl_text.specs.Words.{is_word}
 use Rattle.vtl_rows.specs.Tables.{cells_at}
 use Rattle.vtl_tree.specs.Clauses.{filter_of}
 use Rattle.vtl_tree.specs.DataSet.{IsDataSet, is_point}
 use Rattle.vtl_tree.specs.Environment.{DataSet, Environment}
 use Rattle.vtl_tree.specs.Structure.{columns_of, IsStructure, key_width}
 use Rattle.vtl_tree.specs.declared.structure.Structure.{Structure}
-use Rattle.rules_to_sql.specs.Columns.{identifiers_of, measures_of, others_of, places_in}
-use Rattle.rules_to_sql.specs.Joins as joins
-use Rattle.rules_to_sql.specs.Made.{AreMade, AreMadeOperands, IsAlternative, IsLeft, IsMade, IsMadeForm, node_structures, operands_in}
-use Rattle.rules_to_sql.specs.Meaning.{AreDataSets, are_nodes_built, are_operands_built, operands_value, form_value, is_built, is_built_form, known_in, node_value, nodes_value, points_named, with_first}
-use Rattle.rules_to_sql.specs.Operators.{calculated_exps, calculated_of, choice_of, left_of, measured_exps, measured_of, pair_of, sub_of}
-use Rattle.rules_to_sql.specs.Points.{with_points}
-use Rattle.rules_to_sql.specs.Sets.{all_left_of, either_only, intersected, intersection_of, reduced, union_of, united, existence_of}
-use Rattle.rules_to_sql.specs.Shapes.{IsShaped}
-use Rattle.rules_to_sql.specs.Trees as nodes
-use Rattle.rules_to_sql.specs.Trees.{FormTree, NodeTree, NodeTrees, OperandTrees, structure_of}
-use Rattle.rules_to_sql.specs.AggregatePoints.{aggregate_of}
-use Rattle.rules_to_sql.specs.AnalyticPoints.{analytic_of}
-use Rattle.rules_to_sql.specs.Turned.{pivot_of, unpivot_of}
-use Rattle.rules_to_sql.proofs.Orders.{choice_respects, each_respects, filtered_respects, pair_respects, shown_respects, sub_respects}
-use Rattle.rules_to_sql.proofs.OwnColumns.{own_identifiers, own_measures}
-use Rattle.rules_to_sql.proofs.Places.{all_front, all_more, columns_split}
-use Rattle.rules_to_sql.proofs.ScriptsKept.{node_kept, operands_kept}
-use Rattle.rules_to_sql.proofs.SetsFolds.{each_own, own_cells}
-use Rattle.rules_to_sql.proofs.SetsKept.{shown_kept}
+use Rattle.check_shapes.specs.Columns.{identifiers_of, measures_of, others_of, places_in}
+use Rattle.check_joins.specs.Joins as joins
+use Rattle.vtl_meaning.specs.Made.{AreMade, AreMadeOperands, IsAlternative, IsLeft, IsMade, IsMadeForm, node_structures, operands_in}
+use Rattle.vtl_meaning.specs.Meaning.{AreDataSets, are_nodes_built, are_operands_built, operands_value, form_value, is_built, is_built_form, known_in, node_value, nodes_value, points_named, with_first}
+use Rattle.vtl_meaning.specs.Operators.{calculated_exps, calculated_of, choice_of, left_of, measured_exps, measured_of, pair_of, sub_of}
+use Rattle.vtl_meaning.specs.Points.{with_points}
+use Rattle.vtl_meaning.specs.Sets.{all_left_of, either_only, intersected, intersection_of, reduced, union_of, united, existence_of}
+use Rattle.vtl_meaning.specs.Shapes.{IsShaped}
+use Rattle.vtl_nodes.specs.Trees as nodes
+use Rattle.vtl_nodes.specs.Trees.{FormTree, NodeTree, NodeTrees, OperandTrees, structure_of}
+use Rattle.vtl_aggregates.specs.Aggregates.{aggregate_of}
+use Rattle.vtl_windows.specs.Analytics.{analytic_of}
+use Rattle.vtl_meaning.specs.Turned.{pivot_of, unpivot_of}
+use Rattle.vtl_meaning.proofs.Orders.{choice_respects, each_respects, filtered_respects, pair_respects, shown_respects, sub_respects}
+use Rattle.vtl_meaning.proofs.OwnColumns.{own_identifiers, own_measures}
+use Rattle.vtl_meaning.proofs.Places.{all_front, all_more, columns_split}
+use Rattle.vtl_meaning.proofs.ScriptsKept.{node_kept, operands_kept}
+use Rattle.vtl_meaning.proofs.SetsFolds.{each_own, own_cells}
+use Rattle.vtl_meaning.proofs.SetsKept.{shown_kept}
 use Rattle.sql_tree.specs.Trees.{QueryTree, Text}
-use Rattle.rules_to_sql.specs.Scripts.{Data}
+use Rattle.sql_meaning.specs.Scripts.{Data}
 use Rattle.vtl_to_sql.specs.Conditions.{AreNodesTranslated, AreOperandsTranslated, HaveNames, IsFormTranslated, IsTranslated}
 use Rattle.vtl_to_sql.specs.Means.{AreEarlier, Means, NodeGives, SourcesGive, Stands, StandsAs, Extends}
 use Rattle.vtl_to_sql.specs.Queries.{calc_query, choose_query, copy_query, filter_query, left_query, measures_query, pair_query, rename_query, shown_query, sub_query, union_query, intersection_query, difference_query, symmetric_difference_query, existence_query}
 use Rattle.vtl_to_sql.specs.Tables.{Sources, and_then, combined_of, made_of, made_of_form, numbered, operands_of, over, source_of, sources_of, table_of, with_one, with_two, stored}
-use Rattle.rules_to_sql.proofs.TurnedOrders.{pivot_order, unpivot_order}
-use Rattle.rules_to_sql.proofs.AnalyticOrders.{analytics_respect}
-use Rattle.rules_to_sql.proofs.GroupOrders.{aggregates_respect}
+use Rattle.vtl_meaning.proofs.TurnedOrders.{pivot_order, unpivot_order}
+use Rattle.vtl_windows.proofs.AnalyticOrders.{analytics_respect}
+use Rattle.vtl_aggregates.proofs.GroupOrders.{aggregates_respect}
 use Rattle.vtl_to_sql.specs.Grouped.{aggregate_query}
 use Rattle.vtl_to_sql.specs.Turned.{pivot_query, unpivot_query}
 use Rattle.vtl_to_sql.specs.Windowed.{analytic_query}

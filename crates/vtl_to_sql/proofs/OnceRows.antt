@@ -4,24 +4,24 @@ use Rattle.std.specs.Prelude.{length}
 use Rattle.std.specs.List.{AllByRecursion}
 use Rattle.vtl_cell.specs.Outcome.{faults_by, join, unless}
 use Rattle.vtl_cell.specs.Row.{Row, column_of, same_row}
-use Rattle.vtl_cell.specs.Settings.{Settings}
+use Rattle.vtl_decimal.specs.Settings.{Settings}
 use Rattle.vtl_rows.specs.Tables.{cells_at}
 use Rattle.vtl_tree.specs.DataSet.{is_point}
 use Rattle.vtl_tree.specs.Structure.{IsStructure, columns_of, names_of}
 use Rattle.vtl_tree.specs.declared.structure.Component.{Component}
 use Rattle.vtl_tree.specs.declared.structure.Structure.{Structure}
 use Rattle.vtl_tuples.specs.Keys.{each_once}
-use Rattle.rules_to_sql.specs.Columns.{columns_named, place_of, places_in}
-use Rattle.rules_to_sql.proofs.JoinKept.{once_hold}
-use Rattle.rules_to_sql.proofs.OwnColumns.{columns_apart, own_columns}
+use Rattle.check_shapes.specs.Columns.{columns_named, place_of, places_in}
+use Rattle.vtl_meaning.proofs.JoinKept.{once_hold}
+use Rattle.vtl_meaning.proofs.OwnColumns.{columns_apart, own_columns}
 use Rattle.sql_tree.specs.Formed.{IsName}
 use Rattle.sql_tree.specs.Trees.{Text}
 use Rattle.sql_tree.specs.declared.parts.Column.{Column}
-use Rattle.rules_to_sql.specs.Queries.{is_grouped}
-use Rattle.rules_to_sql.specs.Scopes.{Scope}
-use Rattle.rules_to_sql.specs.MeantGroups.{keys_by, rows_with}
-use Rattle.rules_to_sql.specs.Scripts.{Data, base_of}
-use Rattle.rules_to_sql.specs.Tables.{Base}
+use Rattle.sql_check_parts.specs.Queries.{is_grouped}
+use Rattle.sql_check_parts.specs.Scopes.{Scope}
+use Rattle.sql_meaning.specs.Groups.{keys_by, rows_with}
+use Rattle.sql_meaning.specs.Scripts.{Data, base_of}
+use Rattle.sql_meaning.specs.Tables.{Base}
 use Rattle.rules_to_sql.specs.ToSql.{group_columns}
 use Rattle.vtl_to_sql.specs.FullJoins.{once_query}
 use Rattle.vtl_to_sql.specs.Queries.{all_to_sql, first_alias, items_as, of_one, source_as}

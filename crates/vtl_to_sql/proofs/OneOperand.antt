@@ -6,10 +6,10 @@ use Rattle.std.proofs.Math.Seq.{take-length}
 use Rattle.vtl_cell.specs.Outcome.{Fault, Outcome, after, fault_in, faults_by, unless}
 use Rattle.vtl_cell.specs.Outcomes.{is_true}
 use Rattle.vtl_cell.specs.Row.{Row}
-use Rattle.vtl_cell.specs.Settings.{Settings}
+use Rattle.vtl_decimal.specs.Settings.{Settings}
 use Rattle.vtl_cell.specs.declared.kind.Kind.{Kind}
-use Rattle.vtl_cell.proofs.Aparts.{apart_parts}
-use Rattle.vtl_cell.proofs.Sorts.{AllByRecursion-filter}
+use Rattle.vtl_lists.proofs.Aparts.{apart_parts}
+use Rattle.vtl_lists.proofs.Sorts.{AllByRecursion-filter}
 use Rattle.vtl_rows.specs.Tables.{cells_at}
 use Rattle.vtl_tree.specs.Clauses.{filter_of}
 use Rattle.vtl_tree.specs.CompExp.{CompExp}
@@ -18,22 +18,22 @@ use Rattle.vtl_tree.specs.Structure.{IsStructure, columns_of, names_of, same_nam
 use Rattle.vtl_tree.specs.Value.{value}
 use Rattle.vtl_tree.specs.declared.structure.Component.{Component}
 use Rattle.vtl_tree.specs.declared.structure.Structure.{Structure}
-use Rattle.rules_to_sql.specs.Columns.{columns_named, kind_named, place_of, places_in}
-use Rattle.rules_to_sql.specs.Made.{AreAmong, AreFor, IsCalculated, IsColumnAt, IsFiltered, IsLeft, IsMeasured, IsRenamed}
-use Rattle.rules_to_sql.specs.Operators.{calculated_exps, calculated_of, left_of, measured_exps, measured_of}
-use Rattle.rules_to_sql.specs.Points.{each_point, point_fault, point_of, with_points}
-use Rattle.rules_to_sql.specs.Trees.{ItemTree as Target, MeasureTree}
-use Rattle.rules_to_sql.proofs.Kept.{columns_point}
-use Rattle.rules_to_sql.proofs.OwnColumns.{columns_apart, own_columns}
-use Rattle.rules_to_sql.proofs.Places.{first_cells, point_length, same_name-refl, same_name-sym}
+use Rattle.check_shapes.specs.Columns.{columns_named, kind_named, place_of, places_in}
+use Rattle.vtl_meaning.specs.Made.{AreAmong, AreFor, IsCalculated, IsColumnAt, IsFiltered, IsLeft, IsMeasured, IsRenamed}
+use Rattle.vtl_meaning.specs.Operators.{calculated_exps, calculated_of, left_of, measured_exps, measured_of}
+use Rattle.vtl_meaning.specs.Points.{each_point, point_fault, point_of, with_points}
+use Rattle.vtl_nodes.specs.Trees.{ItemTree as Target, MeasureTree}
+use Rattle.vtl_meaning.proofs.Kept.{columns_point}
+use Rattle.vtl_meaning.proofs.OwnColumns.{columns_apart, own_columns}
+use Rattle.vtl_meaning.proofs.Places.{first_cells, point_length, same_name-refl, same_name-sym}
 use Rattle.sql_tree.specs.Formed.{IsMaybeExp, IsName}
 use Rattle.sql_tree.specs.Trees.{Exp, ItemTree, Text}
-use Rattle.rules_to_sql.specs.Fits.{IsMaybeCondition}
-use Rattle.rules_to_sql.specs.Expressions.{site}
-use Rattle.rules_to_sql.specs.Scopes.{add_source, columns_of as table_columns}
-use Rattle.rules_to_sql.specs.From.{condition_fault, kept, source_rows}
-use Rattle.rules_to_sql.specs.Scripts.{Data, base_of, no_table, tables_in}
-use Rattle.rules_to_sql.specs.Values.{at_rows, value as sql_value}
+use Rattle.sql_check_laws.specs.Fits.{IsMaybeCondition}
+use Rattle.sql_check_parts.specs.Expressions.{site}
+use Rattle.sql_check_parts.specs.Scopes.{add_source, columns_of as table_columns}
+use Rattle.sql_meaning.specs.From.{condition_fault, kept, source_rows}
+use Rattle.sql_meaning.specs.Scripts.{Data, base_of, no_table, tables_in}
+use Rattle.sql_meaning.specs.Values.{at_rows, value as sql_value}
 use Rattle.rules_to_sql.specs.Names.{Names}
 use Rattle.rules_to_sql.specs.ToSql.{to_sql}
 use Rattle.vtl_to_sql.specs.Conditions.{AllCanBeWritten, CanBeWritten, HaveNames}

@@ -9,12 +9,12 @@ use Rattle.vtl_cell.specs.Outcome.{Fault, Outcome, after, fault_in, faults_by, j
 use Rattle.vtl_cell.specs.Outcomes.{is_true}
 use Rattle.vtl_cell.specs.Row.{Row, column_of, same_key, same_row}
 use Rattle.vtl_cell.specs.ScalarKinds.{kinds_of, meets}
-use Rattle.vtl_cell.specs.Settings.{Settings}
+use Rattle.vtl_decimal.specs.Settings.{Settings}
 use Rattle.vtl_cell.specs.declared.cell.Cell.TheVariants as c
 use Rattle.vtl_cell.specs.declared.kind.Kind.{Kind}
 use Rattle.vtl_cell.specs.declared.kind.Kind.TheVariants as k
 use Rattle.vtl_cell.specs.declared.operator.ScalarOp.TheVariants as op
-use Rattle.vtl_cell.proofs.Aparts.{apart_parts}
+use Rattle.vtl_lists.proofs.Aparts.{apart_parts}
 use Rattle.vtl_cell.proofs.Rows.{same_row-is, same_row-sym}
 use Rattle.vtl_rows.specs.Tables.{cells_at}
 use Rattle.vtl_tree.specs.Clauses.{filter_of}
@@ -24,25 +24,25 @@ use Rattle.vtl_tree.specs.Structure.{columns_of, key_width}
 use Rattle.vtl_tree.specs.Value.{called, value}
 use Rattle.vtl_tree.specs.declared.structure.Component.{Component}
 use Rattle.vtl_tree.specs.declared.structure.Structure.{Structure}
-use Rattle.rules_to_sql.specs.Columns.{identifiers_of, kind_named, place_of, places_in}
-use Rattle.rules_to_sql.specs.Made.{AreFor, IsColumnAt, IsTyped}
-use Rattle.rules_to_sql.specs.Points.{beside, each_point, paired, with_points}
-use Rattle.rules_to_sql.proofs.Drawn.{drawn_all}
-use Rattle.rules_to_sql.proofs.Kept.{Pairs, all_paired, column_front, column_within}
-use Rattle.rules_to_sql.proofs.Looks.{look_absent}
-use Rattle.rules_to_sql.proofs.OwnColumns.{columns_apart}
-use Rattle.rules_to_sql.proofs.Places.{all_append, all_more, key_cells, key_within, point_length}
-use Rattle.rules_to_sql.proofs.ValueKinds.{cell_is_of}
+use Rattle.check_shapes.specs.Columns.{identifiers_of, kind_named, place_of, places_in}
+use Rattle.vtl_meaning.specs.Made.{AreFor, IsColumnAt, IsTyped}
+use Rattle.vtl_meaning.specs.Points.{beside, each_point, paired, with_points}
+use Rattle.vtl_meaning.proofs.Drawn.{drawn_all}
+use Rattle.vtl_meaning.proofs.Kept.{Pairs, all_paired, column_front, column_within}
+use Rattle.vtl_meaning.proofs.Looks.{look_absent}
+use Rattle.vtl_meaning.proofs.OwnColumns.{columns_apart}
+use Rattle.vtl_meaning.proofs.Places.{all_append, all_more, key_cells, key_within, point_length}
+use Rattle.vtl_meaning.proofs.ValueKinds.{cell_is_of}
 use Rattle.sql_tree.specs.Formed.{IsName}
 use Rattle.sql_tree.specs.Trees.{Exp, JoinTree, SelectTree, Text, on}
 use Rattle.sql_tree.specs.declared.word_groups.JoinKind.TheVariants as joining
-use Rattle.rules_to_sql.specs.TypedSelects.{AreJoinsTyped}
-use Rattle.rules_to_sql.specs.Queries.{first_scope, scope_of}
-use Rattle.rules_to_sql.specs.Scopes.{Scope, add_source, columns_of as table_columns}
-use Rattle.rules_to_sql.specs.From as from
-use Rattle.rules_to_sql.specs.From.{fault_at, holds, pairs, partners, source_rows}
-use Rattle.rules_to_sql.specs.Scripts.{Data, base_of, tables_in}
-use Rattle.rules_to_sql.specs.Values.{View, at_rows, value as sql_value}
+use Rattle.sql_check_laws.specs.Selects.{AreJoinsTyped}
+use Rattle.sql_check_parts.specs.Queries.{first_scope, scope_of}
+use Rattle.sql_check_parts.specs.Scopes.{Scope, add_source, columns_of as table_columns}
+use Rattle.sql_meaning.specs.From as from
+use Rattle.sql_meaning.specs.From.{fault_at, holds, pairs, partners, source_rows}
+use Rattle.sql_meaning.specs.Scripts.{Data, base_of, tables_in}
+use Rattle.sql_meaning.specs.Values.{View, at_rows, value as sql_value}
 use Rattle.rules_to_sql.specs.Names.{AreNamesFormed, Names}
 use Rattle.rules_to_sql.specs.ToSql.{Naming, to_sql}
 use Rattle.vtl_to_sql.specs.Conditions.{AllCanBeWritten, CanBeWritten, HaveNames}

@@ -4,7 +4,7 @@ use Rattle.std.specs.Prelude.{is_some}
 use Rattle.std.specs.List.{AllByRecursion, filter, find}
 use Rattle.std.specs.Option.{option_map_or}
 use Rattle.std.proofs.lemmas.List.{map-append}
-use Rattle.vtl_cell.specs.Apart.{all_apart}
+use Rattle.vtl_lists.specs.Apart.{all_apart}
 use Rattle.vtl_cell.specs.Conversion.{as_kind}
 use Rattle.vtl_cell.specs.Groups.{group_value}
 use Rattle.vtl_cell.specs.Kinds.{is_of}
@@ -13,14 +13,14 @@ use Rattle.vtl_cell.specs.Outcome.{Outcome, after, fault_in, faults_by, join, un
 use Rattle.vtl_cell.specs.Outcomes.{branch, first_chosen, is_true}
 use Rattle.vtl_cell.specs.Row.{Row, column_of, same_row}
 use Rattle.vtl_cell.specs.ScalarKinds.{common_kind, meets}
-use Rattle.vtl_cell.specs.Settings.{Settings}
+use Rattle.vtl_decimal.specs.Settings.{Settings}
 use Rattle.vtl_cell.specs.declared.cell.Cell.{Cell}
 use Rattle.vtl_cell.specs.declared.cell.Cell.TheVariants as c
 use Rattle.vtl_cell.specs.declared.kind.Kind.{Kind}
 use Rattle.vtl_cell.specs.declared.kind.Kind.TheVariants as k
 use Rattle.vtl_cell.specs.declared.operator.AggKind.TheVariants as agg
 use Rattle.vtl_cell.specs.declared.operator.ScalarOp.TheVariants as op
-use Rattle.vtl_cell.proofs.Sorts.{AllByRecursion-filter}
+use Rattle.vtl_lists.proofs.Sorts.{AllByRecursion-filter}
 use Rattle.vtl_rows.specs.Tables.{cells_at}
 use Rattle.vtl_tree.specs.DataSet.{IsDataSet, is_point}
 use Rattle.vtl_tree.specs.Structure.{columns_of, names_of, same_name}
@@ -29,32 +29,32 @@ use Rattle.vtl_tree.specs.declared.structure.Structure.{Structure}
 use Rattle.vtl_tuples.specs.Keys.{each_once}
 use Rattle.vtl_tuples.proofs.Lists.{map_each, map_same}
 use Rattle.check_shapes.specs.Clauses.{code_measure}
-use Rattle.rules_to_sql.specs.Agreement.{values_in}
-use Rattle.rules_to_sql.specs.Columns.{columns_named, identifiers_of, kind_named, others_of, place_of, places_in}
-use Rattle.rules_to_sql.specs.LookUps.{value_named}
-use Rattle.rules_to_sql.specs.Made.{IsPivoted}
-use Rattle.rules_to_sql.specs.Points.{with_points}
-use Rattle.rules_to_sql.specs.Turned.{coded_value, codes_of, is_coded, other_identifiers, pivot_of, pivoted_point}
-use Rattle.rules_to_sql.proofs.GroupLooks.{all_points, one_key}
-use Rattle.rules_to_sql.proofs.JoinParts.{found_is}
-use Rattle.rules_to_sql.proofs.OwnColumns.{columns_apart, own_among}
-use Rattle.rules_to_sql.proofs.Places.{all_more, columns_split, identifiers_apart}
-use Rattle.rules_to_sql.proofs.TurnedKept.{keys_typed, others_among}
-use Rattle.rules_to_sql.proofs.ValueKinds.{cell_is_of, null_is_of}
+use Rattle.vtl_meaning.specs.Agreement.{values_in}
+use Rattle.check_shapes.specs.Columns.{columns_named, identifiers_of, kind_named, others_of, place_of, places_in}
+use Rattle.vtl_meaning.specs.LookUps.{value_named}
+use Rattle.vtl_meaning.specs.Made.{IsPivoted}
+use Rattle.vtl_meaning.specs.Points.{with_points}
+use Rattle.vtl_meaning.specs.Turned.{coded_value, codes_of, is_coded, other_identifiers, pivot_of, pivoted_point}
+use Rattle.vtl_aggregates.proofs.GroupLooks.{all_points, one_key}
+use Rattle.vtl_meaning.proofs.JoinParts.{found_is}
+use Rattle.vtl_meaning.proofs.OwnColumns.{columns_apart, own_among}
+use Rattle.vtl_meaning.proofs.Places.{all_more, columns_split, identifiers_apart}
+use Rattle.vtl_meaning.proofs.TurnedKept.{keys_typed, others_among}
+use Rattle.vtl_meaning.proofs.ValueKinds.{cell_is_of, null_is_of}
 use Rattle.sql_tree.specs.Formed.{IsMaybeExp, IsName}
 use Rattle.sql_tree.specs.Trees.{Text, binary}
 use Rattle.sql_tree.specs.declared.parts.Column.{Column}
-use Rattle.rules_to_sql.specs.Fits.{Fits, IsMaybeCondition}
-use Rattle.rules_to_sql.specs.Expressions.{site}
-use Rattle.rules_to_sql.specs.Kinds.{kind_in, operator_kind}
-use Rattle.rules_to_sql.specs.Queries.{is_grouped}
-use Rattle.rules_to_sql.specs.Scopes.{Grouping, Scope, found, grouping_of, or_null}
-use Rattle.rules_to_sql.specs.MeantGroups.{keys_by, rows_with}
-use Rattle.rules_to_sql.specs.Outcomes.{operated}
-use Rattle.rules_to_sql.specs.Scripts.{Data, base_of, tables_in}
-use Rattle.rules_to_sql.specs.Selects.{having_fault, kept_keys}
-use Rattle.rules_to_sql.specs.Tables.{Base}
-use Rattle.rules_to_sql.specs.Values.{at_groups, at_rows, place_in, value as sql_value}
+use Rattle.sql_check_laws.specs.Fits.{Fits, IsMaybeCondition}
+use Rattle.sql_check_parts.specs.Expressions.{site}
+use Rattle.sql_check_parts.specs.Kinds.{kind_in, operator_kind}
+use Rattle.sql_check_parts.specs.Queries.{is_grouped}
+use Rattle.sql_check_parts.specs.Scopes.{Grouping, Scope, found, grouping_of, or_null}
+use Rattle.sql_meaning.specs.Groups.{keys_by, rows_with}
+use Rattle.sql_meaning.specs.Outcomes.{operated}
+use Rattle.sql_meaning.specs.Scripts.{Data, base_of, tables_in}
+use Rattle.sql_meaning.specs.Selects.{having_fault, kept_keys}
+use Rattle.sql_meaning.specs.Tables.{Base}
+use Rattle.sql_meaning.specs.Values.{at_groups, at_rows, place_in, value as sql_value}
 use Rattle.rules_to_sql.specs.ToSql.{column_of as sql_column, group_columns}
 use Rattle.vtl_to_sql.specs.Conditions.{HaveNames}
 use Rattle.vtl_to_sql.specs.Queries.{all_to_sql, first_alias, items_as, of_one, source_as}

@@ -6,17 +6,17 @@ use Rattle.std.specs.Cmp.Lexicographic.{bytes_decides, nat_list_eq_equiv}
 use Rattle.std.proofs.lemmas.Bool.{and_parts}
 use Rattle.std.proofs.lemmas.List.{map-append, take_more}
 use Rattle.std.proofs.lemmas.Option.{get_or_from_slice_get, slice_get_within}
-use Rattle.vtl_cell.specs.Apart.{all_apart}
+use Rattle.vtl_lists.specs.Apart.{all_apart}
 use Rattle.vtl_text.proofs.Apart.{apart_push}
 use Rattle.vtl_tree.specs.Structure.{same_name}
 use Rattle.vtl_tree.specs.Structures.{Named, has_name}
 use Rattle.vtl_tree.specs.declared.structure.Structure.{Structure}
 use Rattle.vtl_nodes.specs.Trees.{NodeTree, structure_of}
-use Rattle.rules_to_sql.specs.Checked.{TypedScript, known_of, nodes_of, tree_of}
-use Rattle.rules_to_sql.specs.BackendInputs.{inputs_of}
-use Rattle.rules_to_sql.specs.LawsNames.{names_of}
-use Rattle.rules_to_sql.specs.Transformations.{Transformation, transformations}
-use Rattle.rules_to_sql.specs.Uses.{read_behind, reads, results_behind, with_declared, with_new}
+use Rattle.vtl_check.specs.Checked.{TypedScript, known_of, nodes_of, tree_of}
+use Rattle.vtl_backend.specs.Inputs.{inputs_of}
+use Rattle.vtl_check.specs.Names.{names_of}
+use Rattle.vtl_check.specs.Transformations.{Transformation, transformations}
+use Rattle.vtl_check.specs.Uses.{read_behind, reads, results_behind, with_declared, with_new}
 use Rattle.sql_tree.specs.Trees.{StatementTree}
 use Rattle.vtl_to_sql.specs.Reads.{IsRead}
 use Rattle.vtl_to_sql.specs.Scripts.{input_for}

@@ -1,28 +1,28 @@
 -- The tables of the inputs stand for the data sets that are read.
-use Rattle.rules_to_sql.proofs.SetsFolds.{filter_once}
+use Rattle.vtl_meaning.proofs.SetsFolds.{filter_once}
 use Rattle.std.proofs.lemmas.List.Elements.{filter-append}
 use Rattle.std.proofs.lemmas.List.{map-append}
 use Rattle.std.proofs.Common.{◌≡◌, ℕ, Bool, true, false, not, ◌||◌, cond, List, [], ◌∷◌, ◌++◌, map, Some, refl, ap, sym, ◌∙◌, subst, append_assoc, append-nil, true≢false}
 use Rattle.std.specs.List.{AllByRecursion, filter}
 use Rattle.std.specs.Map.{lookup}
 use Rattle.std.specs.Option.{option_map_or}
-use Rattle.vtl_cell.specs.Texts.{same_text}
-use Rattle.vtl_cell.specs.Words.{is_word}
-use Rattle.vtl_cell.proofs.Aparts.{apart_parts}
+use Rattle.vtl_text.specs.Texts.{same_text}
+use Rattle.vtl_text.specs.Words.{is_word}
+use Rattle.vtl_lists.proofs.Aparts.{apart_parts}
 use Rattle.vtl_tree.specs.Environment.{Environment, data_of}
 use Rattle.vtl_tree.specs.Structure.{IsStructure, columns_of, names_of, same_name}
 use Rattle.vtl_tree.specs.declared.structure.Component.{Component}
 use Rattle.vtl_tree.specs.declared.structure.Structure.{Structure}
-use Rattle.rules_to_sql.specs.Columns.{identifiers_of, others_of}
-use Rattle.rules_to_sql.specs.Meaning.{known_in, points_named}
-use Rattle.rules_to_sql.proofs.OwnColumns.{columns_apart}
-use Rattle.rules_to_sql.proofs.Places.{columns_split, same_name-is, same_name-refl, same_name-sym}
+use Rattle.check_shapes.specs.Columns.{identifiers_of, others_of}
+use Rattle.vtl_meaning.specs.Meaning.{known_in, points_named}
+use Rattle.vtl_meaning.proofs.OwnColumns.{columns_apart}
+use Rattle.vtl_meaning.proofs.Places.{columns_split, same_name-is, same_name-refl, same_name-sym}
 use Rattle.sql_tree.specs.Formed.{IsName}
 use Rattle.sql_tree.specs.Trees.{Text}
 use Rattle.sql_tree.specs.declared.statements.InputColumn.{InputColumn}
-use Rattle.rules_to_sql.specs.Scopes.{is_among}
-use Rattle.rules_to_sql.specs.TypingStatements.{column_entry, in_table_order, input_columns, is_of_key}
-use Rattle.rules_to_sql.specs.Scripts.{Inputs, input_table, rows_read}
+use Rattle.sql_check_parts.specs.Scopes.{is_among}
+use Rattle.sql_check_parts.specs.Statements.{column_entry, in_table_order, input_columns, is_of_key}
+use Rattle.sql_meaning.specs.Scripts.{Inputs, input_table, rows_read}
 use Rattle.vtl_to_sql.specs.Exports.{AreRead, tables_read}
 use Rattle.vtl_to_sql.specs.Means.{Stands, StandsAs}
 use Rattle.vtl_to_sql.specs.Runs.{IsTable, entries}

@@ -7,8 +7,8 @@ use Rattle.std.proofs.lemmas.List.{length-map}
 use Rattle.std.proofs.lemmas.List.Concat.{flat_map_single}
 use Rattle.std.proofs.lemmas.List.Folds.{flat_map-map}
 use Rattle.vtl_cell.specs.Row.{Row, same_row}
-use Rattle.vtl_cell.specs.Settings.{Settings}
-use Rattle.vtl_cell.proofs.Sorts.{AllByRecursion-filter}
+use Rattle.vtl_decimal.specs.Settings.{Settings}
+use Rattle.vtl_lists.proofs.Sorts.{AllByRecursion-filter}
 use Rattle.vtl_rows.specs.Tables.{cells_at}
 use Rattle.vtl_tree.specs.CompExp.{CompExp}
 use Rattle.vtl_tree.specs.DataSet.{IsDataSet, is_point}
@@ -17,23 +17,23 @@ use Rattle.vtl_tree.specs.Structure.{IsStructure, columns_of}
 use Rattle.vtl_tree.specs.declared.structure.Component.{Component}
 use Rattle.vtl_tree.specs.declared.structure.Structure.{Structure}
 use Rattle.vtl_tuples.proofs.Lists.{filter_each, flat_map_same, map-flat_map, map-map, map_each}
-use Rattle.rules_to_sql.specs.Agreement.{agree_in, common_identifiers, first_agreeing, has_identifier, values_in}
-use Rattle.rules_to_sql.specs.Columns.{identifiers_of, measures_of, place_of, places_in}
-use Rattle.rules_to_sql.specs.Joined.{Tuple, inner_tuples, is_whole, left_tuples, part_of, structures_of, tuple_beside, tuple_point}
-use Rattle.rules_to_sql.specs.Made.{AreAmong, AreFor, HasIdentifiers, IsColumnAt, attributes_of, component_kinds, kinds_of_all}
-use Rattle.rules_to_sql.specs.Points.{each_point, point_of}
-use Rattle.rules_to_sql.proofs.Agreements.{own_values}
-use Rattle.rules_to_sql.proofs.JoinAgreements.{agreeing_only, agreeing_own, covers}
-use Rattle.rules_to_sql.proofs.JoinKept.{made_of_passing}
-use Rattle.rules_to_sql.proofs.JoinParts.{AreSets, found_is}
-use Rattle.rules_to_sql.proofs.Kept.{both_all}
-use Rattle.rules_to_sql.proofs.LookUps.{named_cells}
-use Rattle.rules_to_sql.proofs.OwnColumns.{own_identifiers}
-use Rattle.rules_to_sql.proofs.Places.{all_map, all_more, all_of_map, point_length}
+use Rattle.vtl_meaning.specs.Agreement.{agree_in, common_identifiers, first_agreeing, has_identifier, values_in}
+use Rattle.check_shapes.specs.Columns.{identifiers_of, measures_of, place_of, places_in}
+use Rattle.vtl_meaning.specs.Joined.{Tuple, inner_tuples, is_whole, left_tuples, part_of, structures_of, tuple_beside, tuple_point}
+use Rattle.vtl_meaning.specs.Made.{AreAmong, AreFor, HasIdentifiers, IsColumnAt, attributes_of, component_kinds, kinds_of_all}
+use Rattle.vtl_meaning.specs.Points.{each_point, point_of}
+use Rattle.vtl_meaning.proofs.Agreements.{own_values}
+use Rattle.vtl_meaning.proofs.JoinAgreements.{agreeing_only, agreeing_own, covers}
+use Rattle.vtl_meaning.proofs.JoinKept.{made_of_passing}
+use Rattle.vtl_meaning.proofs.JoinParts.{AreSets, found_is}
+use Rattle.vtl_meaning.proofs.Kept.{both_all}
+use Rattle.vtl_meaning.proofs.LookUps.{named_cells}
+use Rattle.vtl_meaning.proofs.OwnColumns.{own_identifiers}
+use Rattle.vtl_meaning.proofs.Places.{all_map, all_more, all_of_map, point_length}
 use Rattle.sql_tree.specs.Trees.{Text}
 use Rattle.sql_tree.specs.declared.word_groups.JoinKind.{JoinKind}
 use Rattle.sql_tree.specs.declared.word_groups.JoinKind.TheVariants as joining
-use Rattle.rules_to_sql.specs.Scripts.{Data}
+use Rattle.sql_meaning.specs.Scripts.{Data}
 use Rattle.vtl_to_sql.specs.Conditions.{HaveNames}
 use Rattle.vtl_to_sql.specs.Joins.{Placed, chain_select, from_reference, joined_exps, placed_around, placed_at, reference_query, width_of, without}
 use Rattle.vtl_to_sql.proofs.Chains.{AllTied, IsOneSided, IsTied, agrees, extended_by, found}

@@ -19,8 +19,8 @@ use Rattle.vtl_tree.specs.declared.structure.Structure.{Structure}
 use Rattle.check_shapes.specs.Pairs.{contains}
 use Rattle.check_shapes.specs.declared.operands.Compared.TheVariants as compared
 use Rattle.check_shapes.proofs.Twins.{there-twin}
-use Rattle.rules_to_sql.specs.Joined.{contains_all}
-use Rattle.rules_to_sql.proofs.Places.{same_name-is}
+use Rattle.vtl_meaning.specs.Joined.{contains_all}
+use Rattle.vtl_meaning.proofs.Places.{same_name-is}
 
 -- ---- what contains a structure contains all that it contains
 some-is : {X : Type 0} (x y : X) → Some x ≡ Some y → x ≡ y

@@ -5,19 +5,19 @@ use Rattle.std.specs.Map.{keys_of, lookup}
 use Rattle.std.proofs.lemmas.List.{map-append}
 use Rattle.vtl_cell.specs.Outcome.{Fault, Outcome}
 use Rattle.vtl_cell.specs.Outcomes.{Same}
-use Rattle.vtl_cell.specs.Perm.{Perm}
-use Rattle.vtl_cell.specs.Results.{◌>>=◌}
+use Rattle.vtl_lists.specs.Perm.{Perm}
+use Rattle.vtl_lists.specs.Results.{◌>>=◌}
 use Rattle.vtl_cell.specs.Row.{Row}
-use Rattle.vtl_cell.specs.Settings.{Settings}
-use Rattle.vtl_cell.specs.Texts.{same_text}
+use Rattle.vtl_decimal.specs.Settings.{Settings}
+use Rattle.vtl_text.specs.Texts.{same_text}
 use Rattle.vtl_tree.specs.Structure.{columns_of}
 use Rattle.vtl_tree.specs.declared.structure.Structure.{Structure}
 use Rattle.sql_tree.specs.Trees.{QueryTree, Text}
-use Rattle.rules_to_sql.specs.Queries.{query_columns}
-use Rattle.rules_to_sql.specs.Scopes.{Tables, columns_of as table_columns, is_among}
-use Rattle.rules_to_sql.specs.TypingStatements.{is_taken}
-use Rattle.rules_to_sql.specs.Scripts.{Data, NamedFault, Table as Held, base_of, created, fault_name, or_named, tables_in}
-use Rattle.rules_to_sql.specs.Selects.{query_value}
+use Rattle.sql_check_parts.specs.Queries.{query_columns}
+use Rattle.sql_check_parts.specs.Scopes.{Tables, columns_of as table_columns, is_among}
+use Rattle.sql_check_parts.specs.Statements.{is_taken}
+use Rattle.sql_meaning.specs.Scripts.{Data, NamedFault, Table as Held, base_of, created, fault_name, or_named, tables_in}
+use Rattle.sql_meaning.specs.Selects.{query_value}
 use Rattle.vtl_to_sql.specs.Means.{Means}
 use Rattle.vtl_to_sql.specs.Runs.{AreLawful, entries, given_behind, held, run}
 use Rattle.vtl_to_sql.specs.Tables.{Table, table_of}

@@ -8,7 +8,7 @@ use Rattle.vtl_cell.specs.Conversion.{as_kind}
 use Rattle.vtl_cell.specs.Kinds.{is_of}
 use Rattle.vtl_cell.specs.Outcome.{Fault, Outcome, after, fault_in, faults_by, join, unless}
 use Rattle.vtl_cell.specs.Row.{Row}
-use Rattle.vtl_cell.specs.Settings.{Settings}
+use Rattle.vtl_decimal.specs.Settings.{Settings}
 use Rattle.vtl_cell.specs.declared.cell.Cell.{Cell}
 use Rattle.vtl_cell.specs.declared.cell.Cell.TheVariants as c
 use Rattle.vtl_cell.specs.declared.kind.Kind.{Kind}
@@ -16,24 +16,24 @@ use Rattle.vtl_cell.specs.declared.kind.Kind.TheVariants as k
 use Rattle.vtl_tree.specs.Structure.{columns_of, names_of}
 use Rattle.vtl_tree.specs.declared.structure.Component.{Component}
 use Rattle.vtl_tree.specs.declared.structure.Structure.{Structure}
-use Rattle.rules_to_sql.specs.Points.{cell_or_null}
+use Rattle.vtl_meaning.specs.Points.{cell_or_null}
 use Rattle.sql_tree.specs.Formed.{IsExp, IsItem as IsItemFormed, IsJoin, IsMaybeExp, IsSelect, IsSource}
 use Rattle.sql_tree.specs.Trees.{Exp, ItemTree, JoinTree, SelectTree}
 use Rattle.sql_tree.specs.declared.parts.Source.{Source}
-use Rattle.rules_to_sql.specs.Fits.{Fits, IsMaybeCondition}
-use Rattle.rules_to_sql.specs.TypedSelects.{AreJoinsTyped, IsItemTyped, IsSelectTyped, IsSourceTyped}
-use Rattle.rules_to_sql.specs.Expressions.{site}
-use Rattle.rules_to_sql.specs.Kinds.{kind_in}
-use Rattle.rules_to_sql.specs.Queries.{first_scope, groups_of, item_aggregates, item_kind, item_name, scope_of}
-use Rattle.rules_to_sql.specs.Queries as queries
-use Rattle.rules_to_sql.specs.Scopes.{Scope, grouping_of, repeats}
-use Rattle.rules_to_sql.specs.From.{source_rows}
-use Rattle.rules_to_sql.specs.Outcomes.{row_at, row_fault}
-use Rattle.rules_to_sql.specs.Scripts.{Data, base_of, tables_in}
-use Rattle.rules_to_sql.specs.Selects.{grouped_rows, item_value, plain_rows, second_phase, select_value}
-use Rattle.rules_to_sql.specs.Tables.{Base}
-use Rattle.rules_to_sql.specs.Values.{at_rows, value as sql_value}
-use Rattle.rules_to_sql.specs.Windows.{told_apart}
+use Rattle.sql_check_laws.specs.Fits.{Fits, IsMaybeCondition}
+use Rattle.sql_check_laws.specs.Selects.{AreJoinsTyped, IsItemTyped, IsSelectTyped, IsSourceTyped}
+use Rattle.sql_check_parts.specs.Expressions.{site}
+use Rattle.sql_check_parts.specs.Kinds.{kind_in}
+use Rattle.sql_check_parts.specs.Queries.{first_scope, groups_of, item_aggregates, item_kind, item_name, scope_of}
+use Rattle.sql_check_parts.specs.Queries as queries
+use Rattle.sql_check_parts.specs.Scopes.{Scope, grouping_of, repeats}
+use Rattle.sql_meaning.specs.From.{source_rows}
+use Rattle.sql_meaning.specs.Outcomes.{row_at, row_fault}
+use Rattle.sql_meaning.specs.Scripts.{Data, base_of, tables_in}
+use Rattle.sql_meaning.specs.Selects.{grouped_rows, item_value, plain_rows, second_phase, select_value}
+use Rattle.sql_meaning.specs.Tables.{Base}
+use Rattle.sql_meaning.specs.Values.{at_rows, value as sql_value}
+use Rattle.sql_meaning.specs.Windows.{told_apart}
 use Rattle.vtl_to_sql.specs.Conditions.{HaveNames}
 use Rattle.vtl_to_sql.specs.Queries.{items_as, select_as}
 use Rattle.vtl_to_sql.specs.Runs.{printable_depth}

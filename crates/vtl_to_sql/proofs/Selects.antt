@@ -5,7 +5,7 @@ use Rattle.vtl_cell.specs.Kinds.{is_of}
 use Rattle.vtl_cell.specs.Outcome.{Outcome, after, fault_in, faults_by, join, unless}
 use Rattle.vtl_cell.specs.Row.{Row}
 use Rattle.vtl_cell.specs.ScalarKinds.{meets}
-use Rattle.vtl_cell.specs.Settings.{Settings}
+use Rattle.vtl_decimal.specs.Settings.{Settings}
 use Rattle.vtl_cell.specs.declared.kind.Kind.TheVariants as k
 use Rattle.vtl_tree.specs.CompExp.{CompExp}
 use Rattle.vtl_tree.specs.DataSet.{is_point}
@@ -13,18 +13,18 @@ use Rattle.vtl_tree.specs.Structure.{columns_of}
 use Rattle.vtl_tree.specs.Value.{value}
 use Rattle.vtl_tree.specs.declared.structure.Component.{Component}
 use Rattle.vtl_tree.specs.declared.structure.Structure.{Structure}
-use Rattle.rules_to_sql.specs.LawsKinds.{exp_kind}
-use Rattle.rules_to_sql.specs.Made.{AreFor, IsTyped}
-use Rattle.rules_to_sql.specs.Points.{cell_or_null, each_point, point_fault, point_of}
-use Rattle.rules_to_sql.proofs.ValueKinds.{value_is_of}
+use Rattle.check_values.specs.Kinds.{exp_kind}
+use Rattle.vtl_meaning.specs.Made.{AreFor, IsTyped}
+use Rattle.vtl_meaning.specs.Points.{cell_or_null, each_point, point_fault, point_of}
+use Rattle.vtl_meaning.proofs.ValueKinds.{value_is_of}
 use Rattle.sql_tree.specs.Formed.{IsExp, IsMaybeExp}
 use Rattle.sql_tree.specs.Trees.{Exp, JoinTree}
 use Rattle.sql_tree.specs.declared.parts.Source.{Source}
-use Rattle.rules_to_sql.specs.Fits.{IsCondition, IsMaybeCondition}
-use Rattle.rules_to_sql.specs.Expressions.{site}
-use Rattle.rules_to_sql.specs.Scopes.{Scope, Tables}
-use Rattle.rules_to_sql.specs.From.{source_rows}
-use Rattle.rules_to_sql.specs.Scripts.{Data, base_of}
+use Rattle.sql_check_laws.specs.Fits.{IsCondition, IsMaybeCondition}
+use Rattle.sql_check_parts.specs.Expressions.{site}
+use Rattle.sql_check_parts.specs.Scopes.{Scope, Tables}
+use Rattle.sql_meaning.specs.From.{source_rows}
+use Rattle.sql_meaning.specs.Scripts.{Data, base_of}
 use Rattle.rules_to_sql.specs.Names.{AreNamesFormed, Names}
 use Rattle.rules_to_sql.specs.ToSql.{Naming, to_sql}
 use Rattle.vtl_to_sql.specs.Conditions.{AllCanBeWritten, CanBeWritten}

@@ -3,28 +3,28 @@ use Rattle.std.proofs.Common.{◌≡◌, Bool, true, false, not, ◌||◌, List,
 use Rattle.std.specs.List.{AllByRecursion, filter, list_any}
 use Rattle.vtl_cell.specs.Outcome.{unless}
 use Rattle.vtl_cell.specs.Row.{Row, column_of, same_key, same_row}
-use Rattle.vtl_cell.specs.Settings.{Settings}
-use Rattle.vtl_cell.proofs.Sorts.{AllByRecursion-filter}
+use Rattle.vtl_decimal.specs.Settings.{Settings}
+use Rattle.vtl_lists.proofs.Sorts.{AllByRecursion-filter}
 use Rattle.vtl_rows.specs.Tables.{cells_at}
 use Rattle.vtl_tree.specs.DataSet.{IsDataSet}
 use Rattle.vtl_tree.specs.Structure.{columns_of, key_width}
 use Rattle.vtl_tree.specs.declared.structure.Component.{Component}
 use Rattle.vtl_tree.specs.declared.structure.Structure.{Structure}
-use Rattle.rules_to_sql.specs.Columns.{columns_named, identifiers_of, measures_of, place_of, places_in}
-use Rattle.rules_to_sql.specs.Made.{AreAmong, IsAlternative, IsColumnAt}
-use Rattle.rules_to_sql.specs.Operators.{left_of}
-use Rattle.rules_to_sql.specs.Points.{each_point, with_points}
-use Rattle.rules_to_sql.specs.Sets.{has_point}
-use Rattle.rules_to_sql.proofs.OwnColumns.{columns_apart}
-use Rattle.rules_to_sql.proofs.Places.{all_append}
-use Rattle.rules_to_sql.proofs.SetsKept.{has_any}
+use Rattle.check_shapes.specs.Columns.{columns_named, identifiers_of, measures_of, place_of, places_in}
+use Rattle.vtl_meaning.specs.Made.{AreAmong, IsAlternative, IsColumnAt}
+use Rattle.vtl_meaning.specs.Operators.{left_of}
+use Rattle.vtl_meaning.specs.Points.{each_point, with_points}
+use Rattle.vtl_meaning.specs.Sets.{has_point}
+use Rattle.vtl_meaning.proofs.OwnColumns.{columns_apart}
+use Rattle.vtl_meaning.proofs.Places.{all_append}
+use Rattle.vtl_meaning.proofs.SetsKept.{has_any}
 use Rattle.vtl_tuples.proofs.Lists.{filter-map, filter_same}
 use Rattle.sql_tree.specs.Formed.{IsName}
 use Rattle.sql_tree.specs.Trees.{Exp, Text}
-use Rattle.rules_to_sql.specs.From.{condition_fault, kept, source_rows}
-use Rattle.rules_to_sql.specs.Scripts.{Data, base_of}
-use Rattle.rules_to_sql.specs.Values.{at_rows}
-use Rattle.rules_to_sql.specs.Scopes.{add_source}
+use Rattle.sql_meaning.specs.From.{condition_fault, kept, source_rows}
+use Rattle.sql_meaning.specs.Scripts.{Data, base_of}
+use Rattle.sql_meaning.specs.Values.{at_rows}
+use Rattle.sql_check_parts.specs.Scopes.{add_source}
 use Rattle.vtl_to_sql.specs.Conditions.{HaveNames}
 use Rattle.vtl_to_sql.specs.Queries.{first_alias, is_matched, matched_select, shown_query, shown_select}
 use Rattle.vtl_to_sql.specs.Runs.{IsTable}

@@ -2,10 +2,10 @@
 use Rattle.std.proofs.Common.{◌≡◌, ℕ, Bool, true, false, not, ◌&&◌, List, [], ◌∷◌, ◌++◌, take, None, Ok, refl, ap, sym, ◌∙◌, append-nil}
 use Rattle.std.specs.Prelude.{fold, is_some}
 use Rattle.std.specs.List.{filter, list_all, list_any}
-use Rattle.vtl_cell.specs.Perm.{Perm, chain}
+use Rattle.vtl_lists.specs.Perm.{Perm, chain}
 use Rattle.vtl_cell.specs.Row.{Row, same_key}
-use Rattle.vtl_cell.specs.Settings.{Settings}
-use Rattle.vtl_cell.proofs.Perms.{Perm-append, Perm-filter, Perm-same, Perm-sym}
+use Rattle.vtl_decimal.specs.Settings.{Settings}
+use Rattle.vtl_lists.proofs.Perms.{Perm-append, Perm-filter, Perm-same, Perm-sym}
 use Rattle.vtl_tree.specs.DataSet.{Distinct, IsDataSet}
 use Rattle.vtl_tree.specs.Environment.{DataSet}
 use Rattle.vtl_tree.specs.Structure.{IsStructure, columns_of, key_width}
@@ -14,15 +14,15 @@ use Rattle.vtl_tree.proofs.LookUps.{look_respects}
 use Rattle.vtl_tuples.specs.Keys.{each_once}
 use Rattle.vtl_tuples.proofs.Lists.{filter_each}
 use Rattle.vtl_tuples.proofs.Onces.{once_already, once_more}
-use Rattle.rules_to_sql.specs.Columns.{identifiers_of}
-use Rattle.rules_to_sql.specs.Operators.{left_of}
-use Rattle.rules_to_sql.specs.Points.{with_points}
-use Rattle.rules_to_sql.specs.Sets.{all_left_of, either_only, has_point, intersected, intersection_of, reduced, union_of, united}
-use Rattle.rules_to_sql.proofs.SetsFolds.{intersected_fold, united_fold}
-use Rattle.rules_to_sql.proofs.SetsKept.{either_only_kept, has_any, reduced_kept, shown_kept, some_kept, united_kept}
+use Rattle.check_shapes.specs.Columns.{identifiers_of}
+use Rattle.vtl_meaning.specs.Operators.{left_of}
+use Rattle.vtl_meaning.specs.Points.{with_points}
+use Rattle.vtl_meaning.specs.Sets.{all_left_of, either_only, has_point, intersected, intersection_of, reduced, union_of, united}
+use Rattle.vtl_meaning.proofs.SetsFolds.{intersected_fold, united_fold}
+use Rattle.vtl_meaning.proofs.SetsKept.{either_only_kept, has_any, reduced_kept, shown_kept, some_kept, united_kept}
 use Rattle.sql_tree.specs.Trees.{QueryTree, Text}
 use Rattle.sql_tree.specs.Formed.{IsName}
-use Rattle.rules_to_sql.specs.Scripts.{Data}
+use Rattle.sql_meaning.specs.Scripts.{Data}
 use Rattle.vtl_to_sql.specs.Conditions.{HaveNames}
 use Rattle.vtl_to_sql.specs.Queries.{difference_query, intersection_query, matched_select, shown_select, symmetric_difference_query, union_query}
 use Rattle.vtl_to_sql.specs.Runs.{IsTable}

@@ -5,18 +5,18 @@ use Rattle.std.specs.List.{AllByRecursion}
 use Rattle.std.specs.Map.{lookup}
 use Rattle.std.proofs.lemmas.Bool.{le-ltb, lt-ltb}
 use Rattle.std.proofs.lemmas.List.{length-map}
-use Rattle.vtl_cell.specs.Apart.{all_apart}
-use Rattle.vtl_cell.specs.Texts.{same_text}
+use Rattle.vtl_lists.specs.Apart.{all_apart}
+use Rattle.vtl_text.specs.Texts.{same_text}
 use Rattle.vtl_cell.specs.declared.kind.Kind.{Kind}
-use Rattle.vtl_cell.proofs.Aparts.{apart_parts}
+use Rattle.vtl_lists.proofs.Aparts.{apart_parts}
 use Rattle.vtl_tree.specs.Structure.{names_of, same_name}
 use Rattle.vtl_tree.specs.declared.structure.Component.{Component}
-use Rattle.rules_to_sql.specs.Made.{IsColumnAt}
-use Rattle.rules_to_sql.proofs.Places.{same_name-refl, same_name-sym}
+use Rattle.vtl_meaning.specs.Made.{IsColumnAt}
+use Rattle.vtl_meaning.proofs.Places.{same_name-refl, same_name-sym}
 use Rattle.sql_lexer.specs.Spelling.{is_name}
 use Rattle.sql_tree.specs.Formed.{IsName}
-use Rattle.rules_to_sql.specs.Scopes.{Scope, found, numbered}
-use Rattle.rules_to_sql.specs.Values.{place_in}
+use Rattle.sql_check_parts.specs.Scopes.{Scope, found, numbered}
+use Rattle.sql_meaning.specs.Values.{place_in}
 use Rattle.rules_to_sql.specs.Names.{AreNamesFormed, Names}
 use Rattle.vtl_to_sql.specs.Conditions.{HaveNames}
 use Rattle.vtl_to_sql.specs.Queries.{first_alias, of_one, of_two, second_alias}

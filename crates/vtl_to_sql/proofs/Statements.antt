@@ -4,23 +4,23 @@ use Rattle.std.specs.List.{AllByRecursion}
 use Rattle.std.specs.Map.{lookup}
 use Rattle.std.specs.Option.{option_map_or}
 use Rattle.vtl_cell.specs.Outcome.{Outcome, after}
-use Rattle.vtl_cell.specs.Perm.{Perm}
+use Rattle.vtl_lists.specs.Perm.{Perm}
 use Rattle.vtl_cell.specs.Row.{Row}
-use Rattle.vtl_cell.specs.Settings.{Settings}
-use Rattle.vtl_cell.specs.Texts.{same_text}
-use Rattle.vtl_cell.specs.Words.{is_word}
+use Rattle.vtl_decimal.specs.Settings.{Settings}
+use Rattle.vtl_text.specs.Texts.{same_text}
+use Rattle.vtl_text.specs.Words.{is_word}
 use Rattle.vtl_tree.specs.Environment.{DataSet, Environment, data_of}
 use Rattle.vtl_tree.specs.Structure.{same_name}
-use Rattle.rules_to_sql.specs.Made.{AreMadeStatements}
-use Rattle.rules_to_sql.specs.Meaning.{AreDataSets, Outputs, Statement, kept_output, known_in, meaning, node_value, stated}
-use Rattle.rules_to_sql.specs.Points.{with_points}
-use Rattle.rules_to_sql.specs.Trees.{structure_of}
-use Rattle.rules_to_sql.proofs.Places.{all_append, all_more, same_name-is, same_name-refl, same_name-sym}
-use Rattle.rules_to_sql.proofs.ScriptsKept.{node_kept}
+use Rattle.vtl_meaning.specs.Made.{AreMadeStatements}
+use Rattle.vtl_meaning.specs.Meaning.{AreDataSets, Outputs, Statement, kept_output, known_in, meaning, node_value, stated}
+use Rattle.vtl_meaning.specs.Points.{with_points}
+use Rattle.vtl_nodes.specs.Trees.{structure_of}
+use Rattle.vtl_meaning.proofs.Places.{all_append, all_more, same_name-is, same_name-refl, same_name-sym}
+use Rattle.vtl_meaning.proofs.ScriptsKept.{node_kept}
 use Rattle.sql_tree.specs.Formed.{IsName}
 use Rattle.sql_tree.specs.Trees.{Text}
-use Rattle.rules_to_sql.specs.Scripts.{Data, NamedFault, base_of, fault_name, tables_in}
-use Rattle.rules_to_sql.specs.Selects.{query_value}
+use Rattle.sql_meaning.specs.Scripts.{Data, NamedFault, base_of, fault_name, tables_in}
+use Rattle.sql_meaning.specs.Selects.{query_value}
 use Rattle.vtl_to_sql.specs.Conditions.{IsTranslated}
 use Rattle.vtl_to_sql.specs.Means.{AreNamed, AreStored, Extends, IsApartFrom, IsEarlier, IsNumbered, Means, NodeGives, ScriptGives, Stands, StandsAs}
 use Rattle.vtl_to_sql.specs.Runs.{AreLawful, IsTable, held, run}

@@ -8,7 +8,7 @@ use Rattle.vtl_cell.specs.Outcome.{after, fault_in, faults_by, unless}
 use Rattle.vtl_cell.specs.Outcomes.{is_true}
 use Rattle.vtl_cell.specs.Row.{Row, column_of}
 use Rattle.vtl_cell.specs.ScalarKinds.{kinds_of, meets}
-use Rattle.vtl_cell.specs.Settings.{Settings}
+use Rattle.vtl_decimal.specs.Settings.{Settings}
 use Rattle.vtl_cell.specs.declared.cell.Cell.TheVariants as c
 use Rattle.vtl_cell.specs.declared.kind.Kind.TheVariants as k
 use Rattle.vtl_cell.specs.declared.operator.ScalarOp.TheVariants as op
@@ -19,17 +19,17 @@ use Rattle.vtl_tree.specs.Structure.{columns_of, most_components}
 use Rattle.vtl_tree.specs.Value.{value}
 use Rattle.vtl_tree.specs.declared.structure.Component.{Component}
 use Rattle.vtl_tree.specs.declared.structure.Structure.{Structure}
-use Rattle.rules_to_sql.specs.Columns.{columns_named, identifiers_of, kind_named, place_of}
-use Rattle.rules_to_sql.specs.Made.{IsColumnAt, IsSub}
-use Rattle.rules_to_sql.specs.Operators.{has_values, sub_of}
-use Rattle.rules_to_sql.specs.Points.{each_point, with_points}
-use Rattle.rules_to_sql.specs.clauses.SubItem.{SubItem}
-use Rattle.rules_to_sql.proofs.OwnColumns.{columns_apart}
-use Rattle.rules_to_sql.proofs.Places.{all_more}
-use Rattle.rules_to_sql.proofs.ValueKinds.{cell_is_of, own_kind}
+use Rattle.check_shapes.specs.Columns.{columns_named, identifiers_of, kind_named, place_of}
+use Rattle.vtl_meaning.specs.Made.{IsColumnAt, IsSub}
+use Rattle.vtl_meaning.specs.Operators.{has_values, sub_of}
+use Rattle.vtl_meaning.specs.Points.{each_point, with_points}
+use Rattle.vtl_nodes.specs.declared.clauses.SubItem.{SubItem}
+use Rattle.vtl_meaning.proofs.OwnColumns.{columns_apart}
+use Rattle.vtl_meaning.proofs.Places.{all_more}
+use Rattle.vtl_meaning.proofs.ValueKinds.{cell_is_of, own_kind}
 use Rattle.sql_tree.specs.Formed.{IsName}
 use Rattle.sql_tree.specs.Trees.{Text}
-use Rattle.rules_to_sql.specs.Scripts.{Data}
+use Rattle.sql_meaning.specs.Scripts.{Data}
 use Rattle.vtl_to_sql.specs.Conditions.{HasValue, HaveNames}
 use Rattle.vtl_to_sql.specs.Queries.{conjunction, has_value, sub_query}
 use Rattle.vtl_to_sql.specs.Runs.{IsTable}

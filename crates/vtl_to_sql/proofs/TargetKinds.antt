@@ -3,20 +3,20 @@ use Rattle.std.proofs.Common.{◌≡◌, Bool, true, false, not, cond, List, [],
 use Rattle.std.specs.Prelude.{option_map}
 use Rattle.std.specs.List.{AllByRecursion, filter}
 use Rattle.std.specs.Option.{is_none}
-use Rattle.vtl_cell.specs.Apart.{all_apart}
-use Rattle.vtl_cell.proofs.Aparts.{apart_parts}
+use Rattle.vtl_lists.specs.Apart.{all_apart}
+use Rattle.vtl_lists.proofs.Aparts.{apart_parts}
 use Rattle.vtl_tree.specs.Structure.{IsStructure, names_of, same_name}
 use Rattle.vtl_tree.specs.declared.structure.Component.{Component}
 use Rattle.vtl_tree.specs.declared.structure.Structure.{Structure}
 use Rattle.check_shapes.specs.Clauses as clauses
 use Rattle.check_shapes.specs.Clauses.{calculated, is_new, retargeted, target_component}
 use Rattle.check_shapes.specs.Names.{component_of}
-use Rattle.rules_to_sql.specs.AnalyticPoints.{item_named}
-use Rattle.rules_to_sql.specs.AnalyticShapes.{analyzed_components, target_of, tree_kind}
-use Rattle.rules_to_sql.specs.Trees as nodes
-use Rattle.rules_to_sql.specs.Trees.{ItemTree}
+use Rattle.vtl_windows.specs.Analytics.{item_named}
+use Rattle.vtl_windows.specs.Shapes.{analyzed_components, target_of, tree_kind}
+use Rattle.vtl_nodes.specs.Trees as nodes
+use Rattle.vtl_nodes.specs.Trees.{ItemTree}
 use Rattle.check_shapes.specs.declared.targets.Target.{Target}
-use Rattle.rules_to_sql.proofs.Places.{all_append, same_name-is, same_name-refl}
+use Rattle.vtl_meaning.proofs.Places.{all_append, same_name-is, same_name-refl}
 
 module _ (xs : List Component) where
   -- the target of the column's name, where there is one, has values of its kind

@@ -6,7 +6,7 @@ use Rattle.std.proofs.lemmas.List.{get_or_append_left, get_or-append-add, length
 use Rattle.vtl_cell.specs.Order.{same_cell}
 use Rattle.vtl_cell.specs.Row.{Row, column_of, same_row}
 use Rattle.vtl_cell.specs.ScalarKinds.{kinds_of}
-use Rattle.vtl_cell.specs.Settings.{Settings}
+use Rattle.vtl_decimal.specs.Settings.{Settings}
 use Rattle.vtl_cell.specs.declared.cell.Cell.TheVariants as c
 use Rattle.vtl_cell.specs.declared.kind.Kind.{Kind}
 use Rattle.vtl_cell.specs.declared.kind.Kind.TheVariants as k
@@ -17,12 +17,12 @@ use Rattle.vtl_tree.specs.Structure.{columns_of, most_components}
 use Rattle.vtl_tree.specs.Value.{called, value}
 use Rattle.vtl_tree.specs.declared.structure.Component.{Component}
 use Rattle.vtl_tree.specs.declared.structure.Structure.{Structure}
-use Rattle.rules_to_sql.specs.LawsKinds.{exp_kind}
-use Rattle.rules_to_sql.specs.Columns.{kind_named, place_of, places_in}
-use Rattle.rules_to_sql.specs.Made.{IsColumnAt, IsTyped}
-use Rattle.rules_to_sql.proofs.Kept.{column_front, column_within}
-use Rattle.rules_to_sql.proofs.Places.{point_length}
-use Rattle.rules_to_sql.proofs.ValueKinds.{cell_is_of}
+use Rattle.check_values.specs.Kinds.{exp_kind}
+use Rattle.check_shapes.specs.Columns.{kind_named, place_of, places_in}
+use Rattle.vtl_meaning.specs.Made.{IsColumnAt, IsTyped}
+use Rattle.vtl_meaning.proofs.Kept.{column_front, column_within}
+use Rattle.vtl_meaning.proofs.Places.{point_length}
+use Rattle.vtl_meaning.proofs.ValueKinds.{cell_is_of}
 use Rattle.vtl_to_sql.specs.Conditions.{CanBeWritten}
 use Rattle.vtl_to_sql.specs.Joins.{all_tied, placed_at, tied_to}
 use Rattle.vtl_to_sql.proofs.Conjunctions.{IsPart, alike_kinds, conjunction_kind, conjunction_typed, conjunction_value, conjunction_written, equal_cells}

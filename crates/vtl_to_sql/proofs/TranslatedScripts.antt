@@ -1,18 +1,18 @@
 -- What is asked of a script gives what is asked of its tables.
 use Rattle.std.proofs.Common.{◌≡◌, ◌≤◌, Bool, true, false, ◌||◌, List, [], ◌∷◌, refl, ap, sym, ◌∙◌, subst}
 use Rattle.std.specs.List.{AllByRecursion}
-use Rattle.vtl_cell.specs.Settings.{Settings}
-use Rattle.vtl_cell.specs.Texts.{same_text}
-use Rattle.vtl_cell.specs.Words.{is_word}
+use Rattle.vtl_decimal.specs.Settings.{Settings}
+use Rattle.vtl_text.specs.Texts.{same_text}
+use Rattle.vtl_text.specs.Words.{is_word}
 use Rattle.vtl_tree.specs.Environment.{Environment}
 use Rattle.vtl_tree.specs.Structure.{IsStructure, same_name}
 use Rattle.vtl_tree.specs.Structures.{Named, has_name}
-use Rattle.rules_to_sql.specs.Made.{AreMadeStatements}
-use Rattle.rules_to_sql.specs.Meaning.{AreDataSets, Statement, known_in, meaning}
-use Rattle.rules_to_sql.specs.Trees.{structure_of}
-use Rattle.rules_to_sql.proofs.Places.{all_more}
+use Rattle.vtl_meaning.specs.Made.{AreMadeStatements}
+use Rattle.vtl_meaning.specs.Meaning.{AreDataSets, Statement, known_in, meaning}
+use Rattle.vtl_nodes.specs.Trees.{structure_of}
+use Rattle.vtl_meaning.proofs.Places.{all_more}
 use Rattle.sql_tree.specs.Trees.{Text}
-use Rattle.rules_to_sql.specs.Scripts.{Data, Inputs, script_value}
+use Rattle.sql_meaning.specs.Scripts.{Data, Inputs, script_value}
 use Rattle.vtl_to_sql.specs.Conditions.{AreTranslated, IsScript, IsTranslated}
 use Rattle.vtl_to_sql.specs.Exports.{AreRead, exported_as, tables_read}
 use Rattle.vtl_to_sql.specs.Means.{AreNamed, IsApartFrom, ScriptGives, Stands}

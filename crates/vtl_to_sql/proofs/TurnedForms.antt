@@ -1,11 +1,11 @@
 -- The queries of `unpivot` and `pivot`, as they are written.
 use Rattle.std.proofs.Common.{◌≡◌, List, [], ◌∷◌, ◌++◌, map, refl, ap, ◌∙◌, Some}
-use Rattle.vtl_cell.specs.Settings.{Settings}
+use Rattle.vtl_decimal.specs.Settings.{Settings}
 use Rattle.vtl_tree.specs.Structure.{columns_of, names_of}
 use Rattle.vtl_tree.specs.declared.structure.Component.{Component}
 use Rattle.vtl_tree.specs.declared.structure.Structure.{Structure}
-use Rattle.rules_to_sql.specs.Columns.{identifiers_of, measures_of}
-use Rattle.rules_to_sql.specs.Turned.{codes_of, other_identifiers}
+use Rattle.check_shapes.specs.Columns.{identifiers_of, measures_of}
+use Rattle.vtl_meaning.specs.Turned.{codes_of, other_identifiers}
 use Rattle.sql_tree.specs.Trees.{Exp, Text}
 use Rattle.rules_to_sql.specs.ToSql.{column_of, group_columns}
 use Rattle.vtl_to_sql.specs.Items.{first_column, from_one}

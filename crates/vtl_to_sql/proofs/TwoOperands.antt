@@ -1,20 +1,20 @@
 -- An operator on two data sets is a select over a join of their tables.
 use Rattle.std.proofs.Common.{◌≡◌, Bool, true, false, ◌||◌, cond, List, [], ◌∷◌, ◌++◌, None, Ok, refl}
 use Rattle.vtl_cell.specs.Row.{Row}
-use Rattle.vtl_cell.specs.Settings.{Settings}
+use Rattle.vtl_decimal.specs.Settings.{Settings}
 use Rattle.vtl_cell.specs.declared.operator.ScalarOp.{ScalarOp}
 use Rattle.vtl_tree.specs.CompExp.{CompExp}
 use Rattle.vtl_tree.specs.DataSet.{IsDataSet}
 use Rattle.vtl_tree.specs.Structure.{columns_of}
 use Rattle.vtl_tree.specs.declared.structure.Structure.{Structure}
 use Rattle.check_shapes.specs.Pairs.{contains}
-use Rattle.rules_to_sql.specs.Columns.{identifiers_of}
-use Rattle.rules_to_sql.specs.Made.{AreFor, IsPaired}
-use Rattle.rules_to_sql.specs.Operators.{pair_exps, pair_of}
-use Rattle.rules_to_sql.specs.Points.{each_point, paired, with_points}
+use Rattle.check_shapes.specs.Columns.{identifiers_of}
+use Rattle.vtl_meaning.specs.Made.{AreFor, IsPaired}
+use Rattle.vtl_meaning.specs.Operators.{pair_exps, pair_of}
+use Rattle.vtl_meaning.specs.Points.{each_point, paired, with_points}
 use Rattle.sql_tree.specs.Formed.{IsName}
 use Rattle.sql_tree.specs.Trees.{Text}
-use Rattle.rules_to_sql.specs.Scripts.{Data}
+use Rattle.sql_meaning.specs.Scripts.{Data}
 use Rattle.vtl_to_sql.specs.Conditions.{AllCanBeWritten, HaveNames}
 use Rattle.vtl_to_sql.specs.Queries.{pair_query, pairs_select}
 use Rattle.vtl_to_sql.specs.Runs.{IsTable}

@@ -6,31 +6,31 @@ use Rattle.std.specs.Map.{keys_of, lookup}
 use Rattle.std.specs.Option.{option_map_or}
 use Rattle.std.proofs.lemmas.Bool.{and_from, and_parts}
 use Rattle.std.proofs.lemmas.List.{length-map}
-use Rattle.vtl_cell.specs.Apart.{all_apart}
-use Rattle.vtl_cell.specs.Settings.{Settings}
-use Rattle.vtl_cell.specs.Texts.{same_text}
-use Rattle.vtl_cell.specs.Words.{is_component_name, is_word}
+use Rattle.vtl_lists.specs.Apart.{all_apart}
+use Rattle.vtl_decimal.specs.Settings.{Settings}
+use Rattle.vtl_text.specs.Texts.{same_text}
+use Rattle.vtl_text.specs.Words.{is_component_name, is_word}
 use Rattle.vtl_cell.specs.declared.kind.Kind.{Kind}
 use Rattle.vtl_cell.specs.declared.kind.Kind.TheVariants as k
-use Rattle.vtl_cell.proofs.Aparts.{apart_parts}
+use Rattle.vtl_lists.proofs.Aparts.{apart_parts}
 use Rattle.vtl_tree.specs.Structure.{IsStructure, columns_of, most_components, names_of, same_name, same_role}
 use Rattle.vtl_tree.specs.Structures as structures
 use Rattle.vtl_tree.specs.Structures.{AreStructures, Named, is_declarable, is_declarable_component, is_declarable_entry, is_string_identifier}
 use Rattle.vtl_tree.specs.declared.structure.Component.{Component}
 use Rattle.vtl_tree.specs.declared.structure.Role.TheVariants as role
 use Rattle.vtl_tree.specs.declared.structure.Structure.{Structure}
-use Rattle.rules_to_sql.specs.Columns.{identifiers_of, others_of}
-use Rattle.rules_to_sql.specs.Shapes.{IsShaped}
-use Rattle.rules_to_sql.proofs.OwnColumns.{columns_apart}
-use Rattle.rules_to_sql.proofs.Places.{IsOther, all_back, all_front, all_more, are_others, columns_split, identifiers_apart, same_name-refl, same_name-sym}
-use Rattle.rules_to_sql.proofs.Scripts.{structures-shaped}
+use Rattle.check_shapes.specs.Columns.{identifiers_of, others_of}
+use Rattle.vtl_meaning.specs.Shapes.{IsShaped}
+use Rattle.vtl_meaning.proofs.OwnColumns.{columns_apart}
+use Rattle.vtl_meaning.proofs.Places.{IsOther, all_back, all_front, all_more, are_others, columns_split, identifiers_apart, same_name-refl, same_name-sym}
+use Rattle.check_laws.proofs.Scripts.{structures-shaped}
 use Rattle.sql_tree.specs.Formed.{IsName}
 use Rattle.sql_tree.specs.Trees.{Text}
-use Rattle.rules_to_sql.specs.Statements.{AreNames, AreTyped, HasCodes, IsExportTyped, IsInputTyped, IsOrder}
-use Rattle.rules_to_sql.specs.Scopes.{Columns, Tables, columns_of as table_columns, is_among, is_empty, repeats, value_among}
-use Rattle.rules_to_sql.specs.TypingStatements.{Given, after, codes_fit, input_columns, is_of_key, is_taken, is_text}
-use Rattle.rules_to_sql.specs.Queries.{query_columns}
-use Rattle.rules_to_sql.specs.Scripts.{Inputs, tables_in}
+use Rattle.sql_check_laws.specs.Statements.{AreNames, AreTyped, HasCodes, IsExportTyped, IsInputTyped, IsOrder}
+use Rattle.sql_check_parts.specs.Scopes.{Columns, Tables, columns_of as table_columns, is_among, is_empty, repeats, value_among}
+use Rattle.sql_check_parts.specs.Statements.{Given, after, codes_fit, input_columns, is_of_key, is_taken, is_text}
+use Rattle.sql_check_parts.specs.Queries.{query_columns}
+use Rattle.sql_meaning.specs.Scripts.{Inputs, tables_in}
 use Rattle.vtl_to_sql.specs.Conditions.{AreReadable, HaveNames}
 use Rattle.vtl_to_sql.specs.Exports.{tables_read}
 use Rattle.vtl_to_sql.specs.Runs.{AreLawful, entries, given_behind}

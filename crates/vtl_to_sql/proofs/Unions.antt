@@ -7,22 +7,22 @@ use Rattle.grammar_forms.specs.Written.{Each}
 use Rattle.vtl_cell.specs.Outcome.{DivZero, Range, Outcome, fault_in, faults_by, unless}
 use Rattle.vtl_cell.specs.Row.{Row}
 use Rattle.vtl_cell.specs.ScalarKinds.{shared_kind}
-use Rattle.vtl_cell.specs.Settings.{Settings}
+use Rattle.vtl_decimal.specs.Settings.{Settings}
 use Rattle.vtl_cell.specs.declared.kind.Kind.{Kind}
 use Rattle.vtl_cell.specs.declared.kind.Kind.TheVariants as k
 use Rattle.vtl_tree.specs.Structure.{columns_of, names_of}
 use Rattle.vtl_tree.specs.declared.structure.Component.{Component}
 use Rattle.vtl_tree.specs.declared.structure.Structure.{Structure}
-use Rattle.rules_to_sql.proofs.Places.{same_name-refl}
+use Rattle.vtl_meaning.proofs.Places.{same_name-refl}
 use Rattle.sql_tree.specs.Formed.{IsSelect}
 use Rattle.sql_tree.specs.Trees.{SelectTree, Text}
-use Rattle.rules_to_sql.specs.TypedSelects.{IsColumnKind, IsSelectTyped}
-use Rattle.rules_to_sql.specs.Queries.{query_columns}
-use Rattle.rules_to_sql.specs.Queries as queries
-use Rattle.rules_to_sql.specs.Scopes.{or_null}
-use Rattle.rules_to_sql.specs.Scripts.{Data, base_of, tables_in}
-use Rattle.rules_to_sql.specs.Selects.{appended, rows_in, select_value}
-use Rattle.rules_to_sql.specs.Tables.{kinds_of}
+use Rattle.sql_check_laws.specs.Selects.{IsColumnKind, IsSelectTyped}
+use Rattle.sql_check_parts.specs.Queries.{query_columns}
+use Rattle.sql_check_parts.specs.Queries as queries
+use Rattle.sql_check_parts.specs.Scopes.{or_null}
+use Rattle.sql_meaning.specs.Scripts.{Data, base_of, tables_in}
+use Rattle.sql_meaning.specs.Selects.{appended, rows_in, select_value}
+use Rattle.sql_meaning.specs.Tables.{kinds_of}
 use Rattle.vtl_to_sql.specs.Means.{IsQueryFor}
 use Rattle.vtl_to_sql.specs.Runs.{entries, printable_depth}
 use Rattle.vtl_to_sql.proofs.Exact.{IsExactly}

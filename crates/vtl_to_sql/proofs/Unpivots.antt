@@ -6,14 +6,14 @@ use Rattle.std.specs.Option.{option_to_list}
 use Rattle.std.proofs.lemmas.List.{map-append}
 use Rattle.vtl_cell.specs.Kinds.{is_null}
 use Rattle.vtl_cell.specs.Outcome.{faults_by, unless}
-use Rattle.vtl_cell.specs.Perm.{Perm, chain}
+use Rattle.vtl_lists.specs.Perm.{Perm, chain}
 use Rattle.vtl_cell.specs.Row.{Row, column_of}
-use Rattle.vtl_cell.specs.Settings.{Settings}
+use Rattle.vtl_decimal.specs.Settings.{Settings}
 use Rattle.vtl_cell.specs.declared.cell.Cell.{Cell}
 use Rattle.vtl_cell.specs.declared.cell.Cell.TheVariants as c
 use Rattle.vtl_cell.specs.declared.kind.Kind.TheVariants as k
-use Rattle.vtl_cell.proofs.Perms.{Perm-same}
-use Rattle.vtl_cell.proofs.Sorts.{AllByRecursion-filter}
+use Rattle.vtl_lists.proofs.Perms.{Perm-same}
+use Rattle.vtl_lists.proofs.Sorts.{AllByRecursion-filter}
 use Rattle.vtl_cell.specs.Literals.{is_null_kind}
 use Rattle.vtl_tree.specs.DataSet.{IsDataSet}
 use Rattle.vtl_tree.specs.Structure.{columns_of}
@@ -21,23 +21,23 @@ use Rattle.vtl_tree.specs.declared.structure.Component.{Component}
 use Rattle.vtl_tree.specs.declared.structure.Structure.{Structure}
 use Rattle.vtl_tuples.proofs.Lists.{flat_map_each, flat_map_turned, map_same}
 use Rattle.check_shapes.specs.Clauses.{first_kind, names_column}
-use Rattle.rules_to_sql.specs.Agreement.{key_of}
-use Rattle.rules_to_sql.specs.Columns.{columns_named, identifiers_of, measures_of, others_of, place_of}
-use Rattle.rules_to_sql.specs.LookUps.{value_named, values_named}
-use Rattle.rules_to_sql.specs.Made.{AreAmong, IsColumnAt, IsUnpivoted}
-use Rattle.rules_to_sql.specs.Points.{with_points}
-use Rattle.rules_to_sql.specs.Turned.{named_point, unpivot_of, unpivoted_points}
-use Rattle.rules_to_sql.proofs.Agreements.{own_values}
-use Rattle.rules_to_sql.proofs.Kept.{both_all}
-use Rattle.rules_to_sql.proofs.OwnColumns.{among_front, columns_apart, own_identifiers, own_measures}
-use Rattle.rules_to_sql.proofs.Places.{all_back, all_more, columns_split}
-use Rattle.rules_to_sql.proofs.TurnedKept.{filter_map_drawn}
+use Rattle.vtl_meaning.specs.Agreement.{key_of}
+use Rattle.check_shapes.specs.Columns.{columns_named, identifiers_of, measures_of, others_of, place_of}
+use Rattle.vtl_meaning.specs.LookUps.{value_named, values_named}
+use Rattle.vtl_meaning.specs.Made.{AreAmong, IsColumnAt, IsUnpivoted}
+use Rattle.vtl_meaning.specs.Points.{with_points}
+use Rattle.vtl_meaning.specs.Turned.{named_point, unpivot_of, unpivoted_points}
+use Rattle.vtl_meaning.proofs.Agreements.{own_values}
+use Rattle.vtl_meaning.proofs.Kept.{both_all}
+use Rattle.vtl_meaning.proofs.OwnColumns.{among_front, columns_apart, own_identifiers, own_measures}
+use Rattle.vtl_meaning.proofs.Places.{all_back, all_more, columns_split}
+use Rattle.vtl_meaning.proofs.TurnedKept.{filter_map_drawn}
 use Rattle.sql_tree.specs.Formed.{IsName}
 use Rattle.sql_tree.specs.Trees.{Text}
-use Rattle.rules_to_sql.specs.Scopes.{add_source}
-use Rattle.rules_to_sql.specs.From.{condition_fault, kept, source_rows}
-use Rattle.rules_to_sql.specs.Scripts.{Data, base_of}
-use Rattle.rules_to_sql.specs.Values.{at_rows, null_test, value as sql_value}
+use Rattle.sql_check_parts.specs.Scopes.{add_source}
+use Rattle.sql_meaning.specs.From.{condition_fault, kept, source_rows}
+use Rattle.sql_meaning.specs.Scripts.{Data, base_of}
+use Rattle.sql_meaning.specs.Values.{at_rows, null_test, value as sql_value}
 use Rattle.vtl_to_sql.specs.Conditions.{HaveNames}
 use Rattle.vtl_to_sql.specs.Means.{Means}
 use Rattle.vtl_to_sql.specs.Queries.{all_to_sql, first_alias, items_as, of_one, source_as}

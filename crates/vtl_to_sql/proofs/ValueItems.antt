@@ -5,24 +5,24 @@ use Rattle.std.specs.List.{AllByRecursion, list_any}
 use Rattle.grammar_forms.specs.Written.{Each}
 use Rattle.vtl_cell.specs.Outcome.{after, fault_in, faults_by, join, unless}
 use Rattle.vtl_cell.specs.Row.{Row}
-use Rattle.vtl_cell.specs.Settings.{Settings}
+use Rattle.vtl_decimal.specs.Settings.{Settings}
 use Rattle.vtl_tree.specs.Structure.{columns_of, names_of}
 use Rattle.vtl_tree.specs.declared.structure.Component.{Component}
 use Rattle.vtl_tree.specs.declared.structure.Structure.{Structure}
-use Rattle.rules_to_sql.specs.AggregatePoints.{Made, cell_or_null}
-use Rattle.rules_to_sql.specs.AggregatePoints.{group_fault as point_fault}
-use Rattle.rules_to_sql.specs.AnalyticPoints.{each_point, point_of}
-use Rattle.rules_to_sql.specs.Expressions.{site}
-use Rattle.rules_to_sql.specs.From.{source_rows}
-use Rattle.rules_to_sql.specs.Outcomes.{row_at, row_fault}
-use Rattle.rules_to_sql.specs.Queries.{groups_of, item_aggregates, item_kind, item_name}
-use Rattle.rules_to_sql.specs.Scopes.{Scope, grouping_of, repeats}
-use Rattle.rules_to_sql.specs.Scripts.{Data, base_of}
-use Rattle.rules_to_sql.specs.Selects.{Wanted, grouped_rows, item_value, plain_rows, second_phase}
-use Rattle.rules_to_sql.specs.Tables.{Base}
-use Rattle.rules_to_sql.specs.TypedSelects.{IsItemTyped}
-use Rattle.rules_to_sql.specs.Values.{at_rows}
-use Rattle.rules_to_sql.specs.Windows.{told_apart}
+use Rattle.vtl_aggregates.specs.Aggregates.{Made, cell_or_null}
+use Rattle.vtl_aggregates.specs.Aggregates.{group_fault as point_fault}
+use Rattle.vtl_windows.specs.Analytics.{each_point, point_of}
+use Rattle.sql_check_parts.specs.Expressions.{site}
+use Rattle.sql_meaning.specs.From.{source_rows}
+use Rattle.sql_meaning.specs.Outcomes.{row_at, row_fault}
+use Rattle.sql_check_parts.specs.Queries.{groups_of, item_aggregates, item_kind, item_name}
+use Rattle.sql_check_parts.specs.Scopes.{Scope, grouping_of, repeats}
+use Rattle.sql_meaning.specs.Scripts.{Data, base_of}
+use Rattle.sql_meaning.specs.Selects.{Wanted, grouped_rows, item_value, plain_rows, second_phase}
+use Rattle.sql_meaning.specs.Tables.{Base}
+use Rattle.sql_check_laws.specs.Selects.{IsItemTyped}
+use Rattle.sql_meaning.specs.Values.{at_rows}
+use Rattle.sql_meaning.specs.Windows.{told_apart}
 use Rattle.sql_tree.specs.Formed.{IsItem as IsItemFormed}
 use Rattle.sql_tree.specs.Trees.{ItemTree, SelectTree}
 use Rattle.sql_tree.specs.declared.parts.Source.{Source}

@@ -6,28 +6,28 @@ use Rattle.std.specs.List.{AllByRecursion}
 use Rattle.std.proofs.lemmas.Bool.{lt-ltb}
 use Rattle.vtl_cell.specs.Outcome.{Outcome, Range, after}
 use Rattle.vtl_cell.specs.Profile.{IsOfProfile}
-use Rattle.vtl_cell.specs.Results.{◌>>=◌}
+use Rattle.vtl_lists.specs.Results.{◌>>=◌}
 use Rattle.vtl_cell.specs.Row.{Row}
-use Rattle.vtl_cell.specs.Settings.{Settings}
+use Rattle.vtl_decimal.specs.Settings.{Settings}
 use Rattle.vtl_cell.specs.Sorted.{Key}
 use Rattle.vtl_cell.specs.declared.cell.Cell.TheVariants as c
-use Rattle.vtl_cell.specs.settings.Rounding.TheVariants as rounding
+use Rattle.vtl_decimal.specs.declared.settings.Rounding.TheVariants as rounding
 use Rattle.vtl_cell.proofs.Keys.{window_order}
-use Rattle.vtl_cell.proofs.Sorts.{sorted_by-Perm}
+use Rattle.vtl_lists.proofs.Sorts.{sorted_by-Perm}
 use Rattle.vtl_tree.specs.Environment.{Environment}
 use Rattle.vtl_tree.specs.Structure.{columns_of, names_of}
 use Rattle.vtl_tree.specs.Structures.{Named}
 use Rattle.vtl_tree.specs.declared.structure.Structure.{Structure}
-use Rattle.rules_to_sql.specs.Columns.{identifiers_of}
-use Rattle.rules_to_sql.specs.Made.{AreMadeStatements}
-use Rattle.rules_to_sql.specs.Meaning.{AreDataSets, Outputs, Statement, kept_output, known_in, meaning, node_value, stated}
-use Rattle.rules_to_sql.specs.Points.{with_points}
-use Rattle.rules_to_sql.specs.Trees.{structure_of}
+use Rattle.check_shapes.specs.Columns.{identifiers_of}
+use Rattle.vtl_meaning.specs.Made.{AreMadeStatements}
+use Rattle.vtl_meaning.specs.Meaning.{AreDataSets, Outputs, Statement, kept_output, known_in, meaning, node_value, stated}
+use Rattle.vtl_meaning.specs.Points.{with_points}
+use Rattle.vtl_nodes.specs.Trees.{structure_of}
 use Rattle.sql_tree.specs.Trees.{StatementTree}
-use Rattle.rules_to_sql.specs.TypingStatements.{scale_of, scale_written, settings_of}
-use Rattle.rules_to_sql.specs.Scripts.{Data, Export, Inputs, NamedFault, base_of, export_of, fault_name, input_table, no_table, or_named, script_value, sort_key, statements_made}
-use Rattle.rules_to_sql.specs.Scripts as sql
-use Rattle.rules_to_sql.specs.Selects.{query_value}
+use Rattle.sql_check_parts.specs.Statements.{scale_of, scale_written, settings_of}
+use Rattle.sql_meaning.specs.Scripts.{Data, Export, Inputs, NamedFault, base_of, export_of, fault_name, input_table, no_table, or_named, script_value, sort_key, statements_made}
+use Rattle.sql_meaning.specs.Scripts as sql
+use Rattle.sql_meaning.specs.Selects.{query_value}
 use Rattle.rules_to_sql.proofs.WrittenConstants.{integer_there}
 use Rattle.vtl_to_sql.specs.Conditions.{IsTranslated}
 use Rattle.vtl_to_sql.specs.Exports.{exported, exported_as, tables_read}

@@ -18,7 +18,7 @@ use Rattle.vtl_cell.specs.Kinds.{kind_of}
 use Rattle.vtl_cell.specs.Profile.{IsOfProfile}
 use Rattle.vtl_cell.specs.Row.{Row, column_of}
 use Rattle.vtl_cell.specs.ScalarKinds.{meets}
-use Rattle.vtl_cell.specs.Settings.{Settings}
+use Rattle.vtl_decimal.specs.Settings.{Settings}
 use Rattle.vtl_cell.specs.Sorted.{in_order, rising, row_rank}
 use Rattle.vtl_cell.specs.declared.cell.Cell.{Cell}
 use Rattle.vtl_cell.specs.declared.cell.Cell.TheVariants as c
@@ -26,38 +26,38 @@ use Rattle.vtl_cell.specs.declared.kind.Kind.{Kind}
 use Rattle.vtl_cell.specs.declared.kind.Kind.TheVariants as k
 use Rattle.vtl_cell.specs.declared.operator.AggKind.TheVariants as agg
 use Rattle.vtl_decimal.specs.declared.number.Fault.TheVariants.{Range}
-use Rattle.vtl_cell.proofs.Sorts.{AllByRecursion-filter}
+use Rattle.vtl_lists.proofs.Sorts.{AllByRecursion-filter}
 use Rattle.vtl_cell.specs.AggregateKinds.{number_of, sum_kind}
 use Rattle.vtl_cell.specs.Literals.{integer_written, longest_reach}
 use Rattle.vtl_tree.specs.DataSet.{IsDataSet, is_point}
 use Rattle.vtl_tree.specs.Structure.{columns_of}
 use Rattle.vtl_tree.specs.declared.structure.Component.{Component}
 use Rattle.vtl_tree.specs.declared.structure.Structure.{Structure}
-use Rattle.rules_to_sql.specs.AnalyticShapes.{default_in, takes}
-use Rattle.rules_to_sql.specs.CheckedWindows.{argument, bound_fits, call_fits, call_kind, default_fits, frame_fits, frame_misplaced, is_row_count, order_misplaced, shift_kind}
-use Rattle.rules_to_sql.specs.Columns.{identifiers_of, kind_named, others_of, place_of, places_in}
-use Rattle.rules_to_sql.specs.Fits.{IsSeen, IsWindowTyped}
-use Rattle.rules_to_sql.specs.Groups.{places_named}
-use Rattle.rules_to_sql.specs.Made.{IsColumnAt, IsNamedColumn, IsWindowOver, is_ordered, is_suited, is_unframed}
+use Rattle.vtl_windows.specs.Shapes.{default_in, takes}
+use Rattle.sql_check_parts.specs.Windows.{argument, bound_fits, call_fits, call_kind, default_fits, frame_fits, frame_misplaced, is_row_count, order_misplaced, shift_kind}
+use Rattle.check_shapes.specs.Columns.{identifiers_of, kind_named, others_of, place_of, places_in}
+use Rattle.sql_check_laws.specs.Fits.{IsSeen, IsWindowTyped}
+use Rattle.vtl_aggregates.specs.Groups.{places_named}
+use Rattle.vtl_meaning.specs.Made.{IsColumnAt, IsNamedColumn, IsWindowOver, is_ordered, is_suited, is_unframed}
 use Rattle.rules_to_sql.specs.Names.{Names}
-use Rattle.rules_to_sql.specs.PointWindows as points
-use Rattle.rules_to_sql.specs.PointWindows.{default_frame, frame_in, key_in, keys_in, op_value, stand_of}
-use Rattle.rules_to_sql.specs.Points.{with_points}
-use Rattle.rules_to_sql.specs.Reaches.{is_near, is_near_bound, is_near_frame, is_near_operator}
-use Rattle.rules_to_sql.specs.Scopes.{Scope, found, is_empty, or_null}
-use Rattle.rules_to_sql.specs.Scripts.{Data, base_of}
+use Rattle.vtl_windows.specs.Windows as points
+use Rattle.vtl_windows.specs.Windows.{default_frame, frame_in, key_in, keys_in, op_value, stand_of}
+use Rattle.vtl_meaning.specs.Points.{with_points}
+use Rattle.vtl_meaning.specs.Reaches.{is_near, is_near_bound, is_near_frame, is_near_operator}
+use Rattle.sql_check_parts.specs.Scopes.{Scope, found, is_empty, or_null}
+use Rattle.sql_meaning.specs.Scripts.{Data, base_of}
 use Rattle.rules_to_sql.specs.ToSql.{group_columns}
-use Rattle.rules_to_sql.specs.Values.{View, at_rows, place_in}
-use Rattle.rules_to_sql.specs.Windows as sql
-use Rattle.rules_to_sql.specs.Windows.{call_value, cells_of, count_of, default_cell, framed, is_falling, key_of, keys_of, partition_of, place_within, stand_in, window_value}
-use Rattle.rules_to_sql.specs.calls.AnalyticOp.{AnalyticOp}
-use Rattle.rules_to_sql.specs.calls.AnalyticOp.TheVariants as op
-use Rattle.rules_to_sql.specs.calls.Bound as bounds
-use Rattle.rules_to_sql.specs.calls.Bound.TheVariants as point
-use Rattle.rules_to_sql.specs.calls.Frame as frames
-use Rattle.rules_to_sql.specs.calls.OrderKey.{OrderKey}
-use Rattle.rules_to_sql.specs.calls.Window as windows
-use Rattle.rules_to_sql.specs.LawsKinds.{given_kind}
+use Rattle.sql_meaning.specs.Values.{View, at_rows, place_in}
+use Rattle.sql_meaning.specs.Windows as sql
+use Rattle.sql_meaning.specs.Windows.{call_value, cells_of, count_of, default_cell, framed, is_falling, key_of, keys_of, partition_of, place_within, stand_in, window_value}
+use Rattle.vtl_nodes.specs.declared.calls.AnalyticOp.{AnalyticOp}
+use Rattle.vtl_nodes.specs.declared.calls.AnalyticOp.TheVariants as op
+use Rattle.vtl_nodes.specs.declared.calls.Bound as bounds
+use Rattle.vtl_nodes.specs.declared.calls.Bound.TheVariants as point
+use Rattle.vtl_nodes.specs.declared.calls.Frame as frames
+use Rattle.vtl_nodes.specs.declared.calls.OrderKey.{OrderKey}
+use Rattle.vtl_nodes.specs.declared.calls.Window as windows
+use Rattle.check_values.specs.Kinds.{given_kind}
 use Rattle.sql_lexer.specs.Spelling.{IsDigits}
 use Rattle.sql_tree.specs.Formed.{IsBound, IsCall, IsColumn, IsDefault, IsMaybeFrame, IsWindow, IsWindowKey}
 use Rattle.sql_tree.specs.Trees.{Text}
@@ -65,8 +65,8 @@ use Rattle.sql_tree.specs.declared.parts.Column.{Column}
 use Rattle.sql_tree.specs.declared.windows.Window.{Window}
 use Rattle.sql_tree.specs.declared.windows.WindowKey.{WindowKey}
 use Rattle.rules_to_sql.proofs.FormedConstants.{literal_formed}
-use Rattle.rules_to_sql.proofs.OwnColumns.{columns_apart, own_columns}
-use Rattle.rules_to_sql.proofs.Places.{all_append, all_front, all_more, columns_split}
+use Rattle.vtl_meaning.proofs.OwnColumns.{columns_apart, own_columns}
+use Rattle.vtl_meaning.proofs.Places.{all_append, all_front, all_more, columns_split}
 use Rattle.rules_to_sql.proofs.WrittenConstants.{integer_there, literal_is, member_kind}
 use Rattle.vtl_to_sql.specs.Conditions.{HaveNames}
 use Rattle.vtl_to_sql.specs.Queries.{first_alias, of_one}

@@ -8,32 +8,32 @@ use Rattle.std.specs.declared.cmp.Ordering.{Ordering}
 use Rattle.std.specs.declared.cmp.Ordering.TheVariants.{Less, Equal, Greater}
 use Rattle.std.proofs.lemmas.Cmp.{then_total}
 use Rattle.std.proofs.lemmas.List.Sums.{length-filter}
-use Rattle.vtl_cell.specs.Apart.{all_apart}
+use Rattle.vtl_lists.specs.Apart.{all_apart}
 use Rattle.vtl_cell.specs.Order.{cell_cmp}
 use Rattle.vtl_cell.specs.Row.{Row, column_of, row_cmp, same_row}
 use Rattle.vtl_cell.specs.Sorted.{Key, by_keys, in_order, key_cmp, rising, window_cmp}
-use Rattle.vtl_cell.specs.Sorting.{Rises, le_by}
+use Rattle.vtl_lists.specs.Sorting.{Rises, le_by}
 use Rattle.vtl_cell.specs.declared.cell.Cell.{Cell}
-use Rattle.vtl_cell.proofs.Aparts.{apart_parts}
+use Rattle.vtl_lists.proofs.Aparts.{apart_parts}
 use Rattle.vtl_cell.proofs.Keys.{by_keys_total, window_order}
 use Rattle.vtl_cell.proofs.Orders.{cell_cmp_total}
-use Rattle.vtl_cell.proofs.Perms.{AllByRecursion-Perm, Perm-sym}
+use Rattle.vtl_lists.proofs.Perms.{AllByRecursion-Perm, Perm-sym}
 use Rattle.vtl_cell.proofs.Rows.{row_cmp-ties, row_cmp_total, same_row-is, same_row-refl, same_row-sym}
-use Rattle.vtl_cell.proofs.Sorts.{AllByRecursion-filter, Perm-sorted_by, Rises-sorted_by, sorted_is}
+use Rattle.vtl_lists.proofs.Sorts.{AllByRecursion-filter, Perm-sorted_by, Rises-sorted_by, sorted_is}
 use Rattle.vtl_rows.specs.Tables.{cells_at}
 use Rattle.vtl_tree.specs.DataSet.{is_point}
 use Rattle.vtl_tree.specs.Structure.{IsStructure, columns_of, key_width, same_name}
 use Rattle.vtl_tree.specs.declared.structure.Component.{Component}
 use Rattle.vtl_tree.specs.declared.structure.Structure.{Structure}
 use Rattle.check_shapes.specs.Names.{is_among}
-use Rattle.rules_to_sql.specs.Columns.{identifiers_of, place_of, places_in}
-use Rattle.rules_to_sql.specs.Groups.{places_named}
-use Rattle.rules_to_sql.specs.PointWindows.{identifier_places, key_in, keys_in, point_cmp}
-use Rattle.rules_to_sql.specs.calls.OrderKey.{OrderKey}
-use Rattle.rules_to_sql.specs.calls.Window.{Window}
-use Rattle.rules_to_sql.specs.Windows.{place_within, told_apart}
-use Rattle.rules_to_sql.proofs.Lists as lists
-use Rattle.rules_to_sql.proofs.Places.{all_filtered, key_cells, key_within, same_name-is}
+use Rattle.check_shapes.specs.Columns.{identifiers_of, place_of, places_in}
+use Rattle.vtl_aggregates.specs.Groups.{places_named}
+use Rattle.vtl_windows.specs.Windows.{identifier_places, key_in, keys_in, point_cmp}
+use Rattle.vtl_nodes.specs.declared.calls.OrderKey.{OrderKey}
+use Rattle.vtl_nodes.specs.declared.calls.Window.{Window}
+use Rattle.sql_meaning.specs.Windows.{place_within, told_apart}
+use Rattle.check_laws.proofs.Lists as lists
+use Rattle.vtl_meaning.proofs.Places.{all_filtered, key_cells, key_within, same_name-is}
 use Rattle.vtl_to_sql.specs.Windowed.{is_listed, key_names}
 
 -- ---- comparisons

@@ -3,17 +3,17 @@ use Rattle.std.proofs.Common.{◌≡◌, ℕ, Bool, true, false, cond, List, [],
 use Rattle.std.specs.Prelude.{IfOk, is_some, option_and_then, option_map}
 use Rattle.std.specs.List.{AllByRecursion}
 use Rattle.std.specs.Option.{option_map_or}
-use Rattle.vtl_cell.specs.Apart.{all_apart}
+use Rattle.vtl_lists.specs.Apart.{all_apart}
 use Rattle.vtl_cell.specs.Conversion.{as_kind}
 use Rattle.vtl_cell.specs.Kinds.{is_of}
 use Rattle.vtl_cell.specs.Outcome.{Outcome, after}
 use Rattle.vtl_cell.specs.Profile.{IsOfProfile}
 use Rattle.vtl_cell.specs.Row.{Row, column_of, same_key, same_row}
-use Rattle.vtl_cell.specs.Settings.{Settings}
+use Rattle.vtl_decimal.specs.Settings.{Settings}
 use Rattle.vtl_cell.specs.declared.cell.Cell.{Cell}
 use Rattle.vtl_cell.specs.declared.kind.Kind.{Kind}
 use Rattle.vtl_cell.specs.declared.kind.Kind.TheVariants as k
-use Rattle.vtl_cell.proofs.Aparts.{apart_more, apart_parts}
+use Rattle.vtl_lists.proofs.Aparts.{apart_more, apart_parts}
 use Rattle.vtl_cell.proofs.Rows.{same_row-is, same_row-refl}
 use Rattle.vtl_tree.specs.CompExp.{CompExp}
 use Rattle.vtl_tree.specs.DataSet.{IsDataSet, is_point}
@@ -24,33 +24,33 @@ use Rattle.vtl_tree.specs.declared.structure.Component.{Component}
 use Rattle.vtl_tree.specs.declared.structure.Structure.{Structure}
 use Rattle.check_shapes.specs.Measures.{is_measure}
 use Rattle.check_shapes.specs.Names.{component_of}
-use Rattle.rules_to_sql.specs.AnalyticPoints.{analytic_of, item_named, made_of, measure_call, tree_value, value_for}
-use Rattle.rules_to_sql.specs.AnalyticShapes.{IsMadeColumn, IsMadeOrStays, analyzed_components, default_in, given_of, taken, takes, tree_kind}
-use Rattle.rules_to_sql.specs.Columns.{identifiers_of, others_of, place_of}
-use Rattle.rules_to_sql.specs.Expressions.{site}
-use Rattle.rules_to_sql.specs.LawsKinds.{exp_kind, given_kind}
-use Rattle.rules_to_sql.specs.Made.{AreValuesOver, IsTyped, IsValueOver, IsWindowOver, IsWindowed}
+use Rattle.vtl_windows.specs.Analytics.{analytic_of, item_named, made_of, measure_call, tree_value, value_for}
+use Rattle.vtl_windows.specs.Shapes.{IsMadeColumn, IsMadeOrStays, analyzed_components, default_in, given_of, taken, takes, tree_kind}
+use Rattle.check_shapes.specs.Columns.{identifiers_of, others_of, place_of}
+use Rattle.sql_check_parts.specs.Expressions.{site}
+use Rattle.check_values.specs.Kinds.{exp_kind, given_kind}
+use Rattle.vtl_meaning.specs.Made.{AreValuesOver, IsTyped, IsValueOver, IsWindowOver, IsWindowed}
 use Rattle.rules_to_sql.specs.Names.{Names}
-use Rattle.rules_to_sql.specs.PointWindows.{keys_in}
-use Rattle.rules_to_sql.specs.PointWindows as points
-use Rattle.rules_to_sql.specs.Points.{with_points}
-use Rattle.rules_to_sql.specs.Reaches.{AreNear, IsNear, IsNearValue, is_near_operator}
-use Rattle.rules_to_sql.specs.Scopes.{Scope, or_null}
-use Rattle.rules_to_sql.specs.Scripts.{Data, base_of}
-use Rattle.rules_to_sql.specs.Tables.{Base}
+use Rattle.vtl_windows.specs.Windows.{keys_in}
+use Rattle.vtl_windows.specs.Windows as points
+use Rattle.vtl_meaning.specs.Points.{with_points}
+use Rattle.vtl_meaning.specs.Reaches.{AreNear, IsNear, IsNearValue, is_near_operator}
+use Rattle.sql_check_parts.specs.Scopes.{Scope, or_null}
+use Rattle.sql_meaning.specs.Scripts.{Data, base_of}
+use Rattle.sql_meaning.specs.Tables.{Base}
 use Rattle.rules_to_sql.specs.ToSql.{to_sql}
-use Rattle.rules_to_sql.specs.Trees as nodes
-use Rattle.rules_to_sql.specs.Trees.{AnalyticTree, ItemTree, ValueTree}
-use Rattle.rules_to_sql.specs.Values.{at_rows}
-use Rattle.rules_to_sql.specs.Windows.{keys_of, told_apart}
-use Rattle.rules_to_sql.specs.calls.AnalyticCall.{AnalyticCall}
-use Rattle.rules_to_sql.specs.calls.AnalyticOp.{AnalyticOp}
-use Rattle.rules_to_sql.specs.calls.AnalyticOp.TheVariants as op
-use Rattle.rules_to_sql.proofs.Columns.{at-place, in-columns, of-columns}
-use Rattle.rules_to_sql.proofs.Lists as lists
-use Rattle.rules_to_sql.proofs.OwnColumns.{columns_apart}
-use Rattle.rules_to_sql.proofs.Places.{all_append, all_front, all_more, columns_split, each}
-use Rattle.rules_to_sql.proofs.ValueKinds.{cell_is_of, value_is_of}
+use Rattle.vtl_nodes.specs.Trees as nodes
+use Rattle.vtl_nodes.specs.Trees.{AnalyticTree, ItemTree, ValueTree}
+use Rattle.sql_meaning.specs.Values.{at_rows}
+use Rattle.sql_meaning.specs.Windows.{keys_of, told_apart}
+use Rattle.vtl_nodes.specs.declared.calls.AnalyticCall.{AnalyticCall}
+use Rattle.vtl_nodes.specs.declared.calls.AnalyticOp.{AnalyticOp}
+use Rattle.vtl_nodes.specs.declared.calls.AnalyticOp.TheVariants as op
+use Rattle.check_laws.proofs.Columns.{at-place, in-columns, of-columns}
+use Rattle.check_laws.proofs.Lists as lists
+use Rattle.vtl_meaning.proofs.OwnColumns.{columns_apart}
+use Rattle.vtl_meaning.proofs.Places.{all_append, all_front, all_more, columns_split, each}
+use Rattle.vtl_meaning.proofs.ValueKinds.{cell_is_of, value_is_of}
 use Rattle.sql_tree.specs.Formed.{IsName}
 use Rattle.sql_tree.specs.Trees.{ItemTree as Item, Text, column, expression}
 use Rattle.vtl_to_sql.specs.Conditions.{CallsCanBeWritten, CanBeWritten, HaveNames, ValueCanBeWritten}

@@ -4,16 +4,16 @@ use Rattle.std.specs.Prelude.{◌+◌, ◌<◌, ◌^◌, Bool, true, false, ◌&
 use Rattle.std.specs.List.{AllByRecursion, list_all}
 use Rattle.std.specs.Option.{IfSome}
 use Rattle.vtl_cell.specs.Held.{IsHeld}
-use Rattle.vtl_cell.specs.Settings.{Settings}
+use Rattle.vtl_decimal.specs.Settings.{Settings}
 use Rattle.vtl_tree.specs.CompExp.{CompExp}
 use Rattle.vtl_tree.specs.declared.structure.Structure.{Structure}
-use Rattle.rules_to_sql.specs.Made.{operands_in}
-use Rattle.rules_to_sql.specs.Meaning.{Statement}
-use Rattle.rules_to_sql.specs.Operators.{calculated_exps, measured_exps, pair_exps}
-use Rattle.rules_to_sql.specs.Trees as nodes
-use Rattle.rules_to_sql.specs.Trees.{AnalyticTree, FormTree, NodeTree, NodeTrees, OperandTrees, ValueTree, structure_of}
-use Rattle.rules_to_sql.specs.calls.AnalyticOp.{AnalyticOp}
-use Rattle.rules_to_sql.specs.AnalyticShapes.{default_in}
+use Rattle.vtl_meaning.specs.Made.{operands_in}
+use Rattle.vtl_meaning.specs.Meaning.{Statement}
+use Rattle.vtl_meaning.specs.Operators.{calculated_exps, measured_exps, pair_exps}
+use Rattle.vtl_nodes.specs.Trees as nodes
+use Rattle.vtl_nodes.specs.Trees.{AnalyticTree, FormTree, NodeTree, NodeTrees, OperandTrees, ValueTree, structure_of}
+use Rattle.vtl_nodes.specs.declared.calls.AnalyticOp.{AnalyticOp}
+use Rattle.vtl_windows.specs.Shapes.{default_in}
 use Rattle.rules_to_sql.specs.Held.{HoldsValues}
 use Rattle.vtl_to_sql.specs.Conditions.{HasFewTables}
 

@@ -1,6 +1,6 @@
 -- The query of each set operator on two operands, and on operands one after the other.
 use Rattle.std.specs.Prelude.{ℕ, List, [], ◌∷◌}
-use Rattle.vtl_cell.specs.Settings.{Settings}
+use Rattle.vtl_decimal.specs.Settings.{Settings}
 use Rattle.vtl_tree.specs.declared.structure.Structure.{Structure}
 use Rattle.vtl_nodes.specs.Trees.{NodeTree, nodes_of, structure_of}
 use Rattle.sql_tree.specs.Trees.{QueryTree, Text}

@@ -6,24 +6,24 @@ use Rattle.std.specs.Option.{IfSome}
 use Rattle.vtl_cell.specs.Held.{IsHeld}
 use Rattle.vtl_cell.specs.Kinds.{is_null}
 use Rattle.vtl_cell.specs.Profile.{IsOfProfile}
-use Rattle.vtl_cell.specs.Settings.{Settings}
-use Rattle.vtl_cell.specs.Words.{is_word}
+use Rattle.vtl_decimal.specs.Settings.{Settings}
+use Rattle.vtl_text.specs.Words.{is_word}
 use Rattle.vtl_cell.specs.declared.kind.Kind.TheVariants as k
 use Rattle.vtl_tree.specs.CompExp.{CompExp}
 use Rattle.vtl_tree.specs.Structure.{columns_of, most_components}
 use Rattle.vtl_tree.specs.Structures.{AreStructures, Named, has_name}
 use Rattle.vtl_tree.specs.declared.structure.Component.{Component}
 use Rattle.vtl_tree.specs.declared.structure.Structure.{Structure}
-use Rattle.rules_to_sql.specs.AnalyticShapes.{default_in}
-use Rattle.rules_to_sql.specs.Columns.{identifiers_of, kind_named}
-use Rattle.rules_to_sql.specs.Made.{IsMade, operands_in}
-use Rattle.rules_to_sql.specs.Meaning.{Statement}
-use Rattle.rules_to_sql.specs.Operators.{calculated_exps, measured_exps, pair_exps}
-use Rattle.rules_to_sql.specs.Trees as nodes
-use Rattle.rules_to_sql.specs.Trees.{AnalyticTree, FormTree, NodeTree, NodeTrees, OperandTrees, ValueTree, structure_of}
-use Rattle.rules_to_sql.specs.clauses.SubItem.{SubItem}
+use Rattle.vtl_windows.specs.Shapes.{default_in}
+use Rattle.check_shapes.specs.Columns.{identifiers_of, kind_named}
+use Rattle.vtl_meaning.specs.Made.{IsMade, operands_in}
+use Rattle.vtl_meaning.specs.Meaning.{Statement}
+use Rattle.vtl_meaning.specs.Operators.{calculated_exps, measured_exps, pair_exps}
+use Rattle.vtl_nodes.specs.Trees as nodes
+use Rattle.vtl_nodes.specs.Trees.{AnalyticTree, FormTree, NodeTree, NodeTrees, OperandTrees, ValueTree, structure_of}
+use Rattle.vtl_nodes.specs.declared.clauses.SubItem.{SubItem}
 use Rattle.sql_tree.specs.Formed.{IsName}
-use Rattle.rules_to_sql.specs.Depths.{comp_depth}
+use Rattle.check_laws.specs.Depths.{comp_depth}
 use Rattle.rules_to_sql.specs.Held.{HoldsValues}
 use Rattle.vtl_to_sql.specs.Tables.{first_number, made_of}
 

@@ -1,11 +1,11 @@
 -- What a script in SQL reads and gives where it means a script of VTL.
 use Rattle.std.specs.Prelude.{ℕ, List, map, Result, Ok, Err}
 use Rattle.std.specs.List.{AllByRecursion}
-use Rattle.vtl_cell.specs.Perm.{Perm}
+use Rattle.vtl_lists.specs.Perm.{Perm}
 use Rattle.vtl_tree.specs.Environment.{DataSet, Environment}
 use Rattle.vtl_tree.specs.Structures.{Named}
-use Rattle.rules_to_sql.specs.Meaning.{Outputs}
-use Rattle.rules_to_sql.specs.Scripts.{Data, Export, Inputs, NamedFault, export_of, input_table, rows_read}
+use Rattle.vtl_meaning.specs.Meaning.{Outputs}
+use Rattle.sql_meaning.specs.Scripts.{Data, Export, Inputs, NamedFault, export_of, input_table, rows_read}
 use Rattle.vtl_to_sql.specs.Runs.{held}
 use Rattle.vtl_to_sql.specs.Scripts.{input_of, ordered}
 

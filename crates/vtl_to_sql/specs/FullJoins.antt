@@ -1,6 +1,6 @@
 -- The queries of a full join: the identifiers of all operands, each tuple of them once, and a left join of each operand with them.
 use Rattle.std.specs.Prelude.{true, List, [], ◌∷◌, codes, None}
-use Rattle.vtl_cell.specs.Settings.{Settings}
+use Rattle.vtl_decimal.specs.Settings.{Settings}
 use Rattle.vtl_cell.specs.declared.cell.Cell.TheVariants as c
 use Rattle.vtl_cell.specs.declared.kind.Kind.TheVariants as k
 use Rattle.vtl_tree.specs.CompExp.{CompExp, const}
@@ -8,8 +8,8 @@ use Rattle.vtl_tree.specs.Structure.{columns_of, names_of}
 use Rattle.vtl_tree.specs.declared.structure.Component.{Component}
 use Rattle.vtl_tree.specs.declared.structure.Role.TheVariants as role
 use Rattle.vtl_tree.specs.declared.structure.Structure.{Structure}
-use Rattle.rules_to_sql.specs.Agreement.{common_identifiers}
-use Rattle.rules_to_sql.specs.Columns.{columns_named, identifiers_of}
+use Rattle.vtl_meaning.specs.Agreement.{common_identifiers}
+use Rattle.check_shapes.specs.Columns.{columns_named, identifiers_of}
 use Rattle.sql_tree.specs.Trees.{QueryTree, SelectTree, Text}
 use Rattle.sql_tree.specs.declared.word_groups.JoinKind.TheVariants as joining
 use Rattle.rules_to_sql.specs.ToSql.{group_columns}

@@ -1,8 +1,8 @@
 -- The data sets that are read for a script: what an INPUT asks of its rows, in words of structures.
 use Rattle.vtl_to_sql.specs.Scripts.{input_of}
-use Rattle.rules_to_sql.specs.Scripts.{Inputs, rows_read}
-use Rattle.rules_to_sql.specs.Inputs.{IsInputData}
-use Rattle.rules_to_sql.specs.Points.{with_points}
+use Rattle.sql_meaning.specs.Scripts.{Inputs, rows_read}
+use Rattle.sql_meaning.specs.Inputs.{IsInputData}
+use Rattle.vtl_meaning.specs.Points.{with_points}
 use Rattle.vtl_tree.specs.Structures.{Named}
 use Rattle.vtl_tree.specs.Environment.{Environment}
 use Rattle.std.specs.Prelude.{◌≡◌, Bool, true, ◌&&◌, List, [], ◌∷◌, map}

@@ -1,12 +1,12 @@
 -- Items of selects and conditions, as they are written.
 use Rattle.std.specs.Prelude.{List, [], ◌∷◌, fold, Option}
 use Rattle.std.specs.Option.{option_map_or}
-use Rattle.vtl_cell.specs.Settings.{Settings}
+use Rattle.vtl_decimal.specs.Settings.{Settings}
 use Rattle.vtl_cell.specs.declared.operator.ScalarOp.TheVariants as op
 use Rattle.vtl_tree.specs.declared.structure.Component.{Component}
-use Rattle.rules_to_sql.specs.Operators.{target_named, value_exp, with_measure}
-use Rattle.rules_to_sql.specs.Trees.{ItemTree as Target, MeasureTree}
-use Rattle.rules_to_sql.specs.clauses.SubItem.{SubItem}
+use Rattle.vtl_meaning.specs.Operators.{target_named, value_exp, with_measure}
+use Rattle.vtl_nodes.specs.Trees.{ItemTree as Target, MeasureTree}
+use Rattle.vtl_nodes.specs.declared.clauses.SubItem.{SubItem}
 use Rattle.vtl_tree.specs.CompExp.{CompExp, const}
 use Rattle.sql_tree.specs.Trees as tree
 use Rattle.sql_tree.specs.Trees.{Exp, ItemTree, QueryTree, SelectTree, Text}

@@ -5,9 +5,9 @@ use Rattle.vtl_cell.specs.declared.operator.ScalarOp.TheVariants as op
 use Rattle.vtl_tree.specs.Structure.{columns_of}
 use Rattle.vtl_tree.specs.declared.structure.Component.{Component}
 use Rattle.vtl_tree.specs.declared.structure.Structure.{Structure}
-use Rattle.rules_to_sql.specs.Agreement.{common_identifiers}
-use Rattle.rules_to_sql.specs.Columns.{identifiers_of, measures_of}
-use Rattle.rules_to_sql.specs.Made.{attributes_of}
+use Rattle.vtl_meaning.specs.Agreement.{common_identifiers}
+use Rattle.check_shapes.specs.Columns.{identifiers_of, measures_of}
+use Rattle.vtl_meaning.specs.Made.{attributes_of}
 use Rattle.sql_tree.specs.Trees as tree
 use Rattle.sql_tree.specs.Trees.{Exp, JoinTree, QueryTree, Text}
 use Rattle.sql_tree.specs.declared.word_groups.JoinKind.{JoinKind}

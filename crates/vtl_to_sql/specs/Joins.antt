@@ -2,17 +2,17 @@
 use Rattle.std.specs.Prelude.{ℕ, zero, suc, ◌+◌, ◌-◌, nat_lt, List, [], ◌∷◌, ◌++◌, map, length, slice_get, Option, Some, None, if◌then◌else◌}
 use Rattle.std.specs.Fmt.{decimal}
 use Rattle.std.specs.List.{flat_map}
-use Rattle.vtl_cell.specs.Settings.{Settings}
+use Rattle.vtl_decimal.specs.Settings.{Settings}
 use Rattle.vtl_tree.specs.CompExp.{CompExp}
 use Rattle.vtl_tree.specs.Structure.{columns_of}
 use Rattle.vtl_tree.specs.declared.structure.Component.{Component}
 use Rattle.vtl_tree.specs.declared.structure.Structure.{Structure}
-use Rattle.rules_to_sql.specs.Agreement.{common_identifiers}
-use Rattle.rules_to_sql.specs.Columns.{column_behind, column_named, identifiers_of, measures_of}
-use Rattle.rules_to_sql.specs.Made.{attributes_of}
+use Rattle.vtl_meaning.specs.Agreement.{common_identifiers}
+use Rattle.check_shapes.specs.Columns.{column_behind, column_named, identifiers_of, measures_of}
+use Rattle.vtl_meaning.specs.Made.{attributes_of}
 use Rattle.sql_tree.specs.Trees.{JoinTree, QueryTree, SelectTree, Text, cross, on}
 use Rattle.sql_tree.specs.declared.word_groups.JoinKind.{JoinKind}
-use Rattle.rules_to_sql.specs.Scripts.{dollar}
+use Rattle.sql_meaning.specs.Scripts.{dollar}
 use Rattle.rules_to_sql.specs.ToSql.{Naming, column_of, to_sql}
 use Rattle.vtl_to_sql.specs.Queries.{conjunction, equal, first_alias, select_of, source_as}
 

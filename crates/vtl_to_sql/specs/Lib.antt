@@ -1,27 +1,3 @@
-pub use Rattle.check_shapes.specs.Columns
-pub use Rattle.check_shapes.specs.Pairs
-pub use Rattle.rules_to_sql.specs.BackendInputs
-pub use Rattle.rules_to_sql.specs.BackendStatements
-pub use Rattle.rules_to_sql.specs.BackendTables
-pub use Rattle.rules_to_sql.specs.Checked
-pub use Rattle.rules_to_sql.specs.Count
-pub use Rattle.rules_to_sql.specs.Gives
-pub use Rattle.rules_to_sql.specs.Joined
-pub use Rattle.rules_to_sql.specs.Made
-pub use Rattle.rules_to_sql.specs.Meaning
-pub use Rattle.rules_to_sql.specs.Operators
-pub use Rattle.rules_to_sql.specs.Places
-pub use Rattle.rules_to_sql.specs.Profiles
-pub use Rattle.rules_to_sql.specs.Runs as RulesToSqlRuns
-pub use Rattle.rules_to_sql.specs.Script
-pub use Rattle.rules_to_sql.specs.Shapes
-pub use Rattle.rules_to_sql.specs.TableOf
-pub use Rattle.rules_to_sql.specs.Transformations
-pub use Rattle.rules_to_sql.specs.Typed
-pub use Rattle.rules_to_sql.specs.Typing
-pub use Rattle.rules_to_sql.specs.WellTyped
-pub use Rattle.rules_to_sql.specs.error
-pub use Rattle.rules_to_sql.specs.places
 pub mod Queries
 pub mod Joins
 pub mod Turned

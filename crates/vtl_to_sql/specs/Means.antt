@@ -4,22 +4,22 @@ use Rattle.std.specs.List.{AllByRecursion}
 use Rattle.std.specs.Map.{lookup}
 use Rattle.vtl_cell.specs.Outcome.{Outcome}
 use Rattle.vtl_cell.specs.Outcomes.{Same}
-use Rattle.vtl_cell.specs.Perm.{Perm}
+use Rattle.vtl_lists.specs.Perm.{Perm}
 use Rattle.vtl_cell.specs.Row.{Row}
-use Rattle.vtl_cell.specs.Settings.{Settings}
-use Rattle.vtl_cell.specs.Texts.{same_text}
-use Rattle.vtl_cell.specs.Words.{is_word}
+use Rattle.vtl_decimal.specs.Settings.{Settings}
+use Rattle.vtl_text.specs.Texts.{same_text}
+use Rattle.vtl_text.specs.Words.{is_word}
 use Rattle.vtl_tree.specs.Environment.{DataSet, Environment}
 use Rattle.vtl_tree.specs.Structure.{columns_of, same_name}
 use Rattle.vtl_tree.specs.declared.structure.Structure.{Structure}
-use Rattle.rules_to_sql.specs.Meaning.{Outputs, Statement, known_in, points_named}
+use Rattle.vtl_meaning.specs.Meaning.{Outputs, Statement, known_in, points_named}
 use Rattle.sql_tree.specs.Formed.{IsName, IsQuery}
 use Rattle.sql_tree.specs.Trees.{QueryTree, Text}
-use Rattle.rules_to_sql.specs.Queries.{query_columns}
-use Rattle.rules_to_sql.specs.Scopes.{Tables}
-use Rattle.rules_to_sql.specs.TypedSelects.{IsQueryWhole}
-use Rattle.rules_to_sql.specs.Scripts.{Data, NamedFault, base_of, fault_name, tables_in}
-use Rattle.rules_to_sql.specs.Selects.{query_value}
+use Rattle.sql_check_parts.specs.Queries.{query_columns}
+use Rattle.sql_check_parts.specs.Scopes.{Tables}
+use Rattle.sql_check_laws.specs.Selects.{IsQueryWhole}
+use Rattle.sql_meaning.specs.Scripts.{Data, NamedFault, base_of, fault_name, tables_in}
+use Rattle.sql_meaning.specs.Selects.{query_value}
 use Rattle.vtl_to_sql.specs.Runs.{AreLawful, IsTable, entries, printable_depth, run}
 use Rattle.vtl_to_sql.specs.Tables.{Made, Sources, Table, first_number, made_of, numbered, table_of}
 

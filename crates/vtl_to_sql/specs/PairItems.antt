@@ -1,6 +1,6 @@
 -- Items of selects over two sources and their conditions, as they are written. The first source has the columns that stand first.
 use Rattle.std.specs.Prelude.{ℕ, Bool, true, false, List, [], ◌∷◌, length, map, ◌++◌, Option, None, Some, if◌then◌else◌}
-use Rattle.vtl_cell.specs.Settings.{Settings}
+use Rattle.vtl_decimal.specs.Settings.{Settings}
 use Rattle.vtl_cell.specs.declared.kind.Kind.TheVariants as k
 use Rattle.vtl_cell.specs.declared.operator.ScalarOp.{ScalarOp}
 use Rattle.vtl_cell.specs.declared.operator.ScalarOp.TheVariants as op
@@ -9,7 +9,7 @@ use Rattle.vtl_tree.specs.Structure.{columns_of}
 use Rattle.vtl_tree.specs.declared.structure.Component.{Component}
 use Rattle.vtl_tree.specs.declared.structure.Structure.{Structure}
 use Rattle.check_shapes.specs.Pairs.{contains}
-use Rattle.rules_to_sql.specs.Columns.{identifiers_of, measures_of, place_of}
+use Rattle.check_shapes.specs.Columns.{identifiers_of, measures_of, place_of}
 use Rattle.sql_tree.specs.Trees as tree
 use Rattle.sql_tree.specs.Trees.{Exp, ItemTree, JoinTree, SelectTree, Text}
 use Rattle.sql_tree.specs.declared.parts.Constant.TheVariants as constant

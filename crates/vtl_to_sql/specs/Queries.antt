@@ -1,6 +1,6 @@
 -- The query of each form of expression on data sets, over the tables of its operands.
 use Rattle.std.specs.Prelude.{ℕ, Bool, nat_lt, map, true, false, List, [], ◌∷◌, ◌++◌, length, codes, fold, Option, Some, None, if◌then◌else◌}
-use Rattle.vtl_cell.specs.Settings.{Settings}
+use Rattle.vtl_decimal.specs.Settings.{Settings}
 use Rattle.vtl_cell.specs.declared.cell.Cell.TheVariants as c
 use Rattle.vtl_cell.specs.declared.kind.Kind.TheVariants as k
 use Rattle.vtl_cell.specs.declared.operator.ScalarOp.{ScalarOp}
@@ -12,11 +12,11 @@ use Rattle.vtl_tree.specs.declared.structure.Structure.{Structure}
 use Rattle.check_shapes.specs.Pairs.{contains}
 use Rattle.vtl_syntax.specs.declared.word_groups.Retain.{Retain}
 use Rattle.vtl_syntax.specs.declared.word_groups.Retain.TheVariants as retain
-use Rattle.rules_to_sql.specs.Agreement.{common_identifiers}
-use Rattle.rules_to_sql.specs.Columns.{column_behind, column_named, columns_named, identifiers_of, measures_of}
-use Rattle.rules_to_sql.specs.Operators.{calculated_exps, measured_exps, pair_exps}
-use Rattle.rules_to_sql.specs.Trees.{ItemTree as Target, MeasureTree}
-use Rattle.rules_to_sql.specs.clauses.SubItem.{SubItem}
+use Rattle.vtl_meaning.specs.Agreement.{common_identifiers}
+use Rattle.check_shapes.specs.Columns.{column_behind, column_named, columns_named, identifiers_of, measures_of}
+use Rattle.vtl_meaning.specs.Operators.{calculated_exps, measured_exps, pair_exps}
+use Rattle.vtl_nodes.specs.Trees.{ItemTree as Target, MeasureTree}
+use Rattle.vtl_nodes.specs.declared.clauses.SubItem.{SubItem}
 use Rattle.sql_tree.specs.Trees as tree
 use Rattle.sql_tree.specs.Trees.{Text, Exp, ItemTree, JoinTree, QueryTree, SelectTree, exists, expression, on, unary}
 use Rattle.sql_tree.specs.declared.parts.Constant.TheVariants as constant

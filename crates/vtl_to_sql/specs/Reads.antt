@@ -4,10 +4,10 @@ use Rattle.std.specs.Map.{lookup}
 use Rattle.vtl_syntax.specs.declared.word_groups.AssignKind.{AssignKind}
 use Rattle.vtl_tree.specs.Structure.{same_name}
 use Rattle.vtl_tree.specs.declared.structure.Structure.{Structure}
-use Rattle.rules_to_sql.specs.Meaning.{Statement}
-use Rattle.rules_to_sql.specs.Trees.{NodeTree}
-use Rattle.rules_to_sql.specs.Checked.{TypedScript, known_of}
-use Rattle.rules_to_sql.specs.BackendStatements.{is_written}
+use Rattle.vtl_meaning.specs.Meaning.{Statement}
+use Rattle.vtl_nodes.specs.Trees.{NodeTree}
+use Rattle.vtl_check.specs.Checked.{TypedScript, known_of}
+use Rattle.vtl_backend.specs.Statements.{is_written}
 
 -- the name has a structure
 pub record IsRead (t : TypedScript) (name : List ℕ) : Type 0 where

@@ -1,20 +1,20 @@
 -- What tables hold that are made one after the other, and what typing and printing ask of them.
 use Rattle.std.specs.Prelude.{◌≡◌, ℕ, List, [], ◌∷◌, ◌++◌, map, Result, Ok, Some}
 use Rattle.std.specs.Map.{lookup}
-use Rattle.vtl_cell.specs.Results.{◌>>=◌}
+use Rattle.vtl_lists.specs.Results.{◌>>=◌}
 use Rattle.vtl_cell.specs.Row.{Row}
-use Rattle.vtl_cell.specs.Settings.{Settings}
-use Rattle.vtl_cell.specs.Texts.{same_text}
+use Rattle.vtl_decimal.specs.Settings.{Settings}
+use Rattle.vtl_text.specs.Texts.{same_text}
 use Rattle.vtl_tree.specs.Structure.{columns_of}
 use Rattle.vtl_tree.specs.declared.structure.Component.{Component}
 use Rattle.vtl_tree.specs.declared.structure.Structure.{Structure}
 use Rattle.sql_tree.specs.Formed.{IsStatement}
 use Rattle.sql_tree.specs.Trees.{Text}
-use Rattle.rules_to_sql.specs.Queries.{query_columns}
-use Rattle.rules_to_sql.specs.Scopes.{Columns, Tables}
-use Rattle.rules_to_sql.specs.Statements.{IsCreateTyped}
-use Rattle.rules_to_sql.specs.Scripts.{Data, NamedFault, Table as Held, base_of, created, or_named}
-use Rattle.rules_to_sql.specs.Selects.{query_value}
+use Rattle.sql_check_parts.specs.Queries.{query_columns}
+use Rattle.sql_check_parts.specs.Scopes.{Columns, Tables}
+use Rattle.sql_check_laws.specs.Statements.{IsCreateTyped}
+use Rattle.sql_meaning.specs.Scripts.{Data, NamedFault, Table as Held, base_of, created, or_named}
+use Rattle.sql_meaning.specs.Selects.{query_value}
 use Rattle.vtl_to_sql.specs.Scripts.{create_for}
 use Rattle.vtl_to_sql.specs.Tables.{Table}
 

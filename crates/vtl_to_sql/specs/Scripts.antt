@@ -1,14 +1,14 @@
 -- The script in SQL: SET, an INPUT for each data set that is read, the tables, and an EXPORT for each result that is written.
 use Rattle.std.specs.Prelude.{ℕ, List, [], ◌∷◌, ◌++◌, map, unwrap_or, if◌then◌else◌}
 use Rattle.std.specs.Fmt.{decimal}
-use Rattle.vtl_cell.specs.Settings.{Settings}
+use Rattle.vtl_decimal.specs.Settings.{Settings}
 use Rattle.vtl_tree.specs.Structure.{columns_of, names_of}
 use Rattle.vtl_tree.specs.Structures.{Named}
 use Rattle.vtl_tree.specs.declared.structure.Component.{Component}
 use Rattle.vtl_tree.specs.declared.structure.Structure.{Structure}
-use Rattle.rules_to_sql.specs.Columns.{identifiers_of}
-use Rattle.rules_to_sql.specs.Meaning.{Statement}
-use Rattle.rules_to_sql.specs.Trees.{structure_of}
+use Rattle.check_shapes.specs.Columns.{identifiers_of}
+use Rattle.vtl_meaning.specs.Meaning.{Statement}
+use Rattle.vtl_nodes.specs.Trees.{structure_of}
 use Rattle.sql_tree.specs.Trees.{ScriptTree, StatementTree, create, export, input, setting}
 use Rattle.sql_tree.specs.declared.statements.InputColumn.{InputColumn}
 use Rattle.sql_tree.specs.declared.statements.SqlExport.{SqlExport}

@@ -3,19 +3,19 @@
 use Rattle.std.specs.Prelude.{ℕ, ◌+◌, List, [], ◌∷◌, ◌++◌}
 use Rattle.std.specs.List.{flat_map}
 use Rattle.std.specs.Fmt.{decimal}
-use Rattle.vtl_cell.specs.Settings.{Settings}
+use Rattle.vtl_decimal.specs.Settings.{Settings}
 use Rattle.vtl_tree.specs.declared.structure.Structure.{Structure}
 use Rattle.vtl_syntax.specs.declared.word_groups.JoinKind.{JoinKind}
 use Rattle.vtl_syntax.specs.declared.word_groups.JoinKind.TheVariants as join
-use Rattle.rules_to_sql.specs.Joins as joins
-use Rattle.rules_to_sql.specs.Joined.{reference_place}
-use Rattle.rules_to_sql.specs.Made.{operands_in}
-use Rattle.rules_to_sql.specs.Meaning.{Statement}
-use Rattle.rules_to_sql.specs.Trees as nodes
-use Rattle.rules_to_sql.specs.Trees.{FormTree, NodeTree, NodeTrees, OperandTrees, structure_of}
+use Rattle.check_joins.specs.Joins as joins
+use Rattle.vtl_meaning.specs.Joined.{reference_place}
+use Rattle.vtl_meaning.specs.Made.{operands_in}
+use Rattle.vtl_meaning.specs.Meaning.{Statement}
+use Rattle.vtl_nodes.specs.Trees as nodes
+use Rattle.vtl_nodes.specs.Trees.{FormTree, NodeTree, NodeTrees, OperandTrees, structure_of}
 use Rattle.sql_tree.specs.Trees.{Text, QueryTree}
 use Rattle.sql_tree.specs.declared.word_groups.JoinKind.TheVariants as joining
-use Rattle.rules_to_sql.specs.Scripts.{dollar}
+use Rattle.sql_meaning.specs.Scripts.{dollar}
 use Rattle.vtl_to_sql.specs.FullJoins.{full_query, key_structure, keys_query, once_query}
 use Rattle.vtl_to_sql.specs.Grouped.{aggregate_query}
 use Rattle.vtl_to_sql.specs.Joins.{cross_query, reference_query}

@@ -1,13 +1,13 @@
 -- The queries of `unpivot` and `pivot`.
 use Rattle.std.specs.Prelude.{true, List, [], ◌∷◌, ◌++◌, map, Option, Some, None}
-use Rattle.vtl_cell.specs.Settings.{Settings}
+use Rattle.vtl_decimal.specs.Settings.{Settings}
 use Rattle.vtl_cell.specs.declared.operator.AggKind.TheVariants as agg
 use Rattle.vtl_cell.specs.declared.operator.ScalarOp.TheVariants as op
 use Rattle.vtl_tree.specs.Structure.{columns_of, names_of}
 use Rattle.vtl_tree.specs.declared.structure.Component.{Component}
 use Rattle.vtl_tree.specs.declared.structure.Structure.{Structure}
-use Rattle.rules_to_sql.specs.Columns.{columns_named, identifiers_of, measures_of}
-use Rattle.rules_to_sql.specs.Turned.{codes_of, other_identifiers}
+use Rattle.check_shapes.specs.Columns.{columns_named, identifiers_of, measures_of}
+use Rattle.vtl_meaning.specs.Turned.{codes_of, other_identifiers}
 use Rattle.sql_tree.specs.Trees.{Text, Exp, ItemTree, QueryTree, SelectTree, aggregate, binary, branch, case_when, column, constant, is_null, no_branches}
 use Rattle.sql_tree.specs.declared.parts.Column.{Column}
 use Rattle.sql_tree.specs.declared.parts.Constant.TheVariants as constants

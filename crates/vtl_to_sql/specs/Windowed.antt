@@ -2,7 +2,7 @@
 use Rattle.std.specs.Prelude.{ℕ, ◌==◌, Bool, true, false, not, ◌&&◌, ◌||◌, cond, List, [], ◌∷◌, ◌++◌, filter, length, map, Option, Some, None, is_some}
 use Rattle.std.specs.Fmt.{decimal}
 use Rattle.std.specs.Option.{option_map_or}
-use Rattle.vtl_cell.specs.Settings.{Settings}
+use Rattle.vtl_decimal.specs.Settings.{Settings}
 use Rattle.vtl_cell.specs.declared.cell.Cell.{Cell}
 use Rattle.vtl_cell.specs.declared.cell.Cell.TheVariants as c
 use Rattle.vtl_cell.specs.declared.operator.AggKind.TheVariants as agg
@@ -10,22 +10,22 @@ use Rattle.vtl_tree.specs.Structure.{columns_of}
 use Rattle.vtl_tree.specs.declared.structure.Component.{Component}
 use Rattle.vtl_tree.specs.declared.structure.Structure.{Structure}
 use Rattle.check_shapes.specs.Names.{is_among}
-use Rattle.rules_to_sql.specs.AnalyticPoints.{value_for}
-use Rattle.rules_to_sql.specs.Columns.{identifiers_of}
+use Rattle.vtl_windows.specs.Analytics.{value_for}
+use Rattle.check_shapes.specs.Columns.{identifiers_of}
 use Rattle.rules_to_sql.specs.Constants.{literal_to_sql}
-use Rattle.rules_to_sql.specs.Made.{is_ordered}
-use Rattle.rules_to_sql.specs.PointWindows.{frame_in}
+use Rattle.vtl_meaning.specs.Made.{is_ordered}
+use Rattle.vtl_windows.specs.Windows.{frame_in}
 use Rattle.rules_to_sql.specs.ToSql.{column_of, group_columns, to_sql}
-use Rattle.rules_to_sql.specs.Trees as nodes
-use Rattle.rules_to_sql.specs.Trees.{AnalyticTree, ValueTree}
-use Rattle.rules_to_sql.specs.calls.AnalyticCall.{AnalyticCall}
-use Rattle.rules_to_sql.specs.calls.AnalyticOp.{AnalyticOp}
-use Rattle.rules_to_sql.specs.calls.AnalyticOp.TheVariants as op
-use Rattle.rules_to_sql.specs.calls.Bound as points
-use Rattle.rules_to_sql.specs.calls.Bound.TheVariants as point
-use Rattle.rules_to_sql.specs.calls.Frame as frames
-use Rattle.rules_to_sql.specs.calls.OrderKey.{OrderKey}
-use Rattle.rules_to_sql.specs.calls.Window as windows
+use Rattle.vtl_nodes.specs.Trees as nodes
+use Rattle.vtl_nodes.specs.Trees.{AnalyticTree, ValueTree}
+use Rattle.vtl_nodes.specs.declared.calls.AnalyticCall.{AnalyticCall}
+use Rattle.vtl_nodes.specs.declared.calls.AnalyticOp.{AnalyticOp}
+use Rattle.vtl_nodes.specs.declared.calls.AnalyticOp.TheVariants as op
+use Rattle.vtl_nodes.specs.declared.calls.Bound as points
+use Rattle.vtl_nodes.specs.declared.calls.Bound.TheVariants as point
+use Rattle.vtl_nodes.specs.declared.calls.Frame as frames
+use Rattle.vtl_nodes.specs.declared.calls.OrderKey.{OrderKey}
+use Rattle.vtl_nodes.specs.declared.calls.Window as windows
 use Rattle.sql_tree.specs.Trees.{Text, ItemTree, QueryTree, expression, window}
 use Rattle.sql_tree.specs.Trees as sql
 use Rattle.sql_tree.specs.declared.parts.Column.{Column}

@@ -13,8 +13,8 @@ use crate::queries::no_query;
 use crate::writer::Writer;
 use sql_tree::{JoinKind, Query};
 use std::alloc::{AllocError, Global};
-use vtl_cell::Txt;
 use vtl_syntax::JoinKind as JoinOf;
+use vtl_text::Txt;
 use vtl_tree::Structure;
 
 // `full_join`: first a table of the identifiers of all operands is made, and one of each tuple of them once.

@@ -6,14 +6,15 @@ ghost use Rattle.std.specs.Prelude.{◌≡◌, map};
 ghost use Rattle.vtl_cell.specs.Held.{IsHeld};
 ghost use Rattle.vtl_tree.specs.View.{comp_exp_of};
 ghost use Rattle.vtl_nodes.specs.View.{analytic_tree, node_tree, value_tree};
-ghost use Rattle.rules_to_sql.specs.Operators.{value_exp};
-ghost use Rattle.rules_to_sql.specs.Checked.{nodes_of};
+ghost use Rattle.vtl_meaning.specs.Operators.{value_exp};
+ghost use Rattle.vtl_check.specs.Checked.{nodes_of};
 ghost use Rattle.rules_to_sql.specs.Held.{HoldsValues};
 ghost use Rattle.vtl_to_sql.specs.Accepted.{AnalyticHoldsValues, AreHeld, HoldsParts, MadeHoldsValues, OperatorHoldsValue};
 
-use rules_to_sql::Checked;
 use std::alloc::Global;
-use vtl_cell::{Cell, Profile, write_cell};
+use vtl_cell::{Cell, write_cell};
+use vtl_check::Checked;
+use vtl_decimal::Profile;
 use vtl_nodes::{
     AnalyticOp, AnalyticSpec, CalcItem, CalcValue, JoinOperand, Node, NodeForm, SubItem,
 };

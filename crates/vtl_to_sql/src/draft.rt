@@ -6,7 +6,7 @@ ghost use Rattle.vtl_to_sql.specs.Tables.{first_number, numbered, table_of};
 
 use sql_tree::{Query, SqlCreate, Statement};
 use std::alloc::{AllocError, Global};
-use vtl_cell::Txt;
+use vtl_text::Txt;
 
 // The number of the first table that is made for a statement, besides the one of its result.
 const FIRST_NUMBER: u64 = 1;

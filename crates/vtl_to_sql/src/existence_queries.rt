@@ -4,8 +4,8 @@ ghost use Rattle.std.specs.Option.{option_map};
 ghost use Rattle.vtl_tree.specs.Shown.{shown};
 ghost use Rattle.vtl_tree.specs.Structure.{columns_of, names_of};
 ghost use Rattle.check_shapes.specs.Names.{is_among};
-ghost use Rattle.rules_to_sql.specs.Agreement.{common_identifiers};
-ghost use Rattle.rules_to_sql.specs.Columns.{identifiers_of};
+ghost use Rattle.vtl_meaning.specs.Agreement.{common_identifiers};
+ghost use Rattle.check_shapes.specs.Columns.{identifiers_of};
 ghost use Rattle.sql_tree.specs.View.{expr_tree, item_tree, query_tree};
 ghost use Rattle.vtl_to_sql.specs.Existences.{retained_matches, shown_matches};
 ghost use Rattle.vtl_to_sql.specs.NamedItems.{own_columns};
@@ -18,8 +18,8 @@ use crate::set_queries::is_matched;
 use crate::writer::Writer;
 use sql_tree::{Constant, Item, Query, SqlExpr};
 use std::alloc::{AllocError, Global};
-use vtl_cell::Txt;
 use vtl_syntax::Retain;
+use vtl_text::Txt;
 use vtl_tree::{Component, Structure};
 
 // Whether a column has this name.

@@ -19,8 +19,8 @@ use crate::windowed_queries::analytic_query;
 use crate::writer::Writer;
 use sql_tree::Query;
 use std::alloc::{AllocError, Global};
-use vtl_cell::Txt;
 use vtl_nodes::{Node, NodeForm};
+use vtl_text::Txt;
 use vtl_tree::Structure;
 
 // An operand with the table that stands for it.

@@ -16,7 +16,8 @@ use crate::queries::{from_one, one_select};
 use crate::writer::Writer;
 use sql_tree::{Constant, Item, Join, JoinKind, Query, Select, SqlExpr};
 use std::alloc::{AllocError, Global};
-use vtl_cell::{Kind, List, Txt};
+use vtl_cell::Kind;
+use vtl_text::{List, Txt};
 use vtl_tree::{Component, Role, Structure, share_component};
 
 // The name of the column of a table of identifiers where there are none.

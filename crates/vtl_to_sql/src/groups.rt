@@ -12,7 +12,8 @@ ghost use Rattle.vtl_to_sql.specs.TurnedItems.{group_of};
 use crate::writer::Writer;
 use sql_tree::{Column, Constant, Item, Select, SqlExpr};
 use std::alloc::{AllocError, Global};
-use vtl_cell::{AggKind, List, Txt};
+use vtl_cell::AggKind;
+use vtl_text::{List, Txt};
 use vtl_tree::Component;
 
 /// An aggregate function of an operand. It fails only if memory runs out.

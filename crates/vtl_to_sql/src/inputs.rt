@@ -4,17 +4,17 @@ ghost use Rattle.std.specs.Prelude.{◌≡◌, ◌++◌, ◌∷◌, [], map, unw
 ghost use Rattle.vtl_tree.specs.Shown.{shown};
 ghost use Rattle.vtl_tree.specs.Structure.{names_of, same_name};
 ghost use Rattle.vtl_tree.specs.declared.structure.Structure.{Structure as StructureOf};
-ghost use Rattle.rules_to_sql.specs.Checked.{known_of};
-ghost use Rattle.rules_to_sql.specs.BackendInputs.{inputs_of};
+ghost use Rattle.vtl_check.specs.Checked.{known_of};
+ghost use Rattle.vtl_backend.specs.Inputs.{inputs_of};
 ghost use Rattle.sql_tree.specs.View.{statement_tree};
 ghost use Rattle.vtl_to_sql.specs.Reads.{IsRead};
 ghost use Rattle.vtl_to_sql.specs.Scripts.{input_column, input_for, input_of};
 
 use crate::draft::Draft;
-use rules_to_sql::Checked;
 use sql_tree::{InputColumn, SqlInput, Statement};
 use std::alloc::{AllocError, Global};
-use vtl_cell::{List, Shared, Txt};
+use vtl_check::Checked;
+use vtl_text::{List, Shared, Txt};
 use vtl_tree::{Component, Structure};
 
 // The same texts, which are shared.

@@ -14,7 +14,8 @@ use crate::items::push_item;
 use crate::join_operands::{Aliased, of_role};
 use sql_tree::{Column, Item, SqlExpr};
 use std::alloc::{AllocError, Global};
-use vtl_cell::{ScalarOp, Txt};
+use vtl_cell::ScalarOp;
+use vtl_text::Txt;
 use vtl_tree::{Component, Role, Structure};
 
 /// A column of an operand: the alias of its source, and its name.

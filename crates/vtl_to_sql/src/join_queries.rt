@@ -12,7 +12,7 @@ use crate::queries::no_query;
 use crate::writer::Writer;
 use sql_tree::{Join, JoinKind, Query, Select, Source};
 use std::alloc::{AllocError, Global};
-use vtl_cell::{List, Txt};
+use vtl_text::{List, Txt};
 use vtl_tree::{Component, Role, Structure};
 
 fn source(operand: &Aliased<'_>) -> Result<Source, AllocError>

@@ -45,5 +45,4 @@ pub use laws::{
     scripts_are_translated, scripts_are_translated_over_inputs, tables_are_counted,
     translated_scripts_are_lawful, what_is_evaluated_is_translated,
 };
-pub use rules_to_sql::{Backend, Checked, RunErr, check, defines_rulesets, is_built};
 pub use script::translate;

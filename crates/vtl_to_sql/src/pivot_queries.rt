@@ -2,7 +2,7 @@
 ghost use Rattle.std.specs.Prelude.{◌≡◌, map, IfOk, OnOk};
 ghost use Rattle.std.specs.Option.{option_map};
 ghost use Rattle.vtl_tree.specs.Shown.{shown};
-ghost use Rattle.rules_to_sql.specs.Turned.{codes_of, other_identifiers};
+ghost use Rattle.vtl_meaning.specs.Turned.{codes_of, other_identifiers};
 ghost use Rattle.sql_tree.specs.View.{expr_tree, item_tree, query_tree, select_tree};
 ghost use Rattle.vtl_to_sql.specs.NamedItems.{AreNext};
 ghost use Rattle.vtl_to_sql.specs.Queries.{items_as};
@@ -19,7 +19,8 @@ use check_shapes::{Choice, component_of, is_chosen};
 use sql_tree::{Constant, Item, Query, Select, SqlExpr};
 use std::alloc::{AllocError, Global};
 use std::slice;
-use vtl_cell::{AggKind, ScalarOp, Txt};
+use vtl_cell::{AggKind, ScalarOp};
+use vtl_text::Txt;
 use vtl_tree::{Component, Structure};
 
 // The identifiers but one.

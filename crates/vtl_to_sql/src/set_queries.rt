@@ -5,7 +5,7 @@ ghost use Rattle.vtl_tree.specs.Shown.{shown};
 ghost use Rattle.vtl_tree.specs.Structure.{names_of};
 ghost use Rattle.vtl_tree.specs.declared.structure.Structure.{Structure as StructureOf};
 ghost use Rattle.check_shapes.specs.Names.{is_among};
-ghost use Rattle.rules_to_sql.specs.Agreement.{common_identifiers};
+ghost use Rattle.vtl_meaning.specs.Agreement.{common_identifiers};
 ghost use Rattle.sql_tree.specs.View.{expr_tree, query_tree, select_tree};
 ghost use Rattle.vtl_to_sql.specs.Combined.{combined_query};
 ghost use Rattle.vtl_to_sql.specs.Queries.{answered, is_matched, matched_select, shown_select, tied};
@@ -16,7 +16,8 @@ use crate::set_operators::SetOperator;
 use crate::writer::Writer;
 use sql_tree::{Equality, Query, Select, SqlExpr};
 use std::alloc::{AllocError, Global};
-use vtl_cell::{List, ScalarOp, Txt};
+use vtl_cell::ScalarOp;
+use vtl_text::{List, Txt};
 use vtl_tree::{Component, Structure};
 
 // An identifier has the same value in the inner table as in the outer one.

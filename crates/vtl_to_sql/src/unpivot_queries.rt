@@ -13,7 +13,7 @@ use crate::queries::from_one;
 use crate::writer::Writer;
 use sql_tree::{Constant, Item, Query, Select, SqlExpr};
 use std::alloc::{AllocError, Global};
-use vtl_cell::{List, Txt};
+use vtl_text::{List, Txt};
 use vtl_tree::{Component, Structure};
 
 /// A text as a constant. It fails only if memory runs out.

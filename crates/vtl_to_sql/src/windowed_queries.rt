@@ -15,8 +15,8 @@ use crate::windows::{argument, window};
 use crate::writer::Writer;
 use sql_tree::{Item, ItemValue, Query};
 use std::alloc::{AllocError, Global};
-use vtl_cell::Txt;
 use vtl_nodes::{AnalyticCall, AnalyticSpec, CalcValue};
+use vtl_text::Txt;
 use vtl_tree::{Component, Role, Structure, is_same_role};
 
 // The window of a call.

@@ -13,7 +13,9 @@ use rules_to_sql::{Aliases, comp_to_sql, const_to_sql, literal_to_sql};
 use sql_tree::{Column, Literal, Source, SqlExpr};
 use std::alloc::{AllocError, Global};
 use std::marker::Model;
-use vtl_cell::{Cell, Profile, Txt};
+use vtl_cell::Cell;
+use vtl_decimal::Profile;
+use vtl_text::Txt;
 use vtl_tree::CompExpr;
 
 /// The settings of a script, and the aliases of sources. A contract sees the settings.
@@ -26,7 +28,7 @@ pub(crate) struct Writer {
 
 impl Model for Writer {
     ghost use Rattle.std.specs.Prelude.{◌≡◌};
-    ghost use Rattle.vtl_cell.specs.Settings.{Settings};
+    ghost use Rattle.vtl_decimal.specs.Settings.{Settings};
     ghost use Rattle.vtl_to_sql.specs.Queries.{first_alias, second_alias};
 
     ghost Value = { Settings };

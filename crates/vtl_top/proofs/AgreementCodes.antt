@@ -16,15 +16,15 @@ use Rattle.vtl_rows.specs.Tables.{cells_at}
 use Rattle.vtl_tree.specs.declared.structure.Component.{Component}
 use Rattle.vtl_tree.specs.declared.structure.Structure.{Structure}
 use Rattle.vtl_tree.specs.Structure.{IsStructure, columns_of, key_width}
-use Rattle.vtl_status.specs.input.InputKind.{InputKind}
-use Rattle.vtl_status.specs.input.InputKind.TheVariants as i
-use Rattle.vtl_status.specs.InputFields.{Flaw, at_column, coded_cell, field_cell, is_coded, most_points, record_row, row_with, text_cell}
-use Rattle.vtl_status.specs.InputFile.{Fault, Layout, dataset_rows, is_repeat, layout_of, of_header, rows_below, rows_in_records, rows_with, unless_repeated}
-use Rattle.vtl_status.specs.InputSteps.{IsLayout}
-use Rattle.vtl_status.specs.StructuresFile.{◌at_line◌, is_identifier, records_in}
-use Rattle.vtl_status.proofs.InputLayoutLemmas.{IsLaidOut, IsPlaceOf, layout_lays_out}
-use Rattle.vtl_status.proofs.InputPointLemmas.{all_more, ok_if, ok_same, ok_unless}
-use Rattle.sql_back.specs.Inputs.{are_listed, is_listed}
+use Rattle.vtl_csv.specs.declared.input.InputKind.{InputKind}
+use Rattle.vtl_csv.specs.declared.input.InputKind.TheVariants as i
+use Rattle.vtl_csv.specs.InputFields.{Flaw, at_column, coded_cell, field_cell, is_coded, most_points, record_row, row_with, text_cell}
+use Rattle.vtl_csv.specs.InputFile.{Fault, Layout, dataset_rows, is_repeat, layout_of, of_header, rows_below, rows_in_records, rows_with, unless_repeated}
+use Rattle.vtl_csv.specs.InputSteps.{IsLayout}
+use Rattle.vtl_csv.specs.StructuresFile.{◌at_line◌, is_identifier, records_in}
+use Rattle.vtl_csv.proofs.InputLayoutLemmas.{IsLaidOut, IsPlaceOf, layout_lays_out}
+use Rattle.vtl_csv.proofs.InputPointLemmas.{all_more, ok_if, ok_same, ok_unless}
+use Rattle.vtl_to_sql.specs.Inputs.{are_listed, is_listed}
 
 abbrev AreListed : List Component → List Row → Type 0
 AreListed xs rows = AllByRecursion (λ r. are_listed xs r ≡ true) rows

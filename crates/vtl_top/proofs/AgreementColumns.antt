@@ -5,7 +5,7 @@ use Rattle.std.specs.List.{AllByRecursion, filter}
 use Rattle.std.proofs.lemmas.Bool.{and_parts}
 use Rattle.std.proofs.lemmas.List.{length-map, map-append}
 use Rattle.std.proofs.lemmas.List.Elements.{filter-append}
-use Rattle.vtl_cell.specs.Apart.{all_apart}
+use Rattle.vtl_lists.specs.Apart.{all_apart}
 use Rattle.vtl_decimal.specs.Settings.{Settings}
 use Rattle.vtl_tree.specs.Structure.{IsStructure, columns_of, names_of, of_role, same_name, same_role}
 use Rattle.vtl_tree.specs.Structures.{are_codes, codes_fit, is_string_identifier}
@@ -13,19 +13,19 @@ use Rattle.vtl_tree.specs.declared.structure.Component.{Component}
 use Rattle.vtl_tree.specs.declared.structure.Role.{Role}
 use Rattle.vtl_tree.specs.declared.structure.Role.TheVariants as role
 use Rattle.vtl_tree.specs.declared.structure.Structure.{Structure}
-use Rattle.sql_back.specs.Columns.{identifiers_of, others_of}
-use Rattle.sql_back.proofs.OwnColumns.{columns_apart}
-use Rattle.sql_back.proofs.Places.{IsIdentifier, IsOther, all_append, all_map, all_more, all_of_map, are_identifiers, are_others, columns_split}
-use Rattle.sql_back.proofs.SetsFolds.{filter_once}
-use Rattle.vtl_status.specs.InputFile.{dataset_rows}
-use Rattle.vtl_status.specs.Plain.{plain, plain_columns}
-use Rattle.vtl_status.specs.StructuresFile.{is_identifier}
-use Rattle.vtl_status.proofs.PlainLemmas.{plain_rows_same}
-use Rattle.sql_back.specs.Structures.{component_of, listed_codes, structure_of}
-use Rattle.sql_back.specs.TypingStatements.{is_of_key}
-use Rattle.sql_back.specs.Scripts.{input_column, input_of}
-use Rattle.sql_back.proofs.Givens.{columns_count}
-use Rattle.sql_back.proofs.ReadTables.{all_among, none_among}
+use Rattle.check_shapes.specs.Columns.{identifiers_of, others_of}
+use Rattle.vtl_meaning.proofs.OwnColumns.{columns_apart}
+use Rattle.vtl_meaning.proofs.Places.{IsIdentifier, IsOther, all_append, all_map, all_more, all_of_map, are_identifiers, are_others, columns_split}
+use Rattle.vtl_meaning.proofs.SetsFolds.{filter_once}
+use Rattle.vtl_csv.specs.InputFile.{dataset_rows}
+use Rattle.vtl_csv.specs.Plain.{plain, plain_columns}
+use Rattle.vtl_csv.specs.StructuresFile.{is_identifier}
+use Rattle.vtl_csv.proofs.PlainLemmas.{plain_rows_same}
+use Rattle.sql_engine.specs.Structures.{component_of, listed_codes, structure_of}
+use Rattle.sql_check_parts.specs.Statements.{is_of_key}
+use Rattle.vtl_to_sql.specs.Scripts.{input_column, input_of}
+use Rattle.vtl_to_sql.proofs.Givens.{columns_count}
+use Rattle.vtl_to_sql.proofs.ReadTables.{all_among, none_among}
 
 -- ---- one component
 no_codes : (x : Component) → x.codes ≡ Some [] → codes_fit x ≡ true → ⊥

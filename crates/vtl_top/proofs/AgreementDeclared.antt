@@ -6,8 +6,8 @@ use Rattle.std.specs.Prelude.{chars}
 use Rattle.std.specs.Str.{is_utf8}
 use Rattle.vtl_lists.specs.Results.{◌>>=◌}
 use Rattle.vtl_tree.specs.Structures.{AreStructures, Named, is_declarable_entry}
-use Rattle.vtl_status.specs.StructuresFile.{Fault, is_header, lines_declare, lines_in, records_in, structures_of_file, with_identifiers, without_identifier}
-use Rattle.sql_back.proofs.TypedScripts.{declared_coded, declared_each_entry}
+use Rattle.vtl_csv.specs.StructuresFile.{Fault, is_header, lines_declare, lines_in, records_in, structures_of_file, with_identifiers, without_identifier}
+use Rattle.vtl_to_sql.proofs.TypedScripts.{declared_coded, declared_each_entry}
 use Rattle.vtl_top.specs.Expected.{read, structures_limit, structures_step}
 use Rattle.vtl_top.specs.Steps.{Held, Path, settled}
 use Rattle.vtl_top.specs.Structures.{declared, structures_in}

@@ -3,28 +3,28 @@ use Rattle.std.proofs.Common.{◌≡◌, ℕ, true, List, [], ◌∷◌, ◌++�
 use Rattle.std.specs.List.{AllByRecursion, position_or_len, range_with_len}
 use Rattle.std.specs.Map.{keys_of}
 use Rattle.std.proofs.lemmas.List.{length-map, map-append}
-use Rattle.vtl_cell.specs.Apart.{all_apart}
+use Rattle.vtl_lists.specs.Apart.{all_apart}
 use Rattle.vtl_cell.specs.Outcome.{Fault as EvaluationFault}
 use Rattle.vtl_cell.specs.Row.{Row, row_cmp}
 use Rattle.vtl_cell.specs.Sorted.{in_order, rising}
-use Rattle.vtl_cell.specs.Sorting.{le_by, sorted_by}
-use Rattle.vtl_cell.specs.Texts.{same_text}
+use Rattle.vtl_lists.specs.Sorting.{le_by, sorted_by}
+use Rattle.vtl_text.specs.Texts.{same_text}
 use Rattle.vtl_decimal.specs.Settings.{Settings}
 use Rattle.vtl_tree.specs.Environment.{DataSet}
 use Rattle.vtl_tree.specs.Structure.{IsStructure, columns_of, key_width, names_of, same_name}
 use Rattle.vtl_tree.specs.declared.structure.Component.{Component}
 use Rattle.vtl_tree.specs.declared.structure.Structure.{Structure}
-use Rattle.sql_back.specs.Columns.{identifiers_of, others_of}
-use Rattle.sql_back.specs.Meaning.{Outputs}
-use Rattle.sql_back.proofs.OwnColumns.{columns_apart}
-use Rattle.sql_back.proofs.Places.{columns_split}
-use Rattle.vtl_status.specs.CsvText.{csv_rows, header_of}
-use Rattle.vtl_status.specs.TableText.{names_written, rows_text}
-use Rattle.sql_back.specs.Exported.{entry_column}
-use Rattle.sql_back.specs.Scopes.{Columns}
-use Rattle.sql_back.specs.EngineScripts.{sort_key}
-use Rattle.sql_back.specs.Exports.{exported, exported_as}
-use Rattle.sql_back.specs.Runs.{entries}
+use Rattle.check_shapes.specs.Columns.{identifiers_of, others_of}
+use Rattle.vtl_meaning.specs.Meaning.{Outputs}
+use Rattle.vtl_meaning.proofs.OwnColumns.{columns_apart}
+use Rattle.vtl_meaning.proofs.Places.{columns_split}
+use Rattle.vtl_csv.specs.CsvText.{csv_rows, header_of}
+use Rattle.vtl_csv.specs.TableText.{names_written, rows_text}
+use Rattle.sql_engine.specs.Exported.{entry_column}
+use Rattle.sql_check_parts.specs.Scopes.{Columns}
+use Rattle.sql_meaning.specs.Scripts.{sort_key}
+use Rattle.vtl_to_sql.specs.Exports.{exported, exported_as}
+use Rattle.vtl_to_sql.specs.Runs.{entries}
 use Rattle.vtl_top.specs.Expected.{file_in, output_of, outputs_of}
 use Rattle.vtl_top.specs.SqlRun.{export_file, exports_of}
 use Rattle.vtl_top.specs.Steps.{File, Path}

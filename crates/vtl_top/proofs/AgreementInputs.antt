@@ -6,26 +6,26 @@ use Rattle.std.specs.List.{AllByRecursion}
 use Rattle.std.specs.Map.{keys_of, lookup}
 use Rattle.std.proofs.lemmas.List.{map-append}
 use Rattle.vtl_files.specs.Outside.{bytes_at}
-use Rattle.vtl_cell.specs.Apart.{all_apart}
+use Rattle.vtl_lists.specs.Apart.{all_apart}
 use Rattle.vtl_cell.specs.Row.{Row}
-use Rattle.vtl_cell.specs.Texts.{same_text}
-use Rattle.vtl_cell.proofs.Aparts.{apart_parts}
+use Rattle.vtl_text.specs.Texts.{same_text}
+use Rattle.vtl_lists.proofs.Aparts.{apart_parts}
 use Rattle.vtl_decimal.specs.Settings.{Settings}
 use Rattle.vtl_tree.specs.Environment.{Environment}
 use Rattle.vtl_tree.specs.Structure.{IsStructure, columns_of, same_name}
 use Rattle.vtl_tree.specs.Structures.{Named, codes_fit}
 use Rattle.vtl_tree.specs.declared.structure.Structure.{Structure}
-use Rattle.vtl_status.specs.InputFile.{Fault, dataset_rows}
-use Rattle.vtl_status.proofs.InputDataSetLemmas.{dataset_good}
+use Rattle.vtl_csv.specs.InputFile.{Fault, dataset_rows}
+use Rattle.vtl_csv.proofs.InputDataSetLemmas.{dataset_good}
 use Rattle.sql_tree.specs.Trees as tree
 use Rattle.sql_tree.specs.Trees.{ScriptTree}
 use Rattle.sql_tree.specs.declared.statements.SqlInput.{SqlInput}
 use Rattle.sql_back.specs.Texts.{inputs_in}
-use Rattle.sql_back.specs.EngineScripts.{Inputs, rows_read}
-use Rattle.sql_back.specs.Structures.{structure_of}
-use Rattle.sql_back.specs.Inputs.{AreAsked, AreTaken, sets_read}
-use Rattle.sql_back.specs.Scripts.{input_of}
-use Rattle.sql_back.proofs.InputData.{data_read}
+use Rattle.sql_meaning.specs.Scripts.{Inputs, rows_read}
+use Rattle.sql_engine.specs.Structures.{structure_of}
+use Rattle.vtl_to_sql.specs.Inputs.{AreAsked, AreTaken, sets_read}
+use Rattle.vtl_to_sql.specs.Scripts.{input_of}
+use Rattle.vtl_to_sql.proofs.InputData.{data_read}
 use Rattle.vtl_top.specs.Agreement.{HoldSame}
 use Rattle.vtl_top.specs.Expected.{content, csv_limit, data_set, dataset_step, file_in, inputs_step, one_more_step, points_or_fault, read, sized, with_points}
 use Rattle.vtl_top.specs.SqlInputs.{input_structures, rows_by_name}

@@ -5,15 +5,15 @@ use Rattle.std.specs.Ordering.{is_lt, ordering_then}
 use Rattle.std.specs.declared.cmp.Ordering.{Ordering}
 use Rattle.std.specs.declared.cmp.Ordering.TheVariants.{Less, Equal, Greater}
 use Rattle.std.specs.Cmp.Lexicographic.{nat_list_eq_equiv}
-use Rattle.vtl_cell.specs.Apart.{all_apart}
-use Rattle.vtl_cell.specs.Sorting.{le_by, sorted_by}
-use Rattle.vtl_cell.specs.Texts.{same_text}
+use Rattle.vtl_lists.specs.Apart.{all_apart}
+use Rattle.vtl_lists.specs.Sorting.{le_by, sorted_by}
+use Rattle.vtl_text.specs.Texts.{same_text}
 use Rattle.vtl_cell.specs.declared.cell.Cell.{Cell}
 use Rattle.vtl_cell.specs.declared.cell.Cell.TheVariants as c
 use Rattle.vtl_cell.specs.Order.{cell_cmp}
 use Rattle.vtl_cell.specs.Row.{Row, column_of, row_cmp}
 use Rattle.vtl_cell.specs.Sorted.{Key, by_keys, in_order, rising, window_cmp}
-use Rattle.vtl_cell.proofs.Aparts.{apart_parts}
+use Rattle.vtl_lists.proofs.Aparts.{apart_parts}
 use Rattle.vtl_rows.proofs.AllColumns.{sorted_alike}
 
 -- ---- one order after another

@@ -1,8 +1,8 @@
 -- What the command `sql` prints is a text of the script.
 use Rattle.std.proofs.Common.{◌≡◌, Some, Ok, ap, ◌∙◌}
 use Rattle.vtl_files.specs.Outside.{bytes_at}
-use Rattle.vtl_interp.specs.Uses.{reads}
-use Rattle.sql_back.proofs.Places.{each}
+use Rattle.vtl_check.specs.Uses.{reads}
+use Rattle.vtl_meaning.proofs.Places.{each}
 use Rattle.vtl_top.specs.Agreement.{AreTwins, IsPrinted}
 use Rattle.vtl_top.specs.Expected.{file_in, text_step}
 use Rattle.vtl_top.specs.Steps.{Held, Made, only_text, settled}

@@ -1,7 +1,7 @@
 -- The results of a script that is typed have structures.
 use Rattle.std.proofs.Common.{◌≡◌, ℕ, ◌+◌, Bool, true, false, cond, List, [], ◌∷◌, ◌++◌, Ok, sym, subst}
 use Rattle.std.specs.List.{AllByRecursion}
-use Rattle.vtl_cell.specs.Results.{◌>>=◌}
+use Rattle.vtl_lists.specs.Results.{◌>>=◌}
 use Rattle.vtl_decimal.specs.Settings.{Settings}
 use Rattle.vtl_syntax.specs.Trees.{Exp, ScriptTree}
 use Rattle.vtl_tree.specs.Environment.{Environment}
@@ -9,29 +9,29 @@ use Rattle.vtl_tree.specs.Structure.{IsStructure}
 use Rattle.vtl_tree.specs.Structures.{AreStructures, Named, has_name}
 use Rattle.check_faults.specs.Rules.{ruled}
 use Rattle.check_faults.specs.declared.rules.Rule.TheVariants as rule
-use Rattle.sql_back.specs.Checked.{env_over}
-use Rattle.sql_back.specs.Count.{count}
-use Rattle.sql_back.specs.Gives.{Gives}
-use Rattle.sql_back.specs.Made.{IsMade}
-use Rattle.sql_back.specs.Meaning.{Outputs, Statement, meaning}
-use Rattle.sql_back.specs.Places.{Env}
-use Rattle.sql_back.specs.places.Place.TheVariants as place
-use Rattle.sql_back.specs.Script.{assigned, is_too_much, script_typed, transformations_typed, value_typed, with_result}
-use Rattle.sql_back.specs.Shapes.{IsShaped}
-use Rattle.sql_back.specs.Transformations.{Transformation, transformations}
-use Rattle.sql_back.specs.Trees.{NodeTree, structure_of}
-use Rattle.sql_back.specs.Typed.{dataset_in}
-use Rattle.sql_back.specs.Typing.{typed}
-use Rattle.sql_back.specs.WellTyped.{AreShaped, IsWellTyped}
-use Rattle.sql_back.proofs.Inner.{made-shaped}
-use Rattle.sql_back.proofs.Places.{all_append, all_of_map}
-use Rattle.sql_back.proofs.Scripts.{at-then, structures-shaped}
-use Rattle.sql_back.proofs.Sets.{dataset-gives}
-use Rattle.sql_back.proofs.Sound.{sound}
-use Rattle.sql_back.proofs.TypingSteps.{after, tested, then}
-use Rattle.vtl_interp.specs.Statements.{is_written, with_nodes}
-use Rattle.sql_back.specs.Scripts.{written_of}
-use Rattle.sql_back.proofs.WholeScript.{written_are}
+use Rattle.vtl_check.specs.Checked.{env_over}
+use Rattle.vtl_check.specs.Count.{count}
+use Rattle.check_laws.specs.Gives.{Gives}
+use Rattle.vtl_meaning.specs.Made.{IsMade}
+use Rattle.vtl_meaning.specs.Meaning.{Outputs, Statement, meaning}
+use Rattle.check_operators.specs.Places.{Env}
+use Rattle.check_operators.specs.declared.places.Place.TheVariants as place
+use Rattle.vtl_check.specs.Script.{assigned, is_too_much, script_typed, transformations_typed, value_typed, with_result}
+use Rattle.vtl_meaning.specs.Shapes.{IsShaped}
+use Rattle.vtl_check.specs.Transformations.{Transformation, transformations}
+use Rattle.vtl_nodes.specs.Trees.{NodeTree, structure_of}
+use Rattle.check_operators.specs.Typed.{dataset_in}
+use Rattle.check_expressions.specs.Typing.{typed}
+use Rattle.check_laws.specs.WellTyped.{AreShaped, IsWellTyped}
+use Rattle.check_laws.proofs.Inner.{made-shaped}
+use Rattle.vtl_meaning.proofs.Places.{all_append, all_of_map}
+use Rattle.check_laws.proofs.Scripts.{at-then, structures-shaped}
+use Rattle.check_laws.proofs.Sets.{dataset-gives}
+use Rattle.check_laws.proofs.Sound.{sound}
+use Rattle.check_laws.proofs.Steps.{after, tested, then}
+use Rattle.vtl_backend.specs.Statements.{is_written, with_nodes}
+use Rattle.vtl_to_sql.specs.Scripts.{written_of}
+use Rattle.vtl_to_sql.proofs.WholeScript.{written_are}
 
 -- ---- the nodes of a script
 abbrev pub HasStructure : NodeTree → Type 0

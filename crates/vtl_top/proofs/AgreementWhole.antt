@@ -5,12 +5,12 @@ use Rattle.vtl_decimal.specs.Settings.{Settings}
 use Rattle.vtl_tree.specs.Environment.{Environment}
 use Rattle.vtl_tree.specs.Structures.{AreStructures, Named}
 use Rattle.sql_tree.specs.Trees.{ScriptTree}
-use Rattle.sql_back.specs.EngineScripts.{script_value}
-use Rattle.sql_back.specs.TypingStatements.{script_settings}
-use Rattle.vtl_interp.specs.Meaning.{meaning}
-use Rattle.vtl_interp.specs.Transformations.{transformations}
-use Rattle.vtl_interp.specs.Uses.{reads}
-use Rattle.sql_back.specs.Exports.{exported_as}
+use Rattle.sql_meaning.specs.Scripts.{script_value}
+use Rattle.sql_check_parts.specs.Statements.{script_settings}
+use Rattle.vtl_meaning.specs.Meaning.{meaning}
+use Rattle.vtl_check.specs.Transformations.{transformations}
+use Rattle.vtl_check.specs.Uses.{reads}
+use Rattle.vtl_to_sql.specs.Exports.{exported_as}
 use Rattle.vtl_top.specs.Agreement.{AreTwins, IsOutcomeOf}
 use Rattle.vtl_top.specs.Asked.{asked_step}
 use Rattle.vtl_top.specs.Expected.{IsTextOf, Typed, inputs_step, meant, outputs_of, run_step, statements_in}

@@ -15,9 +15,9 @@ use Rattle.vtl_tree.proofs.StructuresLemmas.{add_are, all_found}
 use Rattle.vtl_lists.specs.Aliases.{Record}
 use Rattle.vtl_lists.specs.Apart.{all_apart}
 use Rattle.vtl_lists.specs.Results.{◌>>=◌}
-use Rattle.vtl_status.specs.Declarations.{Declaration, codes_of, component_in, dataset_in, declaration_of, declared_by, has_component, is_full, kind_in, record_of, role_in}
-use Rattle.vtl_status.specs.StructuresFile.{Fault, ◌at_line◌, is_header, is_identifier, lacks_identifier, lines_declare, lines_in, records_in, structures_of_file, with_identifiers, without_identifier}
-use Rattle.vtl_status.proofs.DeclarationLemmas.{record_fits}
+use Rattle.vtl_csv.specs.Declarations.{Declaration, codes_of, component_in, dataset_in, declaration_of, declared_by, has_component, is_full, kind_in, record_of, role_in}
+use Rattle.vtl_csv.specs.StructuresFile.{Fault, ◌at_line◌, is_header, is_identifier, lacks_identifier, lines_declare, lines_in, records_in, structures_of_file, with_identifiers, without_identifier}
+use Rattle.vtl_csv.proofs.DeclarationLemmas.{record_fits}
 
 abbrev pub Records : Type 0
 Records = List Record

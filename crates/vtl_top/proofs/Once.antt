@@ -4,11 +4,11 @@ use Rattle.std.specs.List.{list_all}
 use Rattle.vtl_tree.specs.Environment.{Environment}
 use Rattle.vtl_tree.specs.Structures.{Named}
 use Rattle.vtl_tree.specs.declared.structure.Structure.{Structure}
-use Rattle.vtl_status.specs.InputFile.{dataset_rows}
+use Rattle.vtl_csv.specs.InputFile.{dataset_rows}
 use Rattle.vtl_decimal.specs.Settings.{Settings}
-use Rattle.vtl_interp.specs.Script.{has_definitions}
-use Rattle.vtl_interp.specs.Uses.{reads}
-use Rattle.vtl_interp.specs.Meaning.{is_built}
+use Rattle.vtl_check.specs.Script.{has_definitions}
+use Rattle.vtl_check.specs.Uses.{reads}
+use Rattle.vtl_meaning.specs.Meaning.{is_built}
 use Rattle.vtl_top.specs.Structures.{structures_in}
 use Rattle.vtl_top.specs.Asked.{asked_step}
 use Rattle.vtl_top.specs.Expected.{Typed, built_step, csv_limit, dataset_step, file_in, inputs_step, meant, one_more_step, outputs_of, points_or_fault, read, run_step, script_in, script_limit, script_of, script_step, structures_limit, structures_step, text_for, text_step, typed_by, typed_step, typing_of, unbuilt, with_points}
@@ -18,8 +18,8 @@ use Rattle.vtl_status.specs.declared.status.Status.{Status}
 use Rattle.vtl_status.specs.declared.status.Status.TheVariants as st
 use Rattle.vtl_top.proofs.MeantLemmas.{after_built, after_plain, after_script, after_structures, after_typing}
 use Rattle.vtl_top.proofs.ReadScripts.{parsed_once}
-use Rattle.sql_back.specs.TypingStatements.{script_fault, script_settings}
-use Rattle.sql_back.specs.EngineScripts.{script_value}
+use Rattle.sql_check_parts.specs.Statements.{script_fault, script_settings}
+use Rattle.sql_meaning.specs.Scripts.{script_value}
 use Rattle.vtl_top.specs.SqlInputs.{input_structures, rows_by_name}
 use Rattle.vtl_top.specs.SqlRun.{engine_step, exports_of, read_whole, sql_checked_step, sql_in, sql_of, sql_step, sql_typing}
 use Rattle.vtl_top.proofs.SqlSteps.{after_checked, after_sql, sql_parsed_once}

@@ -7,11 +7,11 @@ use Rattle.vtl_grammar.specs.Faults.{SyntaxFault, WholeScript}
 use Rattle.vtl_tree.specs.Environment.{Environment}
 use Rattle.vtl_tree.specs.Structures.{Named}
 use Rattle.vtl_tree.specs.declared.structure.Structure.{Structure}
-use Rattle.vtl_status.specs.InputFile.{dataset_rows}
+use Rattle.vtl_csv.specs.InputFile.{dataset_rows}
 use Rattle.vtl_decimal.specs.Settings.{Settings}
-use Rattle.vtl_interp.specs.Script.{has_definitions}
-use Rattle.vtl_interp.specs.Uses.{reads}
-use Rattle.vtl_interp.specs.Meaning.{is_built}
+use Rattle.vtl_check.specs.Script.{has_definitions}
+use Rattle.vtl_check.specs.Uses.{reads}
+use Rattle.vtl_meaning.specs.Meaning.{is_built}
 use Rattle.vtl_top.specs.Asked.{asked_step}
 use Rattle.vtl_top.specs.Expected.{IsTextOf, Typed, built_step, content, csv_limit, dataset_step, file_in, inputs_step, meant, one_more_step, outputs_of, points_or_fault, read, run_step, script_limit, script_of, script_step, structures_limit, structures_step, text_step, typed_by, typed_step, typing_of, unbuilt, with_points}
 use Rattle.vtl_top.specs.ScriptFile.{faulty, no_text, whole}
@@ -25,9 +25,9 @@ use Rattle.vtl_top.proofs.MeantLemmas.{accepted_only, after_built, after_plain, 
 use Rattle.vtl_top.proofs.Once.{IsNoText}
 use Rattle.vtl_top.proofs.TextsRead.{Read, either_way, read_somehow, then_too, there_is}
 use Rattle.vtl_files.specs.Outside.{bytes_at}
-use Rattle.sql_back.specs.TypingStatements.{script_fault, script_settings}
+use Rattle.sql_check_parts.specs.Statements.{script_fault, script_settings}
 use Rattle.vtl_top.specs.SqlInputs.{input_structures, rows_by_name}
-use Rattle.sql_back.specs.EngineScripts.{script_value}
+use Rattle.sql_meaning.specs.Scripts.{script_value}
 use Rattle.sql_tree.specs.Texts as texts
 use Rattle.sql_tree.specs.Trees.{ScriptTree as SqlTree}
 use Rattle.vtl_top.specs.SqlRun.{engine_step, exports_of, present, read_whole, sql_checked_step, sql_of, sql_step, sql_typing}

@@ -9,16 +9,16 @@ use Rattle.vtl_tree.specs.Environment.{Environment}
 use Rattle.sql_tree.specs.Trees.{ScriptTree}
 use Rattle.sql_tree.specs.View.{script_tree}
 use Rattle.sql_tree.specs.declared.statements.SqlScript.{SqlScript}
-use Rattle.sql_back.specs.Answers.{CheckedScript, Checks, told}
-use Rattle.sql_back.specs.engine_error.SqlTypeErr.{SqlTypeErr}
-use Rattle.sql_back.specs.engine_error.SqlTypeErr.TheVariants as typed
-use Rattle.sql_back.specs.Rules.{number_of}
-use Rattle.sql_back.specs.TypingStatements.{Fault, script_fault, script_settings}
-use Rattle.sql_back.specs.EngineScripts.{Export, NamedFault, script_value}
-use Rattle.sql_back.specs.Exported.{shown}
-use Rattle.sql_back.specs.EngineRuns.{FaultIs, ShowsExports}
-use Rattle.sql_back.specs.error.RunErr.{RunErr}
-use Rattle.sql_back.specs.error.RunErr.TheVariants as engine
+use Rattle.sql_check.specs.Answers.{CheckedScript, Checks, told}
+use Rattle.sql_check.specs.declared.error.SqlTypeErr.{SqlTypeErr}
+use Rattle.sql_check.specs.declared.error.SqlTypeErr.TheVariants as typed
+use Rattle.sql_check_parts.specs.Rules.{number_of}
+use Rattle.sql_check_parts.specs.Statements.{Fault, script_fault, script_settings}
+use Rattle.sql_meaning.specs.Scripts.{Export, NamedFault, script_value}
+use Rattle.sql_engine.specs.Exported.{shown}
+use Rattle.sql_engine.specs.Runs.{FaultIs, ShowsExports}
+use Rattle.sql_engine.specs.declared.error.RunErr.{RunErr}
+use Rattle.sql_engine.specs.declared.error.RunErr.TheVariants as engine
 use Rattle.vtl_top.specs.Answered.{Came, Takes}
 use Rattle.vtl_top.specs.Expected.{fault_status, inputs_step}
 use Rattle.vtl_top.specs.Kinds.{refused, told_by}

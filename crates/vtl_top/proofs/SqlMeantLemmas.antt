@@ -7,9 +7,9 @@ use Rattle.vtl_decimal.specs.Settings.{Settings}
 use Rattle.vtl_tree.specs.Environment.{Environment}
 use Rattle.sql_tree.specs.Texts.{IsScript}
 use Rattle.sql_tree.specs.Trees.{ScriptTree}
-use Rattle.sql_back.specs.Rules.{number_of}
-use Rattle.sql_back.specs.TypingStatements.{Fault, script_fault, script_settings}
-use Rattle.sql_back.specs.EngineScripts.{Export, NamedFault, script_value}
+use Rattle.sql_check_parts.specs.Rules.{number_of}
+use Rattle.sql_check_parts.specs.Statements.{Fault, script_fault, script_settings}
+use Rattle.sql_meaning.specs.Scripts.{Export, NamedFault, script_value}
 use Rattle.vtl_top.specs.Expected.{fault_status, inputs_step}
 use Rattle.vtl_top.specs.ScriptFile.{IsSqlParsed, Parsed, faulty, no_text, whole}
 use Rattle.vtl_top.specs.SqlInputs.{input_structures, rows_by_name}

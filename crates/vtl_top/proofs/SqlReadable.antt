@@ -6,11 +6,11 @@ use Rattle.std.specs.Map.{keys_of}
 use Rattle.std.specs.Option.{option_map_or}
 use Rattle.std.proofs.lemmas.List.Folds.{list_any-append}
 use Rattle.std.proofs.lemmas.List.{map-append}
-use Rattle.vtl_cell.specs.Apart.{all_apart}
+use Rattle.vtl_lists.specs.Apart.{all_apart}
 use Rattle.vtl_cell.specs.Row.{Row}
-use Rattle.vtl_cell.specs.Settings.{Settings}
-use Rattle.vtl_cell.specs.Texts.{same_text}
-use Rattle.vtl_cell.proofs.Aparts.{apart_more, apart_parts}
+use Rattle.vtl_decimal.specs.Settings.{Settings}
+use Rattle.vtl_text.specs.Texts.{same_text}
+use Rattle.vtl_lists.proofs.Aparts.{apart_more, apart_parts}
 use Rattle.vtl_rows.specs.Named.{NamedTables, table_of}
 use Rattle.vtl_rows.specs.Tables.{Listed}
 use Rattle.vtl_tree.specs.DataSet.{AreOfProfile}
@@ -20,10 +20,10 @@ use Rattle.sql_tree.specs.Formed.{FormedScript, IsStatement}
 use Rattle.sql_tree.specs.Grammar.{most_levels}
 use Rattle.sql_tree.specs.Trees as tree
 use Rattle.sql_tree.specs.Trees.{StatementTree}
-use Rattle.sql_back.specs.Scopes.{Columns, Tables}
-use Rattle.sql_back.specs.TypingStatements.{Given, IsTypedScript, after, input_columns, is_taken, nothing, settings_of}
-use Rattle.sql_back.specs.TypedStatements.{AreTyped}
-use Rattle.sql_back.proofs.TypedStatements.{script_typed}
+use Rattle.sql_check_parts.specs.Scopes.{Columns, Tables}
+use Rattle.sql_check_parts.specs.Statements.{Given, IsTypedScript, after, input_columns, is_taken, nothing, settings_of}
+use Rattle.sql_check_laws.specs.Statements.{AreTyped}
+use Rattle.sql_check_laws.proofs.TypedStatements.{script_typed}
 use Rattle.grammar_forms.specs.Written.{Each}
 use Rattle.std.proofs.Common.{Result, Ok, Err, IfOk}
 use Rattle.sql_tree.specs.Trees.{ScriptTree}
@@ -31,14 +31,14 @@ use Rattle.sql_tree.specs.View.{script_tree, statement_tree}
 use Rattle.sql_tree.specs.declared.statements.SqlScript.{SqlScript}
 use Rattle.vtl_top.specs.InputsRead.{AreReadable}
 use Rattle.vtl_status.specs.declared.status.Status.{Status}
-use Rattle.sql_back.proofs.GivenColumns.{inputs_declared}
-use Rattle.sql_back.specs.Tables.{rows_of}
-use Rattle.sql_back.specs.InputTables.{AreInputsInRange, HaveInputTables, IsInputTable, rows_given}
-use Rattle.sql_back.specs.Structures.{structure_of}
-use Rattle.vtl_interp.specs.Inputs.{Holds, input_of, rows_named}
-use Rattle.vtl_interp.specs.Profiles.{AllAreOfProfile}
+use Rattle.sql_check_laws.proofs.GivenColumns.{inputs_declared}
+use Rattle.sql_meaning.specs.Tables.{rows_of}
+use Rattle.sql_engine.specs.InputTables.{AreInputsInRange, HaveInputTables, IsInputTable, rows_given}
+use Rattle.sql_engine.specs.Structures.{structure_of}
+use Rattle.vtl_backend.specs.Inputs.{Holds, input_of, rows_named}
+use Rattle.vtl_meaning.specs.Profiles.{AllAreOfProfile}
 use Rattle.vtl_top.specs.SqlInputs.{input_structures, rows_by_name}
-use Rattle.sql_back.proofs.DeclaredInputs.{lawful_structure, table_is_input}
+use Rattle.sql_engine.proofs.DeclaredInputs.{lawful_structure, table_is_input}
 
 -- ---- each INPUT has a structure
 pub inputs_are_structures : (p : Settings) (given : Given) (ss : List StatementTree) → AllByRecursion (IsStatement most_levels) ss → AreTyped p given ss → AllByRecursion (λ e. IsStructure e.1) (input_structures ss)

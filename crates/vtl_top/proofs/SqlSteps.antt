@@ -2,10 +2,10 @@
 use Rattle.std.proofs.Common.{◌≡◌, List, [], ℕ, Ok}
 use Rattle.sql_tree.specs.Texts.{IsFaulty, IsScript}
 use Rattle.sql_tree.specs.Trees.{ScriptTree}
-use Rattle.sql_back.specs.TypingStatements.{script_fault, script_settings}
-use Rattle.sql_back.specs.EngineScripts.{script_value}
+use Rattle.sql_check_parts.specs.Statements.{script_fault, script_settings}
+use Rattle.sql_meaning.specs.Scripts.{script_value}
 use Rattle.vtl_top.specs.SqlInputs.{input_structures, rows_by_name}
-use Rattle.sql_back.proofs.Texts.{not_both, one_fault, one_script}
+use Rattle.sql_parser.proofs.Texts.{not_both, one_fault, one_script}
 use Rattle.vtl_top.specs.Expected.{inputs_step}
 use Rattle.vtl_top.specs.ScriptFile.{IsSqlParsed, Parsed}
 use Rattle.vtl_top.specs.SqlRun.{exports_of, sql_typing}

@@ -8,7 +8,7 @@ use Rattle.vtl_status.specs.declared.status.Status.TheVariants as st
 use Rattle.vtl_top.specs.Kinds.{Told, done, no_command, refused, absent, read_fault, write_fault, no_memory, told_by}
 use Rattle.vtl_top.specs.Steps.{File, Made, Step, ◌>>=◌}
 use Rattle.vtl_files.specs.declared.sink.Sink.{Ghosts as Sinks}
-use Rattle.vtl_interp.specs.Checked.{TypedScript}
+use Rattle.vtl_check.specs.Checked.{TypedScript}
 use Rattle.vtl_top.specs.Answered.{Adds, AddsUpTo, Came, EndsAs, Faulted, Gives, GivesOut, IsMadeBy, OnlyReads, Stops, Takes, Unsaid, WritesAs}
 use Rattle.vtl_top.specs.Asked.{asked_step}
 use Rattle.vtl_top.specs.Expected.{built_step}

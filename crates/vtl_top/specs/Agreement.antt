@@ -4,7 +4,7 @@ use Rattle.std.specs.List.{AllByRecursion}
 use Rattle.vtl_files.specs.Outside.{bytes_at}
 use Rattle.vtl_files.specs.declared.files.Files.{Ghosts}
 use Rattle.vtl_tree.specs.Structures.{Named}
-use Rattle.vtl_interp.specs.Uses.{reads}
+use Rattle.vtl_check.specs.Uses.{reads}
 use Rattle.vtl_top.specs.Answered.{Adds}
 use Rattle.vtl_top.specs.Asked.{asked_step}
 use Rattle.vtl_top.specs.Expected.{file_in}

@@ -7,17 +7,17 @@ use Rattle.vtl_decimal.specs.Settings.{Settings}
 use Rattle.vtl_syntax.specs.Trees.{ScriptTree}
 use Rattle.vtl_tree.specs.Environment.{DataSet, Environment}
 use Rattle.vtl_tree.specs.Structures.{Named}
-use Rattle.vtl_interp.specs.Trees.{NodeTree}
-use Rattle.vtl_interp.specs.Meaning.{Outputs, Statement, is_built, meaning}
-use Rattle.vtl_interp.specs.Statements.{with_nodes}
-use Rattle.vtl_interp.specs.Transformations.{transformations}
+use Rattle.vtl_nodes.specs.Trees.{NodeTree}
+use Rattle.vtl_meaning.specs.Meaning.{Outputs, Statement, is_built, meaning}
+use Rattle.vtl_backend.specs.Statements.{with_nodes}
+use Rattle.vtl_check.specs.Transformations.{transformations}
 use Rattle.std.specs.List.{list_all}
 use Rattle.vtl_tree.specs.declared.structure.Structure.{Structure}
-use Rattle.vtl_status.specs.CsvText.{csv_of}
-use Rattle.vtl_status.specs.InputFile.{Fault, dataset_rows}
-use Rattle.vtl_interp.specs.Checked.{env_over}
-use Rattle.vtl_interp.specs.Script.{has_definitions, script_typed}
-use Rattle.vtl_interp.specs.Uses.{reads}
+use Rattle.vtl_csv.specs.CsvText.{csv_of}
+use Rattle.vtl_csv.specs.InputFile.{Fault, dataset_rows}
+use Rattle.vtl_check.specs.Checked.{env_over}
+use Rattle.vtl_check.specs.Script.{has_definitions, script_typed}
+use Rattle.vtl_check.specs.Uses.{reads}
 use Rattle.sql_back.specs.Texts.{IsTextFor}
 use Rattle.vtl_top.specs.ScriptFile.{IsParsed, Parsed, faulty, no_text, whole}
 use Rattle.vtl_top.specs.Steps.{File, Held, Name, Path, Step, Text, ◌>>=◌, refused_if, settled}

@@ -1,7 +1,7 @@
 -- What a back end was told of the script that is run.
 use Rattle.std.specs.Prelude.{◌≡◌, ⊤, Option, None, Some, Ok, IfSome}
 use Rattle.vtl_files.specs.declared.files.Files.{Ghosts}
-use Rattle.vtl_interp.specs.Checked.{TypedScript, nodes_of, tree_of}
+use Rattle.vtl_check.specs.Checked.{TypedScript, nodes_of, tree_of}
 use Rattle.vtl_top.specs.Expected.{Typed, built_step, typed_by}
 use Rattle.vtl_top.specs.Steps.{Held}
 use Rattle.vtl_top.specs.Words.{Command, Source, engine, run, sql, sqlrun}

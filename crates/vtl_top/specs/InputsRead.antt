@@ -2,7 +2,7 @@
 use Rattle.std.specs.Prelude.{◌≡◌, ℕ, true, List, [], ◌∷◌, ◌++◌, map}
 use Rattle.std.specs.List.{AllByRecursion}
 use Rattle.std.specs.Map.{keys_of}
-use Rattle.vtl_cell.specs.Apart.{all_apart}
+use Rattle.vtl_lists.specs.Apart.{all_apart}
 use Rattle.vtl_cell.specs.Row.{Row}
 use Rattle.vtl_decimal.specs.Settings.{Settings}
 use Rattle.vtl_rows.specs.Named.{NamedTables}
@@ -11,7 +11,7 @@ use Rattle.vtl_tree.specs.DataSet.{AreOfProfile}
 use Rattle.vtl_tree.specs.Structure.{IsStructure, same_name}
 use Rattle.vtl_tree.specs.Structures.{Named}
 use Rattle.vtl_tree.specs.declared.structure.Structure.{Structure}
-use Rattle.vtl_interp.specs.TableOf.{IsTableOf}
+use Rattle.vtl_sets.specs.TableOf.{IsTableOf}
 use Rattle.vtl_top.specs.declared.inputs.Wanted.{Wanted}
 
 -- a data set that is wanted: its name and its structure

@@ -5,10 +5,10 @@ use Rattle.vtl_parser.specs.Parsed.{IsScript}
 use Rattle.vtl_tree.specs.Environment.{Environment}
 use Rattle.vtl_tree.specs.Structures.{Named}
 use Rattle.vtl_cell.specs.Outcome.{Fault}
-use Rattle.vtl_interp.specs.Checked.{env_over}
-use Rattle.vtl_interp.specs.Script.{has_definitions, script_typed}
-use Rattle.vtl_interp.specs.Uses.{reads}
-use Rattle.vtl_interp.specs.Meaning.{Outputs, is_built}
+use Rattle.vtl_check.specs.Checked.{env_over}
+use Rattle.vtl_check.specs.Script.{has_definitions, script_typed}
+use Rattle.vtl_check.specs.Uses.{reads}
+use Rattle.vtl_meaning.specs.Meaning.{Outputs, is_built}
 use Rattle.std.specs.List.{list_all}
 use Rattle.vtl_top.specs.Expected.{IsTextOf, Typed, content, inputs_step, meant, output_of, script_limit, structures_step}
 use Rattle.vtl_top.specs.Steps.{File, Held, Name, Text}

@@ -10,22 +10,22 @@ use Rattle.vtl_syntax.specs.View.{script_tree}
 use Rattle.vtl_syntax.specs.declared.statements.Script.{Script}
 use Rattle.vtl_cell.specs.Row.{Row}
 use Rattle.vtl_rows.specs.Tables.{Listed}
-use Rattle.vtl_interp.specs.error.RunErr.{RunErr}
-use Rattle.vtl_interp.specs.error.RunErr.TheVariants as run
+use Rattle.vtl_backend.specs.declared.error.RunErr.{RunErr}
+use Rattle.vtl_backend.specs.declared.error.RunErr.TheVariants as run
 use Rattle.vtl_tree.specs.declared.structure.Structure.{Structure}
-use Rattle.vtl_interp.specs.TableOf.{IsTableOf}
-use Rattle.vtl_status.specs.InputFile.{Fault}
+use Rattle.vtl_sets.specs.TableOf.{IsTableOf}
+use Rattle.vtl_csv.specs.InputFile.{Fault}
 use Rattle.sql_tree.specs.Texts as texts
 use Rattle.sql_tree.specs.View.{script_tree as sql_tree}
 use Rattle.sql_tree.specs.declared.statements.SqlScript.{SqlScript}
-use Rattle.sql_back.specs.parsing.SqlErr.{SqlErr}
-use Rattle.sql_back.specs.parsing.SqlErr.TheVariants as sql
-use Rattle.sql_back.specs.engine_error.SqlTypeErr.{SqlTypeErr}
-use Rattle.sql_back.specs.engine_error.SqlTypeErr.TheVariants as typed
-use Rattle.sql_back.specs.error.RunErr.{RunErr as SqlRunErr}
-use Rattle.sql_back.specs.error.RunErr.TheVariants as engine
-use Rattle.vtl_status.specs.input.InputErr.{InputErr}
-use Rattle.vtl_status.specs.input.InputErr.TheVariants as input
+use Rattle.sql_parser.specs.declared.parsing.SqlErr.{SqlErr}
+use Rattle.sql_parser.specs.declared.parsing.SqlErr.TheVariants as sql
+use Rattle.sql_check.specs.declared.error.SqlTypeErr.{SqlTypeErr}
+use Rattle.sql_check.specs.declared.error.SqlTypeErr.TheVariants as typed
+use Rattle.sql_engine.specs.declared.error.RunErr.{RunErr as SqlRunErr}
+use Rattle.sql_engine.specs.declared.error.RunErr.TheVariants as engine
+use Rattle.vtl_csv.specs.declared.input.InputErr.{InputErr}
+use Rattle.vtl_csv.specs.declared.input.InputErr.TheVariants as input
 use Rattle.vtl_top.specs.Expected.{points_or_fault}
 use Rattle.vtl_status.specs.declared.status.Status.{Status}
 use Rattle.vtl_status.specs.declared.status.Status.TheVariants as st

@@ -9,7 +9,7 @@ use Rattle.vtl_rows.specs.Tables.{Listed}
 use Rattle.vtl_tree.specs.Structure.{same_name}
 use Rattle.vtl_tree.specs.Structures.{Named, structure_of}
 use Rattle.vtl_tree.specs.declared.structure.Structure.{Structure}
-use Rattle.vtl_interp.specs.TableOf.{IsTableOf}
+use Rattle.vtl_sets.specs.TableOf.{IsTableOf}
 use Rattle.vtl_top.specs.Expected.{data_set, output_of}
 use Rattle.vtl_top.specs.Steps.{File, Path}
 

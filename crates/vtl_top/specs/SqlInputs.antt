@@ -5,8 +5,8 @@ use Rattle.vtl_tree.specs.Structures.{Named}
 use Rattle.vtl_tree.specs.declared.structure.Structure.{Structure}
 use Rattle.sql_tree.specs.Trees as tree
 use Rattle.sql_tree.specs.Trees.{ScriptTree}
-use Rattle.sql_back.specs.EngineScripts.{Inputs}
-use Rattle.sql_back.specs.Structures.{structure_of}
+use Rattle.sql_meaning.specs.Scripts.{Inputs}
+use Rattle.sql_engine.specs.Structures.{structure_of}
 use Rattle.vtl_top.specs.declared.sql_inputs.Input.{Input}
 
 -- the name and the structure of each INPUT, in the order in which they are written

@@ -5,8 +5,8 @@ use Rattle.vtl_tree.specs.Environment.{Environment}
 use Rattle.vtl_cell.specs.Outcome.{Fault}
 use Rattle.sql_tree.specs.Texts.{IsScript}
 use Rattle.sql_tree.specs.Trees.{ScriptTree}
-use Rattle.sql_back.specs.TypingStatements.{Fault as Breach, IsTypedScript, script_fault, script_settings}
-use Rattle.sql_back.specs.EngineScripts.{Export, script_value}
+use Rattle.sql_check_parts.specs.Statements.{Fault as Breach, IsTypedScript, script_fault, script_settings}
+use Rattle.sql_meaning.specs.Scripts.{Export, script_value}
 use Rattle.vtl_top.specs.Expected.{inputs_step}
 use Rattle.vtl_top.specs.SqlInputs.{input_structures, rows_by_name}
 use Rattle.vtl_top.specs.SqlRun.{export_file}

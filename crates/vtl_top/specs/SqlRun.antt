@@ -3,12 +3,12 @@ use Rattle.std.specs.Prelude.{◌≡◌, List, [], map, Option, Some, None, Resu
 use Rattle.vtl_files.specs.Outside.{bytes_at}
 use Rattle.vtl_decimal.specs.Settings.{Settings}
 use Rattle.vtl_rows.specs.Tables.{Listed}
-use Rattle.vtl_status.specs.TableText.{rows_text}
+use Rattle.vtl_csv.specs.TableText.{rows_text}
 use Rattle.sql_tree.specs.Trees.{ScriptTree}
-use Rattle.sql_back.specs.Rules.{number_of}
-use Rattle.sql_back.specs.TypingStatements.{Fault, script_fault, script_settings}
-use Rattle.sql_back.specs.EngineScripts.{Export, NamedFault, script_value}
-use Rattle.sql_back.specs.Exported.{shown}
+use Rattle.sql_check_parts.specs.Rules.{number_of}
+use Rattle.sql_check_parts.specs.Statements.{Fault, script_fault, script_settings}
+use Rattle.sql_meaning.specs.Scripts.{Export, NamedFault, script_value}
+use Rattle.sql_engine.specs.Exported.{shown}
 use Rattle.vtl_top.specs.SqlInputs.{input_structures, rows_by_name}
 use Rattle.vtl_top.specs.Expected.{fault_status, file_in, inputs_step}
 use Rattle.vtl_top.specs.ScriptFile.{IsSqlParsed, Parsed, faulty, no_text, whole}

@@ -2,7 +2,7 @@
 use Rattle.std.specs.Prelude.{Result, Ok, Err, chars, if◌then◌else◌}
 use Rattle.std.specs.Str.{is_utf8}
 use Rattle.vtl_tree.specs.Structures.{Named}
-use Rattle.vtl_status.specs.StructuresFile.{Fault, structures_of_file}
+use Rattle.vtl_csv.specs.StructuresFile.{Fault, structures_of_file}
 use Rattle.vtl_top.specs.Steps.{Path, Text}
 use Rattle.vtl_status.specs.declared.status.Status.{Status}
 use Rattle.vtl_status.specs.declared.status.Status.TheVariants as st

@@ -15,8 +15,9 @@ use crate::run::{prepare, prepare_text};
 use crate::sql_run::prepare_exports;
 use crate::words::{Command, Engine, Run, Source};
 use std::alloc::Global;
+use vtl_backend::Backend;
 use vtl_files::Files;
-use vtl_interp::{Backend, Interp};
+use vtl_interp::Interp;
 use vtl_status::Status;
 use vtl_text::Txt;
 

@@ -3,8 +3,9 @@ ghost use Rattle.std.specs.Prelude.{◌≡◌, chars};
 ghost use Rattle.vtl_top.specs.Refusal.{IsOrMemory, input_refusal, refusal_of};
 
 use std::alloc::Global;
+use vtl_csv::InputErr;
 use vtl_files::ReadErr;
-use vtl_status::{InputErr, Status};
+use vtl_status::Status;
 use vtl_text::Txt;
 
 /// The status that names the path of a file which was not read.

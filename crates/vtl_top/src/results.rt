@@ -1,11 +1,11 @@
 // The outputs of the results.
 ghost use Rattle.std.specs.Prelude.{◌≡◌, ◌<◌, true, length, map, slice_index_or, IfOk};
 ghost use Rattle.std.specs.List.{AllByRecursion};
-ghost use Rattle.vtl_interp.specs.TableOf.{IsTableOf};
-ghost use Rattle.vtl_interp.specs.Checked.{known_of};
-ghost use Rattle.vtl_interp.specs.Inputs.{AreInRange, AreInputs};
-ghost use Rattle.vtl_interp.specs.Runs.{script_meaning};
-ghost use Rattle.vtl_interp.specs.Statements.{is_script_built};
+ghost use Rattle.vtl_sets.specs.TableOf.{IsTableOf};
+ghost use Rattle.vtl_check.specs.Checked.{known_of};
+ghost use Rattle.vtl_backend.specs.Inputs.{AreInRange, AreInputs};
+ghost use Rattle.vtl_backend.specs.Runs.{script_meaning};
+ghost use Rattle.vtl_backend.specs.Statements.{is_script_built};
 ghost use Rattle.vtl_top.specs.Expected.{data_set, output_of, outputs_of};
 ghost use Rattle.vtl_top.specs.OutputView.{NamesPath, output_view, outputs_view};
 ghost use Rattle.vtl_top.specs.Refusal.{SettlesBy, faulted};
@@ -16,9 +16,12 @@ ghost use Rattle.vtl_top.specs.Steps.{status_of};
 use crate::output::Output;
 use crate::reading::file_in;
 use std::alloc::{AllocError, Global};
-use vtl_interp::{Backend, Checked, RunErr, run_over};
+use vtl_backend::{Backend, RunErr};
+use vtl_check::Checked;
+use vtl_csv::write_dataset;
+use vtl_interp::run_over;
 use vtl_rows::{Table, Tables};
-use vtl_status::{Status, write_dataset};
+use vtl_status::Status;
 use vtl_text::Txt;
 use vtl_tree::Structure;
 

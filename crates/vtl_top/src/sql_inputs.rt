@@ -1,17 +1,18 @@
 // The data sets that an SQL script reads, from their files.
 ghost use Rattle.std.specs.Prelude.{◌≡◌, [], map, IfOk};
 ghost use Rattle.sql_tree.specs.View.{script_tree, statement_tree};
-ghost use Rattle.sql_back.specs.EngineScripts.{Inputs};
-ghost use Rattle.sql_back.specs.TypingStatements.{script_settings};
-ghost use Rattle.sql_back.specs.InputTables.{AreInputsInRange, HaveInputTables, rows_given};
-ghost use Rattle.vtl_interp.specs.Inputs.{input_of};
+ghost use Rattle.sql_meaning.specs.Scripts.{Inputs};
+ghost use Rattle.sql_check_parts.specs.Statements.{script_settings};
+ghost use Rattle.sql_engine.specs.InputTables.{AreInputsInRange, HaveInputTables, rows_given};
+ghost use Rattle.vtl_backend.specs.Inputs.{input_of};
 ghost use Rattle.vtl_top.specs.Answered.{Takes};
 ghost use Rattle.vtl_top.specs.Expected.{inputs_step};
 ghost use Rattle.vtl_top.specs.InputsRead.{all_wanted};
 ghost use Rattle.vtl_top.specs.SqlInputs.{declared_by, input_structures, rows_by_name};
 
 use crate::inputs::{Wanted, read_all_wanted};
-use sql_back::{SqlChecked, structure_of};
+use sql_check::SqlChecked;
+use sql_engine::structure_of;
 use sql_tree::Statement;
 use std::alloc::{AllocError, Global};
 use vtl_files::Files;

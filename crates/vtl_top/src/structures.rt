@@ -1,12 +1,13 @@
 // The structures of the structures file.
 ghost use Rattle.vtl_top.specs.Refusal.{Settles};
 ghost use Rattle.vtl_top.specs.Structures.{declared, structures_in};
-ghost use Rattle.vtl_status.specs.StructuresFile.{structures_of_file};
+ghost use Rattle.vtl_csv.specs.StructuresFile.{structures_of_file};
 
 use crate::refusal::not_text;
 use std::alloc::Global;
 use std::str;
-use vtl_status::{Status, StructErr, read_structures};
+use vtl_csv::{StructErr, read_structures};
+use vtl_status::Status;
 use vtl_tree::Structures;
 
 /// The structures that the bytes of the file at a path declare, or the status of their first fault; or that memory ran

@@ -16,8 +16,8 @@ use crate::output::write_outputs;
 use crate::words::{Command, command_of};
 use sql_back::{Bundled, SqlBack, TextEngine};
 use std::alloc::Global;
+use vtl_backend::Backend;
 use vtl_files::{Failed, Files, Sink, sink_all};
-use vtl_interp::Backend;
 use vtl_status::{Status, tell};
 
 /// Carries out the words of a command line over the given files and the given sink, and answers how it went.

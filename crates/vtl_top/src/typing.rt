@@ -2,14 +2,14 @@
 ghost use Rattle.std.specs.Prelude.{◌≡◌, IfOk, false};
 ghost use Rattle.vtl_syntax.specs.View.{script_tree};
 ghost use Rattle.vtl_syntax.specs.Written.{AreWritten};
-ghost use Rattle.vtl_interp.specs.Checked.{env_over, nodes_of};
-ghost use Rattle.vtl_interp.specs.Script.{has_definitions, script_typed};
+ghost use Rattle.vtl_check.specs.Checked.{env_over, nodes_of};
+ghost use Rattle.vtl_check.specs.Script.{has_definitions, script_typed};
 ghost use Rattle.vtl_top.specs.Expected.{typed_or_fault};
 ghost use Rattle.vtl_top.specs.Refusal.{SettlesBy};
 
 use std::alloc::Global;
+use vtl_check::{CheckErr, Checked, check};
 use vtl_decimal::Profile;
-use vtl_interp::{CheckErr, Checked, check};
 use vtl_status::Status;
 use vtl_syntax::Script;
 use vtl_tree::Structures;

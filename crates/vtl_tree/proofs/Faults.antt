@@ -3,7 +3,7 @@ use Rattle.std.proofs.Common.{◌≡◌, ℕ, ◌+◌, ◌<◌, length, take, ge
 use Rattle.std.proofs.lemmas.List.{take_more}
 use Rattle.vtl_cell.specs.Outcome.{Fault, DivZero, Range, join, faults_by, unless}
 use Rattle.vtl_cell.specs.Outcomes.{Same}
-use Rattle.vtl_cell.specs.Perm.{Perm, empty, keep, cross, chain}
+use Rattle.vtl_lists.specs.Perm.{Perm, empty, keep, cross, chain}
 
 join_swap : (f g h : Option Fault) → join f (join g h) ≡ join g (join f h)
 join_swap None g h = refl

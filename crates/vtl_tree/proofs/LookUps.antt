@@ -1,10 +1,10 @@
 -- Data sets by look-up: the point of each tuple of identifiers.
 use Rattle.std.proofs.Common.{◌≡◌, ℕ, List, [], ◌∷◌, ◌++◌, Bool, true, false, cond, take, Option, Some, None, refl, sym, ap, ◌∙◌, subst, true≢false}
 use Rattle.std.specs.List.{filter, AllByRecursion}
-use Rattle.vtl_cell.specs.Perm.{Perm, empty, keep, cross, chain}
-use Rattle.vtl_cell.proofs.Aparts.{all_apart-Perm, apart_parts}
-use Rattle.vtl_cell.proofs.Perms.{Perm-same, Perm-sym, Perm-middle}
-use Rattle.vtl_cell.proofs.Sorts.{AllByRecursion-filter}
+use Rattle.vtl_lists.specs.Perm.{Perm, empty, keep, cross, chain}
+use Rattle.vtl_lists.proofs.Aparts.{all_apart-Perm, apart_parts}
+use Rattle.vtl_lists.proofs.Perms.{Perm-same, Perm-sym, Perm-middle}
+use Rattle.vtl_lists.proofs.Sorts.{AllByRecursion-filter}
 use Rattle.vtl_cell.specs.Row.{Row, same_key, same_row}
 use Rattle.vtl_cell.proofs.Rows.{same_key-sym, same_row-is, same_row-refl, same_row-sym}
 use Rattle.vtl_tree.specs.DataSet.{Distinct, look}

@@ -1,6 +1,6 @@
 -- The clauses on data sets, as functions on lists of points.
 use Rattle.std.specs.Prelude.{List, filter}
-use Rattle.vtl_cell.specs.Settings.{Settings}
+use Rattle.vtl_decimal.specs.Settings.{Settings}
 use Rattle.vtl_cell.specs.Row.{Row}
 use Rattle.vtl_cell.specs.Outcome.{Outcome, fault_in, faults_by, unless}
 use Rattle.vtl_cell.specs.Outcomes.{is_true}

@@ -1,9 +1,3 @@
-pub use Rattle.vtl_cell.specs.Apart
-pub use Rattle.vtl_cell.specs.Kinds
-pub use Rattle.vtl_cell.specs.Results
-pub use Rattle.vtl_cell.specs.ScalarKinds
-pub use Rattle.vtl_cell.specs.Words
-pub use Rattle.vtl_cell.specs.declared.kind
 pub mod Clauses
 pub mod DataSet
 pub mod CompExp

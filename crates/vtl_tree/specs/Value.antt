@@ -1,6 +1,6 @@
 -- The value of a component expression at a point.
 use Rattle.std.specs.Prelude.{ℕ, ◌==◌, Bool, false, Ok, List, [], ◌∷◌}
-use Rattle.vtl_cell.specs.Settings.{Settings}
+use Rattle.vtl_decimal.specs.Settings.{Settings}
 use Rattle.vtl_cell.specs.declared.cell.Cell.{Cell}
 use Rattle.vtl_cell.specs.declared.cell.Cell.TheVariants as c
 use Rattle.vtl_cell.specs.declared.kind.Kind.{Kind}

@@ -1,7 +1,7 @@
 // Whether a structure may be declared.
 ghost use Rattle.std.specs.Prelude.{◌≡◌, IfOk, length};
 ghost use Rattle.std.specs.List.{list_all, list_any};
-ghost use Rattle.vtl_cell.specs.Apart.{all_apart};
+ghost use Rattle.vtl_lists.specs.Apart.{all_apart};
 ghost use Rattle.vtl_tree.specs.Structure.{names_of, same_name};
 ghost use Rattle.vtl_tree.specs.Structures.{are_codes, codes_fit, is_declarable, is_declarable_component, is_filled, is_null_kind, is_string_identifier};
 

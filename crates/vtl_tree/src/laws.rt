@@ -1,8 +1,8 @@
 // Laws of the definitions.
 ghost use Rattle.std.specs.Prelude.{◌≡◌, ℕ, List, Ok};
 ghost use Rattle.vtl_cell.specs.Outcomes.{Same, is_true};
-ghost use Rattle.vtl_cell.specs.Settings.{Settings};
-ghost use Rattle.vtl_cell.specs.Perm.{Perm};
+ghost use Rattle.vtl_decimal.specs.Settings.{Settings};
+ghost use Rattle.vtl_lists.specs.Perm.{Perm};
 ghost use Rattle.vtl_cell.specs.Row.{Row};
 ghost use Rattle.vtl_tree.specs.Clauses.{filter_of, kept};
 ghost use Rattle.vtl_tree.specs.DataSet.{Distinct, IsDataSet, look};

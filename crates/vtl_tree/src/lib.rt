@@ -20,6 +20,3 @@ pub use expression::{AggCall, CompExpr};
 pub use laws::{filter_is_a_clause, points_are_a_map};
 pub use structure::{Component, Role, Structure, is_same_role};
 pub use structures::{MAX_COMPONENTS, Structures};
-pub use vtl_cell::{
-    Kind, List, Shared, Txt, are_distinct, clone_cell, is_component_name, is_same_kind,
-};

@@ -7,17 +7,17 @@ use Rattle.std.specs.Option.{option_map_or}
 use Rattle.std.proofs.lemmas.List.{append-nil, drop-set-lt, drop_all, drop_more, map-append, map_more, take_all, take_more_set}
 use Rattle.vtl_cell.specs.Outcome.{DivZero, Fault, Outcome, Range, fault_in, faults_by, join}
 use Rattle.vtl_cell.specs.Row.{Row, column_of}
-use Rattle.vtl_cell.specs.Settings.{Settings}
+use Rattle.vtl_decimal.specs.Settings.{Settings}
 use Rattle.vtl_cell.specs.declared.cell.Cell.{Cell}
 use Rattle.vtl_tree.specs.Environment.{DataSet}
 use Rattle.vtl_tree.specs.Shown.{shown}
 use Rattle.vtl_tree.specs.Structure.{columns_of}
 use Rattle.vtl_tree.specs.declared.structure.Component.{Component}
 use Rattle.vtl_tree.proofs.Faults.{faults_by-append, join_assoc, join_none}
-use Rattle.vtl_expr.specs.AggregatePoints.{Made, cell_or_null}
-use Rattle.vtl_group.specs.AnalyticPoints.{made_of, point_of, tree_value, value_for}
-use Rattle.vtl_group.specs.Columns.{place_of}
-use Rattle.vtl_group.specs.Trees.{AnalyticTree, ValueTree}
+use Rattle.vtl_aggregates.specs.Aggregates.{Made, cell_or_null}
+use Rattle.vtl_windows.specs.Analytics.{made_of, point_of, tree_value, value_for}
+use Rattle.check_shapes.specs.Columns.{place_of}
+use Rattle.vtl_nodes.specs.Trees.{AnalyticTree, ValueTree}
 use Rattle.vtl_group.proofs.GroupWalks.{cells_more, seen_more}
 use Rattle.vtl_window.specs.Analyses.{cells_by, cells_in, faults_of, made_cells, made_faults}
 use Rattle.vtl_window.proofs.PartitionLemmas.{listed}

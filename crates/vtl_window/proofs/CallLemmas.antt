@@ -8,21 +8,21 @@ use Rattle.std.proofs.lemmas.List.{get_or-map, length-map}
 use Rattle.vtl_cell.specs.Frames.{frame_of}
 use Rattle.vtl_cell.specs.Outcome.{Outcome}
 use Rattle.vtl_cell.specs.Row.{Row, column_of}
-use Rattle.vtl_cell.specs.Settings.{Settings}
+use Rattle.vtl_decimal.specs.Settings.{Settings}
 use Rattle.vtl_cell.specs.declared.cell.Cell.{Cell}
 use Rattle.vtl_cell.specs.declared.cell.Cell.TheVariants as c
 use Rattle.vtl_cell.specs.declared.Txt.{Txt}
-use Rattle.vtl_expr.specs.Columns.{place_of}
+use Rattle.check_shapes.specs.Columns.{place_of}
 use Rattle.vtl_frames.specs.Framed as frames
 use Rattle.vtl_frames.specs.Framed.{at_each}
 use Rattle.vtl_rows.specs.Places.{row_at}
 use Rattle.vtl_tree.specs.declared.structure.Component.{Component}
-use Rattle.vtl_group.specs.calls.AnalyticCall.{AnalyticCall}
-use Rattle.vtl_group.specs.calls.AnalyticOp.{AnalyticOp}
-use Rattle.vtl_group.specs.calls.Bound.{Bound}
-use Rattle.vtl_group.specs.calls.Bound.TheVariants as bound
-use Rattle.vtl_group.specs.calls.Window.{Window}
-use Rattle.vtl_group.specs.PointWindows.{argument, bound_of, frame_in, framed, op_value}
+use Rattle.vtl_nodes.specs.declared.calls.AnalyticCall.{AnalyticCall}
+use Rattle.vtl_nodes.specs.declared.calls.AnalyticOp.{AnalyticOp}
+use Rattle.vtl_nodes.specs.declared.calls.Bound.{Bound}
+use Rattle.vtl_nodes.specs.declared.calls.Bound.TheVariants as bound
+use Rattle.vtl_nodes.specs.declared.calls.Window.{Window}
+use Rattle.vtl_windows.specs.Windows.{argument, bound_of, frame_in, framed, op_value}
 use Rattle.vtl_window.specs.Frames.{bound_in, taken_frame}
 use Rattle.vtl_window.specs.Runs.{lane_cells, run_values, stand_at, value_at}
 

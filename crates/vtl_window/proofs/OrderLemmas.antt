@@ -7,9 +7,9 @@ use Rattle.std.specs.declared.cmp.Ordering.{Ordering}
 use Rattle.std.proofs.lemmas.List.{map-append}
 use Rattle.vtl_cell.specs.Row.{Row}
 use Rattle.vtl_cell.specs.Sorted.{by_keys}
-use Rattle.vtl_cell.specs.Sorting.{Rises, le_by}
+use Rattle.vtl_lists.specs.Sorting.{Rises, le_by}
 use Rattle.vtl_cell.proofs.Keys.{by_keys_total}
-use Rattle.vtl_cell.proofs.Sorts.{Rises-from_IsSorted}
+use Rattle.vtl_lists.proofs.Sorts.{Rises-from_IsSorted}
 use Rattle.vtl_rows.specs.Keys.{key_of, tie_by}
 use Rattle.vtl_rows.specs.Places.{IsOrderOf, row_at}
 use Rattle.vtl_rows.specs.declared.column.SortKey.{SortKey}

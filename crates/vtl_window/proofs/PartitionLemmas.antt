@@ -6,12 +6,12 @@ use Rattle.std.specs.Ordering.{is_eq}
 use Rattle.std.proofs.lemmas.List.{get_or-map, length-map}
 use Rattle.std.proofs.lemmas.List.Elements.{recursion_from_All}
 use Rattle.std.proofs.lemmas.List.FromFn.{fill_by_all}
-use Rattle.vtl_cell.specs.Perm.{Perm}
+use Rattle.vtl_lists.specs.Perm.{Perm}
 use Rattle.vtl_cell.specs.Row.{Row, same_row}
 use Rattle.vtl_cell.specs.Sorted.{by_keys, rising}
-use Rattle.vtl_cell.proofs.Perms.{Perm-filter, Perm-from_IsPermutation, Perm-map, Perm-sym}
+use Rattle.vtl_lists.proofs.Perms.{Perm-filter, Perm-from_IsPermutation, Perm-map, Perm-sym}
 use Rattle.vtl_cell.proofs.Rows.{same_row-is, same_row-refl}
-use Rattle.vtl_cell.proofs.Sorts.{AllByRecursion-filter, Rises-filter}
+use Rattle.vtl_lists.proofs.Sorts.{AllByRecursion-filter, Rises-filter}
 use Rattle.vtl_rows.specs.Keys.{agree, key_of, tie_by}
 use Rattle.vtl_rows.specs.Places.{IsOrderOf, row_at}
 use Rattle.vtl_rows.specs.Tables.{cells_at}
@@ -22,10 +22,10 @@ use Rattle.vtl_tree.specs.DataSet.{IsDataSet, is_point}
 use Rattle.vtl_tree.specs.Environment.{DataSet}
 use Rattle.vtl_tree.specs.Structure.{columns_of}
 use Rattle.vtl_tree.specs.declared.structure.Component.{Component}
-use Rattle.vtl_expr.specs.Groups.{places_named}
-use Rattle.vtl_group.specs.PointWindows.{partition_of}
-use Rattle.vtl_group.specs.calls.Window.{Window}
-use Rattle.vtl_group.proofs.Places.{all_filtered, all_more, point_length}
+use Rattle.vtl_aggregates.specs.Groups.{places_named}
+use Rattle.vtl_windows.specs.Windows.{partition_of}
+use Rattle.vtl_nodes.specs.declared.calls.Window.{Window}
+use Rattle.vtl_meaning.proofs.Places.{all_filtered, all_more, point_length}
 use Rattle.vtl_window.specs.Runs.{AreInOrder}
 use Rattle.vtl_window.specs.Sorted.{order_keys, partition_keys}
 use Rattle.vtl_window.proofs.OrderLemmas.{at_most, first_order, last_order, sort_order}

@@ -2,14 +2,14 @@
 use Rattle.std.proofs.Common.{◌≡◌, ℕ, zero, suc, ◌<◌, ◌≤◌, ◌⊎◌, inl, inr, List, [], ◌∷◌, length, take, get_or, Bool, true, false, not, refl, sym, ap, ◌∙◌, arith, true≢false}
 use Rattle.std.specs.Prelude.{count_by}
 use Rattle.std.specs.Ordering.{is_lt}
-use Rattle.vtl_cell.specs.Apart.{all_apart}
+use Rattle.vtl_lists.specs.Apart.{all_apart}
 use Rattle.vtl_cell.specs.Row.{Row, same_key, same_row}
 use Rattle.vtl_cell.specs.Sorted.{Key, window_cmp}
-use Rattle.vtl_cell.specs.Sorting.{Rises, le_by}
-use Rattle.vtl_cell.proofs.Aparts.{apart_more, apart_parts}
+use Rattle.vtl_lists.specs.Sorting.{Rises, le_by}
+use Rattle.vtl_lists.proofs.Aparts.{apart_more, apart_parts}
 use Rattle.vtl_cell.proofs.Keys.{window_order}
 use Rattle.vtl_cell.proofs.Rows.{same_row-is, same_row-refl}
-use Rattle.vtl_group.proofs.Places.{all_more}
+use Rattle.vtl_meaning.proofs.Places.{all_more}
 use Rattle.vtl_window.proofs.PutLemmas.{all_get}
 use Rattle.vtl_window.proofs.RankLemmas.{below_or_not, count_front, rises_get}
 

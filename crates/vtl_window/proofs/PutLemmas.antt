@@ -11,9 +11,9 @@ use Rattle.std.proofs.lemmas.List.FromFn.{fill_by_all, get_or-range_with_len, le
 use Rattle.vtl_cell.specs.Outcome.{Fault, Outcome, fault_in, join}
 use Rattle.vtl_cell.specs.declared.cell.Cell.{Cell}
 use Rattle.vtl_cell.specs.declared.cell.Cell.TheVariants as c
-use Rattle.vtl_cell.proofs.Perms.{AllByRecursion-Perm, Perm-from_IsPermutation, Perm-sym, length-Perm}
+use Rattle.vtl_lists.proofs.Perms.{AllByRecursion-Perm, Perm-from_IsPermutation, Perm-sym, length-Perm}
 use Rattle.vtl_tree.proofs.Faults.{faults_by-Perm, join_assoc}
-use Rattle.vtl_expr.specs.AggregatePoints.{cell_or_null}
+use Rattle.vtl_aggregates.specs.Aggregates.{cell_or_null}
 use Rattle.vtl_window.specs.Analyses.{cells_by, faults_of}
 
 pub all_get : {X : Type 0} (P : X → Type 0) (xs : List X) (k : ℕ) (d : X) → k < length xs → AllByRecursion P xs → P (get_or xs k d)

@@ -8,13 +8,13 @@ use Rattle.std.specs.declared.cmp.Ordering.{Ordering}
 use Rattle.std.specs.declared.cmp.Ordering.TheVariants.{Less, Equal, Greater}
 use Rattle.std.proofs.lemmas.Cmp.{upto}
 use Rattle.std.proofs.lemmas.List.Sums.{length-filter, sum_by-cons}
-use Rattle.vtl_cell.specs.Perm.{Perm}
+use Rattle.vtl_lists.specs.Perm.{Perm}
 use Rattle.vtl_cell.specs.Row.{Row}
-use Rattle.vtl_cell.specs.Settings.{Settings}
+use Rattle.vtl_decimal.specs.Settings.{Settings}
 use Rattle.vtl_cell.specs.Sorted.{Key, by_keys, row_rank}
-use Rattle.vtl_cell.specs.Sorting.{Rises, le_by}
+use Rattle.vtl_lists.specs.Sorting.{Rises, le_by}
 use Rattle.vtl_cell.proofs.Keys.{by_keys_total}
-use Rattle.vtl_cell.proofs.Perms.{Perm-filter, length-Perm}
+use Rattle.vtl_lists.proofs.Perms.{Perm-filter, length-Perm}
 use Rattle.vtl_rows.specs.Keys.{key_of}
 use Rattle.vtl_rows.specs.Places.{row_at}
 use Rattle.vtl_rows.specs.Runs.{is_start, last_start, rank_at}

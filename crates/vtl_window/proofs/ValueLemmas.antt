@@ -6,17 +6,17 @@ use Rattle.std.specs.declared.cmp.Ordering.{Ordering}
 use Rattle.std.specs.declared.cmp.Ordering.TheVariants.{Less, Equal, Greater}
 use Rattle.std.proofs.lemmas.Bool.{and_parts, cases_order}
 use Rattle.std.proofs.lemmas.List.{get_or-map, length-map}
-use Rattle.vtl_cell.specs.Perm.{chain}
+use Rattle.vtl_lists.specs.Perm.{chain}
 use Rattle.vtl_cell.specs.Row.{Row, row_cmp, same_key, same_row}
-use Rattle.vtl_cell.specs.Settings.{Settings}
+use Rattle.vtl_decimal.specs.Settings.{Settings}
 use Rattle.vtl_cell.specs.Sorted.{Key, by_keys, rising, window_cmp}
-use Rattle.vtl_cell.specs.Sorting.{Rises, le_by}
+use Rattle.vtl_lists.specs.Sorting.{Rises, le_by}
 use Rattle.vtl_cell.specs.declared.cell.Cell.{Cell}
-use Rattle.vtl_cell.proofs.Aparts.{all_apart-Perm, all_apart-filter}
+use Rattle.vtl_lists.proofs.Aparts.{all_apart-Perm, all_apart-filter}
 use Rattle.vtl_cell.proofs.Keys.{window_order}
-use Rattle.vtl_cell.proofs.Perms.{Perm-sym}
+use Rattle.vtl_lists.proofs.Perms.{Perm-sym}
 use Rattle.vtl_cell.proofs.Rows.{row_cmp_total, same_row-is, same_row-refl, same_row-sym}
-use Rattle.vtl_cell.proofs.Sorts.{Perm-sorted_by, Rises-map, sorted_is}
+use Rattle.vtl_lists.proofs.Sorts.{Perm-sorted_by, Rises-map, sorted_is}
 use Rattle.vtl_rows.specs.Keys.{agree}
 use Rattle.vtl_rows.specs.Places.{IsOrderOf, row_at}
 use Rattle.vtl_rows.specs.Tables.{cells_at}
@@ -27,13 +27,13 @@ use Rattle.vtl_tree.specs.DataSet.{IsDataSet, is_point}
 use Rattle.vtl_tree.specs.Environment.{DataSet}
 use Rattle.vtl_tree.specs.Structure.{columns_of, key_width}
 use Rattle.vtl_tree.specs.declared.structure.Component.{Component}
-use Rattle.vtl_expr.specs.Columns.{identifiers_of}
-use Rattle.vtl_expr.specs.Groups.{places_named}
-use Rattle.vtl_group.specs.PointWindows.{argument, call_value, identifier_places, keys_in, op_value, partition_of, stand_of}
-use Rattle.vtl_group.specs.calls.AnalyticCall.{AnalyticCall}
-use Rattle.vtl_group.specs.calls.AnalyticOp.{AnalyticOp}
-use Rattle.vtl_group.specs.calls.AnalyticOp.TheVariants as op
-use Rattle.vtl_group.proofs.Places.{key_cells, key_within}
+use Rattle.check_shapes.specs.Columns.{identifiers_of}
+use Rattle.vtl_aggregates.specs.Groups.{places_named}
+use Rattle.vtl_windows.specs.Windows.{argument, call_value, identifier_places, keys_in, op_value, partition_of, stand_of}
+use Rattle.vtl_nodes.specs.declared.calls.AnalyticCall.{AnalyticCall}
+use Rattle.vtl_nodes.specs.declared.calls.AnalyticOp.{AnalyticOp}
+use Rattle.vtl_nodes.specs.declared.calls.AnalyticOp.TheVariants as op
+use Rattle.vtl_meaning.proofs.Places.{key_cells, key_within}
 use Rattle.vtl_window.specs.Runs.{run_values, stand_at, value_at}
 use Rattle.vtl_window.specs.Sorted.{identifier_keys, order_keys, partition_keys, sort_keys, tie_breakers}
 use Rattle.vtl_window.proofs.CallLemmas.{map_same}

@@ -4,7 +4,7 @@ use Rattle.std.specs.Prelude.{IfOk, option_map}
 use Rattle.std.specs.List.{AllByRecursion, find}
 use Rattle.vtl_cell.specs.Outcome.{DivZero, Fault, Range, faults_by, unless}
 use Rattle.vtl_cell.specs.Row.{Row}
-use Rattle.vtl_cell.specs.Settings.{Settings}
+use Rattle.vtl_decimal.specs.Settings.{Settings}
 use Rattle.vtl_cell.specs.declared.cell.Cell.{Cell}
 use Rattle.vtl_rows.specs.Tables.{fits}
 use Rattle.vtl_scalar.specs.Answers.{AnswersBy}
@@ -16,16 +16,16 @@ use Rattle.vtl_tree.specs.Structure.{columns_of, same_name, same_role}
 use Rattle.vtl_tree.specs.declared.structure.Component.{Component}
 use Rattle.vtl_tree.specs.declared.structure.Role.TheVariants as role
 use Rattle.vtl_tree.specs.declared.structure.Structure.{Structure}
-use Rattle.vtl_expr.specs.AggregatePoints.{Made}
-use Rattle.vtl_expr.specs.AggregatePoints.{group_fault as point_fault}
-use Rattle.vtl_group.specs.AnalyticPoints.{analytic_of, item_named, made_of, measure_call, point_of, value_for}
-use Rattle.vtl_group.specs.Made.{AreValuesOver, IsValueOver, IsWindowed}
-use Rattle.vtl_group.specs.TableOf.{table_columns}
-use Rattle.vtl_group.specs.Trees as nodes
-use Rattle.vtl_group.specs.Trees.{AnalyticTree, ItemTree, ValueTree}
-use Rattle.vtl_group.proofs.AnalyticPoints.{result_is}
-use Rattle.vtl_group.proofs.Kept.{unless_ok}
-use Rattle.vtl_group.proofs.TableLemmas.{point_fits}
+use Rattle.vtl_aggregates.specs.Aggregates.{Made}
+use Rattle.vtl_aggregates.specs.Aggregates.{group_fault as point_fault}
+use Rattle.vtl_windows.specs.Analytics.{analytic_of, item_named, made_of, measure_call, point_of, value_for}
+use Rattle.vtl_meaning.specs.Made.{AreValuesOver, IsValueOver, IsWindowed}
+use Rattle.vtl_sets.specs.TableOf.{table_columns}
+use Rattle.vtl_nodes.specs.Trees as nodes
+use Rattle.vtl_nodes.specs.Trees.{AnalyticTree, ItemTree, ValueTree}
+use Rattle.vtl_windows.proofs.AnalyticPoints.{result_is}
+use Rattle.vtl_meaning.proofs.Kept.{unless_ok}
+use Rattle.vtl_sets.proofs.TableLemmas.{point_fits}
 use Rattle.vtl_window.specs.Analyses.{made_cells, made_faults}
 use Rattle.vtl_window.proofs.AnalysisLemmas.{faults_turned}
 

@@ -2,19 +2,19 @@
 use Rattle.std.specs.Prelude.{ℕ, List, length, map, pos, slice_index_or}
 use Rattle.std.specs.List.{range_with_len}
 use Rattle.vtl_cell.specs.Outcome.{Outcome}
-use Rattle.vtl_cell.specs.Range.{fit_integer}
+use Rattle.vtl_decimal.specs.Range.{fit_integer}
 use Rattle.vtl_cell.specs.Row.{Row, column_of}
 use Rattle.vtl_cell.specs.ScalarArithmetic.{integer}
-use Rattle.vtl_cell.specs.Settings.{Settings}
+use Rattle.vtl_decimal.specs.Settings.{Settings}
 use Rattle.vtl_cell.specs.Sorted.{by_keys}
-use Rattle.vtl_cell.specs.Sorting.{Rises, le_by}
+use Rattle.vtl_lists.specs.Sorting.{Rises, le_by}
 use Rattle.vtl_cell.specs.declared.cell.Cell.{Cell}
 use Rattle.vtl_rows.specs.Keys.{key_of}
 use Rattle.vtl_rows.specs.Places.{row_at}
 use Rattle.vtl_rows.specs.declared.column.SortKey.{SortKey}
 use Rattle.vtl_tree.specs.declared.structure.Component.{Component}
-use Rattle.vtl_group.specs.calls.AnalyticCall.{AnalyticCall}
-use Rattle.vtl_group.specs.PointWindows.{Stand, argument, op_value}
+use Rattle.vtl_nodes.specs.declared.calls.AnalyticCall.{AnalyticCall}
+use Rattle.vtl_windows.specs.Windows.{Stand, argument, op_value}
 
 -- the cells of a column at these rows
 abbrev pub lane_cells : List Row → List ℕ → ℕ → List Cell

@@ -1,6 +1,6 @@
 // Frames along a partition.
 ghost use Rattle.std.specs.Prelude.{◌≡◌};
-ghost use Rattle.vtl_group.specs.PointWindows.{default_frame, frame_in};
+ghost use Rattle.vtl_windows.specs.Windows.{default_frame, frame_in};
 ghost use Rattle.vtl_window.specs.Frames.{bound_in, taken_frame};
 
 use vtl_frames::{Bound, Frame};

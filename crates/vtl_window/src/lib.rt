@@ -22,7 +22,3 @@ mod putting_back;
 mod values;
 
 pub use analysis::analytic;
-pub use vtl_group::{
-    aggregate, calc, choose, exists_in, filter, intersect_all, keep_columns, map_measures,
-    pair_measures, pivot, rename, setdiff, sub, symdiff, union_all, unpivot,
-};

@@ -11,8 +11,8 @@ ghost use Rattle.vtl_window.specs.Analyses.{cells_by, faults_of};
 use crate::faults::noted;
 use crate::partition::Outcomes;
 use std::alloc::{AllocError, Global};
-use vtl_cell::{Cell, Kind, Profile};
-use vtl_decimal::Fault;
+use vtl_cell::{Cell, Kind};
+use vtl_decimal::{Fault, Profile};
 use vtl_expr::Seen;
 use vtl_scalar::{ScalarErr, to_kind};
 

@@ -4,12 +4,12 @@ use Rattle.std.specs.Prelude.{IfOk, option_map}
 use Rattle.std.specs.List.{AllByRecursion}
 use Rattle.vtl_cell.specs.Outcome.{faults_by}
 use Rattle.vtl_cell.specs.Row.{Row, same_row}
-use Rattle.vtl_cell.specs.Settings.{Settings}
+use Rattle.vtl_decimal.specs.Settings.{Settings}
 use Rattle.vtl_tree.specs.DataSet.{IsDataSet, is_point, look}
 use Rattle.vtl_tree.specs.Environment.{DataSet}
 use Rattle.vtl_tree.specs.Structure.{columns_of, key_width}
 use Rattle.vtl_tree.specs.declared.structure.Structure.{Structure}
-use Rattle.vtl_aggregates.specs.Trees.{AnalyticTree}
+use Rattle.vtl_nodes.specs.Trees.{AnalyticTree}
 use Rattle.vtl_aggregates.specs.Aggregates.{group_fault as point_fault}
 use Rattle.vtl_aggregates.proofs.GroupPoints.{all_more}
 use Rattle.vtl_windows.specs.Analytics.{analytic_of, made_of, point_of}

@@ -4,19 +4,19 @@ use Rattle.std.specs.Option.{option_map_or}
 use Rattle.vtl_cell.specs.Conversion.{as_kind}
 use Rattle.vtl_cell.specs.Outcome.{after, faults_by}
 use Rattle.vtl_cell.specs.Outcomes.{Same}
-use Rattle.vtl_cell.specs.Perm.{Perm}
+use Rattle.vtl_lists.specs.Perm.{Perm}
 use Rattle.vtl_cell.specs.Row.{Row, column_of}
-use Rattle.vtl_cell.specs.Settings.{Settings}
+use Rattle.vtl_decimal.specs.Settings.{Settings}
 use Rattle.vtl_cell.specs.declared.kind.Kind.{Kind}
-use Rattle.vtl_cell.proofs.Perms.{Perm-map}
+use Rattle.vtl_lists.proofs.Perms.{Perm-map}
 use Rattle.vtl_tree.specs.Environment.{DataSet}
 use Rattle.vtl_tree.specs.Structure.{columns_of}
 use Rattle.vtl_tree.specs.declared.structure.Component.{Component}
 use Rattle.vtl_tree.specs.declared.structure.Structure.{Structure}
 use Rattle.vtl_tree.proofs.Faults.{Same_unless, faults_by-Perm}
-use Rattle.vtl_aggregates.specs.Trees as nodes
-use Rattle.vtl_aggregates.specs.Trees.{AnalyticTree, ValueTree}
-use Rattle.check_values.specs.ShapesColumns.{place_of}
+use Rattle.vtl_nodes.specs.Trees as nodes
+use Rattle.vtl_nodes.specs.Trees.{AnalyticTree, ValueTree}
+use Rattle.check_shapes.specs.Columns.{place_of}
 use Rattle.vtl_aggregates.specs.Aggregates.{Made}
 use Rattle.vtl_aggregates.specs.Aggregates.{group_fault as point_fault}
 use Rattle.vtl_windows.specs.Analytics.{analytic_of, each_point, made_of, point_of, tree_value, value_for}

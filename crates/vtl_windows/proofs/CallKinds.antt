@@ -11,11 +11,11 @@ use Rattle.vtl_cell.specs.Frames.{first_cell, last_cell}
 use Rattle.vtl_cell.specs.Groups.{group_value, numbers_of, ratio_of, units_of, values_of}
 use Rattle.vtl_cell.specs.Kinds.{is_null, kind_of}
 use Rattle.vtl_cell.specs.Outcome.{Outcome, after}
-use Rattle.vtl_cell.specs.Range.{fit_integer, fit_number}
+use Rattle.vtl_decimal.specs.Range.{fit_integer, fit_number}
 use Rattle.vtl_cell.specs.Row.{Row}
 use Rattle.vtl_cell.specs.ScalarArithmetic.{number, units}
 use Rattle.vtl_cell.specs.ScalarKinds.{meets}
-use Rattle.vtl_cell.specs.Settings.{Settings}
+use Rattle.vtl_decimal.specs.Settings.{Settings}
 use Rattle.vtl_cell.specs.Sorted.{by_keys, row_rank}
 use Rattle.vtl_cell.specs.declared.cell.Cell.{Cell}
 use Rattle.vtl_cell.specs.declared.cell.Cell.TheVariants as c
@@ -23,16 +23,16 @@ use Rattle.vtl_cell.specs.declared.kind.Kind.{Kind}
 use Rattle.vtl_cell.specs.declared.kind.Kind.TheVariants as k
 use Rattle.vtl_cell.specs.declared.operator.AggKind.{AggKind}
 use Rattle.vtl_cell.specs.declared.operator.AggKind.TheVariants as agg
-use Rattle.vtl_aggregates.specs.AggregateKinds.{aggregate_kind, is_number}
+use Rattle.vtl_cell.specs.AggregateKinds.{aggregate_kind, is_number}
 use Rattle.vtl_tree.specs.DataSet.{is_point}
 use Rattle.vtl_tree.specs.Environment.{DataSet}
 use Rattle.vtl_tree.specs.Structure.{columns_of}
 use Rattle.vtl_tree.specs.declared.structure.Component.{Component}
-use Rattle.vtl_aggregates.specs.calls.AnalyticCall.{AnalyticCall}
-use Rattle.vtl_aggregates.specs.calls.AnalyticOp.{AnalyticOp}
-use Rattle.vtl_aggregates.specs.calls.AnalyticOp.TheVariants as op
-use Rattle.vtl_aggregates.specs.calls.Window.{Window}
-use Rattle.check_values.specs.Names.{component_of}
+use Rattle.vtl_nodes.specs.declared.calls.AnalyticCall.{AnalyticCall}
+use Rattle.vtl_nodes.specs.declared.calls.AnalyticOp.{AnalyticOp}
+use Rattle.vtl_nodes.specs.declared.calls.AnalyticOp.TheVariants as op
+use Rattle.vtl_nodes.specs.declared.calls.Window.{Window}
+use Rattle.check_shapes.specs.Names.{component_of}
 use Rattle.check_values.specs.Kinds.{given_kind}
 use Rattle.vtl_aggregates.proofs.GroupKinds.{GivesOf, IsOf, group_is, integer_is, null_is_of}
 use Rattle.vtl_aggregates.proofs.GroupPoints.{all_more, found_cell}

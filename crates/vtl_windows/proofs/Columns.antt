@@ -3,13 +3,13 @@ use Rattle.std.proofs.Common.{◌≡◌, ℕ, zero, suc, Bool, true, false, not,
 use Rattle.std.specs.List.{AllByRecursion, filter, find}
 use Rattle.std.proofs.lemmas.Cmp.{nat_list_eq_equiv}
 use Rattle.std.proofs.lemmas.Slice.Eq.{bytes_eq-Decides}
-use Rattle.vtl_cell.specs.Apart.{all_apart}
+use Rattle.vtl_lists.specs.Apart.{all_apart}
 use Rattle.vtl_cell.specs.Kinds.{is_null, is_of}
-use Rattle.vtl_cell.specs.Perm.{Perm, empty, keep, chain}
+use Rattle.vtl_lists.specs.Perm.{Perm, empty, keep, chain}
 use Rattle.vtl_cell.specs.Row.{Row, column_of}
 use Rattle.vtl_cell.specs.declared.cell.Cell.{Cell}
-use Rattle.vtl_cell.proofs.Aparts.{all_apart-Perm, apart_parts}
-use Rattle.vtl_cell.proofs.Perms.{Perm-append_back, Perm-map, Perm-middle}
+use Rattle.vtl_lists.proofs.Aparts.{all_apart-Perm, apart_parts}
+use Rattle.vtl_lists.proofs.Perms.{Perm-append_back, Perm-map, Perm-middle}
 use Rattle.vtl_rows.specs.Tables.{cells_at}
 use Rattle.vtl_tree.specs.DataSet.{is_point}
 use Rattle.vtl_tree.specs.Structure.{IsStructure, columns_of, names_of, of_role, same_name, same_role}
@@ -17,8 +17,8 @@ use Rattle.vtl_tree.specs.declared.structure.Component.{Component}
 use Rattle.vtl_tree.specs.declared.structure.Role.{Role}
 use Rattle.vtl_tree.specs.declared.structure.Role.TheVariants as role
 use Rattle.vtl_tree.specs.declared.structure.Structure.{Structure}
-use Rattle.check_values.specs.ShapesColumns.{identifiers_of, others_of, place_of, places_in}
-use Rattle.check_values.specs.Names.{component_of}
+use Rattle.check_shapes.specs.Columns.{identifiers_of, others_of, place_of, places_in}
+use Rattle.check_shapes.specs.Names.{component_of}
 use Rattle.vtl_aggregates.proofs.GroupPoints.{HasCell, all_more}
 
 -- ---- names

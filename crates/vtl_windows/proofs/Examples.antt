@@ -3,7 +3,7 @@ use Rattle.std.proofs.Common.{◌≡◌, ℕ, pos, negsuc, true, false, List, []
 use Rattle.std.specs.Prelude.{codes}
 use Rattle.vtl_cell.specs.Outcome.{DivZero, Outcome, Range}
 use Rattle.vtl_cell.specs.Row.{Row}
-use Rattle.vtl_cell.specs.Settings.{Settings}
+use Rattle.vtl_decimal.specs.Settings.{Settings}
 use Rattle.vtl_cell.specs.declared.cell.Cell.{Cell}
 use Rattle.vtl_cell.specs.declared.cell.Cell.TheVariants.{Int, Null, Num}
 use Rattle.vtl_cell.specs.declared.kind.Kind.TheVariants as k
@@ -14,15 +14,15 @@ use Rattle.vtl_tree.specs.Environment.{DataSet, no_data}
 use Rattle.vtl_tree.specs.declared.structure.Component.{Component}
 use Rattle.vtl_tree.specs.declared.structure.Role.TheVariants as role
 use Rattle.vtl_tree.specs.declared.structure.Structure.{Structure}
-use Rattle.vtl_aggregates.specs.Trees as nodes
-use Rattle.vtl_aggregates.specs.Trees.{AnalyticTree, ItemTree, ValueTree}
-use Rattle.vtl_aggregates.specs.calls.AnalyticOp.{AnalyticOp}
-use Rattle.vtl_aggregates.specs.calls.AnalyticOp.TheVariants.{Avg, Count, FirstValue, Lag, LastValue, Lead, Max, Min, Rank, RatioToReport, Sum}
-use Rattle.vtl_aggregates.specs.calls.Bound.{Bound}
-use Rattle.vtl_aggregates.specs.calls.Bound.TheVariants.{Current, Following, Preceding, UnboundedFollowing, UnboundedPreceding}
-use Rattle.vtl_aggregates.specs.calls.OrderKey.{OrderKey}
-use Rattle.vtl_aggregates.specs.calls.Window.{Window}
-use Rattle.check_values.specs.Measures.{made}
+use Rattle.vtl_nodes.specs.Trees as nodes
+use Rattle.vtl_nodes.specs.Trees.{AnalyticTree, ItemTree, ValueTree}
+use Rattle.vtl_nodes.specs.declared.calls.AnalyticOp.{AnalyticOp}
+use Rattle.vtl_nodes.specs.declared.calls.AnalyticOp.TheVariants.{Avg, Count, FirstValue, Lag, LastValue, Lead, Max, Min, Rank, RatioToReport, Sum}
+use Rattle.vtl_nodes.specs.declared.calls.Bound.{Bound}
+use Rattle.vtl_nodes.specs.declared.calls.Bound.TheVariants.{Current, Following, Preceding, UnboundedFollowing, UnboundedPreceding}
+use Rattle.vtl_nodes.specs.declared.calls.OrderKey.{OrderKey}
+use Rattle.vtl_nodes.specs.declared.calls.Window.{Window}
+use Rattle.check_shapes.specs.Measures.{made}
 use Rattle.vtl_windows.specs.Analytics.{analytic_of}
 use Rattle.vtl_windows.specs.Shapes.{analyzed_components}
 

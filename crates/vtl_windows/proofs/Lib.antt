@@ -1,8 +1,3 @@
-pub use Rattle.vtl_aggregates.proofs.GroupKinds
-pub use Rattle.vtl_aggregates.proofs.GroupLooks
-pub use Rattle.vtl_aggregates.proofs.GroupOrders
-pub use Rattle.vtl_aggregates.proofs.GroupPoints
-pub use Rattle.vtl_aggregates.proofs.Shaped as GroupShaped
 pub mod AnalyticLooks
 pub mod AnalyticOrders
 pub mod AnalyticPoints

@@ -5,17 +5,17 @@ use Rattle.std.specs.List.{AllByRecursion}
 use Rattle.std.specs.Ordering.{is_lt}
 use Rattle.std.proofs.lemmas.List.Sums.{length-filter}
 use Rattle.vtl_cell.specs.Frames.{before, lag_of, up_to}
-use Rattle.vtl_cell.specs.Perm.{Perm}
+use Rattle.vtl_lists.specs.Perm.{Perm}
 use Rattle.vtl_cell.specs.Row.{Row, same_row}
 use Rattle.vtl_cell.specs.declared.cell.Cell.{Cell}
 use Rattle.vtl_cell.proofs.Keys.{window_order}
-use Rattle.vtl_cell.proofs.Perms.{AllByRecursion-Perm, Perm-filter, Perm-sym, length-Perm}
-use Rattle.vtl_cell.proofs.Sorts.{AllByRecursion-filter, Perm-sorted_by, sorted_by-Perm}
+use Rattle.vtl_lists.proofs.Perms.{AllByRecursion-Perm, Perm-filter, Perm-sym, length-Perm}
+use Rattle.vtl_lists.proofs.Sorts.{AllByRecursion-filter, Perm-sorted_by, sorted_by-Perm}
 use Rattle.vtl_rows.specs.Tables.{cells_at}
 use Rattle.vtl_tree.specs.Environment.{DataSet}
 use Rattle.vtl_tree.specs.Structure.{columns_of}
 use Rattle.vtl_tree.specs.declared.structure.Structure.{Structure}
-use Rattle.vtl_aggregates.specs.calls.Window.{Window}
+use Rattle.vtl_nodes.specs.declared.calls.Window.{Window}
 use Rattle.vtl_aggregates.specs.Groups.{places_named}
 use Rattle.vtl_windows.specs.Windows.{bound_of, frame_in, framed, identifier_places, keys_in, partition_of, point_cmp, stand_of}
 

@@ -5,25 +5,25 @@ use Rattle.std.specs.List.{AllByRecursion}
 use Rattle.std.specs.Ordering.{is_lt}
 use Rattle.std.proofs.lemmas.List.{take_all}
 use Rattle.std.proofs.lemmas.List.Sums.{length-filter}
-use Rattle.vtl_cell.specs.Apart.{all_apart}
+use Rattle.vtl_lists.specs.Apart.{all_apart}
 use Rattle.vtl_cell.specs.Frames.{frame_of}
 use Rattle.vtl_cell.specs.Groups.{group_value}
 use Rattle.vtl_cell.specs.Row.{Row, same_key, same_row}
-use Rattle.vtl_cell.specs.Settings.{Settings}
-use Rattle.vtl_cell.specs.Sorting.{IsOrder, Rises, le_by}
+use Rattle.vtl_decimal.specs.Settings.{Settings}
+use Rattle.vtl_lists.specs.Sorting.{IsOrder, Rises, le_by}
 use Rattle.vtl_cell.specs.declared.cell.Cell.{Cell}
 use Rattle.vtl_cell.specs.declared.operator.AggKind.{AggKind}
 use Rattle.vtl_cell.proofs.Aggregates.{group-Perm}
-use Rattle.vtl_cell.proofs.Aparts.{all_apart-Perm, all_apart-filter, apart_more, apart_parts}
+use Rattle.vtl_lists.proofs.Aparts.{all_apart-Perm, all_apart-filter, apart_more, apart_parts}
 use Rattle.vtl_cell.proofs.Keys.{window_order}
-use Rattle.vtl_cell.proofs.Perms.{AllByRecursion-Perm, Perm-map, Perm-sym}
+use Rattle.vtl_lists.proofs.Perms.{AllByRecursion-Perm, Perm-map, Perm-sym}
 use Rattle.vtl_cell.proofs.Rows.{same_row-is, same_row-refl, same_row-sym}
-use Rattle.vtl_cell.proofs.Sorts.{Rises-sorted_by}
+use Rattle.vtl_lists.proofs.Sorts.{Rises-sorted_by}
 use Rattle.vtl_rows.specs.Tables.{cells_at}
 use Rattle.vtl_tree.specs.DataSet.{IsDataSet}
 use Rattle.vtl_tree.specs.Environment.{DataSet}
 use Rattle.vtl_tree.specs.Structure.{columns_of, key_width}
-use Rattle.vtl_aggregates.specs.calls.Window.{Window}
+use Rattle.vtl_nodes.specs.declared.calls.Window.{Window}
 use Rattle.vtl_aggregates.specs.Groups.{places_named, points_with}
 use Rattle.vtl_windows.specs.Windows.{bound_of, default_frame, frame_in, framed, identifier_places, keys_in, partition_of, point_cmp, seen, stand_of}
 use Rattle.vtl_windows.proofs.Columns.{all_filtered}

@@ -5,27 +5,27 @@ use Rattle.std.specs.List.{AllByRecursion, filter, find}
 use Rattle.std.specs.Option.{option_map_or}
 use Rattle.std.proofs.lemmas.List.{append-nil}
 use Rattle.std.proofs.lemmas.List.Elements.{filter-append}
-use Rattle.vtl_cell.specs.Apart.{all_apart}
-use Rattle.vtl_cell.specs.Settings.{Settings}
-use Rattle.vtl_cell.proofs.Perms.{AllByRecursion-Perm}
-use Rattle.vtl_cell.proofs.Sorts.{AllByRecursion-filter}
+use Rattle.vtl_lists.specs.Apart.{all_apart}
+use Rattle.vtl_decimal.specs.Settings.{Settings}
+use Rattle.vtl_lists.proofs.Perms.{AllByRecursion-Perm}
+use Rattle.vtl_lists.proofs.Sorts.{AllByRecursion-filter}
 use Rattle.vtl_tree.specs.Structure.{IsStructure, columns_of, of_role, same_name, same_role}
 use Rattle.vtl_tree.specs.declared.structure.Component.{Component}
 use Rattle.vtl_tree.specs.declared.structure.Role.{Role}
 use Rattle.vtl_tree.specs.declared.structure.Role.TheVariants as role
 use Rattle.vtl_tree.specs.declared.structure.Structure.{Structure}
-use Rattle.vtl_aggregates.specs.Trees as nodes
-use Rattle.vtl_aggregates.specs.Trees.{AnalyticTree, ItemTree, ValueTree}
-use Rattle.vtl_aggregates.specs.calls.AnalyticOp.{AnalyticOp}
-use Rattle.vtl_aggregates.specs.calls.Window.{Window}
-use Rattle.check_values.specs.Choices.{chosen, is_identifier}
-use Rattle.check_values.specs.Clauses.{calculated, is_new, retargeted, target_component}
-use Rattle.check_values.specs.Clauses as clauses
-use Rattle.check_values.specs.ShapesColumns.{identifiers_of, others_of}
-use Rattle.check_values.specs.Measures.{given_measure, is_measure, made, measures}
-use Rattle.check_values.specs.Names.{component_of}
-use Rattle.check_values.specs.choices.Choice.TheVariants as choice
-use Rattle.check_values.specs.targets.Target.{Target}
+use Rattle.vtl_nodes.specs.Trees as nodes
+use Rattle.vtl_nodes.specs.Trees.{AnalyticTree, ItemTree, ValueTree}
+use Rattle.vtl_nodes.specs.declared.calls.AnalyticOp.{AnalyticOp}
+use Rattle.vtl_nodes.specs.declared.calls.Window.{Window}
+use Rattle.check_shapes.specs.Choices.{chosen, is_identifier}
+use Rattle.check_shapes.specs.Clauses.{calculated, is_new, retargeted, target_component}
+use Rattle.check_shapes.specs.Clauses as clauses
+use Rattle.check_shapes.specs.Columns.{identifiers_of, others_of}
+use Rattle.check_shapes.specs.Measures.{given_measure, is_measure, made, measures}
+use Rattle.check_shapes.specs.Names.{component_of}
+use Rattle.check_shapes.specs.declared.choices.Choice.TheVariants as choice
+use Rattle.check_shapes.specs.declared.targets.Target.{Target}
 use Rattle.check_values.specs.Kinds.{given_kind}
 use Rattle.vtl_aggregates.proofs.GroupPoints.{all_more}
 use Rattle.vtl_windows.specs.Analytics.{item_named, measure_call, value_for}

@@ -4,7 +4,7 @@ use Rattle.std.specs.Option.{option_map_or}
 use Rattle.vtl_cell.specs.Conversion.{as_kind}
 use Rattle.vtl_cell.specs.Outcome.{Outcome, after, faults_by, unless}
 use Rattle.vtl_cell.specs.Row.{Row, column_of}
-use Rattle.vtl_cell.specs.Settings.{Settings}
+use Rattle.vtl_decimal.specs.Settings.{Settings}
 use Rattle.vtl_cell.specs.declared.cell.Cell.{Cell}
 use Rattle.vtl_cell.specs.declared.kind.Kind.{Kind}
 use Rattle.vtl_tree.specs.Environment.{DataSet}
@@ -12,12 +12,12 @@ use Rattle.vtl_tree.specs.Structure.{columns_of, same_name}
 use Rattle.vtl_tree.specs.Value.{value}
 use Rattle.vtl_tree.specs.declared.structure.Component.{Component}
 use Rattle.vtl_tree.specs.declared.structure.Structure.{Structure}
-use Rattle.vtl_aggregates.specs.Trees as nodes
-use Rattle.vtl_aggregates.specs.Trees.{AnalyticTree, ItemTree, ValueTree}
-use Rattle.vtl_aggregates.specs.calls.AnalyticOp.{AnalyticOp}
-use Rattle.vtl_aggregates.specs.calls.Window.{Window}
-use Rattle.check_values.specs.ShapesColumns.{place_of}
-use Rattle.check_values.specs.Measures.{is_measure}
+use Rattle.vtl_nodes.specs.Trees as nodes
+use Rattle.vtl_nodes.specs.Trees.{AnalyticTree, ItemTree, ValueTree}
+use Rattle.vtl_nodes.specs.declared.calls.AnalyticOp.{AnalyticOp}
+use Rattle.vtl_nodes.specs.declared.calls.Window.{Window}
+use Rattle.check_shapes.specs.Columns.{place_of}
+use Rattle.check_shapes.specs.Measures.{is_measure}
 use Rattle.vtl_aggregates.specs.Aggregates.{Made, cell_or_null}
 use Rattle.vtl_aggregates.specs.Aggregates.{group_fault as point_fault}
 use Rattle.vtl_windows.specs.Windows.{call_value}

@@ -2,15 +2,15 @@
 use Rattle.std.specs.Prelude.{◌≡◌, Bool, true, false, IfOk, ℕ, List, [], ◌++◌, map, filter, Option, Some, None, option_and_then, unwrap_or, if◌then◌else◌}
 use Rattle.std.specs.List.{AllByRecursion}
 use Rattle.std.specs.Option.{option_map_or}
-use Rattle.vtl_cell.specs.Apart.{all_apart}
+use Rattle.vtl_lists.specs.Apart.{all_apart}
 use Rattle.vtl_cell.specs.Kinds.{is_of, kind_of}
 use Rattle.vtl_cell.specs.Profile.{IsOfProfile}
 use Rattle.vtl_cell.specs.Row.{Row}
 use Rattle.vtl_cell.specs.ScalarKinds.{meets}
-use Rattle.vtl_cell.specs.Settings.{Settings}
+use Rattle.vtl_decimal.specs.Settings.{Settings}
 use Rattle.vtl_cell.specs.declared.cell.Cell.{Cell}
 use Rattle.vtl_cell.specs.declared.cell.Cell.TheVariants as c
-use Rattle.vtl_aggregates.specs.AggregateKinds.{is_number}
+use Rattle.vtl_cell.specs.AggregateKinds.{is_number}
 use Rattle.vtl_tree.specs.CompExp.{CompExp}
 use Rattle.vtl_tree.specs.DataSet.{is_point}
 use Rattle.vtl_tree.specs.Structure.{IsStructure, columns_of, same_name, same_role}
@@ -18,20 +18,20 @@ use Rattle.vtl_tree.specs.Value.{value}
 use Rattle.vtl_tree.specs.declared.structure.Component.{Component}
 use Rattle.vtl_tree.specs.declared.structure.Role.TheVariants as role
 use Rattle.vtl_tree.specs.declared.structure.Structure.{Structure}
-use Rattle.vtl_tree.specs.kind.Kind.{Kind}
-use Rattle.vtl_tree.specs.kind.Kind.TheVariants as k
-use Rattle.vtl_aggregates.specs.Trees as nodes
-use Rattle.vtl_aggregates.specs.Trees.{AnalyticTree, ItemTree, ValueTree}
-use Rattle.vtl_aggregates.specs.calls.AnalyticOp.{AnalyticOp}
-use Rattle.vtl_aggregates.specs.calls.AnalyticOp.TheVariants as op
-use Rattle.check_values.specs.Choices.{chosen, is_identifier_name}
-use Rattle.check_values.specs.Clauses.{calculated, is_new, target_component}
-use Rattle.check_values.specs.ShapesColumns.{identifiers_of, others_of}
-use Rattle.check_values.specs.Measures.{Gives, given_measures, measures}
-use Rattle.check_values.specs.Names.{component_of}
-use Rattle.check_values.specs.choices.Choice.TheVariants as choice
-use Rattle.check_values.specs.measures.Outcome.TheVariants as outcome
-use Rattle.check_values.specs.targets.Target.{Target}
+use Rattle.vtl_cell.specs.declared.kind.Kind.{Kind}
+use Rattle.vtl_cell.specs.declared.kind.Kind.TheVariants as k
+use Rattle.vtl_nodes.specs.Trees as nodes
+use Rattle.vtl_nodes.specs.Trees.{AnalyticTree, ItemTree, ValueTree}
+use Rattle.vtl_nodes.specs.declared.calls.AnalyticOp.{AnalyticOp}
+use Rattle.vtl_nodes.specs.declared.calls.AnalyticOp.TheVariants as op
+use Rattle.check_shapes.specs.Choices.{chosen, is_identifier_name}
+use Rattle.check_shapes.specs.Clauses.{calculated, is_new, target_component}
+use Rattle.check_shapes.specs.Columns.{identifiers_of, others_of}
+use Rattle.check_shapes.specs.Measures.{Gives, given_measures, measures}
+use Rattle.check_shapes.specs.Names.{component_of}
+use Rattle.check_shapes.specs.declared.choices.Choice.TheVariants as choice
+use Rattle.check_shapes.specs.declared.measures.Outcome.TheVariants as outcome
+use Rattle.check_shapes.specs.declared.targets.Target.{Target}
 use Rattle.check_values.specs.Kinds.{exp_kind, given_kind}
 use Rattle.vtl_windows.specs.Analytics.{value_for}
 

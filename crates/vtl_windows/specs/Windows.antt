@@ -9,7 +9,7 @@ use Rattle.vtl_cell.specs.Frames as frame
 use Rattle.vtl_cell.specs.Groups.{group_value, ratio_of}
 use Rattle.vtl_cell.specs.Outcome.{Outcome}
 use Rattle.vtl_cell.specs.Row.{Row, column_of}
-use Rattle.vtl_cell.specs.Settings.{Settings}
+use Rattle.vtl_decimal.specs.Settings.{Settings}
 use Rattle.vtl_cell.specs.Sorted.{Key, in_order, row_rank, window_cmp}
 use Rattle.vtl_cell.specs.declared.cell.Cell.{Cell}
 use Rattle.vtl_cell.specs.declared.cell.Cell.TheVariants as c
@@ -19,15 +19,15 @@ use Rattle.vtl_tree.specs.Environment.{DataSet}
 use Rattle.vtl_tree.specs.Structure.{columns_of}
 use Rattle.vtl_tree.specs.declared.structure.Component.{Component}
 use Rattle.vtl_tree.specs.declared.structure.Structure.{Structure}
-use Rattle.vtl_aggregates.specs.calls.AnalyticCall.{AnalyticCall}
-use Rattle.vtl_aggregates.specs.calls.AnalyticOp.{AnalyticOp}
-use Rattle.vtl_aggregates.specs.calls.AnalyticOp.TheVariants as op
-use Rattle.vtl_aggregates.specs.calls.Bound.{Bound}
-use Rattle.vtl_aggregates.specs.calls.Bound.TheVariants as bound
-use Rattle.vtl_aggregates.specs.calls.Frame.{Frame}
-use Rattle.vtl_aggregates.specs.calls.OrderKey.{OrderKey}
-use Rattle.vtl_aggregates.specs.calls.Window.{Window}
-use Rattle.check_values.specs.ShapesColumns.{identifiers_of, place_of, places_in}
+use Rattle.vtl_nodes.specs.declared.calls.AnalyticCall.{AnalyticCall}
+use Rattle.vtl_nodes.specs.declared.calls.AnalyticOp.{AnalyticOp}
+use Rattle.vtl_nodes.specs.declared.calls.AnalyticOp.TheVariants as op
+use Rattle.vtl_nodes.specs.declared.calls.Bound.{Bound}
+use Rattle.vtl_nodes.specs.declared.calls.Bound.TheVariants as bound
+use Rattle.vtl_nodes.specs.declared.calls.Frame.{Frame}
+use Rattle.vtl_nodes.specs.declared.calls.OrderKey.{OrderKey}
+use Rattle.vtl_nodes.specs.declared.calls.Window.{Window}
+use Rattle.check_shapes.specs.Columns.{identifiers_of, place_of, places_in}
 use Rattle.vtl_aggregates.specs.Groups.{places_named, points_with}
 
 -- ---- partitions and their order

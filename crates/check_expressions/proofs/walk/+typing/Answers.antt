@@ -2,8 +2,8 @@ use Rattle.std.proofs.Common.{◌≡◌, ◌∙◌, ap, sym, subst, Some, map}
 use Rattle.std.specs.Option.{option_map}
 use Rattle.vtl_nodes.specs.View.{operand_tree}
 use Rattle.check_faults.specs.Answers.{Answers}
-use Rattle.check_clauses.specs.Places.{env_of}
-use Rattle.check_clauses.specs.Typed.{boxed_tree, typed_tree}
+use Rattle.check_operators.specs.Places.{env_of}
+use Rattle.check_operators.specs.Typed.{boxed_tree, typed_tree}
 use Rattle.check_clauses.specs.JoinOperands.{joined_of}
 use Rattle.check_clauses.specs.JoinView.{operands_view, parts_view}
 use Rattle.check_expressions.proofs.WalkLemmas.{aggregate_typed, join_typed}

@@ -2,8 +2,8 @@ use Rattle.std.proofs.Common.{◌≡◌, drop, map, []}
 use Rattle.vtl_nodes.specs.View.{node_tree}
 use Rattle.vtl_syntax.specs.Trees.{calcs_of, exps_of, parts_of}
 use Rattle.vtl_syntax.specs.View.{calc_tree, expr_tree, part_tree}
-use Rattle.check_clauses.specs.Places.{env_of}
-use Rattle.check_clauses.specs.Typed.{typed_trees}
+use Rattle.check_operators.specs.Places.{env_of}
+use Rattle.check_operators.specs.Typed.{typed_trees}
 use Rattle.check_clauses.specs.JoinView.{parts_view}
 use Rattle.check_clauses.specs.TargetsView.{items_view}
 use Rattle.check_expressions.specs.Typing.{aggrs_typed, calcs_typed, operands_typed, parts_typed}

@@ -1,7 +1,7 @@
 use Rattle.std.proofs.Common.{arith}
 use Rattle.vtl_syntax.specs.Depth.{exp_depth}
-use Rattle.vtl_check.specs.Typed.{value, dataset}
-use Rattle.vtl_check.specs.Typing.{typed}
+use Rattle.check_operators.specs.Typed.{value, dataset}
+use Rattle.check_expressions.specs.Typing.{typed}
 use Rattle.check_laws.proofs.DepthBounds.{IsTreeUpTo, node-depth}
 use Rattle.check_laws.proofs.DepthScripts.{script-depth, written-depth}
 use Rattle.check_laws.proofs.DepthTyping.{deep}

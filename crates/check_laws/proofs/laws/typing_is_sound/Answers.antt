@@ -1,4 +1,4 @@
-use Rattle.vtl_check.specs.Typing.{typed}
+use Rattle.check_expressions.specs.Typing.{typed}
 use Rattle.check_laws.specs.WellTyped.{IsWellTyped}
 use Rattle.check_laws.proofs.Sound.{sound}
 use Rattle.check_laws.proofs.Steps.{given}

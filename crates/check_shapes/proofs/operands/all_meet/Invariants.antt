@@ -1,6 +1,6 @@
 use Rattle.std.proofs.Common.{◌≡◌, drop}
 use Rattle.std.specs.List.{list_all}
-use Rattle.vtl_tree.specs.ScalarKinds.{meets}
+use Rattle.vtl_cell.specs.ScalarKinds.{meets}
 use Rattle.check_shapes.specs.Measures.{measures}
 use Rattle.check_shapes.proofs.operands.all_meet.Given as goal
 

@@ -1,6 +1,6 @@
 use Rattle.std.proofs.Common.{◌≡◌, drop}
 use Rattle.std.specs.List.{list_all}
-use Rattle.vtl_tree.specs.Kinds.{same_kind}
+use Rattle.vtl_cell.specs.Kinds.{same_kind}
 use Rattle.check_shapes.proofs.pivots.have_kind.Given as goal
 
 abbrev pub invariant-loop-measure : goal.invariant-loop-measure

@@ -2,8 +2,8 @@ use Rattle.std.proofs.Common.{Err, ap, sym, subst, ◌∙◌}
 use Rattle.sql_tree.specs.View.{script_tree}
 use Rattle.sql_engine.specs.InputTables.{AreInputsInRange, HaveInputTables, rows_given}
 use Rattle.sql_engine.specs.Runs.{FaultIs, ShowsMeaning}
-use Rattle.sql_engine.specs.Scripts.{script_value}
-use Rattle.sql_engine.specs.TypingStatements.{IsTypedScript, script_settings}
+use Rattle.sql_meaning.specs.Scripts.{script_value}
+use Rattle.sql_check_parts.specs.Statements.{IsTypedScript, script_settings}
 use Rattle.sql_back.specs.TextRuns.{TellsText}
 use Rattle.sql_back.proofs.EngineRuns.{fault_told}
 use Rattle.sql_back.proofs.text_runs.run_text.Goals as goal

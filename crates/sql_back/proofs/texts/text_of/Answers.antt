@@ -1,8 +1,8 @@
 use Rattle.std.specs.Prelude.{string_bytes}
 use Rattle.std.proofs.lemmas.Str.{IsUtf8-string_bytes}
 use Rattle.sql_tree.specs.View.{script_tree}
-use Rattle.vtl_to_sql.specs.BackendInputs.{inputs_of}
-use Rattle.vtl_to_sql.specs.BackendStatements.{statements_of}
+use Rattle.vtl_backend.specs.Inputs.{inputs_of}
+use Rattle.vtl_backend.specs.Statements.{statements_of}
 use Rattle.sql_back.proofs.TextParts.{printed_is_text, printed_spells}
 use Rattle.sql_back.proofs.texts.text_of.Goals as goal
 

@@ -1,13 +1,13 @@
 use Rattle.std.proofs.Common.{◌≡◌, ◌∙◌, ◌≤◌, List, map, ap, sym, subst}
-use Rattle.vtl_cell.specs.Settings.{Settings}
+use Rattle.vtl_decimal.specs.Settings.{Settings}
 use Rattle.vtl_rows.specs.Named.{NamedTables}
 use Rattle.sql_tree.specs.View.{script_tree, statement_tree}
 use Rattle.sql_tree.specs.declared.statements.SqlScript.{SqlScript}
 use Rattle.sql_tree.specs.declared.statements.Statement.{Statement}
-use Rattle.sql_exec.specs.TypingStatements.{nothing, scale_written, script_settings, settings_of}
-use Rattle.sql_exec.specs.Statements.{AreTyped}
-use Rattle.sql_exec.proofs.TypedStatements.{script_typed}
-use Rattle.sql_exec.specs.Scripts.{script_value}
+use Rattle.sql_check_parts.specs.Statements.{nothing, scale_written, script_settings, settings_of}
+use Rattle.sql_check_laws.specs.Statements.{AreTyped}
+use Rattle.sql_check_laws.proofs.TypedStatements.{script_typed}
+use Rattle.sql_meaning.specs.Scripts.{script_value}
 use Rattle.sql_engine.specs.Exported.{exported_of, exports_in}
 use Rattle.sql_engine.specs.InputTables.{AreInputsInRange, rows_given}
 use Rattle.sql_engine.specs.Runs.{Shows}

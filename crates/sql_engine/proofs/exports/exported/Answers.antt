@@ -3,7 +3,7 @@ use Rattle.vtl_rows.specs.Named.{NamedTables, table_of}
 use Rattle.sql_tree.specs.Trees.{Text}
 use Rattle.sql_tree.specs.View.{statement_tree}
 use Rattle.sql_tree.specs.declared.statements.SqlExport.{SqlExport}
-use Rattle.sql_exec.specs.Statements.{AreNames}
+use Rattle.sql_check_laws.specs.Statements.{AreNames}
 use Rattle.sql_engine.specs.Exported.{exports_in, placed_by}
 use Rattle.sql_engine.proofs.Exporting.{Exporting, export_left, exported_more, in_order, is_new, is_there}
 use Rattle.sql_engine.proofs.TableLookups.{columns_in}

@@ -1,6 +1,6 @@
 use Rattle.std.proofs.Common.{◌≡◌, ℕ, List, length}
 use Rattle.std.specs.Map.{lookup}
-use Rattle.vtl_cell.specs.Texts.{same_text}
+use Rattle.vtl_text.specs.Texts.{same_text}
 use Rattle.vtl_rows.specs.Named.{table_of}
 use Rattle.sql_engine.proofs.TableLookups.{or_else}
 use Rattle.sql_engine.proofs.exports.owned.Given as goal

@@ -1,6 +1,6 @@
 use Rattle.std.proofs.Common.{◌∙◌, Some, ap, cond}
 use Rattle.std.specs.Map.{lookup}
-use Rattle.vtl_cell.specs.Texts.{same_text}
+use Rattle.vtl_text.specs.Texts.{same_text}
 use Rattle.sql_tree.specs.Trees.{Text}
 use Rattle.sql_engine.proofs.Noting.{noted}
 use Rattle.sql_engine.proofs.expression_reads.note.Goals as goal

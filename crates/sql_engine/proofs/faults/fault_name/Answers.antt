@@ -2,7 +2,7 @@ use Rattle.std.proofs.Common.{◌≡◌, ◌∙◌, ◌++◌, take, drop, ap, su
 use Rattle.std.specs.Prelude.{IfOk, chars}
 use Rattle.std.specs.Str.{NoCharPasses}
 use lib.Utf8.{encode, encodes}
-use Rattle.sql_exec.specs.Scripts.{dollar}
+use Rattle.sql_meaning.specs.Scripts.{dollar}
 use Rattle.sql_engine.proofs.FaultNames.{front_named, is_dollar, name_without}
 use Rattle.sql_engine.proofs.faults.fault_name.Goals as goal
 

@@ -3,7 +3,7 @@ use Rattle.std.specs.Prelude.{fold}
 use Rattle.std.proofs.lemmas.List.{drop_all}
 use Rattle.sql_tree.specs.Trees.{StatementTree}
 use Rattle.sql_tree.specs.View.{statement_tree}
-use Rattle.sql_exec.specs.TypingStatements.{after, nothing}
+use Rattle.sql_check_parts.specs.Statements.{after, nothing}
 use Rattle.sql_engine.specs.LastReads.{EachExported, IsReadFrom}
 use Rattle.sql_engine.proofs.Exporting.{one_left}
 use Rattle.sql_engine.proofs.Running.{Running, Whole, has_fault, has_run, in_turn, may_run, run_begins, run_ends}

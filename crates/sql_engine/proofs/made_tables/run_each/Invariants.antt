@@ -1,8 +1,8 @@
 use Rattle.std.proofs.Common.{drop, map}
 use Rattle.std.specs.Prelude.{fold}
 use Rattle.sql_tree.specs.View.{statement_tree}
-use Rattle.sql_exec.specs.TypingStatements.{after, nothing}
-use Rattle.sql_exec.specs.Scripts.{nothing_made, statements_made}
+use Rattle.sql_check_parts.specs.Statements.{after, nothing}
+use Rattle.sql_meaning.specs.Scripts.{nothing_made, statements_made}
 use Rattle.sql_engine.specs.InputTables.{rows_given}
 use Rattle.sql_engine.proofs.Running.{Running}
 use Rattle.sql_engine.proofs.made_tables.run_each.Given as goal

@@ -4,9 +4,9 @@ use Rattle.vtl_cell.specs.Sorted.{rising}
 use Rattle.vtl_rows.specs.Keys.{key_of}
 use Rattle.vtl_rows.specs.Tables.{Listed}
 use Rattle.vtl_rows.specs.declared.column.Column.{Column}
-use Rattle.sql_exec.specs.Statements.{AreNames}
-use Rattle.sql_exec.specs.Scripts.{sort_key}
-use Rattle.sql_exec.specs.Tables.{column_entry}
+use Rattle.sql_check_laws.specs.Statements.{AreNames}
+use Rattle.sql_meaning.specs.Scripts.{sort_key}
+use Rattle.sql_meaning.specs.Tables.{column_entry}
 use Rattle.sql_engine.specs.Exported.{ordered_by}
 use Rattle.sql_engine.proofs.Ordering.{keys_within, table_ordered}
 use Rattle.sql_engine.proofs.orders.ordered.Goals as goal

@@ -4,9 +4,9 @@ use Rattle.sql_tree.specs.View.{query_tree}
 use Rattle.sql_tree.specs.declared.statements.Query.{Query}
 use Rattle.sql_plan.specs.Chosen.{equality_joins}
 use Rattle.sql_plan.proofs.Listed.{join_is_listed}
-use Rattle.sql_exec.specs.Selects.{query_value}
+use Rattle.sql_meaning.specs.Selects.{query_value}
 use Rattle.sql_exec.specs.Answers.{Gives}
-use Rattle.sql_exec.specs.Held.{base_held}
+use Rattle.sql_from.specs.Held.{base_held}
 use Rattle.sql_engine.proofs.statements.query_table.Goals as goal
 
 pub returns-clause-rows : goal.returns-clause-rows

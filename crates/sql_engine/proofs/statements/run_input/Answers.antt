@@ -2,8 +2,8 @@ use Rattle.std.proofs.Common.{◌≡◌, ◌∙◌, ◌++◌, ◌∷◌, [], Som
 use Rattle.std.specs.Option.{option_copied}
 use Rattle.vtl_rows.specs.Named.{table_of}
 use Rattle.sql_tree.specs.Trees.{Text}
-use Rattle.sql_exec.specs.TypingStatements.{input_columns}
-use Rattle.sql_exec.specs.Tables.{rows_of}
+use Rattle.sql_check_parts.specs.Statements.{input_columns}
+use Rattle.sql_meaning.specs.Tables.{rows_of}
 use Rattle.sql_engine.specs.Statements.{IsPut}
 use Rattle.sql_engine.proofs.Noting.{on_ok}
 use Rattle.sql_engine.proofs.Putting.{input_put}

@@ -1,6 +1,6 @@
 use Rattle.std.proofs.Common.{ap, subst, ◌∙◌}
 use Rattle.vtl_cell.specs.Outcome.{after}
-use Rattle.vtl_cell.specs.Perm.{Perm}
+use Rattle.vtl_lists.specs.Perm.{Perm}
 use Rattle.sql_meaning.specs.Values.{literal_cell}
 use Rattle.sql_eval.specs.Placed.{membership_value, placed_value}
 use Rattle.sql_eval.specs.View.{placed_of}

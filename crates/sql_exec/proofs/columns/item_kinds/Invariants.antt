@@ -1,6 +1,6 @@
 use Rattle.std.proofs.Common.{◌≡◌, map, take}
 use Rattle.sql_tree.specs.View.{item_tree}
-use Rattle.sql_window.specs.Queries.{item_kind}
+use Rattle.sql_check_parts.specs.Queries.{item_kind}
 use Rattle.sql_exec.proofs.columns.item_kinds.Given as goal
 
 abbrev pub invariant-loop-item : goal.invariant-loop-item

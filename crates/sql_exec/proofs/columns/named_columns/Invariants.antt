@@ -1,6 +1,6 @@
 use Rattle.std.proofs.Common.{◌≡◌, map, take}
 use Rattle.std.specs.Prelude.{zip}
-use Rattle.sql_window.specs.Tables.{column_entry}
+use Rattle.sql_meaning.specs.Tables.{column_entry}
 use Rattle.sql_exec.proofs.columns.named_columns.Given as goal
 
 abbrev pub invariant-loop-i : goal.invariant-loop-i

@@ -3,13 +3,13 @@ use Rattle.std.specs.List.{AllByRecursion}
 use Rattle.sql_tree.specs.View.{item_tree, join_tree, select_tree}
 use Rattle.sql_tree.specs.declared.statements.Item.{Item}
 use Rattle.sql_tree.specs.declared.statements.Join.{Join}
-use Rattle.sql_window.specs.Queries.{first_scope, groups_of, join_source, joined_scope, scope_of}
-use Rattle.sql_window.specs.Expressions.{site}
-use Rattle.sql_window.specs.Scopes.{Scope, with_source}
-use Rattle.sql_window.specs.TypedSelects.{AreJoinsTyped, IsSourceTyped}
-use Rattle.sql_window.specs.Held.{tables_held}
+use Rattle.sql_check_parts.specs.Queries.{first_scope, groups_of, join_source, joined_scope, scope_of}
+use Rattle.sql_check_parts.specs.Expressions.{site}
+use Rattle.sql_check_parts.specs.Scopes.{Scope, with_source}
+use Rattle.sql_check_laws.specs.Selects.{AreJoinsTyped, IsSourceTyped}
+use Rattle.sql_from.specs.Held.{tables_held}
 use Rattle.sql_tree.specs.declared.parts.Source.{Source}
-use Rattle.sql_window.specs.Sources.{scope_held, table_named}
+use Rattle.sql_from.specs.Sources.{scope_held, table_named}
 use Rattle.sql_exec.specs.Items.{IsKindKnown}
 use Rattle.sql_exec.proofs.QueryParts.{kinds_known}
 use Rattle.sql_exec.proofs.QueryColumns.{drop_read, scope_with}

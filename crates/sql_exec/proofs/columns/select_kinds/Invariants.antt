@@ -1,9 +1,9 @@
 use Rattle.std.proofs.Common.{◌≡◌, map, drop}
 use Rattle.sql_tree.specs.View.{join_tree, select_tree}
-use Rattle.sql_window.specs.Queries.{joined_scope, scope_of}
-use Rattle.sql_window.specs.TypedSelects.{AreJoinsTyped}
-use Rattle.sql_window.specs.Held.{tables_held}
-use Rattle.sql_window.specs.Sources.{scope_held}
+use Rattle.sql_check_parts.specs.Queries.{joined_scope, scope_of}
+use Rattle.sql_check_laws.specs.Selects.{AreJoinsTyped}
+use Rattle.sql_from.specs.Held.{tables_held}
+use Rattle.sql_from.specs.Sources.{scope_held}
 use Rattle.sql_exec.proofs.columns.select_kinds.Given as goal
 
 abbrev pub invariant-loop-join : goal.invariant-loop-join

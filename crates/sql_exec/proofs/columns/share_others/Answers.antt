@@ -1,9 +1,9 @@
 use Rattle.std.proofs.Common.{◌∙◌, ◌+◌, ap, sym, map, drop}
 use Rattle.std.specs.Prelude.{fold}
 use Rattle.sql_tree.specs.View.{select_tree}
-use Rattle.sql_window.specs.Queries.{beside, kinds_of}
-use Rattle.sql_window.specs.Held.{tables_held}
-use Rattle.sql_window.specs.TypedSelects.{IsSelectTyped}
+use Rattle.sql_check_parts.specs.Queries.{beside, kinds_of}
+use Rattle.sql_from.specs.Held.{tables_held}
+use Rattle.sql_check_laws.specs.Selects.{IsSelectTyped}
 use Rattle.sql_exec.proofs.QueryColumns.{drop_read}
 use Rattle.sql_exec.proofs.Steps.{holds_mapped}
 use Rattle.sql_exec.proofs.columns.share_others.Goals as goal

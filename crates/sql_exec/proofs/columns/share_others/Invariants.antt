@@ -1,8 +1,8 @@
 use Rattle.std.proofs.Common.{◌≡◌, map, drop}
 use Rattle.std.specs.Prelude.{fold}
 use Rattle.sql_tree.specs.View.{select_tree}
-use Rattle.sql_window.specs.Queries.{beside, kinds_of}
-use Rattle.sql_window.specs.Held.{tables_held}
+use Rattle.sql_check_parts.specs.Queries.{beside, kinds_of}
+use Rattle.sql_from.specs.Held.{tables_held}
 use Rattle.sql_exec.proofs.columns.share_others.Given as goal
 
 abbrev pub invariant-loop-other : goal.invariant-loop-other

@@ -2,7 +2,7 @@ use Rattle.std.proofs.Common.{◌<◌, List, [], length, get_or, sym, subst, ari
 use Rattle.std.proofs.lemmas.List.{get_or_default}
 use Rattle.vtl_cell.specs.declared.kind.Kind.TheVariants as k
 use Rattle.sql_tree.specs.View.{item_tree}
-use Rattle.sql_window.specs.Selects.{Wanted}
+use Rattle.sql_meaning.specs.Selects.{Wanted}
 use Rattle.sql_exec.specs.Gathered.{AreColumnsAt}
 use Rattle.sql_exec.proofs.GatheredItems.{places_more, places_none}
 use Rattle.sql_exec.proofs.Steps.{zipped_all}

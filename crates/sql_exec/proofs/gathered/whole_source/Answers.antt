@@ -3,10 +3,10 @@ use Rattle.std.specs.List.{range_with_len}
 use Rattle.std.proofs.lemmas.List.{length-map}
 use Rattle.vtl_rows.specs.Tables.{cells_at}
 use Rattle.vtl_rows.proofs.PlacesStay.{rows_stay}
-use Rattle.sql_window.specs.Columns.{kinds_at}
-use Rattle.sql_window.specs.Scopes.{row_of}
-use Rattle.sql_window.specs.Sources.{scope_held}
-use Rattle.sql_window.specs.Standing.{rows_for}
+use Rattle.sql_from.specs.Columns.{kinds_at}
+use Rattle.sql_check_parts.specs.Scopes.{row_of}
+use Rattle.sql_from.specs.Sources.{scope_held}
+use Rattle.sql_from.specs.Standing.{rows_for}
 use Rattle.sql_exec.proofs.WholeSources.{kinds_stay}
 use Rattle.sql_exec.proofs.gathered.whole_source.Goals as goal
 

@@ -2,14 +2,14 @@ use Rattle.std.proofs.Common.{◌≡◌, ◌<◌, None, length, map, ap, subst, 
 use Rattle.std.specs.List.{AllByRecursion}
 use Rattle.sql_tree.specs.View.{value_tree}
 use Rattle.sql_tree.specs.Trees as tree
-use Rattle.sql_window.specs.Expressions.{site}
-use Rattle.sql_window.specs.Held.{tables_held}
-use Rattle.sql_window.specs.Scopes.{row_of}
-use Rattle.sql_window.specs.Sources.{scope_held}
-use Rattle.sql_window.specs.TypedSelects.{IsValueTyped}
-use Rattle.sql_window.specs.Standing.{rows_for, sight_of}
-use Rattle.sql_window.specs.Values.{place_in}
-use Rattle.sql_window.specs.Windows.{told_apart, window_value}
+use Rattle.sql_check_parts.specs.Expressions.{site}
+use Rattle.sql_from.specs.Held.{tables_held}
+use Rattle.sql_check_parts.specs.Scopes.{row_of}
+use Rattle.sql_from.specs.Sources.{scope_held}
+use Rattle.sql_check_laws.specs.Selects.{IsValueTyped}
+use Rattle.sql_from.specs.Standing.{rows_for, sight_of}
+use Rattle.sql_meaning.specs.Values.{place_in}
+use Rattle.sql_meaning.specs.Windows.{told_apart, window_value}
 use Rattle.sql_exec.specs.Items.{HasValuesOf}
 use Rattle.sql_exec.specs.declared.items.ItemValues.TheVariants as values
 use Rattle.sql_exec.proofs.PlacedColumns.{order_within, partition_within}

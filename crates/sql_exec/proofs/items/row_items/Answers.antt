@@ -1,11 +1,11 @@
 use Rattle.std.proofs.Common.{◌<◌, None, length, get_or, ap, subst, arith}
 use Rattle.std.proofs.lemmas.List.{get_or_default}
 use Rattle.sql_tree.specs.View.{item_tree}
-use Rattle.sql_window.specs.Expressions.{site}
-use Rattle.sql_window.specs.Held.{tables_held}
-use Rattle.sql_window.specs.Sources.{scope_held}
-use Rattle.sql_window.specs.TypedSelects.{IsItemTyped}
-use Rattle.sql_window.specs.Standing.{rows_for, sight_of}
+use Rattle.sql_check_parts.specs.Expressions.{site}
+use Rattle.sql_from.specs.Held.{tables_held}
+use Rattle.sql_from.specs.Sources.{scope_held}
+use Rattle.sql_check_laws.specs.Selects.{IsItemTyped}
+use Rattle.sql_from.specs.Standing.{rows_for, sight_of}
 use Rattle.sql_exec.specs.Items.{HaveValuesOf}
 use Rattle.sql_exec.proofs.RowItems.{items_more}
 use Rattle.sql_exec.proofs.Steps.{holds_mapped, zipped_all}

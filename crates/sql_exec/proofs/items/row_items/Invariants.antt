@@ -1,7 +1,7 @@
 use Rattle.std.proofs.Common.{map, take}
 use Rattle.std.specs.Prelude.{zip}
 use Rattle.sql_tree.specs.View.{item_tree}
-use Rattle.sql_window.specs.Standing.{rows_for, sight_of}
+use Rattle.sql_from.specs.Standing.{rows_for, sight_of}
 use Rattle.sql_exec.specs.Items.{HaveValuesOf}
 use Rattle.sql_exec.proofs.items.row_items.Given as goal
 

@@ -10,16 +10,16 @@ use Rattle.sql_tree.specs.View.{query_tree, select_tree}
 use Rattle.sql_tree.specs.declared.statements.Item.{Item}
 use Rattle.sql_tree.specs.declared.statements.Query.{Query}
 use Rattle.sql_tree.specs.declared.statements.Select.{Select}
-use Rattle.sql_window.specs.Queries.{query_columns, shared_kinds}
-use Rattle.sql_window.specs.Scopes.{or_null}
-use Rattle.sql_eval.specs.Plans.{IsPlan, planned_selects, planned_value}
-use Rattle.sql_window.specs.Selects.{appended, query_value}
-use Rattle.sql_window.specs.Tables.{column_entry, kinds_of}
-use Rattle.sql_window.specs.Held.{base_held, tables_held}
-use Rattle.sql_window.specs.TypedSelects.{IsSelectTyped}
+use Rattle.sql_check_parts.specs.Queries.{query_columns, shared_kinds}
+use Rattle.sql_check_parts.specs.Scopes.{or_null}
+use Rattle.sql_meaning.specs.Plans.{IsPlan, planned_selects, planned_value}
+use Rattle.sql_meaning.specs.Selects.{appended, query_value}
+use Rattle.sql_meaning.specs.Tables.{column_entry, kinds_of}
+use Rattle.sql_from.specs.Held.{base_held, tables_held}
+use Rattle.sql_check_laws.specs.Selects.{IsSelectTyped}
 use Rattle.sql_exec.specs.Outputs.{Adds, fault_seen}
 use Rattle.sql_exec.specs.Parts.{IsPart}
-use Rattle.sql_eval.proofs.Planned.{plan_stands}
+use Rattle.sql_meaning.proofs.Planned.{plan_stands}
 use Rattle.sql_exec.proofs.PlannedSelects.{gives_same}
 use Rattle.sql_exec.proofs.QueryParts.{query_parts}
 use Rattle.sql_exec.proofs.WholeQueries.{answered_keeps, columns_are, columns_long, first_many, first_named, gives, kinds_held, query_kinds_are, some_selects}

@@ -6,14 +6,14 @@ use Rattle.vtl_cell.specs.Outcome.{Outcome}
 use Rattle.vtl_cell.specs.Row.{Row}
 use Rattle.sql_tree.specs.View.{item_tree, select_tree}
 use Rattle.sql_tree.specs.declared.statements.Item.{Item}
-use Rattle.sql_window.specs.Queries.{is_grouped}
-use Rattle.sql_window.specs.Outcomes.{row_at}
-use Rattle.sql_window.specs.Selects.{grouped_rows, item_value}
-use Rattle.sql_window.specs.Expressions.{site}
-use Rattle.sql_window.specs.TypedSelects.{IsItemTyped}
-use Rattle.sql_window.specs.Held.{base_held}
-use Rattle.sql_window.specs.Sources.{scope_held}
-use Rattle.sql_window.specs.Standing.{rows_for, sight_of}
+use Rattle.sql_check_parts.specs.Queries.{is_grouped}
+use Rattle.sql_meaning.specs.Outcomes.{row_at}
+use Rattle.sql_meaning.specs.Selects.{grouped_rows, item_value}
+use Rattle.sql_check_parts.specs.Expressions.{site}
+use Rattle.sql_check_laws.specs.Selects.{IsItemTyped}
+use Rattle.sql_from.specs.Held.{base_held}
+use Rattle.sql_from.specs.Sources.{scope_held}
+use Rattle.sql_from.specs.Standing.{rows_for, sight_of}
 use Rattle.sql_exec.specs.Outputs.{Adds}
 use Rattle.sql_exec.specs.Parts.{MakesKinds}
 use Rattle.sql_exec.specs.declared.output.Output.{Output}

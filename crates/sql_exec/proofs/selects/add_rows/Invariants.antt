@@ -1,10 +1,10 @@
 use Rattle.std.proofs.Common.{map, take}
 use Rattle.std.specs.Prelude.{zip}
 use Rattle.sql_tree.specs.View.{item_tree}
-use Rattle.sql_window.specs.Outcomes.{row_at, row_fault}
-use Rattle.sql_window.specs.Selects.{appended, item_value}
-use Rattle.sql_window.specs.Standing.{rows_for, sight_of}
-use Rattle.sql_window.specs.Windows.{told_apart}
+use Rattle.sql_meaning.specs.Outcomes.{row_at, row_fault}
+use Rattle.sql_meaning.specs.Selects.{appended, item_value}
+use Rattle.sql_from.specs.Standing.{rows_for, sight_of}
+use Rattle.sql_meaning.specs.Windows.{told_apart}
 use Rattle.sql_exec.specs.Outputs.{Adds}
 use Rattle.sql_exec.proofs.PlainRows.{one_row}
 use Rattle.sql_exec.proofs.selects.add_rows.Given as goal

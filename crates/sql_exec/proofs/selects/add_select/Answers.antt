@@ -4,14 +4,14 @@ use Rattle.vtl_cell.specs.Outcome.{Outcome}
 use Rattle.vtl_cell.specs.Row.{Row}
 use Rattle.sql_tree.specs.View.{select_tree}
 use Rattle.vtl_rows.specs.Named.{NamedTables}
-use Rattle.sql_eval.specs.Plans.{planned_source_rows}
-use Rattle.sql_window.specs.Profiles.{IsLawful}
-use Rattle.sql_window.specs.Scopes.{Scope, row_of}
-use Rattle.sql_window.specs.Selects.{second_phase}
-use Rattle.sql_window.specs.Tables.{RowsFit}
-use Rattle.sql_window.specs.Values.{at_rows}
-use Rattle.sql_window.specs.Held.{base_held}
-use Rattle.sql_window.specs.Standing.{rows_for, sight_of}
+use Rattle.sql_meaning.specs.Plans.{planned_source_rows}
+use Rattle.sql_meaning.specs.Profiles.{IsLawful}
+use Rattle.sql_check_parts.specs.Scopes.{Scope, row_of}
+use Rattle.sql_meaning.specs.Selects.{second_phase}
+use Rattle.sql_meaning.specs.Tables.{RowsFit}
+use Rattle.sql_meaning.specs.Values.{at_rows}
+use Rattle.sql_from.specs.Held.{base_held}
+use Rattle.sql_from.specs.Standing.{rows_for, sight_of}
 use Rattle.sql_exec.specs.Outputs.{Adds}
 use Rattle.sql_exec.specs.Parts.{phase_of}
 use Rattle.sql_exec.proofs.PlannedSelects.{same_rows_fit, same_rows_of_profile}

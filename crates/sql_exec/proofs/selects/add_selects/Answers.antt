@@ -4,10 +4,10 @@ use Rattle.vtl_cell.specs.Outcome.{Outcome}
 use Rattle.vtl_cell.specs.Row.{Row}
 use Rattle.sql_tree.specs.View.{select_tree}
 use Rattle.sql_tree.specs.declared.statements.Select.{Select}
-use Rattle.sql_eval.specs.Plans.{early_in, planned_selects, planned_source_rows}
-use Rattle.sql_eval.specs.plan.Early.{Early}
-use Rattle.sql_window.specs.Held.{base_held}
-use Rattle.sql_window.specs.Selects.{appended}
+use Rattle.sql_meaning.specs.Plans.{early_in, planned_selects, planned_source_rows}
+use Rattle.sql_meaning.specs.declared.plan.Early.{Early}
+use Rattle.sql_from.specs.Held.{base_held}
+use Rattle.sql_meaning.specs.Selects.{appended}
 use Rattle.sql_exec.specs.Outputs.{Adds}
 use Rattle.sql_exec.specs.Parts.{HasRowsOf, IsPart, phase_of}
 use Rattle.sql_exec.proofs.Added.{added_all, added_more}

@@ -1,10 +1,10 @@
 use Rattle.std.proofs.Common.{◌≡◌, ◌∷◌, [], true, map, take}
 use Rattle.sql_tree.specs.Trees.{SelectTree}
 use Rattle.sql_tree.specs.View.{select_tree}
-use Rattle.sql_eval.specs.Plans.{indexed_in, is_indexed, planned_selects}
-use Rattle.sql_window.specs.Selects.{appended}
-use Rattle.sql_window.specs.Held.{base_held}
-use Rattle.sql_window.specs.Steps.{IsPlainJoin}
+use Rattle.sql_meaning.specs.Plans.{indexed_in, is_indexed, planned_selects}
+use Rattle.sql_meaning.specs.Selects.{appended}
+use Rattle.sql_from.specs.Held.{base_held}
+use Rattle.sql_from.specs.Steps.{IsPlainJoin}
 use Rattle.sql_exec.specs.Outputs.{Adds}
 use Rattle.sql_exec.proofs.Counted.{Taken}
 use Rattle.sql_exec.proofs.selects.add_selects.Given as goal

@@ -1,7 +1,7 @@
 use Rattle.std.proofs.Common.{◌≡◌, drop, map}
 use Rattle.std.specs.List.{list_any}
 use Rattle.sql_tree.specs.View.{item_tree}
-use Rattle.sql_window.specs.Asking.{item_asks}
+use Rattle.sql_from.specs.Asking.{item_asks}
 use Rattle.sql_exec.proofs.selects.any_asks.Given as goal
 
 abbrev pub invariant-loop-item : goal.invariant-loop-item

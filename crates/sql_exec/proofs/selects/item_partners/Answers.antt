@@ -1,7 +1,7 @@
 use Rattle.std.proofs.Common.{subst, sym}
-use Rattle.sql_window.specs.Held.{base_held}
-use Rattle.sql_window.specs.Profiles.{IsLawful}
-use Rattle.sql_window.specs.Sources.{Sourced}
+use Rattle.sql_from.specs.Held.{base_held}
+use Rattle.sql_meaning.specs.Profiles.{IsLawful}
+use Rattle.sql_from.specs.Sources.{Sourced}
 use Rattle.sql_exec.proofs.selects.item_partners.Goals as goal
 
 pub with-requires : goal.with-requires

@@ -6,16 +6,16 @@ use Rattle.vtl_cell.specs.Outcome.{Outcome}
 use Rattle.vtl_cell.specs.Row.{Row}
 use Rattle.vtl_rows.specs.Tables.{column_kinds, fits_kinds}
 use Rattle.sql_tree.specs.View.{item_tree}
-use Rattle.sql_window.specs.Expressions.{site}
-use Rattle.sql_window.specs.Held.{tables_held}
-use Rattle.sql_window.specs.Outcomes.{row_at, row_fault}
-use Rattle.sql_window.specs.Scopes.{row_of}
-use Rattle.sql_window.specs.Selects.{item_value}
-use Rattle.sql_window.specs.Sources.{scope_held}
-use Rattle.sql_window.specs.Standing.{rows_for, sight_of}
-use Rattle.sql_window.specs.Tables.{RowsFit}
-use Rattle.sql_window.specs.TypedSelects.{IsItemTyped}
-use Rattle.sql_window.specs.Windows.{told_apart}
+use Rattle.sql_check_parts.specs.Expressions.{site}
+use Rattle.sql_from.specs.Held.{tables_held}
+use Rattle.sql_meaning.specs.Outcomes.{row_at, row_fault}
+use Rattle.sql_check_parts.specs.Scopes.{row_of}
+use Rattle.sql_meaning.specs.Selects.{item_value}
+use Rattle.sql_from.specs.Sources.{scope_held}
+use Rattle.sql_from.specs.Standing.{rows_for, sight_of}
+use Rattle.sql_meaning.specs.Tables.{RowsFit}
+use Rattle.sql_check_laws.specs.Selects.{IsItemTyped}
+use Rattle.sql_meaning.specs.Windows.{told_apart}
 use Rattle.sql_exec.specs.ItemCells.{values_in}
 use Rattle.sql_exec.specs.Items.{told_row}
 use Rattle.sql_exec.specs.Outputs.{Adds}

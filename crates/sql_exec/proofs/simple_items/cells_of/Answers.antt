@@ -2,12 +2,12 @@ use Rattle.std.proofs.Common.{◌≡◌, None, subst, ◌∙◌}
 use Rattle.std.specs.Vec.Iter.{into_iter_items}
 use Rattle.sql_tree.specs.Trees as tree
 use Rattle.sql_tree.specs.View.{item_tree}
-use Rattle.sql_window.specs.Expressions.{site}
-use Rattle.sql_window.specs.Held.{base_held, tables_held}
-use Rattle.sql_window.specs.Selects.{Wanted}
-use Rattle.sql_window.specs.Sources.{scope_held}
-use Rattle.sql_window.specs.Standing.{rows_for, sight_of}
-use Rattle.sql_window.specs.TypedSelects.{IsValueTyped}
+use Rattle.sql_check_parts.specs.Expressions.{site}
+use Rattle.sql_from.specs.Held.{base_held, tables_held}
+use Rattle.sql_meaning.specs.Selects.{Wanted}
+use Rattle.sql_from.specs.Sources.{scope_held}
+use Rattle.sql_from.specs.Standing.{rows_for, sight_of}
+use Rattle.sql_check_laws.specs.Selects.{IsValueTyped}
 use Rattle.sql_exec.specs.Gathered.{IsColumnAt}
 use Rattle.sql_exec.specs.SimpleItems.{IsSimple}
 use Rattle.sql_exec.proofs.PlacedColumns.{order_within, partition_within}

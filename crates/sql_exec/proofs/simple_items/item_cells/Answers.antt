@@ -2,13 +2,13 @@ use Rattle.std.proofs.Common.{◌<◌, ◌∙◌, None, length, get_or, map, ap,
 use Rattle.std.proofs.lemmas.List.{get_or_default}
 use Rattle.vtl_cell.specs.declared.kind.Kind.TheVariants as k
 use Rattle.sql_tree.specs.View.{item_tree}
-use Rattle.sql_window.specs.Expressions.{site}
-use Rattle.sql_window.specs.Held.{tables_held}
-use Rattle.sql_window.specs.Selects.{Wanted, item_value}
-use Rattle.sql_window.specs.Sources.{scope_held}
-use Rattle.sql_window.specs.Standing.{rows_for, sight_of}
-use Rattle.sql_window.specs.TypedSelects.{IsItemTyped}
-use Rattle.sql_window.specs.Windows.{told_apart}
+use Rattle.sql_check_parts.specs.Expressions.{site}
+use Rattle.sql_from.specs.Held.{tables_held}
+use Rattle.sql_meaning.specs.Selects.{Wanted, item_value}
+use Rattle.sql_from.specs.Sources.{scope_held}
+use Rattle.sql_from.specs.Standing.{rows_for, sight_of}
+use Rattle.sql_check_laws.specs.Selects.{IsItemTyped}
+use Rattle.sql_meaning.specs.Windows.{told_apart}
 use Rattle.sql_exec.specs.ItemCells.{values_in}
 use Rattle.sql_exec.proofs.SimpleRows.{listed_more, simple_at, simple_many}
 use Rattle.sql_exec.proofs.Steps.{holds_mapped, zipped_all}

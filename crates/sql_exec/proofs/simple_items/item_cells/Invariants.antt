@@ -1,9 +1,9 @@
 use Rattle.std.proofs.Common.{◌≡◌, map, take}
 use Rattle.std.specs.Prelude.{zip}
 use Rattle.sql_tree.specs.View.{item_tree}
-use Rattle.sql_window.specs.Selects.{item_value}
-use Rattle.sql_window.specs.Standing.{rows_for, sight_of}
-use Rattle.sql_window.specs.Windows.{told_apart}
+use Rattle.sql_meaning.specs.Selects.{item_value}
+use Rattle.sql_from.specs.Standing.{rows_for, sight_of}
+use Rattle.sql_meaning.specs.Windows.{told_apart}
 use Rattle.sql_exec.specs.ItemCells.{values_in}
 use Rattle.sql_exec.proofs.simple_items.item_cells.Given as goal
 

@@ -1,7 +1,7 @@
 use Rattle.std.proofs.Common.{◌∙◌, ◌+◌, ◌++◌, ◌∷◌, [], map, take, arith, ap, sym, subst}
 use Rattle.std.proofs.lemmas.List.{length-map, length-take-le}
 use Rattle.sql_tree.specs.Trees.{Text}
-use Rattle.sql_eval.specs.Tables.{column_entry}
+use Rattle.sql_meaning.specs.Tables.{column_entry}
 use Rattle.sql_from.specs.Sources.{AreFound}
 use Rattle.sql_from.proofs.Named.{columns_more, put_found, skip_found}
 use Rattle.sql_from.proofs.columns.columns_by_name.Goals.{then-not-has+in_ok-share+in_ok-put, else-not-has}

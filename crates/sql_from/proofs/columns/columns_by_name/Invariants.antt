@@ -1,5 +1,5 @@
 use Rattle.std.proofs.Common.{map, take}
-use Rattle.sql_eval.specs.Tables.{column_entry}
+use Rattle.sql_meaning.specs.Tables.{column_entry}
 use Rattle.sql_from.specs.Sources.{AreFound}
 use Rattle.sql_from.proofs.columns.columns_by_name.Given as goal
 

@@ -1,7 +1,7 @@
 use Rattle.std.proofs.Common.{◌≡◌, drop, map, length}
 use Rattle.std.specs.Prelude.{unwrap_or}
-use Rattle.sql_eval.specs.Scopes.{numbered, value_among}
-use Rattle.sql_eval.specs.Tables.{column_entry}
+use Rattle.sql_check_parts.specs.Scopes.{numbered, value_among}
+use Rattle.sql_meaning.specs.Tables.{column_entry}
 use Rattle.sql_from.proofs.columns.place_of.Given as goal
 
 abbrev pub invariant-loop-i : goal.invariant-loop-i

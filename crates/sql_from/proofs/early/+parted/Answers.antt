@@ -5,7 +5,7 @@ use Rattle.sql_tree.specs.Trees.{Exp}
 use Rattle.sql_tree.specs.View.{expr_tree}
 use Rattle.sql_tree.specs.declared.expressions.SqlExpr as expr
 use Rattle.sql_tree.specs.declared.expressions.SqlExpr.{SqlExpr}
-use Rattle.sql_eval.specs.Plans.{conjuncts}
+use Rattle.sql_meaning.specs.Plans.{conjuncts}
 use Rattle.sql_from.proofs.Conjuncts.{behind_both, drop_behind}
 use Rattle.sql_from.proofs.early.+parted.Goals as goal
 

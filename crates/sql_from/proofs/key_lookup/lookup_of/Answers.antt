@@ -2,7 +2,7 @@ use Rattle.std.proofs.Common.{◌≡◌, ◌∙◌, ◌-◌, ℕ, List, true, tr
 use Rattle.std.specs.List.{list_all}
 use Rattle.std.specs.Prelude.{slice_get}
 use Rattle.sql_tree.specs.View.{expr_tree}
-use Rattle.sql_eval.specs.Plans.{conjuncts}
+use Rattle.sql_meaning.specs.Plans.{conjuncts}
 use Rattle.sql_from.specs.Keys.{ArePaired, is_link}
 use Rattle.sql_from.specs.Lookups.{IsKeyed}
 use Rattle.sql_from.specs.Sources.{parts_of}

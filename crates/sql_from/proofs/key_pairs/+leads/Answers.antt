@@ -6,7 +6,7 @@ use Rattle.sql_tree.specs.Trees.{Exp}
 use Rattle.sql_tree.specs.View.{expr_tree}
 use Rattle.sql_tree.specs.declared.expressions.SqlExpr as expr
 use Rattle.sql_tree.specs.declared.expressions.SqlExpr.{SqlExpr}
-use Rattle.sql_eval.specs.Plans.{conjuncts}
+use Rattle.sql_meaning.specs.Plans.{conjuncts}
 use Rattle.sql_from.specs.Keys.{IsLinked, is_link}
 use Rattle.sql_from.proofs.Links.{links_parted}
 use Rattle.sql_from.proofs.key_pairs.+leads.Goals as goal

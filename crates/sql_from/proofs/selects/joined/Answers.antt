@@ -5,10 +5,10 @@ use Rattle.vtl_rows.specs.Named.{NamedTables}
 use Rattle.sql_tree.specs.Trees.{JoinTree, SelectTree}
 use Rattle.sql_tree.specs.declared.statements.Join.{Join}
 use Rattle.sql_tree.specs.View.{join_tree, select_tree}
-use Rattle.sql_eval.specs.Profiles.{IsLawful}
-use Rattle.sql_eval.specs.From.{first_of, with_join}
-use Rattle.sql_eval.specs.Plans.{early_at, try_early}
-use Rattle.sql_eval.specs.Values.{View, at_rows}
+use Rattle.sql_meaning.specs.Profiles.{IsLawful}
+use Rattle.sql_meaning.specs.From.{first_of, with_join}
+use Rattle.sql_meaning.specs.Plans.{early_at, try_early}
+use Rattle.sql_meaning.specs.Values.{View, at_rows}
 use Rattle.sql_from.specs.Held.{base_held}
 use Rattle.sql_from.specs.Seen.{seen_of}
 use Rattle.sql_from.specs.Sources.{Sourced}

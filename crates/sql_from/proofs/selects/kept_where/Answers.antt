@@ -1,7 +1,7 @@
 use Rattle.std.proofs.Common.{◌≡◌, ◌∙◌, Some, ap, sym}
 use Rattle.std.specs.Option.{option_map}
 use Rattle.sql_tree.specs.View.{expr_tree}
-use Rattle.sql_eval.specs.From.{kept_of}
+use Rattle.sql_meaning.specs.From.{kept_of}
 use Rattle.sql_from.specs.Held.{base_held}
 use Rattle.sql_from.specs.Seen.{seen_of}
 use Rattle.sql_from.proofs.Standing.{if_both, kept_stands}

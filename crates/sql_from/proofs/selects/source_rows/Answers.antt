@@ -5,10 +5,10 @@ use Rattle.vtl_rows.specs.Tables.{Listed}
 use Rattle.vtl_scalar.specs.Answers.{AnswersBy}
 use Rattle.sql_tree.specs.Trees.{SelectTree}
 use Rattle.sql_tree.specs.View.{select_tree}
-use Rattle.sql_eval.proofs.Planned.{joins_by_index}
-use Rattle.sql_eval.specs.From.{first_of, kept_of, source_rows}
-use Rattle.sql_eval.specs.Plans.{planned_source_rows}
-use Rattle.sql_eval.specs.Tables.{Base}
+use Rattle.sql_meaning.proofs.Planned.{joins_by_index}
+use Rattle.sql_meaning.specs.From.{first_of, kept_of, source_rows}
+use Rattle.sql_meaning.specs.Plans.{planned_source_rows}
+use Rattle.sql_meaning.specs.Tables.{Base}
 use Rattle.sql_from.specs.Held.{base_held}
 use Rattle.sql_from.proofs.selects.source_rows.Goals as goal
 

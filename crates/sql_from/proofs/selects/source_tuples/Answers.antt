@@ -2,8 +2,8 @@ use Rattle.std.proofs.Common.{◌∙◌, [], ap, subst}
 use Rattle.vtl_rows.specs.Named.{NamedTables}
 use Rattle.vtl_scalar.specs.Answers.{AnswersBy}
 use Rattle.sql_tree.specs.View.{select_tree}
-use Rattle.sql_eval.specs.From.{Joined, first_of, kept_of}
-use Rattle.sql_eval.specs.Plans.{planned_joins}
+use Rattle.sql_meaning.specs.From.{Joined, first_of, kept_of}
+use Rattle.sql_meaning.specs.Plans.{planned_joins}
 use Rattle.sql_from.specs.Held.{base_held}
 use Rattle.sql_from.specs.Sources.{Sourced, scope_held}
 use Rattle.sql_from.specs.Standing.{rows_for}

@@ -1,6 +1,6 @@
 use Rattle.std.proofs.Common.{subst, sym}
 use Rattle.sql_from.specs.Held.{base_held}
-use Rattle.sql_from.specs.Profiles.{IsLawful}
+use Rattle.sql_meaning.specs.Profiles.{IsLawful}
 use Rattle.sql_from.specs.Sources.{Sourced}
 use Rattle.sql_groups.proofs.group_partners.row_partners.Goals as goal
 

@@ -1,6 +1,6 @@
 use Rattle.std.proofs.Common.{◌≡◌, map, take}
 use Rattle.vtl_rows.specs.Tables.{column_kinds}
-use Rattle.sql_from.specs.Scopes.{column_kind}
+use Rattle.sql_check_parts.specs.Scopes.{column_kind}
 use Rattle.sql_groups.proofs.grouping.key_columns.Given as goal
 
 abbrev pub invariant-loop-column : goal.invariant-loop-column

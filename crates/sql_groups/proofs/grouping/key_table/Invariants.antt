@@ -1,6 +1,6 @@
 use Rattle.std.proofs.Common.{◌≡◌, [], map, take}
 use Rattle.vtl_rows.specs.Tables.{cells_at, column_kinds}
-use Rattle.sql_from.specs.Scopes.{column_kind}
+use Rattle.sql_check_parts.specs.Scopes.{column_kind}
 use Rattle.sql_groups.specs.Kept.{rows_of, scope_of}
 use Rattle.sql_groups.proofs.grouping.key_table.Given as goal
 

@@ -1,5 +1,5 @@
 use Rattle.std.proofs.Common.{◌≡◌, map, take}
-use Rattle.sql_from.specs.Values.{place_in}
+use Rattle.sql_meaning.specs.Values.{place_in}
 use Rattle.sql_groups.proofs.grouping.places_of.Given as goal
 
 abbrev pub invariant-loop-column : goal.invariant-loop-column

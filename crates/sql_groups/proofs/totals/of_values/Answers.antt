@@ -3,7 +3,7 @@ use Rattle.vtl_agg.specs.Added.{IsAdded}
 use Rattle.vtl_cell.specs.Outcome.{Outcome, fault_in, join}
 use Rattle.vtl_cell.specs.Row.{Row}
 use Rattle.vtl_cell.specs.declared.cell.Cell.{Cell}
-use Rattle.sql_from.specs.Outcomes.{cell_or_null}
+use Rattle.sql_meaning.specs.Outcomes.{cell_or_null}
 use Rattle.sql_eval.specs.Placed.{placed_value}
 use Rattle.sql_eval.specs.View.{placed_of}
 use Rattle.sql_from.specs.Held.{rows_held}

@@ -1,7 +1,7 @@
 use Rattle.std.proofs.Common.{◌≡◌, [], map, take}
 use Rattle.vtl_agg.specs.Added.{IsAdded}
 use Rattle.vtl_cell.specs.Outcome.{fault_in, faults_by}
-use Rattle.sql_from.specs.Outcomes.{cell_or_null}
+use Rattle.sql_meaning.specs.Outcomes.{cell_or_null}
 use Rattle.sql_eval.specs.Placed.{placed_value}
 use Rattle.sql_eval.specs.View.{placed_of}
 use Rattle.sql_groups.specs.Grouped.{rows_at}

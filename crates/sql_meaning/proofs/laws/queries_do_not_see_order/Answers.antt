@@ -1,5 +1,5 @@
 use Rattle.vtl_lists.proofs.Perms.{Perm-refl}
-use Rattle.sql_check_laws.specs.Queries.{scope_of}
+use Rattle.sql_check_parts.specs.Queries.{scope_of}
 use Rattle.sql_meaning.proofs.Orders.{query_same, second_same, source_rows_same}
 use Rattle.sql_meaning.proofs.laws.queries_do_not_see_order.Goals as goal
 

@@ -1,7 +1,7 @@
 use Rattle.sql_meaning.proofs.QueryKinds.{query_fit}
 use Rattle.sql_meaning.proofs.SourceKinds.{if_ok, source_rows_fit}
-use Rattle.sql_check_laws.specs.Queries.{query_columns, scope_of}
-use Rattle.sql_check_laws.specs.Scopes.{row_of}
+use Rattle.sql_check_parts.specs.Queries.{query_columns, scope_of}
+use Rattle.sql_check_parts.specs.Scopes.{row_of}
 use Rattle.sql_meaning.specs.From.{source_rows}
 use Rattle.sql_meaning.specs.Selects.{query_value}
 use Rattle.sql_meaning.specs.Tables.{RowsFit, kinds_of}

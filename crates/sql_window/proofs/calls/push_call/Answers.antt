@@ -1,6 +1,6 @@
 use Rattle.std.proofs.Common.{◌++◌, ap, sym, ◌∙◌}
 use Rattle.std.proofs.lemmas.Result.{on_ok_weaker}
-use Rattle.sql_groups.specs.Standing.{sight_of}
+use Rattle.sql_from.specs.Standing.{sight_of}
 use Rattle.sql_window.specs.Lanes.{cells_in}
 use Rattle.sql_window.specs.Runs.{lane_cells, run_values}
 use Rattle.sql_window.proofs.CallLemmas.{shift_values, value_values}

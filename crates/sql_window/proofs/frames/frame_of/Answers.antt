@@ -1,6 +1,6 @@
 use Rattle.std.proofs.Common.{sym, ap, ◌∙◌}
 use Rattle.vtl_frames.specs.Framed as places
-use Rattle.sql_eval.specs.Windows.{framed}
+use Rattle.sql_meaning.specs.Windows.{framed}
 use Rattle.sql_window.specs.Frames.{bound_in}
 use Rattle.sql_window.proofs.FrameLemmas.{whole_frame, written_frame}
 use Rattle.sql_window.proofs.frames.frame_of.Goals as goal

@@ -1,5 +1,5 @@
 use Rattle.std.proofs.Common.{◌≡◌, map, take}
-use Rattle.sql_groups.specs.Sources.{scope_held}
+use Rattle.sql_from.specs.Sources.{scope_held}
 use Rattle.sql_window.specs.Keys.{partition_key}
 use Rattle.sql_window.proofs.keys.partition_keys.Given as goal
 

@@ -1,6 +1,6 @@
 use Rattle.std.proofs.Common.{length, ap, sym, ◌∙◌}
 use Rattle.std.proofs.lemmas.List.{length-map}
-use Rattle.sql_groups.specs.Sources.{scope_held}
+use Rattle.sql_from.specs.Sources.{scope_held}
 use Rattle.sql_window.proofs.PutLemmas.{columns_many}
 use Rattle.sql_window.proofs.tabled_rows.row_table.Goals as goal
 

@@ -1,6 +1,6 @@
 use Rattle.std.proofs.Common.{◌+◌, ◌-◌, ◌≤◌, ◌++◌, length, get_or, map, take, drop, sym, ap, subst, ◌∙◌, arith, append-nil}
 use Rattle.std.proofs.lemmas.List.{get_or_past, take_all}
-use Rattle.sql_groups.specs.Standing.{sight_of}
+use Rattle.sql_from.specs.Standing.{sight_of}
 use Rattle.sql_window.specs.Runs.{AreInOrder, run_values, window_at}
 use Rattle.sql_window.proofs.OrderLemmas.{stretch_order, stretch_values}
 use Rattle.sql_window.proofs.PutLemmas.{starts_at_first, stretch_at, values_more}

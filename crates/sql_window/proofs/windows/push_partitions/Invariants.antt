@@ -1,5 +1,5 @@
 use Rattle.std.proofs.Common.{◌≡◌, ◌++◌, length, get_or, map, take}
-use Rattle.sql_groups.specs.Standing.{sight_of}
+use Rattle.sql_from.specs.Standing.{sight_of}
 use Rattle.sql_window.specs.Runs.{window_at}
 use Rattle.sql_window.proofs.windows.push_partitions.Given as goal
 

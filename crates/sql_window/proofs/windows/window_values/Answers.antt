@@ -3,14 +3,14 @@ use Rattle.std.specs.Prelude.{filter, IsPermutation}
 use Rattle.std.specs.List.{AllByRecursion, range_with_len}
 use Rattle.std.proofs.lemmas.List.FromFn.{length-range_with_len}
 use Rattle.std.proofs.lemmas.Result.{IfOk-weaker}
-use Rattle.vtl_cell.proofs.Perms.{Perm-from_IsPermutation, length-Perm}
+use Rattle.vtl_lists.proofs.Perms.{Perm-from_IsPermutation, length-Perm}
 use Rattle.vtl_rows.specs.Places.{IsOrderOf}
 use Rattle.vtl_rows.specs.Runs.{is_start}
-use Rattle.sql_eval.specs.Values.{place_in}
-use Rattle.sql_eval.specs.Windows.{told_apart, window_value}
-use Rattle.sql_groups.specs.Held.{base_held}
-use Rattle.sql_groups.specs.Sources.{Sourced, scope_held}
-use Rattle.sql_groups.specs.Standing.{rows_for, sight_of}
+use Rattle.sql_meaning.specs.Values.{place_in}
+use Rattle.sql_meaning.specs.Windows.{told_apart, window_value}
+use Rattle.sql_from.specs.Held.{base_held}
+use Rattle.sql_from.specs.Sources.{Sourced, scope_held}
+use Rattle.sql_from.specs.Standing.{rows_for, sight_of}
 use Rattle.sql_window.specs.Keys.{AreCut, order_key, partition_key, rising_key}
 use Rattle.sql_window.specs.Runs.{window_at}
 use Rattle.sql_window.proofs.PutLemmas.{keys_within, order_named, partition_named, told_rows}

@@ -1,7 +1,7 @@
 use Rattle.std.proofs.Common.{◌≡◌, drop, map}
 use Rattle.vtl_nodes.specs.Trees.{nodes_of, operands_of}
 use Rattle.vtl_nodes.specs.View.{node_tree, operand_tree}
-use Rattle.check_laws.specs.Meaning.{are_nodes_built, are_operands_built}
+use Rattle.vtl_meaning.specs.Meaning.{are_nodes_built, are_operands_built}
 use Rattle.vtl_backend.proofs.built.+built.Given as goal
 
 abbrev pub invariant-are_nodes_built-loop-node : goal.invariant-are_nodes_built-loop-node

@@ -1,6 +1,6 @@
 use Rattle.std.proofs.Common.{◌≡◌, ◌≤◌, map, []}
 use Rattle.vtl_nodes.specs.View.{node_tree}
-use Rattle.check_expressions.specs.Places.{env_of}
+use Rattle.check_operators.specs.Places.{env_of}
 use Rattle.vtl_check.specs.Script.{most_nodes, transformations_typed}
 use Rattle.vtl_check.proofs.LeftLemmas.{left}
 use Rattle.vtl_check.proofs.script.typed_statements.Given as goal

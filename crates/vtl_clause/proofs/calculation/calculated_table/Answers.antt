@@ -6,12 +6,12 @@ use Rattle.vtl_tree.specs.Shown.{shown}
 use Rattle.vtl_tree.specs.Structure.{columns_of}
 use Rattle.vtl_tree.specs.View.{comp_exp_of}
 use Rattle.vtl_tree.specs.declared.structure.Structure.{Structure}
-use Rattle.vtl_expr.specs.View.{item_tree}
-use Rattle.vtl_expr.proofs.TableLemmas.{answered_is_table}
-use Rattle.vtl_expr.specs.Made.{AreFor}
-use Rattle.vtl_expr.specs.Operators.{calculated_exp, calculated_of}
-use Rattle.vtl_expr.specs.Points.{each_point}
-use Rattle.vtl_expr.proofs.Kept.{calculated_kept}
+use Rattle.vtl_nodes.specs.View.{item_tree}
+use Rattle.vtl_sets.proofs.TableLemmas.{answered_is_table}
+use Rattle.vtl_meaning.specs.Made.{AreFor}
+use Rattle.vtl_meaning.specs.Operators.{calculated_exp, calculated_of}
+use Rattle.vtl_meaning.specs.Points.{each_point}
+use Rattle.vtl_meaning.proofs.Kept.{calculated_kept}
 use Rattle.vtl_clause.proofs.calculation.calculated_table.Goals as goal
 
 pub each_point-requires-clause-expressions : goal.each_point-requires-clause-expressions

@@ -1,6 +1,6 @@
 use Rattle.std.proofs.Common.{◌≡◌, drop, map}
-use Rattle.vtl_expr.specs.View.{item_tree}
-use Rattle.vtl_expr.specs.Operators.{target_named}
+use Rattle.vtl_nodes.specs.View.{item_tree}
+use Rattle.vtl_meaning.specs.Operators.{target_named}
 use Rattle.vtl_clause.proofs.calculation.target_named.Given as goal
 
 abbrev pub invariant-loop-item : goal.invariant-loop-item

@@ -9,9 +9,9 @@ use Rattle.vtl_tree.specs.DataSet.{IsDataSet, is_point}
 use Rattle.vtl_tree.specs.Structure.{IsStructure, columns_of}
 use Rattle.vtl_tree.specs.Value.{value}
 use Rattle.vtl_tree.specs.View.{comp_exp_of}
-use Rattle.vtl_expr.specs.TableOf.{table_columns}
-use Rattle.vtl_expr.proofs.TableLemmas.{answered_is_table, point_fits}
-use Rattle.vtl_expr.proofs.Kept.{filtered_kept}
+use Rattle.vtl_sets.specs.TableOf.{table_columns}
+use Rattle.vtl_sets.proofs.TableLemmas.{answered_is_table, point_fits}
+use Rattle.vtl_meaning.proofs.Kept.{filtered_kept}
 use Rattle.vtl_expr.specs.Seen.{seen_of}
 use Rattle.vtl_expr.proofs.PointLemmas.{answered_keeps, finished, holds_at}
 use Rattle.vtl_expr.proofs.Walks.{kept_more, seen_more}

@@ -3,8 +3,8 @@ use Rattle.vtl_cell.specs.Row.{Row}
 use Rattle.vtl_rows.specs.Tables.{column_kinds}
 use Rattle.vtl_tree.specs.DataSet.{IsDataSet}
 use Rattle.vtl_tree.specs.Structure.{columns_of}
-use Rattle.vtl_expr.proofs.ColumnLemmas.{kinds_of_columns}
-use Rattle.vtl_expr.proofs.Kept.{renamed_kept}
+use Rattle.vtl_sets.proofs.ColumnLemmas.{kinds_of_columns}
+use Rattle.vtl_meaning.proofs.Kept.{renamed_kept}
 use Rattle.vtl_clause.proofs.renaming.renamed_table.Goals as goal
 
 pub with_columns-requires : goal.with_columns-requires

@@ -1,7 +1,7 @@
 use Rattle.std.proofs.Common.{◌≡◌, map, take}
 use Rattle.std.specs.List.{filter}
 use Rattle.vtl_rows.specs.Tables.{cells_at}
-use Rattle.vtl_expr.specs.TableOf.{table_columns}
+use Rattle.vtl_sets.specs.TableOf.{table_columns}
 use Rattle.vtl_clause.specs.Pins.{are_met, wanted_by}
 use Rattle.vtl_clause.proofs.subspace.sub_table.Given as goal
 

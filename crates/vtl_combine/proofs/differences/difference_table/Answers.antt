@@ -1,7 +1,7 @@
 use Rattle.std.proofs.Common.{◌∷◌, [], arith}
-use Rattle.vtl_clause.proofs.TableLemmas.{made_is_table}
-use Rattle.vtl_clause.specs.Sets.{difference_of}
-use Rattle.vtl_clause.proofs.SetsKept.{combined_is, difference_kept}
+use Rattle.vtl_sets.proofs.TableLemmas.{made_is_table}
+use Rattle.vtl_meaning.specs.Sets.{difference_of}
+use Rattle.vtl_meaning.proofs.SetsKept.{combined_is, difference_kept}
 use Rattle.vtl_combine.proofs.OperandLemmas.{has_columns}
 use Rattle.vtl_combine.proofs.differences.difference_table.Goals as goal
 

@@ -5,8 +5,8 @@ use Rattle.std.proofs.lemmas.List.Elements.{All-same}
 use Rattle.vtl_rows.specs.Tables.{Listed}
 use Rattle.vtl_syntax.specs.declared.word_groups.Retain.TheVariants as retain
 use Rattle.vtl_tree.specs.Structure.{key_width}
-use Rattle.vtl_clause.specs.Operators.{left_of}
-use Rattle.vtl_clause.specs.Sets.{difference_of, has_point}
+use Rattle.vtl_meaning.specs.Operators.{left_of}
+use Rattle.vtl_meaning.specs.Sets.{difference_of, has_point}
 use Rattle.vtl_combine.specs.Operands.{left_at, retained}
 use Rattle.vtl_combine.proofs.OperandLemmas.{chosen_left}
 use Rattle.vtl_combine.proofs.RowLemmas.{all_below}

@@ -1,7 +1,7 @@
 use Rattle.std.proofs.Common.{◌∷◌, [], ◌++◌, ◌∙◌, ap, sym, subst, arith}
 use Rattle.vtl_tree.specs.DataSet.{IsDataSet}
-use Rattle.vtl_clause.specs.Sets.{difference_of}
-use Rattle.vtl_clause.proofs.SetsKept.{combined_is, symmetric_difference_kept}
+use Rattle.vtl_meaning.specs.Sets.{difference_of}
+use Rattle.vtl_meaning.proofs.SetsKept.{combined_is, symmetric_difference_kept}
 use Rattle.vtl_combine.proofs.OperandLemmas.{has_columns}
 use Rattle.vtl_combine.proofs.differences.symmetric_difference_table.Goals as goal
 

@@ -6,7 +6,7 @@ use Rattle.vtl_index.specs.Seekers.{Sought, is_any_meant}
 use Rattle.vtl_tree.specs.DataSet.{IsDataSet}
 use Rattle.vtl_tree.specs.Structure.{key_width}
 use Rattle.vtl_tree.specs.declared.structure.Structure.{Structure}
-use Rattle.vtl_clause.proofs.SetsKept.{existence_kept}
+use Rattle.vtl_meaning.proofs.SetsKept.{existence_kept}
 use Rattle.vtl_combine.specs.Existence.{answered, sought_common}
 use Rattle.vtl_combine.proofs.AnswerLemmas.{answer_told}
 use Rattle.vtl_combine.proofs.ChosenLemmas.{each_more}

@@ -1,7 +1,7 @@
 use Rattle.std.proofs.Common.{◌≡◌, take}
 use Rattle.std.specs.List.{flat_map}
 use Rattle.vtl_index.specs.Seekers.{is_any_meant}
-use Rattle.vtl_clause.specs.TableOf.{table_columns}
+use Rattle.vtl_sets.specs.TableOf.{table_columns}
 use Rattle.vtl_combine.specs.Existence.{answered}
 use Rattle.vtl_combine.proofs.existence.existence_table.Given as goal
 

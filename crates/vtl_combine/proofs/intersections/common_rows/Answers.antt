@@ -6,9 +6,9 @@ use Rattle.vtl_tree.specs.Environment.{DataSet}
 use Rattle.vtl_tree.specs.Shown.{shown}
 use Rattle.vtl_tree.specs.Structure.{key_width}
 use Rattle.vtl_syntax.specs.declared.word_groups.Retain.TheVariants as retain
-use Rattle.vtl_clause.specs.Operators.{left_of}
-use Rattle.vtl_clause.specs.Sets.{has_point}
-use Rattle.vtl_clause.proofs.SetsKept.{filter_true}
+use Rattle.vtl_meaning.specs.Operators.{left_of}
+use Rattle.vtl_meaning.specs.Sets.{has_point}
+use Rattle.vtl_meaning.proofs.SetsKept.{filter_true}
 use Rattle.vtl_combine.specs.Operands.{all_have, left_at, retained}
 use Rattle.vtl_combine.proofs.ChosenLemmas.{all_more_tests}
 use Rattle.vtl_combine.proofs.RowLemmas.{all_below}

@@ -2,8 +2,8 @@ use Rattle.std.proofs.Common.{◌≡◌, ◌∙◌, ap, List}
 use Rattle.std.proofs.lemmas.Result.{IfOk-weaker}
 use Rattle.vtl_tree.specs.Environment.{DataSet}
 use Rattle.vtl_tree.specs.Shown.{shown}
-use Rattle.vtl_clause.specs.DataSets.{data_set}
-use Rattle.vtl_clause.specs.Sets.{intersection_of}
+use Rattle.vtl_sets.specs.DataSets.{data_set}
+use Rattle.vtl_meaning.specs.Sets.{intersection_of}
 use Rattle.vtl_combine.proofs.OperandLemmas.{first_and_others, others_combined}
 use Rattle.vtl_combine.proofs.intersections.intersect_all.Goals as goal
 

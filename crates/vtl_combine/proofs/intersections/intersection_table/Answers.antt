@@ -2,10 +2,10 @@ use Rattle.std.proofs.Common.{◌≡◌, ◌∷◌, ◌∙◌, ap, map, arith}
 use Rattle.std.proofs.lemmas.Result.{IfOk-weaker}
 use Rattle.vtl_rows.specs.Tables.{Listed}
 use Rattle.vtl_tree.specs.Shown.{shown}
-use Rattle.vtl_clause.proofs.TableLemmas.{made_is_table}
-use Rattle.vtl_clause.specs.Joined.{structures_of}
-use Rattle.vtl_clause.specs.Sets.{intersection_of}
-use Rattle.vtl_clause.proofs.SetsKept.{combined_is, intersection_kept}
+use Rattle.vtl_sets.proofs.TableLemmas.{made_is_table}
+use Rattle.vtl_meaning.specs.Joined.{structures_of}
+use Rattle.vtl_meaning.specs.Sets.{intersection_of}
+use Rattle.vtl_meaning.proofs.SetsKept.{combined_is, intersection_kept}
 use Rattle.vtl_combine.specs.Operands.{left_at}
 use Rattle.vtl_combine.proofs.OperandLemmas.{all_are_sets, chosen_by_all, has_columns}
 use Rattle.vtl_combine.proofs.intersections.intersection_table.Goals as goal

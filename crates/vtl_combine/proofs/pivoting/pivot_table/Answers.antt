@@ -10,8 +10,8 @@ use Rattle.vtl_rows.specs.Places.{row_at}
 use Rattle.vtl_rows.specs.Tables.{cells_at, fits}
 use Rattle.vtl_rows.specs.declared.column.Column.{Column}
 use Rattle.vtl_tree.specs.DataSet.{IsDataSet}
-use Rattle.vtl_clause.specs.TableOf.{table_columns}
-use Rattle.vtl_clause.proofs.TurnedKept.{pivot_kept}
+use Rattle.vtl_sets.specs.TableOf.{table_columns}
+use Rattle.vtl_meaning.proofs.TurnedKept.{pivot_kept}
 use Rattle.vtl_combine.specs.Pivots.{other_places, pivoted}
 use Rattle.vtl_combine.proofs.PivotLemmas.{all_pivoted, all_pivoted_fit, led_by_others}
 use Rattle.vtl_combine.proofs.pivoting.pivot_table.Goals as goal

@@ -1,6 +1,6 @@
 use Rattle.std.proofs.Common.{◌≡◌, map, take}
 use Rattle.vtl_rows.specs.Places.{row_at}
-use Rattle.vtl_clause.specs.TableOf.{table_columns}
+use Rattle.vtl_sets.specs.TableOf.{table_columns}
 use Rattle.vtl_combine.specs.Pivots.{pivoted}
 use Rattle.vtl_combine.proofs.pivoting.pivot_table.Given as goal
 

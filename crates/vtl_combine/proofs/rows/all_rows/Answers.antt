@@ -2,9 +2,9 @@ use Rattle.std.proofs.Common.{◌≡◌, ap, ◌∙◌, length, map}
 use Rattle.std.proofs.lemmas.Result.{IfOk-weaker}
 use Rattle.std.proofs.lemmas.List.{length-map}
 use Rattle.vtl_rows.specs.Tables.{column_at}
-use Rattle.vtl_clause.specs.TableOf.{column_for, table_columns}
+use Rattle.vtl_sets.specs.TableOf.{column_for, table_columns}
 use Rattle.vtl_tree.specs.Structure.{columns_of}
-use Rattle.vtl_clause.proofs.ColumnPlaces.{all_within, some_places}
+use Rattle.vtl_expr.proofs.ColumnPlaces.{all_within, some_places}
 use Rattle.vtl_combine.proofs.OperandLemmas.{left_columns}
 use Rattle.vtl_combine.proofs.rows.all_rows.Goals as goal
 

@@ -5,9 +5,9 @@ use Rattle.vtl_rows.specs.Gathered.{picked, picked_kind, pieces}
 use Rattle.vtl_rows.specs.Places.{row_at}
 use Rattle.vtl_rows.specs.Tables.{Listed, cells_at, column_kinds}
 use Rattle.vtl_rows.specs.declared.gather.Pick.{Pick}
-use Rattle.vtl_clause.proofs.ColumnLemmas.{some_table_columns}
+use Rattle.vtl_sets.proofs.ColumnLemmas.{some_table_columns}
 use Rattle.vtl_tree.specs.Structure.{columns_of}
-use Rattle.vtl_clause.specs.Columns.{places_in}
+use Rattle.check_shapes.specs.Columns.{places_in}
 use Rattle.vtl_combine.specs.Operands.{left_at, pick_at}
 use Rattle.vtl_combine.proofs.OperandLemmas.{left_columns}
 use Rattle.vtl_combine.proofs.RowLemmas.{all_of_one, kinds_of_one, rows_of_one}

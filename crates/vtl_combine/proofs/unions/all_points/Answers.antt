@@ -1,7 +1,7 @@
 use Rattle.std.proofs.Common.{◌∙◌, ◌++◌, ap, sym, subst, take, Bor}
 use Rattle.std.specs.List.{flat_map}
 use Rattle.vtl_tree.specs.Environment.{DataSet}
-use Rattle.vtl_clause.specs.Operators.{left_of}
+use Rattle.vtl_meaning.specs.Operators.{left_of}
 use Rattle.vtl_combine.specs.Operands.{HasColumns}
 use Rattle.vtl_combine.proofs.ChosenLemmas.{each_more}
 use Rattle.vtl_combine.proofs.unions.all_points.Goals as goal

@@ -1,7 +1,7 @@
 use Rattle.std.proofs.Common.{◌≡◌, take}
 use Rattle.std.specs.List.{flat_map}
-use Rattle.vtl_clause.specs.TableOf.{table_columns}
-use Rattle.vtl_clause.specs.Operators.{left_of}
+use Rattle.vtl_sets.specs.TableOf.{table_columns}
+use Rattle.vtl_meaning.specs.Operators.{left_of}
 use Rattle.vtl_combine.proofs.unions.all_points.Given as goal
 
 abbrev pub invariant-loop-operand : goal.invariant-loop-operand

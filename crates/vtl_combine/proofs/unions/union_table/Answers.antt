@@ -3,9 +3,9 @@ use Rattle.std.proofs.lemmas.Result.{IfOk-weaker}
 use Rattle.vtl_rows.specs.Tables.{Listed}
 use Rattle.vtl_tree.specs.Environment.{DataSet}
 use Rattle.vtl_tree.specs.Shown.{shown}
-use Rattle.vtl_clause.specs.Joined.{structures_of}
-use Rattle.vtl_clause.specs.Made.{AreCombined}
-use Rattle.vtl_clause.specs.Sets.{union_of}
+use Rattle.vtl_meaning.specs.Joined.{structures_of}
+use Rattle.vtl_meaning.specs.Made.{AreCombined}
+use Rattle.vtl_meaning.specs.Sets.{union_of}
 use Rattle.vtl_combine.proofs.UnionLemmas.{two_shown}
 use Rattle.vtl_combine.proofs.unions.union_table.Goals as goal
 

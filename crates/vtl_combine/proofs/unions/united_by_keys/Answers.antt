@@ -5,13 +5,13 @@ use Rattle.vtl_cell.specs.Row.{Row, same_key}
 use Rattle.vtl_rows.specs.Tables.{Listed}
 use Rattle.vtl_tree.specs.Shown.{shown}
 use Rattle.vtl_tree.specs.Structure.{key_width}
-use Rattle.vtl_clause.specs.TableOf.{table_columns}
-use Rattle.vtl_clause.proofs.TableLemmas.{made_is_table}
+use Rattle.vtl_sets.specs.TableOf.{table_columns}
+use Rattle.vtl_sets.proofs.TableLemmas.{made_is_table}
 use Rattle.vtl_tuples.specs.Keys.{each_once}
-use Rattle.vtl_clause.specs.Sets.{union_of}
-use Rattle.vtl_clause.proofs.SetsKept.{union_kept}
+use Rattle.vtl_meaning.specs.Sets.{union_of}
+use Rattle.vtl_meaning.proofs.SetsKept.{union_kept}
 use Rattle.vtl_combine.proofs.OperandLemmas.{all_are_sets, all_points_are, all_points_wide, combined_have, combined_made}
-use Rattle.vtl_clause.specs.Joined.{structures_of}
+use Rattle.vtl_meaning.specs.Joined.{structures_of}
 use Rattle.vtl_combine.proofs.unions.united_by_keys.Goals as goal
 
 pub all_points-requires-clause-made : goal.all_points-requires-clause-made

@@ -1,7 +1,7 @@
 use Rattle.std.proofs.Common.{◌∷◌, [], ◌++◌, ◌∙◌, ap, sym, subst, arith}
 use Rattle.vtl_tree.specs.DataSet.{IsDataSet}
-use Rattle.vtl_clause.specs.Operators.{left_of}
-use Rattle.vtl_clause.proofs.SetsKept.{combined_is, union_kept}
+use Rattle.vtl_meaning.specs.Operators.{left_of}
+use Rattle.vtl_meaning.proofs.SetsKept.{combined_is, union_kept}
 use Rattle.vtl_combine.proofs.OperandLemmas.{has_columns}
 use Rattle.vtl_combine.proofs.UnionLemmas.{united_with_reduced}
 use Rattle.vtl_combine.proofs.unions.united_pair.Goals as goal

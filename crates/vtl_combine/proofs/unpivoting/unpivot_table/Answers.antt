@@ -7,9 +7,9 @@ use Rattle.vtl_rows.specs.declared.column.Column.{Column}
 use Rattle.vtl_tree.specs.DataSet.{IsDataSet}
 use Rattle.vtl_tree.specs.Structure.{columns_of, key_width}
 use Rattle.vtl_tree.specs.declared.structure.Structure.{Structure}
-use Rattle.vtl_clause.specs.TableOf.{table_columns}
-use Rattle.vtl_clause.specs.Columns.{measures_of}
-use Rattle.vtl_clause.proofs.TurnedKept.{unpivot_kept}
+use Rattle.vtl_sets.specs.TableOf.{table_columns}
+use Rattle.check_shapes.specs.Columns.{measures_of}
+use Rattle.vtl_meaning.proofs.TurnedKept.{unpivot_kept}
 use Rattle.vtl_combine.specs.Unpivots.{Named, measure_by, measure_in, unpivoted}
 use Rattle.vtl_combine.proofs.ChosenLemmas.{each_more}
 use Rattle.vtl_combine.proofs.UnpivotLemmas.{all_unpivoted, unpivoted_fit}

@@ -1,6 +1,6 @@
 use Rattle.std.proofs.Common.{◌≡◌, map, take}
 use Rattle.std.specs.List.{flat_map}
-use Rattle.vtl_clause.specs.TableOf.{table_columns}
+use Rattle.vtl_sets.specs.TableOf.{table_columns}
 use Rattle.vtl_combine.specs.Unpivots.{measure_by, unpivoted}
 use Rattle.vtl_combine.proofs.unpivoting.unpivot_table.Given as goal
 

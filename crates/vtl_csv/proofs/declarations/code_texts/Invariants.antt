@@ -1,5 +1,5 @@
 use Rattle.std.proofs.Common.{◌≡◌, length}
-use Rattle.vtl_cell.specs.Each.{each_some, onto}
+use Rattle.vtl_lists.specs.Each.{each_some, onto}
 use Rattle.vtl_csv.specs.Declarations.{code_in, parts}
 use Rattle.vtl_csv.proofs.declarations.code_texts.Given as goal
 

@@ -1,5 +1,5 @@
 use Rattle.std.proofs.Common.{◌≡◌, drop}
-use Rattle.vtl_cell.specs.Each.{each_some, onto}
+use Rattle.vtl_lists.specs.Each.{each_some, onto}
 use Rattle.vtl_tree.specs.Shown.{shown}
 use Rattle.vtl_csv.specs.InputFile.{place_in}
 use Rattle.vtl_csv.proofs.header.places.Given as goal

@@ -1,10 +1,10 @@
 use Rattle.std.proofs.Common.{◌≡◌, filter, map, take}
 use Rattle.vtl_cell.specs.Outcome.{faults_by}
 use Rattle.vtl_tree.specs.Structure.{columns_of}
-use Rattle.vtl_combine.specs.View.{agg_tree}
-use Rattle.vtl_combine.specs.Columns.{others_of}
-use Rattle.vtl_combine.specs.Seen.{seen_of}
-use Rattle.vtl_combine.specs.TableOf.{table_columns}
+use Rattle.vtl_nodes.specs.View.{agg_tree}
+use Rattle.check_shapes.specs.Columns.{others_of}
+use Rattle.vtl_expr.specs.Seen.{seen_of}
+use Rattle.vtl_sets.specs.TableOf.{table_columns}
 use Rattle.vtl_group.proofs.Recipes.{fault_at, kept, keys, point}
 use Rattle.vtl_group.proofs.aggregation.aggregated_table.Given as goal
 

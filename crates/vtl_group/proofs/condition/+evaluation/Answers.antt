@@ -4,7 +4,7 @@ use Rattle.vtl_cell.specs.declared.cell.Cell.{Cell}
 use Rattle.vtl_cell.specs.declared.cell.Cell.TheVariants as cell
 use Rattle.vtl_tree.specs.Value.{is_choice}
 use Rattle.vtl_scalar.specs.Given.{given_cell}
-use Rattle.vtl_combine.proofs.Values.{AnswersBy_passed, AnswersBy_same, after_fault, after_value}
+use Rattle.vtl_expr.proofs.Values.{AnswersBy_passed, AnswersBy_same, after_fault, after_value}
 use Rattle.vtl_group.proofs.Values.{choice_first, choice_value, no_operands_chosen, of_items, three_value, two_value}
 use Rattle.vtl_group.proofs.condition.+evaluation.Goals as goal
 

@@ -3,11 +3,11 @@ use Rattle.vtl_scalar.specs.Answers.{AnswersBy}
 use Rattle.vtl_nodes.specs.Trees as nodes
 use Rattle.vtl_nodes.specs.View.{agg_tree, analytic_tree, item_tree, measure_tree, node_tree}
 use Rattle.vtl_nodes.specs.declared.nodes.NodeForm.TheVariants as form
-use Rattle.vtl_backend.specs.AggregatePoints.{aggregate_of}
-use Rattle.vtl_backend.specs.AnalyticPoints.{analytic_of}
-use Rattle.vtl_backend.specs.DataSets.{data_set, with_structure}
-use Rattle.vtl_backend.specs.Operators.{calculated_of, left_of, measured_of, sub_of}
-use Rattle.vtl_backend.specs.Turned.{pivot_of}
+use Rattle.vtl_aggregates.specs.Aggregates.{aggregate_of}
+use Rattle.vtl_windows.specs.Analytics.{analytic_of}
+use Rattle.vtl_sets.specs.DataSets.{data_set, with_structure}
+use Rattle.vtl_meaning.specs.Operators.{calculated_of, left_of, measured_of, sub_of}
+use Rattle.vtl_meaning.specs.Turned.{pivot_of}
 use Rattle.vtl_interp.specs.Values.{value_view}
 use Rattle.vtl_interp.proofs.NodesEvaluated.{aggregate_fits, analytic_fits, form_tree-Aggregate, form_tree-Analytic, form_tree-Calc, form_tree-DropNamed, form_tree-Keep, form_tree-Measures, form_tree-Member, form_tree-Pivot, form_tree-Sub, measures_fit, one_given_at, one_operand}
 use Rattle.vtl_interp.proofs.applied.apply_to_one.Goals as goal

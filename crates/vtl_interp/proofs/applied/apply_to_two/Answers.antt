@@ -2,9 +2,9 @@ use Rattle.std.proofs.Common.{[], ◌∷◌, Ok, refl}
 use Rattle.vtl_nodes.specs.Trees as nodes
 use Rattle.vtl_nodes.specs.View.{node_tree}
 use Rattle.vtl_nodes.specs.declared.nodes.NodeForm.TheVariants as form
-use Rattle.vtl_backend.specs.Made.{IsCombined, IsExistence}
-use Rattle.vtl_backend.specs.Operators.{pair_of}
-use Rattle.vtl_backend.specs.Sets.{difference_of, existence_of, symmetric_difference_of}
+use Rattle.vtl_meaning.specs.Made.{IsCombined, IsExistence}
+use Rattle.vtl_meaning.specs.Operators.{pair_of}
+use Rattle.vtl_meaning.specs.Sets.{difference_of, existence_of, symmetric_difference_of}
 use Rattle.vtl_interp.specs.Values.{value_view}
 use Rattle.vtl_interp.proofs.NodesEvaluated.{form_tree-ExistsIn, form_tree-Pair, form_tree-SetDiff, form_tree-SymDiff, two_fit, two_given_at, two_operands}
 use Rattle.vtl_interp.proofs.applied.apply_to_two.Goals as goal

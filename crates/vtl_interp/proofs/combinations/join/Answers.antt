@@ -2,8 +2,8 @@ use Rattle.std.proofs.Common.{List, subst, sym}
 use Rattle.vtl_tree.specs.Environment.{DataSet}
 use Rattle.vtl_tree.specs.declared.structure.Structure.{Structure}
 use Rattle.vtl_join.specs.Joining.{sets_of}
-use Rattle.vtl_backend.specs.Joined.{structures_of}
-use Rattle.vtl_backend.specs.Made.{IsJoined}
+use Rattle.vtl_meaning.specs.Joined.{structures_of}
+use Rattle.vtl_meaning.specs.Made.{IsJoined}
 use Rattle.vtl_interp.proofs.combinations.join.Goals as goal
 
 pub close-requires-clause-made : goal.close-requires-clause-made

@@ -1,9 +1,9 @@
 use Rattle.std.proofs.Common.{Ok, [], ◌∷◌, subst, sym, ap, ◌∙◌}
-use Rattle.vtl_backend.specs.DataSets.{data_set}
+use Rattle.vtl_sets.specs.DataSets.{data_set}
 use Rattle.vtl_tree.specs.Environment.{DataSet}
 use Rattle.vtl_tree.specs.declared.structure.Structure.{Structure}
-use Rattle.vtl_backend.specs.Made.{IsCombined}
-use Rattle.vtl_backend.specs.Sets.{difference_of}
+use Rattle.vtl_meaning.specs.Made.{IsCombined}
+use Rattle.vtl_meaning.specs.Sets.{difference_of}
 use Rattle.vtl_interp.specs.Values.{value_view}
 use Rattle.vtl_interp.proofs.Evaluates.{at_same_two}
 use Rattle.vtl_interp.proofs.combinations.set_diff.Goals as goal

@@ -4,9 +4,9 @@ use Rattle.vtl_nodes.specs.Trees as nodes
 use Rattle.vtl_nodes.specs.Trees.{nodes_of, operands_of}
 use Rattle.vtl_nodes.specs.View.{node_tree, operand_tree}
 use Rattle.vtl_nodes.specs.declared.nodes.NodeForm.TheVariants as form
-use Rattle.vtl_backend.specs.Joined.{structures_of}
-use Rattle.vtl_backend.specs.Made.{AreCombined, IsJoined}
-use Rattle.vtl_backend.specs.Meaning.{nodes_value, operands_value}
+use Rattle.vtl_meaning.specs.Joined.{structures_of}
+use Rattle.vtl_meaning.specs.Made.{AreCombined, IsJoined}
+use Rattle.vtl_meaning.specs.Meaning.{nodes_value, operands_value}
 use Rattle.vtl_interp.specs.Evaluated.{Gives}
 use Rattle.vtl_interp.specs.Values.{value_view, values_view}
 use Rattle.vtl_interp.proofs.Evaluates.{operands_named}

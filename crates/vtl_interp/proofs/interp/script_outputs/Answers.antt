@@ -1,7 +1,7 @@
 use Rattle.std.proofs.Common.{List, length, map, sym, ap, subst, ◌∙◌}
 use Rattle.vtl_syntax.specs.View.{statement_tree}
 use Rattle.vtl_syntax.specs.declared.statements.Statement.{Statement}
-use Rattle.vtl_backend.specs.Transformations.{transformations}
+use Rattle.vtl_check.specs.Transformations.{transformations}
 use Rattle.vtl_interp.specs.Results.{ShownBy}
 use Rattle.vtl_interp.proofs.MadeStatements.{statements_made}
 use Rattle.vtl_interp.proofs.Starts.{meant_by_run, ready_to_run}

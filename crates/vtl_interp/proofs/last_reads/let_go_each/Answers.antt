@@ -1,7 +1,7 @@
 use Rattle.std.proofs.Common.{◌∙◌, ◌+◌, ◌++◌, ◌∷◌, [], take, ap, subst, sym}
 use Rattle.std.specs.List.{AllByRecursion}
 use Rattle.std.proofs.lemmas.List.{take_more}
-use Rattle.vtl_cell.specs.shared_text.Txt.{Txt}
+use Rattle.vtl_text.specs.declared.shared_text.Txt.{Txt}
 use Rattle.vtl_interp.specs.Reads.{IsGone}
 use Rattle.vtl_interp.proofs.NamesRead.{all_both, all_so}
 use Rattle.vtl_interp.proofs.last_reads.let_go_each.Goals as goal

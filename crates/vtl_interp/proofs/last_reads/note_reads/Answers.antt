@@ -2,7 +2,7 @@ use Rattle.std.proofs.Common.{inl, ◌≡◌, ◌∙◌, ◌++◌, ℕ, List, []
 use Rattle.std.specs.List.{AllByRecursion}
 use Rattle.std.specs.Map.{lookup}
 use Rattle.std.proofs.lemmas.List.{take_more}
-use Rattle.vtl_cell.specs.shared_text.Txt.{Txt}
+use Rattle.vtl_text.specs.declared.shared_text.Txt.{Txt}
 use Rattle.vtl_tree.specs.Structure.{same_name}
 use Rattle.vtl_interp.specs.Reads.{IsReadFrom, NotedAs}
 use Rattle.vtl_interp.proofs.NamesRead.{all_both, all_so}

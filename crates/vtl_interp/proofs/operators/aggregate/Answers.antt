@@ -1,8 +1,8 @@
 use Rattle.std.proofs.Common.{rules, ◌≡◌, Err, subst, sym, ◌∙◌}
 use Rattle.vtl_nodes.specs.View.{agg_tree}
-use Rattle.vtl_backend.specs.AggregatePoints.{aggregate_of}
-use Rattle.vtl_backend.specs.AggregateShapes.{IsAggregated}
-use Rattle.vtl_backend.specs.DataSets.{with_structure}
+use Rattle.vtl_aggregates.specs.Aggregates.{aggregate_of}
+use Rattle.vtl_aggregates.specs.Shapes.{IsAggregated}
+use Rattle.vtl_sets.specs.DataSets.{with_structure}
 use Rattle.vtl_tree.specs.Environment.{DataSet}
 use Rattle.vtl_tree.specs.declared.structure.Structure.{Structure}
 use Rattle.vtl_interp.specs.Values.{value_view}

@@ -1,8 +1,8 @@
 use Rattle.std.proofs.Common.{rules, ◌≡◌, Err, subst, sym, ◌∙◌}
 use Rattle.vtl_nodes.specs.View.{analytic_tree}
-use Rattle.vtl_backend.specs.AnalyticPoints.{analytic_of}
-use Rattle.vtl_backend.specs.DataSets.{with_structure}
-use Rattle.vtl_backend.specs.Made.{IsWindowed}
+use Rattle.vtl_windows.specs.Analytics.{analytic_of}
+use Rattle.vtl_sets.specs.DataSets.{with_structure}
+use Rattle.vtl_meaning.specs.Made.{IsWindowed}
 use Rattle.vtl_tree.specs.Environment.{DataSet}
 use Rattle.vtl_tree.specs.declared.structure.Structure.{Structure}
 use Rattle.vtl_interp.specs.Values.{value_view}

@@ -1,7 +1,7 @@
 use Rattle.std.proofs.Common.{rules, ◌≡◌, Err, sym, ◌∙◌, map}
 use Rattle.vtl_nodes.specs.View.{item_tree}
-use Rattle.vtl_backend.specs.DataSets.{with_structure}
-use Rattle.vtl_backend.specs.Operators.{calculated_of}
+use Rattle.vtl_sets.specs.DataSets.{with_structure}
+use Rattle.vtl_meaning.specs.Operators.{calculated_of}
 use Rattle.vtl_interp.specs.Values.{value_view}
 use Rattle.vtl_interp.proofs.Evaluates.{at_same, fault_passed}
 use Rattle.vtl_interp.proofs.operators.calc.Goals as goal

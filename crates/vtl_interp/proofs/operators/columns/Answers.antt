@@ -1,6 +1,6 @@
 use Rattle.std.proofs.Common.{Ok, sym, ap, ◌∙◌}
-use Rattle.vtl_backend.specs.DataSets.{data_set}
-use Rattle.vtl_backend.specs.Operators.{left_of}
+use Rattle.vtl_sets.specs.DataSets.{data_set}
+use Rattle.vtl_meaning.specs.Operators.{left_of}
 use Rattle.vtl_interp.specs.Values.{value_view}
 use Rattle.vtl_interp.proofs.Evaluates.{at_same}
 use Rattle.vtl_interp.proofs.operators.columns.Goals as goal

@@ -1,10 +1,10 @@
 use Rattle.std.proofs.Common.{rules, ◌≡◌, Err, subst, sym, ◌∙◌}
 use Rattle.vtl_nodes.specs.View.{measure_tree}
-use Rattle.vtl_backend.specs.DataSets.{with_structure}
+use Rattle.vtl_sets.specs.DataSets.{with_structure}
 use Rattle.vtl_tree.specs.Environment.{DataSet}
 use Rattle.vtl_tree.specs.declared.structure.Structure.{Structure}
-use Rattle.vtl_backend.specs.Made.{IsMeasured}
-use Rattle.vtl_backend.specs.Operators.{measured_of}
+use Rattle.vtl_meaning.specs.Made.{IsMeasured}
+use Rattle.vtl_meaning.specs.Operators.{measured_of}
 use Rattle.vtl_interp.specs.Values.{value_view}
 use Rattle.vtl_interp.proofs.Evaluates.{at_same, fault_passed}
 use Rattle.vtl_interp.proofs.operators.measures.Goals as goal

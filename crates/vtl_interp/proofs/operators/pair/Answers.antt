@@ -1,6 +1,6 @@
 use Rattle.std.proofs.Common.{rules, ◌≡◌, Err, sym, ◌∙◌}
-use Rattle.vtl_backend.specs.DataSets.{with_structure}
-use Rattle.vtl_backend.specs.Operators.{pair_of}
+use Rattle.vtl_sets.specs.DataSets.{with_structure}
+use Rattle.vtl_meaning.specs.Operators.{pair_of}
 use Rattle.vtl_interp.specs.Values.{value_view}
 use Rattle.vtl_interp.proofs.Evaluates.{at_same_two, fault_passed}
 use Rattle.vtl_interp.proofs.operators.pair.Goals as goal

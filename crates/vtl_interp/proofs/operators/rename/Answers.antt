@@ -1,5 +1,5 @@
 use Rattle.std.proofs.Common.{Ok, sym, ap, ◌∙◌}
-use Rattle.vtl_backend.specs.DataSets.{data_set}
+use Rattle.vtl_sets.specs.DataSets.{data_set}
 use Rattle.vtl_tree.specs.Environment.{DataSet}
 use Rattle.vtl_interp.specs.Values.{value_view}
 use Rattle.vtl_interp.proofs.Evaluates.{at_same}

@@ -6,10 +6,10 @@ use Rattle.vtl_rows.specs.Named.{NamedTables}
 use Rattle.vtl_syntax.specs.View.{statement_tree}
 use Rattle.vtl_syntax.specs.declared.statements.Statement.{Statement}
 use Rattle.vtl_nodes.specs.View.{node_tree}
-use Rattle.vtl_backend.specs.Meaning.{is_built, meaning}
+use Rattle.vtl_meaning.specs.Meaning.{is_built, meaning}
 use Rattle.vtl_backend.specs.Statements.{with_nodes}
-use Rattle.vtl_backend.specs.Transformations.{transformations_from}
-use Rattle.vtl_backend.proofs.LeftLemmas.{assigned_at, left, one_left}
+use Rattle.vtl_check.specs.Transformations.{transformations_from}
+use Rattle.vtl_check.proofs.LeftLemmas.{assigned_at, left, one_left}
 use Rattle.vtl_interp.specs.Results.{AreReady}
 use Rattle.vtl_interp.proofs.Steps.{meaning_begins, meaning_ends}
 use Rattle.vtl_interp.proofs.Scripts.{are_built}

@@ -1,4 +1,4 @@
-use Rattle.vtl_cell.proofs.Perms.{Perm-from_IsPermutation, Perm-sym}
+use Rattle.vtl_lists.proofs.Perms.{Perm-from_IsPermutation, Perm-sym}
 use Rattle.vtl_scalar.proofs.MemberLemmas.{sorted_in_order}
 use Rattle.vtl_scalar.proofs.members.sorted.Goals as goal
 

@@ -2,7 +2,7 @@ use Rattle.std.proofs.Common.{drop}
 use Rattle.std.specs.List.{AllByRecursion}
 use Rattle.vtl_nodes.specs.View.{value_tree}
 use Rattle.vtl_nodes.specs.declared.clauses.CalcItem.{CalcItem}
-use Rattle.rules_to_sql.specs.Operators.{value_exp}
+use Rattle.vtl_meaning.specs.Operators.{value_exp}
 use Rattle.rules_to_sql.specs.Held.{HoldsValues}
 use Rattle.vtl_to_sql.specs.Accepted.{MadeHoldsValues}
 use Rattle.vtl_to_sql.proofs.constants.targets_are_held.Given as goal

@@ -5,7 +5,7 @@ use Rattle.std.proofs.lemmas.Fmt.{IsAscii-decimal}
 use Rattle.std.proofs.lemmas.Result.{IfOk-weaker}
 use Rattle.std.proofs.lemmas.Str.{chars-IsAscii, chars-append}
 use Rattle.std.proofs.lemmas.Str.Ascii.{IsAscii-cons}
-use Rattle.rules_to_sql.specs.Scripts.{dollar}
+use Rattle.sql_meaning.specs.Scripts.{dollar}
 use Rattle.vtl_to_sql.specs.Tables.{numbered}
 use Rattle.vtl_to_sql.proofs.draft.numbered.Goals as goal
 

@@ -1,5 +1,5 @@
 use Rattle.std.proofs.Common.{◌≡◌, drop}
-use Rattle.rules_to_sql.specs.AggregatePoints.{target_named}
+use Rattle.vtl_aggregates.specs.Aggregates.{target_named}
 use Rattle.vtl_to_sql.proofs.grouped_queries.target_named.Given as goal
 
 abbrev pub invariant-loop-target : goal.invariant-loop-target

@@ -1,5 +1,5 @@
 use Rattle.std.proofs.Common.{◌≡◌, ◌++◌, map, take}
-use Rattle.rules_to_sql.specs.BackendInputs.{inputs_of}
+use Rattle.vtl_backend.specs.Inputs.{inputs_of}
 use Rattle.sql_tree.specs.View.{statement_tree}
 use Rattle.vtl_to_sql.specs.Scripts.{input_for}
 use Rattle.vtl_to_sql.proofs.inputs.push_inputs.Given as goal

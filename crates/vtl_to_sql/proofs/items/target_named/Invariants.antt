@@ -1,6 +1,6 @@
 use Rattle.std.proofs.Common.{◌≡◌, drop, map}
-use Rattle.rules_to_sql.specs.View.{item_tree as target_tree}
-use Rattle.rules_to_sql.specs.Operators.{target_named}
+use Rattle.vtl_nodes.specs.View.{item_tree as target_tree}
+use Rattle.vtl_meaning.specs.Operators.{target_named}
 use Rattle.vtl_to_sql.proofs.items.target_named.Given as goal
 
 abbrev pub invariant-loop-target : goal.invariant-loop-target

@@ -2,7 +2,7 @@ use Rattle.std.proofs.Common.{◌≡◌, ◌<◌, ◌≤◌, length, sym, ◌∙
 use Rattle.std.specs.List.{position_or_len}
 use Rattle.std.proofs.lemmas.List.{length-map}
 use Rattle.vtl_tree.specs.Shown.{shown}
-use Rattle.rules_to_sql.specs.Joined.{contains_all}
+use Rattle.vtl_meaning.specs.Joined.{contains_all}
 use Rattle.vtl_to_sql.proofs.References.{found, none, nowhere, shown_at}
 use Rattle.vtl_to_sql.proofs.join_operands.containing.Goals.{else-left-structures-via-then-left-structures+else-contains_all, else-left-structures-via-else-left-structures}
 use Rattle.vtl_to_sql.proofs.join_operands.containing.Goals as goal

@@ -1,6 +1,6 @@
 use Rattle.std.proofs.Common.{◌≡◌, drop}
 use Rattle.vtl_tree.specs.Shown.{shown}
-use Rattle.rules_to_sql.specs.Joined.{contains_all}
+use Rattle.vtl_meaning.specs.Joined.{contains_all}
 use Rattle.vtl_to_sql.proofs.join_operands.contains_all.Given as goal
 
 abbrev pub invariant-loop-other : goal.invariant-loop-other

@@ -1,7 +1,7 @@
 use Rattle.std.proofs.Common.{◌≡◌, ◌<◌}
 use Rattle.vtl_syntax.specs.declared.word_groups.JoinKind.TheVariants as join
 use Rattle.vtl_tree.specs.Shown.{shown}
-use Rattle.rules_to_sql.specs.Joined.{reference_place}
+use Rattle.vtl_meaning.specs.Joined.{reference_place}
 use Rattle.vtl_to_sql.proofs.join_operands.left_over.Given as goal
 
 abbrev pub invariant-loop-i : goal.invariant-loop-i

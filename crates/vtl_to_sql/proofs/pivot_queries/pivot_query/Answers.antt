@@ -2,7 +2,7 @@ use Rattle.std.proofs.Common.{List, [], ◌∷◌, ap, sym, ◌∙◌}
 use Rattle.std.proofs.lemmas.Result.{IfOk-weaker}
 use Rattle.vtl_tree.specs.Shown.{shown}
 use Rattle.vtl_tree.specs.declared.structure.Component.{Component}
-use Rattle.rules_to_sql.specs.Turned.{codes_of, other_identifiers}
+use Rattle.vtl_meaning.specs.Turned.{codes_of, other_identifiers}
 use Rattle.sql_tree.specs.Trees.{Text}
 use Rattle.vtl_to_sql.specs.Queries.{items_as}
 use Rattle.vtl_to_sql.specs.TurnedItems.{coded_values, grouped_by}

@@ -1,5 +1,5 @@
 use Rattle.std.proofs.Common.{◌∙◌}
-use Rattle.rules_to_sql.specs.Checked.{nodes_of}
+use Rattle.vtl_check.specs.Checked.{nodes_of}
 use Rattle.vtl_to_sql.proofs.Accepted.{script_accepted}
 use Rattle.vtl_to_sql.proofs.AcceptedForms.{script_evaluated}
 use Rattle.vtl_to_sql.proofs.script.accepted_statements.Goals as goal

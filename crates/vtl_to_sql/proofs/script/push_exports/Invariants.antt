@@ -1,7 +1,7 @@
 use Rattle.std.proofs.Common.{◌≡◌, ◌+◌, ◌++◌, drop, length, map}
 use Rattle.vtl_nodes.specs.View.{node_tree}
-use Rattle.rules_to_sql.specs.BackendStatements.{with_nodes}
-use Rattle.rules_to_sql.proofs.LeftLemmas.{left}
+use Rattle.vtl_backend.specs.Statements.{with_nodes}
+use Rattle.vtl_check.proofs.LeftLemmas.{left}
 use Rattle.sql_tree.specs.View.{statement_tree}
 use Rattle.vtl_to_sql.specs.Scripts.{export_for, written_of}
 use Rattle.vtl_to_sql.proofs.script.push_exports.Given as goal

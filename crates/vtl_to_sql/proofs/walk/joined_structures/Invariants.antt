@@ -1,9 +1,9 @@
 use Rattle.std.proofs.Common.{◌≡◌, ◌++◌, drop, length, map}
 use Rattle.vtl_tree.specs.Shown.{shown}
-use Rattle.rules_to_sql.specs.Joins.{structures_of}
+use Rattle.check_joins.specs.Joins.{structures_of}
 use Rattle.vtl_nodes.specs.Trees.{operands_of}
 use Rattle.vtl_nodes.specs.View.{operand_tree}
-use Rattle.rules_to_sql.specs.Made.{operands_in}
+use Rattle.vtl_meaning.specs.Made.{operands_in}
 use Rattle.vtl_to_sql.proofs.walk.joined_structures.Given as goal
 
 abbrev pub invariant-loop-operand : goal.invariant-loop-operand

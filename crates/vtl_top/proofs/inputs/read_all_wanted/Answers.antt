@@ -4,8 +4,8 @@ use Rattle.std.specs.Map.{keys_of}
 use Rattle.std.proofs.lemmas.Map.Entries.{length-keys_of}
 use Rattle.vtl_tree.specs.Structures.{Named}
 use Rattle.vtl_tree.specs.declared.structure.Structure.{Structure}
-use Rattle.vtl_interp.specs.Inputs.{input_of, rows_named}
-use Rattle.vtl_interp.specs.Profiles.{AllAreOfProfile}
+use Rattle.vtl_backend.specs.Inputs.{input_of, rows_named}
+use Rattle.vtl_meaning.specs.Profiles.{AllAreOfProfile}
 use Rattle.vtl_top.specs.Answered.{Takes}
 use Rattle.vtl_top.specs.Expected.{dataset_step, inputs_step, one_more_step, with_points}
 use Rattle.vtl_top.specs.InputsRead.{all_wanted, wanted_of}

@@ -1,5 +1,5 @@
 use Rattle.std.proofs.Common.{[], drop, map, take, Result}
-use Rattle.vtl_interp.specs.Inputs.{input_of}
+use Rattle.vtl_backend.specs.Inputs.{input_of}
 use Rattle.vtl_top.specs.Answered.{Takes}
 use Rattle.vtl_top.specs.Expected.{inputs_step}
 use Rattle.vtl_top.specs.InputsRead.{SameType, all_wanted}

@@ -1,6 +1,6 @@
 use Rattle.std.proofs.Common.{ap, sym, subst, ◌∙◌}
-use Rattle.vtl_interp.specs.Checked.{nodes_of}
-use Rattle.vtl_interp.specs.Inputs.{inputs_of}
+use Rattle.vtl_check.specs.Checked.{nodes_of}
+use Rattle.vtl_backend.specs.Inputs.{inputs_of}
 use Rattle.vtl_top.specs.InputsRead.{AreReadable, all_wanted}
 use Rattle.vtl_top.proofs.InputLemmas.{inputs_are, readable}
 use Rattle.vtl_top.proofs.inputs.read_inputs.Goals as goal

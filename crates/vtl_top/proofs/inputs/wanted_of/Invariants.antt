@@ -1,5 +1,5 @@
 use Rattle.std.proofs.Common.{◌≡◌, take}
-use Rattle.vtl_interp.specs.Inputs.{inputs_of}
+use Rattle.vtl_backend.specs.Inputs.{inputs_of}
 use Rattle.vtl_top.specs.InputsRead.{all_wanted}
 use Rattle.vtl_top.proofs.inputs.wanted_of.Given as goal
 

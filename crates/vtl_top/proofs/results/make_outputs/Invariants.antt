@@ -1,6 +1,6 @@
 use Rattle.std.proofs.Common.{◌≡◌, ◌++◌, drop, map}
 use Rattle.std.specs.List.{AllByRecursion}
-use Rattle.vtl_interp.specs.Checked.{known_of}
+use Rattle.vtl_check.specs.Checked.{known_of}
 use Rattle.vtl_top.specs.OutputView.{NamesPath, output_view}
 use Rattle.vtl_top.specs.ResultTables.{file_for}
 use Rattle.vtl_top.proofs.results.make_outputs.Given as goal

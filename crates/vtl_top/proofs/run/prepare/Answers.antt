@@ -7,7 +7,7 @@ use Rattle.vtl_top.specs.Informed.{TellsRun}
 use Rattle.vtl_top.specs.Steps.{status_of}
 use Rattle.vtl_top.specs.declared.output.Output.{Output}
 use Rattle.vtl_status.specs.declared.status.Status.{Status}
-use Rattle.vtl_interp.specs.Inputs.{environment_of, inputs_of}
+use Rattle.vtl_backend.specs.Inputs.{environment_of, inputs_of}
 use Rattle.vtl_top.proofs.RefusedLemmas.{inputs_tell}
 use Rattle.vtl_top.proofs.RunLemmas.{inputs_refused, passed_on, then_results}
 use Rattle.vtl_top.proofs.StepLemmas.{told_behind}

@@ -1,6 +1,6 @@
 use Rattle.std.proofs.Common.{sym, subst, ◌∙◌, Result}
 use Rattle.vtl_syntax.specs.View.{script_tree}
-use Rattle.vtl_interp.specs.Checked.{TypedScript}
+use Rattle.vtl_check.specs.Checked.{TypedScript}
 use Rattle.vtl_top.specs.Answered.{Takes}
 use Rattle.vtl_top.specs.Expected.{typed_step}
 use Rattle.vtl_top.specs.RunView.{source_view}

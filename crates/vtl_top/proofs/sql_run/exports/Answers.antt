@@ -1,6 +1,6 @@
 use Rattle.std.proofs.Common.{ap, ◌∙◌, map}
-use Rattle.sql_back.specs.InputTables.{rows_given}
-use Rattle.sql_back.specs.EngineScripts.{script_value}
+use Rattle.sql_engine.specs.InputTables.{rows_given}
+use Rattle.sql_meaning.specs.Scripts.{script_value}
 use Rattle.sql_tree.specs.View.{script_tree}
 use Rattle.vtl_top.specs.OutputView.{outputs_view}
 use Rattle.vtl_top.specs.SqlRun.{table_file}

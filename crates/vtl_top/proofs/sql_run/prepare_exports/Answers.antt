@@ -1,9 +1,9 @@
 use Rattle.std.proofs.Common.{[], map, subst, Ok}
 use Rattle.sql_tree.specs.View.{script_tree}
-use Rattle.sql_back.specs.TypingStatements.{script_settings}
-use Rattle.sql_back.specs.InputTables.{rows_given}
-use Rattle.sql_back.specs.EngineScripts.{script_value}
-use Rattle.vtl_interp.specs.Inputs.{input_of}
+use Rattle.sql_check_parts.specs.Statements.{script_settings}
+use Rattle.sql_engine.specs.InputTables.{rows_given}
+use Rattle.sql_meaning.specs.Scripts.{script_value}
+use Rattle.vtl_backend.specs.Inputs.{input_of}
 use Rattle.vtl_top.specs.Answered.{Takes}
 use Rattle.vtl_top.specs.Expected.{inputs_step}
 use Rattle.vtl_top.specs.OutputView.{outputs_view}

@@ -1,7 +1,7 @@
 use Rattle.std.proofs.Common.{◌≡◌, true}
-use Rattle.vtl_cell.proofs.Aparts.{all_apart-filter}
-use Rattle.vtl_cell.proofs.Perms.{Perm-filter}
-use Rattle.vtl_cell.proofs.Sorts.{AllByRecursion-filter}
+use Rattle.vtl_lists.proofs.Aparts.{all_apart-filter}
+use Rattle.vtl_lists.proofs.Perms.{Perm-filter}
+use Rattle.vtl_lists.proofs.Sorts.{AllByRecursion-filter}
 use Rattle.vtl_cell.specs.Outcome.{fault_in}
 use Rattle.vtl_cell.specs.Outcomes.{is_true}
 use Rattle.vtl_cell.specs.Row.{same_key}

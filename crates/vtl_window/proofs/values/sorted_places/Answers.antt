@@ -3,8 +3,8 @@ use Rattle.std.proofs.lemmas.List.{length-map}
 use Rattle.vtl_rows.specs.Places.{IsOrderOf}
 use Rattle.vtl_tree.specs.Shown.{shown}
 use Rattle.vtl_tree.specs.Structure.{columns_of}
-use Rattle.vtl_expr.specs.Columns.{identifiers_of}
-use Rattle.vtl_expr.specs.TableOf.{column_for}
+use Rattle.check_shapes.specs.Columns.{identifiers_of}
+use Rattle.vtl_sets.specs.TableOf.{column_for}
 use Rattle.vtl_window.specs.Sorted.{sort_keys, tie_breakers}
 use Rattle.vtl_window.proofs.SortLemmas.{keys_within}
 use Rattle.vtl_window.proofs.values.sorted_places.Goals as goal

@@ -2,7 +2,7 @@ use Rattle.std.proofs.Common.{◌≡◌, Option, Some, None, Bor, option_map, re
 use Rattle.std.specs.Map.{lookup}
 use Rattle.std.specs.Option.{option_copied}
 use Rattle.std.proofs.lemmas.Map.Made.{lookup-map_values}
-use Rattle.vtl_cell.specs.Texts.{same_text}
+use Rattle.vtl_text.specs.Texts.{same_text}
 use Rattle.sql_check_parts.proofs.scope.Scope.columns.Goals as goal
 
 copied_mapped : {X : Type 0} (o : Option (Bor X)) → option_copied o ≡ option_map (λ b. b.now) o

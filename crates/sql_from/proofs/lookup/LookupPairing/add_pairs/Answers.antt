@@ -2,7 +2,7 @@ use Rattle.std.proofs.Common.{◌≡◌, ◌∙◌, length, not, ap, sym}
 use Rattle.std.specs.Prelude.{◌==◌}
 use Rattle.std.specs.List.{filter}
 use Rattle.vtl_cell.specs.Outcome.{join}
-use Rattle.sql_eval.proofs.UpToOrder.{join_none}
+use Rattle.sql_meaning.proofs.UpToOrder.{join_none}
 use Rattle.sql_from.specs.Joins.{fault_of, numbers_to, passes}
 use Rattle.sql_from.specs.Seen.{seen_of}
 use Rattle.sql_from.proofs.Found.{any_kept, no_faults}

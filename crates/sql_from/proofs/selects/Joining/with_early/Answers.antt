@@ -3,12 +3,12 @@ use Rattle.std.specs.Prelude.{fold}
 use Rattle.std.proofs.lemmas.Grind.{fold-append}
 use Rattle.std.proofs.lemmas.List.{get_or_default, take_all}
 use Rattle.vtl_cell.specs.Outcome.{Fault}
-use Rattle.vtl_cell.specs.Settings.{Settings}
+use Rattle.vtl_decimal.specs.Settings.{Settings}
 use Rattle.sql_tree.specs.Trees.{SelectTree}
 use Rattle.sql_tree.specs.View.{select_tree}
-use Rattle.sql_eval.specs.From.{Joined}
-use Rattle.sql_eval.specs.Plans.{early_at, try_early}
-use Rattle.sql_eval.specs.plan.Early.{Early}
+use Rattle.sql_meaning.specs.From.{Joined}
+use Rattle.sql_meaning.specs.Plans.{early_at, try_early}
+use Rattle.sql_meaning.specs.declared.plan.Early.{Early}
 use Rattle.sql_from.specs.Held.{base_held}
 use Rattle.sql_from.specs.Seen.{seen_of}
 use Rattle.sql_from.specs.Sources.{Sourced}

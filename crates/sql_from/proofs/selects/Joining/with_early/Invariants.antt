@@ -1,8 +1,8 @@
 use Rattle.std.proofs.Common.{◌≡◌, false, take}
 use Rattle.std.specs.Prelude.{fold}
 use Rattle.sql_tree.specs.View.{select_tree}
-use Rattle.sql_eval.specs.From.{Joined}
-use Rattle.sql_eval.specs.Plans.{early_at, try_early}
+use Rattle.sql_meaning.specs.From.{Joined}
+use Rattle.sql_meaning.specs.Plans.{early_at, try_early}
 use Rattle.sql_from.specs.Asking.{condition_asks}
 use Rattle.sql_from.specs.Seen.{seen_of}
 use Rattle.sql_from.specs.Standing.{StandsFor, sight_of}

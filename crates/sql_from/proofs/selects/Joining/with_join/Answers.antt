@@ -5,10 +5,10 @@ use Rattle.sql_tree.specs.Trees as tree
 use Rattle.sql_tree.specs.Trees.{JoinTree}
 use Rattle.sql_tree.specs.View.{expr_tree, join_tree}
 use Rattle.vtl_rows.specs.Named.{NamedTables}
-use Rattle.sql_eval.specs.Profiles.{IsLawful}
-use Rattle.sql_eval.specs.Queries.{join_source}
-use Rattle.sql_eval.specs.TypedSelects.{IsSourceTyped}
-use Rattle.sql_eval.specs.From.{with_join}
+use Rattle.sql_meaning.specs.Profiles.{IsLawful}
+use Rattle.sql_check_parts.specs.Queries.{join_source}
+use Rattle.sql_check_laws.specs.Selects.{IsSourceTyped}
+use Rattle.sql_meaning.specs.From.{with_join}
 use Rattle.sql_from.specs.Held.{base_held, tables_held}
 use Rattle.sql_from.specs.Joins.{joined_tuples, pairs_fault}
 use Rattle.sql_from.specs.Keys.{last_of}

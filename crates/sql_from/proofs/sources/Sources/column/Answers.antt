@@ -1,7 +1,7 @@
 use Rattle.std.proofs.Common.{◌≡◌, ◌∙◌, ap, sym}
 use Rattle.std.specs.Option.{option_copied, option_map}
 use Rattle.std.specs.Prelude.{option_and_then}
-use Rattle.sql_eval.specs.Scopes.{found, placed, value_among}
+use Rattle.sql_check_parts.specs.Scopes.{found, placed, value_among}
 use Rattle.sql_from.specs.Sources.{scope_held}
 use Rattle.sql_from.specs.declared.sources.SourceTable.{SourceTable}
 use Rattle.sql_from.proofs.Sited.{found_kind, found_place, known_at}

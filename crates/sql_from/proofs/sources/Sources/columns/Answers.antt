@@ -2,7 +2,7 @@ use Rattle.std.proofs.Common.{◌≡◌, ◌∙◌, ◌++◌, ◌∷◌, List, l
 use Rattle.std.proofs.lemmas.List.{length-map}
 use Rattle.std.specs.Prelude.{slice_get}
 use Rattle.vtl_rows.specs.declared.column.Column.{Column}
-use Rattle.sql_eval.specs.Tables.{column_entry}
+use Rattle.sql_meaning.specs.Tables.{column_entry}
 use Rattle.sql_from.specs.Columns.{columns_below, line_feed, source_columns}
 use Rattle.sql_from.specs.Sources.{scope_held}
 use Rattle.sql_from.proofs.Parted.{take_got}

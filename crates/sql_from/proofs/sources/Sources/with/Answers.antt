@@ -4,11 +4,11 @@ use Rattle.std.specs.List.{AllByRecursion, list_any}
 use Rattle.std.specs.Map.{keys_of}
 use Rattle.std.specs.Option.{option_copied}
 use Rattle.std.proofs.lemmas.List.{length-map, map-append}
-use Rattle.vtl_cell.specs.Texts.{same_text}
+use Rattle.vtl_text.specs.Texts.{same_text}
 use Rattle.vtl_rows.specs.Named.{table_of}
 use Rattle.vtl_rows.specs.declared.gather.Pick.{Pick}
 use Rattle.vtl_rows.specs.declared.column.Column.{Column}
-use Rattle.sql_eval.specs.Tables.{column_entry, rows_of}
+use Rattle.sql_meaning.specs.Tables.{column_entry, rows_of}
 use Rattle.sql_from.specs.Held.{IsHeld, columns_held}
 use Rattle.sql_from.specs.Rows.{picks_from, picks_at, width_of}
 use Rattle.sql_from.specs.Sources.{AreFound, AreSited, IsWide, parts_of, scope_held, source_of, table_named}

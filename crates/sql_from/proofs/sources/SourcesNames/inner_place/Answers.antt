@@ -3,8 +3,8 @@ use Rattle.std.specs.Option.{option_map, option_copied}
 use Rattle.std.specs.Prelude.{unwrap_or}
 use Rattle.vtl_rows.specs.declared.column.Column.{Column}
 use Rattle.vtl_rows.specs.Named.{table_of}
-use Rattle.sql_eval.specs.Scopes.{columns_of, numbered, value_among}
-use Rattle.sql_eval.specs.Tables.{column_entry}
+use Rattle.sql_check_parts.specs.Scopes.{columns_of, numbered, value_among}
+use Rattle.sql_meaning.specs.Tables.{column_entry}
 use Rattle.sql_from.specs.Held.{columns_held, tables_held}
 use Rattle.sql_from.proofs.Sited.{columns_are, inner_named, inner_nowhere, inner_other}
 use Rattle.sql_from.proofs.sources.SourcesNames.inner_place.Goals as goal

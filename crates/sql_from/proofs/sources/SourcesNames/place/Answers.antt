@@ -2,7 +2,7 @@ use Rattle.std.proofs.Common.{◌≡◌, ◌∙◌, ap, sym, length, List, arith
 use Rattle.vtl_rows.specs.declared.gather.Pick.{Pick}
 use Rattle.std.specs.Option.{option_map}
 use Rattle.std.specs.Prelude.{unwrap_or}
-use Rattle.sql_eval.specs.Scopes.{row_of}
+use Rattle.sql_check_parts.specs.Scopes.{row_of}
 use Rattle.sql_from.specs.Rows.{width_of}
 use Rattle.sql_from.specs.Sources.{parts_of, scope_held}
 use Rattle.sql_from.proofs.Parted.{length-picks_from}

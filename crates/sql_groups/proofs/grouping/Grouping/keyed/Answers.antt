@@ -2,7 +2,7 @@ use Rattle.std.proofs.Common.{◌≡◌, ◌∙◌, ℕ, List, [], ap, arith, le
 use Rattle.std.proofs.lemmas.List.{length-map}
 use Rattle.vtl_rows.specs.Tables.{cells_at}
 use Rattle.vtl_index.specs.Leads.{leads_of}
-use Rattle.sql_from.specs.Values.{place_in}
+use Rattle.sql_meaning.specs.Values.{place_in}
 use Rattle.sql_groups.specs.Grouped.{groups_led}
 use Rattle.sql_groups.specs.Kept.{rows_of, scope_of}
 use Rattle.sql_groups.proofs.GroupLemmas.{found_leads, keyed_groups}

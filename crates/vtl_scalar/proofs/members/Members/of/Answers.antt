@@ -1,5 +1,5 @@
 use Rattle.std.proofs.Common.{◌++◌, ap, ◌∙◌}
-use Rattle.vtl_cell.specs.Perm.{empty}
+use Rattle.vtl_lists.specs.Perm.{empty}
 use Rattle.vtl_scalar.proofs.MemberLemmas.{put_first, put_second, runs_of, some_moved}
 use Rattle.vtl_scalar.proofs.members.Members.of.Goals.{in-Int+in_ok-push-in-Int, in_default+in_ok-push-in_default}
 use Rattle.vtl_scalar.proofs.members.Members.of.Goals as goal

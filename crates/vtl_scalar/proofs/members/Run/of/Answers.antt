@@ -1,4 +1,4 @@
-use Rattle.vtl_cell.proofs.Perms.{Perm-refl}
+use Rattle.vtl_lists.proofs.Perms.{Perm-refl}
 use Rattle.vtl_scalar.proofs.members.Run.of.Goals as goal
 
 pub returns : goal.returns
