@@ -1,7 +1,6 @@
 -- What clauses make of the components of their operand.
-use Rattle.std.specs.Prelude.{ℕ, Bool, not, ◌||◌, ◌++◌, List, [], ◌∷◌, Option, Some, None, Result, Ok, Err, map, filter, find, length, nat_eq, is_none, if◌then◌else◌}
+use Rattle.std.specs.Prelude.{ℕ, Bool, not, ◌||◌, ◌++◌, List, [], ◌∷◌, Option, Some, None, Result, Ok, Err, map, filter, find, length, nat_eq, is_none, if◌then◌else◌, unwrap_or}
 use Rattle.std.specs.List.{list_any, list_all}
-use Rattle.std.specs.Prelude.{unwrap_or}
 use Rattle.vtl_cell.specs.Kinds.{same_kind}
 use Rattle.vtl_cell.specs.declared.kind.Kind.{Kind}
 use Rattle.vtl_cell.specs.declared.kind.Kind.TheVariants as k

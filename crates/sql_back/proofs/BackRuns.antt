@@ -2,7 +2,8 @@
 use Rattle.std.proofs.Common.{◌≡◌, ℕ, true, ◌&&◌, List, [], ◌∷◌, map, Result, Ok, Err, refl, sym, ap, ◌∙◌, subst}
 use Rattle.std.specs.List.{list_all}
 use Rattle.std.proofs.lemmas.Bool.{and_parts}
-use Rattle.vtl_cell.specs.Outcome.{DivZero, Fault, Range}
+use Rattle.vtl_decimal.specs.declared.number.Fault.TheVariants.{DivZero, Range}
+use Rattle.vtl_decimal.specs.declared.number.Fault.{Fault}
 use Rattle.vtl_lists.specs.Perm.{Perm, chain}
 use Rattle.vtl_cell.proofs.Keys.{window_order}
 use Rattle.vtl_lists.proofs.Sorts.{Perm-sorted_by}
@@ -25,8 +26,8 @@ use Rattle.vtl_backend.specs.Statements.{is_script_built, statements_of, with_no
 use Rattle.vtl_sets.specs.TableOf.{column_for}
 use Rattle.vtl_backend.specs.Tables.{Shows}
 use Rattle.vtl_check.specs.Transformations.{Transformation, transformations}
-use Rattle.vtl_backend.specs.declared.error.RunErr.{RunErr}
-use Rattle.vtl_backend.specs.declared.error.RunErr.TheVariants as err
+use Rattle.vtl_scalar.specs.declared.run_error.RunErr.{RunErr}
+use Rattle.vtl_scalar.specs.declared.run_error.RunErr.TheVariants as err
 use Rattle.vtl_to_sql.specs.Conditions.{IsScript}
 use Rattle.vtl_to_sql.specs.Exports.{exported, exported_as}
 use Rattle.vtl_to_sql.specs.Runs.{entries}
@@ -34,7 +35,8 @@ use Rattle.vtl_to_sql.specs.Scripts.{script_for}
 use Rattle.vtl_to_sql.proofs.Exact.{set_turned}
 use Rattle.vtl_to_sql.proofs.TranslatedScripts.{all_made, script_means}
 use Rattle.vtl_meaning.proofs.ScriptsKept.{meaning_kept}
-use Rattle.sql_back.specs.TextRuns.{CanRun, RunsText, ShowsAs, TellsText}
+use Rattle.sql_engine.specs.Runs.{ShowsAs}
+use Rattle.sql_back.specs.TextRuns.{CanRun, RunsText, TellsText}
 use Rattle.sql_back.specs.Texts.{IsTextOf}
 use Rattle.sql_back.proofs.InputTables.{are_read, are_sets, inputs_ranged, inputs_there, sets_known}
 

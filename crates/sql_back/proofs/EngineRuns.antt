@@ -3,8 +3,8 @@ use Rattle.std.proofs.Common.{◌≡◌, List, Result, Err}
 use Rattle.vtl_rows.specs.Named.{NamedTables}
 use Rattle.sql_engine.specs.Runs.{FaultIs}
 use Rattle.sql_meaning.specs.Scripts.{Export, NamedFault}
-use Rattle.sql_engine.specs.declared.error.RunErr.{RunErr}
-use Rattle.sql_engine.specs.declared.error.RunErr.TheVariants as engine
+use Rattle.vtl_scalar.specs.declared.run_error.RunErr.{RunErr}
+use Rattle.vtl_scalar.specs.declared.run_error.RunErr.TheVariants as engine
 use Rattle.sql_back.specs.Engines.{same_error}
 use Rattle.sql_back.specs.TextRuns.{TellsText}
 

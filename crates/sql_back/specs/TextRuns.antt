@@ -1,15 +1,15 @@
 -- What is asked where a text is run, and what a run of it gives.
 use Rattle.std.specs.Prelude.{◌≡◌, ℕ, List, Result, Ok, Err}
-use Rattle.vtl_cell.specs.Outcome.{DivZero, Range}
+use Rattle.vtl_decimal.specs.declared.number.Fault.TheVariants.{DivZero, Range}
 use Rattle.vtl_rows.specs.Named.{NamedTables}
 use Rattle.sql_tree.specs.Texts.{IsScript}
 use Rattle.sql_tree.specs.Trees.{ScriptTree}
 use Rattle.sql_engine.specs.InputTables.{AreInputsInRange, HaveInputTables, rows_given}
-pub use Rattle.sql_engine.specs.Runs.{ShowsAs, ShowsMeaning}
+use Rattle.sql_engine.specs.Runs.{ShowsAs, ShowsMeaning}
 use Rattle.sql_meaning.specs.Scripts.{Export, NamedFault, script_value}
 use Rattle.sql_check_parts.specs.Statements.{IsTypedScript, script_settings}
-use Rattle.vtl_backend.specs.declared.error.RunErr.{RunErr}
-use Rattle.vtl_backend.specs.declared.error.RunErr.TheVariants as err
+use Rattle.vtl_scalar.specs.declared.run_error.RunErr.{RunErr}
+use Rattle.vtl_scalar.specs.declared.run_error.RunErr.TheVariants as err
 
 -- the text spells a script that breaks no rule, and each of its INPUTs has a table whose rows fit it and whose
 -- integers are of the script's profile

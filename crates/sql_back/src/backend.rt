@@ -4,9 +4,10 @@ ghost use Rattle.sql_back.specs.Texts.{HasTextOf};
 
 use crate::{TextEngine, text_of};
 use std::alloc::Global;
-use vtl_backend::{Backend, RunErr};
+use vtl_backend::Backend;
 use vtl_check::Checked;
 use vtl_rows::{Inputs, Outputs};
+use vtl_scalar::RunErr;
 
 /// The back end that hands the text of a script to an engine.
 #[derive(Drop)]

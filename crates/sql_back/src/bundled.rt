@@ -5,8 +5,8 @@ use crate::TextEngine;
 use crate::text_runs::run_text;
 use std::alloc::Global;
 use std::marker::Model;
-use vtl_backend::RunErr;
 use vtl_rows::{Inputs, Outputs};
+use vtl_scalar::RunErr;
 
 /// The engine of this repository: it reads a text by the parser of the dialect and runs it. It holds the text that it
 /// was handed last; a contract sees the bytes of that text.

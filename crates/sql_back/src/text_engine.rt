@@ -3,8 +3,8 @@ ghost use Rattle.std.specs.Prelude.{◌≡◌, ℕ, List, Option, Some, string_b
 ghost use Rattle.sql_back.specs.TextRuns.{CanRun, RunsText};
 
 use std::alloc::Global;
-use vtl_backend::RunErr;
 use vtl_rows::{Inputs, Outputs};
+use vtl_scalar::RunErr;
 
 /// What runs texts of scripts in SQL over tables.
 pub trait TextEngine {

@@ -6,19 +6,18 @@ ghost use Rattle.sql_tree.specs.Trees.{ScriptTree};
 ghost use Rattle.sql_tree.specs.View.{script_tree};
 ghost use Rattle.sql_engine.specs.InputTables.{AreInputsInRange, HaveInputTables};
 ghost use Rattle.sql_engine.specs.Runs.{RunsAsMade};
-ghost use Rattle.sql_back.specs.Engines.{same_error};
 ghost use Rattle.sql_back.specs.TextRuns.{CanRun, RunsText};
 
 use sql_check::SqlChecked;
-use sql_engine::{RunErr as EngineErr, run_as_made};
+use sql_engine::run_as_made;
 use sql_parser::{SqlErr, parse};
 use sql_tree::SqlScript;
 use std::alloc::{AllocError, Global};
 use std::marker::Brand;
 use std::sync::ledger::{Blank, Ledger};
-use vtl_backend::RunErr;
 use vtl_index::Steps;
 use vtl_rows::{Inputs, Outputs};
+use vtl_scalar::RunErr;
 
 // The script that a text spells.
 fn script_of(alloc: Global, text: &str) -> Result<SqlScript, AllocError>
@@ -33,17 +32,6 @@ fn script_of(alloc: Global, text: &str) -> Result<SqlScript, AllocError>
     }
 }
 
-// The same error, as back ends tell it.
-fn told(error: EngineErr) -> RunErr
-    ensures { result ≡ same_error error }
-{
-    match error {
-        EngineErr::DivZero(name) => RunErr::DivZero(name),
-        EngineErr::Range(name) => RunErr::Range(name),
-        EngineErr::OutOfMemory => RunErr::OutOfMemory,
-    }
-}
-
 // The run of a script, whose steps nobody counts. Its rows are not sorted: whoever writes them does it.
 fn run_uncounted<L: Ledger>(
     alloc: Global,
@@ -51,7 +39,7 @@ fn run_uncounted<L: Ledger>(
     inputs: &Inputs,
     out: &mut Outputs,
     blank: Blank,
-) -> Result<(), EngineErr>
+) -> Result<(), RunErr>
     requires name { blank.name ≡ L.name }
     requires parts { blank.parts ≡ L.parts }
     requires some { 0 < L.parts }
@@ -75,8 +63,5 @@ pub(crate) fn run_text(
 {
     let script = script_of(alloc, text)?;
     let checked = SqlChecked::of(script);
-    match run_uncounted::<Brand>(alloc, &checked, inputs, out, Blank::new(1)) {
-        Ok(()) => Ok(()),
-        Err(error) => Err(told(error)),
-    }
+    run_uncounted::<Brand>(alloc, &checked, inputs, out, Blank::new(1))
 }

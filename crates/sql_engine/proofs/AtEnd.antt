@@ -32,8 +32,8 @@ use Rattle.sql_engine.specs.Exported.{AreExported, entry_column, exported_of, ex
 use Rattle.sql_engine.specs.Held.{HaveMade}
 use Rattle.sql_engine.specs.InputTables.{rows_given}
 use Rattle.sql_engine.specs.Runs.{FaultIs, Shows, ShowsAs, ShowsExports, ShowsMeaning}
-use Rattle.sql_engine.specs.declared.error.RunErr.{RunErr}
-use Rattle.sql_engine.specs.declared.error.RunErr.TheVariants as run
+use Rattle.vtl_scalar.specs.declared.run_error.RunErr.{RunErr}
+use Rattle.vtl_scalar.specs.declared.run_error.RunErr.TheVariants as run
 use Rattle.sql_engine.specs.declared.orders.RowOrder.{RowOrder}
 use Rattle.sql_engine.specs.declared.orders.RowOrder.TheVariants as by
 use Rattle.sql_engine.proofs.Standing.{both_there, columns_named, named_behind}

@@ -1,7 +1,8 @@
 -- The tables that statements put behind the others.
 use Rattle.std.proofs.Common.{◌≡◌, List, [], ◌∷◌, ◌++◌, Option, Some, Ok, Err, sym, ap, ◌∙◌, subst}
 use Rattle.vtl_lists.proofs.Perms.{Perm-refl}
-use Rattle.vtl_cell.specs.Outcome.{DivZero, Outcome, Range}
+use Rattle.vtl_decimal.specs.declared.number.Fault.TheVariants.{DivZero, Range}
+use Rattle.vtl_cell.specs.Outcome.{Outcome}
 use Rattle.vtl_lists.specs.Perm.{Perm}
 use Rattle.vtl_cell.specs.Row.{Row}
 use Rattle.vtl_rows.specs.Named.{NamedTables, table_of}
@@ -14,8 +15,8 @@ use Rattle.sql_meaning.specs.Tables.{HasTable, rows_of}
 use Rattle.sql_exec.specs.Answers.{Gives}
 use Rattle.sql_engine.specs.Runs.{FaultIs, Faults}
 use Rattle.sql_engine.specs.Statements.{IsPut}
-use Rattle.sql_engine.specs.declared.error.RunErr.{RunErr}
-use Rattle.sql_engine.specs.declared.error.RunErr.TheVariants as run
+use Rattle.vtl_scalar.specs.declared.run_error.RunErr.{RunErr}
+use Rattle.vtl_scalar.specs.declared.run_error.RunErr.TheVariants as run
 
 pub input_put : (name : Text) (columns : Columns) (inputs before now : NamedTables) (t : Listed) → table_of name inputs ≡ Some t → HasTable columns (table_of name inputs) → now ≡ before ++ (name, t) ∷ [] → IsPut name columns (Ok (rows_of (table_of name inputs))) before now
 input_put name columns inputs before now t e has put =

@@ -6,7 +6,9 @@ use Rattle.std.proofs.lemmas.List.{map-append}
 use Rattle.vtl_lists.proofs.Perms.{AllByRecursion-Perm}
 use Rattle.vtl_text.proofs.Apart.{apart_push}
 use Rattle.vtl_lists.specs.Apart.{all_apart}
-use Rattle.vtl_cell.specs.Outcome.{DivZero, Fault, Outcome, Range}
+use Rattle.vtl_decimal.specs.declared.number.Fault.TheVariants.{DivZero, Range}
+use Rattle.vtl_decimal.specs.declared.number.Fault.{Fault}
+use Rattle.vtl_cell.specs.Outcome.{Outcome}
 use Rattle.vtl_cell.specs.Outcomes.{Same}
 use Rattle.vtl_lists.specs.Perm.{Perm, chain}
 use Rattle.vtl_lists.specs.Results.{◌>>=◌}
@@ -42,8 +44,8 @@ use Rattle.sql_engine.specs.InputTables.{AreInputsInRange, HaveInputTables, rows
 use Rattle.sql_engine.specs.LastReads.{AreNoted, EachExported, IsReadFrom, LastPlaces, is_from, is_read_from}
 use Rattle.sql_engine.specs.Runs.{FaultIs}
 use Rattle.sql_engine.specs.Statements.{HasFault, HasRun, IsPut, MayRun}
-use Rattle.sql_engine.specs.declared.error.RunErr.{RunErr}
-use Rattle.sql_engine.specs.declared.error.RunErr.TheVariants as run
+use Rattle.vtl_scalar.specs.declared.run_error.RunErr.{RunErr}
+use Rattle.vtl_scalar.specs.declared.run_error.RunErr.TheVariants as run
 use Rattle.sql_engine.proofs.LettingGo.{keys_stay}
 use Rattle.sql_engine.proofs.Standing.{fewer_stand, lawful, none_stand, one_stands, query_stands, still_stand}
 use Rattle.sql_engine.proofs.TableLookups.{columns_in, free_name, keys_held}

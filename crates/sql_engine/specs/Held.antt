@@ -13,7 +13,7 @@ use Rattle.sql_from.specs.Held.{tables_held}
 use Rattle.sql_engine.specs.InputTables.{rows_given}
 use Rattle.sql_engine.specs.LastReads.{EachExported}
 use Rattle.sql_engine.specs.Runs.{FaultIs}
-use Rattle.sql_engine.specs.declared.error.RunErr.{RunErr}
+use Rattle.vtl_scalar.specs.declared.run_error.RunErr.{RunErr}
 
 -- They stand for tables of the meaning: they have the same names and columns, and those that are still read have the same rows, in any
 -- order; the others may have lost theirs.

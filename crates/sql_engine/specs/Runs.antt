@@ -1,6 +1,6 @@
 -- What a run of a script gives.
 use Rattle.std.specs.Prelude.{◌≡◌, List, [], ◌∷◌, map, Result, Ok, Err}
-use Rattle.vtl_cell.specs.Outcome.{DivZero, Range}
+use Rattle.vtl_decimal.specs.declared.number.Fault.TheVariants.{DivZero, Range}
 use Rattle.vtl_lists.specs.Perm.{Perm}
 use Rattle.vtl_rows.specs.Named.{NamedTables}
 use Rattle.sql_tree.specs.Trees.{ScriptTree, Text}
@@ -9,8 +9,8 @@ use Rattle.vtl_scalar.specs.declared.error.ScalarErr.TheVariants as scalar
 use Rattle.sql_meaning.specs.Scripts.{Export, NamedFault, fault_name, script_value}
 use Rattle.sql_engine.specs.Exported.{entry_column, shown}
 use Rattle.sql_engine.specs.InputTables.{rows_given}
-use Rattle.sql_engine.specs.declared.error.RunErr.{RunErr}
-use Rattle.sql_engine.specs.declared.error.RunErr.TheVariants as run
+use Rattle.vtl_scalar.specs.declared.run_error.RunErr.{RunErr}
+use Rattle.vtl_scalar.specs.declared.run_error.RunErr.TheVariants as run
 use Rattle.sql_engine.specs.declared.orders.RowOrder.{RowOrder}
 use Rattle.sql_engine.specs.declared.orders.RowOrder.TheVariants as by
 

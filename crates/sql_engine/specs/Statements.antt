@@ -20,8 +20,8 @@ use Rattle.sql_meaning.specs.Selects.{query_value}
 use Rattle.sql_meaning.specs.Tables.{HasTable, column_entry, rows_of}
 use Rattle.sql_from.specs.Held.{base_held, tables_held}
 use Rattle.sql_engine.specs.Runs.{FaultIs}
-use Rattle.sql_engine.specs.declared.error.RunErr.{RunErr}
-use Rattle.sql_engine.specs.declared.error.RunErr.TheVariants as run
+use Rattle.vtl_scalar.specs.declared.run_error.RunErr.{RunErr}
+use Rattle.vtl_scalar.specs.declared.run_error.RunErr.TheVariants as run
 
 -- a query may be carried out over these tables
 pub record MayQuery (p : Settings) (q : QueryTree) (held : NamedTables) : Type 0 where

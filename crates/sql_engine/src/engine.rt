@@ -4,7 +4,6 @@ ghost use Rattle.sql_meaning.specs.Scripts.{script_value};
 ghost use Rattle.sql_engine.specs.InputTables.{AreInputsInRange, HaveInputTables, rows_given};
 ghost use Rattle.sql_engine.specs.Runs.{Runs, RunsAsMade, TellsExports};
 
-use crate::RunErr;
 use crate::exports::exported;
 use crate::made_tables::made_tables;
 use crate::orders::RowOrder;
@@ -13,6 +12,7 @@ use std::alloc::Global;
 use std::sync::ledger::Ledger;
 use vtl_index::Steps;
 use vtl_rows::{Inputs, Outputs};
+use vtl_scalar::RunErr;
 
 // The tables that a script exports, each with its rows in this order.
 fn script_exports<L: Ledger>(

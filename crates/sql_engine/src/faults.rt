@@ -3,9 +3,9 @@ ghost use Rattle.std.specs.Prelude.{◌≡◌, IfOk, OnOk};
 ghost use Rattle.sql_meaning.specs.Scripts.{fault_name};
 ghost use Rattle.sql_engine.specs.Runs.{Faults};
 
-use crate::RunErr;
 use sql_from::ExecErr;
 use std::alloc::{AllocError, Global};
+use vtl_scalar::RunErr;
 use vtl_text::Txt;
 
 // The name of a table up to the first `$`.

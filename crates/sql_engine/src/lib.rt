@@ -8,7 +8,6 @@
 #![tactic(auto)]
 
 mod engine;
-mod error;
 mod exports;
 mod expression_reads;
 mod faults;
@@ -22,6 +21,5 @@ mod statements;
 mod structures;
 
 pub use engine::{run, run_as_made};
-pub use error::RunErr;
 pub use laws::{inputs_are_data_sets, queries_depend_on_what_they_read};
 pub use structures::structure_of;

@@ -10,7 +10,6 @@ ghost use Rattle.sql_engine.specs.Held.{Make};
 ghost use Rattle.sql_engine.specs.InputTables.{AreInputsInRange, HaveInputTables};
 ghost use Rattle.sql_engine.specs.LastReads.{AreNoted, EachExported, IsReadFrom};
 
-use crate::RunErr;
 use crate::expression_reads::LastReads;
 use crate::last_reads::last_reads;
 use crate::letting_go::let_go_in_turn;
@@ -21,6 +20,7 @@ use std::sync::ledger::Ledger;
 use vtl_decimal::Profile;
 use vtl_index::Steps;
 use vtl_rows::{Inputs, Tables};
+use vtl_scalar::RunErr;
 
 // The tables of INPUTs and CREATEs, carried out in order. Rows that no later statement reads are let go.
 fn run_each<L: Ledger>(

@@ -13,7 +13,6 @@ ghost use Rattle.sql_from.specs.Held.{base_held, tables_held};
 ghost use Rattle.sql_engine.specs.Statements.{IsPut, MayQuery, MayRun, RunsStatement};
 ghost use Rattle.sql_tree.specs.Trees as tree;
 
-use crate::RunErr;
 use crate::faults::named;
 use sql_exec::exec;
 use sql_from::ExecErr;
@@ -24,6 +23,7 @@ use std::sync::ledger::Ledger;
 use vtl_decimal::Profile;
 use vtl_index::Steps;
 use vtl_rows::{Inputs, Table, Tables};
+use vtl_scalar::RunErr;
 
 // Holds the table that was read for an INPUT, with one more owner.
 fn run_input(input: &SqlInput, inputs: &Inputs, tables: &mut Tables) -> Result<(), AllocError>

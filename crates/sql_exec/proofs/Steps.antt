@@ -3,7 +3,8 @@ use Rattle.std.proofs.Common.{◌≡◌, ℕ, zero, suc, ◌+◌, ◌<◌, ◌�
 use Rattle.std.specs.Prelude.{zip}
 use Rattle.std.specs.List.{AllByRecursion}
 use Rattle.std.proofs.lemmas.List.{map-append, take_more}
-use Rattle.vtl_cell.specs.Outcome.{Fault, faults_by, join}
+use Rattle.vtl_decimal.specs.declared.number.Fault.{Fault}
+use Rattle.vtl_cell.specs.Outcome.{faults_by, join}
 use Rattle.sql_meaning.proofs.UpToOrder.{faults_by-append, join_assoc, join_none}
 
 -- a fact along an equation

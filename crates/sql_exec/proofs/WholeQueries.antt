@@ -3,7 +3,9 @@ use Rattle.std.proofs.Common.{◌≡◌, suc, ◌<◌, List, [], ◌∷◌, ◌+
 use Rattle.std.specs.Prelude.{IfOk, zip}
 use Rattle.std.proofs.lemmas.List.{length-map}
 use Rattle.vtl_lists.proofs.Perms.{Perm-refl}
-use Rattle.vtl_cell.specs.Outcome.{DivZero, Fault, Outcome, Range, fault_in, join, unless}
+use Rattle.vtl_decimal.specs.declared.number.Fault.TheVariants.{DivZero, Range}
+use Rattle.vtl_decimal.specs.declared.number.Fault.{Fault}
+use Rattle.vtl_cell.specs.Outcome.{Outcome, fault_in, join, unless}
 use Rattle.vtl_cell.specs.Outcomes.{Same}
 use Rattle.vtl_lists.specs.Perm.{Perm}
 use Rattle.vtl_cell.specs.Row.{Row}
@@ -23,7 +25,7 @@ use Rattle.sql_check_parts.proofs.QueryKinds.{as_many}
 use Rattle.sql_meaning.specs.Selects.{rows_in}
 use Rattle.sql_meaning.specs.Tables.{column_entry, kinds_of}
 use Rattle.sql_meaning.proofs.SharedKinds.{named_kinds}
-use Rattle.sql_from.specs.Seen.{answer_of}
+use Rattle.vtl_scalar.specs.Seen.{answer_of}
 use Rattle.sql_exec.specs.Answers.{Gives}
 use Rattle.sql_exec.specs.Outputs.{Adds, fault_seen}
 use Rattle.sql_exec.specs.declared.output.Output.{Output}

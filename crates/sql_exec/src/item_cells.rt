@@ -5,15 +5,14 @@ ghost use Rattle.vtl_cell.specs.Outcome.{after, fault_in, join};
 ghost use Rattle.vtl_cell.specs.Row.{Row, column_of};
 ghost use Rattle.vtl_scalar.specs.Answers.{Answers};
 ghost use Rattle.sql_meaning.specs.Outcomes.{cell_or_null, row_at, row_fault};
-ghost use Rattle.sql_from.specs.Seen.{seen_of};
+ghost use Rattle.vtl_scalar.specs.Seen.{seen_of};
 ghost use Rattle.sql_exec.specs.ItemCells.{next_value, values_in};
 
-use sql_from::Seen;
 use std::alloc::AllocError;
 use std::vec::IntoIter;
 use vtl_cell::{Cell, Kind, clone_cell};
 use vtl_decimal::{Fault, Profile};
-use vtl_scalar::{ScalarErr, to_kind};
+use vtl_scalar::{ScalarErr, Seen, to_kind};
 
 /// The values of an item from a row of FROM on.
 pub(crate) enum ItemCells {

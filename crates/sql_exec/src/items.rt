@@ -9,20 +9,20 @@ ghost use Rattle.sql_tree.specs.View.{item_tree, value_tree};
 ghost use Rattle.sql_check_parts.specs.Expressions.{site};
 ghost use Rattle.sql_from.specs.Held.{tables_held};
 ghost use Rattle.sql_meaning.specs.Outcomes.{cell_or_null, row_at, row_fault};
-ghost use Rattle.sql_from.specs.Seen.{seen_of};
+ghost use Rattle.vtl_scalar.specs.Seen.{seen_of};
 ghost use Rattle.sql_from.specs.Sources.{scope_held};
 ghost use Rattle.sql_from.specs.Standing.{rows_for, sight_of};
 ghost use Rattle.sql_check_laws.specs.Selects.{IsItemTyped, IsValueTyped};
 ghost use Rattle.sql_exec.specs.Items.{HasValuesOf, HaveValuesOf, made_at_row, made_value};
 
 use sql_eval::{Cells, Level, Resolved, resolve, value_at};
-use sql_from::{Seen, TupleRows};
+use sql_from::TupleRows;
 use sql_tree::{Item, ItemValue};
 use sql_window::{TabledRows, window_values};
 use std::alloc::{AllocError, Global};
 use vtl_cell::{Cell, Kind, clone_cell};
 use vtl_decimal::{Fault, Profile};
-use vtl_scalar::{Given, ScalarErr, given_of_kind};
+use vtl_scalar::{Given, ScalarErr, Seen, given_of_kind};
 
 /// The values of an item at the rows of FROM.
 pub(crate) enum ItemValues {

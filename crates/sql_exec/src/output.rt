@@ -4,7 +4,7 @@ ghost use Rattle.vtl_cell.specs.Row.{Row};
 ghost use Rattle.vtl_cell.specs.Outcome.{unless};
 ghost use Rattle.vtl_rows.specs.Tables.{fits};
 ghost use Rattle.sql_meaning.specs.Outcomes.{row_at, row_fault};
-ghost use Rattle.sql_from.specs.Seen.{answer_of};
+ghost use Rattle.vtl_scalar.specs.Seen.{answer_of};
 ghost use Rattle.sql_exec.specs.ItemCells.{next_value, values_in};
 ghost use Rattle.sql_exec.specs.Items.{made_at_row};
 ghost use Rattle.sql_exec.specs.Outputs.{Adds, Sees, fault_seen};
@@ -12,12 +12,11 @@ ghost use Rattle.sql_exec.specs.Outputs.{Adds, Sees, fault_seen};
 use crate::item_cells::{ItemCells, push_across};
 use crate::items::{RowItem, push_items};
 use sql_eval::Cells;
-use sql_from::Seen;
 use std::alloc::{AllocError, Global};
 use vtl_cell::Cell;
 use vtl_decimal::Profile;
 use vtl_rows::{Column, Table};
-use vtl_scalar::ScalarErr;
+use vtl_scalar::{ScalarErr, Seen};
 
 /// A table of the rows so far, the list in which the next one is made, and the fault that was seen. Once there is one,
 /// no further rows are put into the table.

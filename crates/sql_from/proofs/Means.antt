@@ -5,7 +5,8 @@ use Rattle.std.proofs.lemmas.List.{append-nil, length-replicate, map-append, rep
 use Rattle.std.proofs.lemmas.List.FromFn.{fill_by_all}
 use Rattle.vtl_cell.specs.declared.cell.Cell.{Cell}
 use Rattle.vtl_cell.specs.declared.cell.Cell.TheVariants as c
-use Rattle.vtl_cell.specs.Outcome.{Fault, Outcome, fault_in, faults_by, join}
+use Rattle.vtl_decimal.specs.declared.number.Fault.{Fault}
+use Rattle.vtl_cell.specs.Outcome.{Outcome, fault_in, faults_by, join}
 use Rattle.vtl_cell.specs.Outcomes.{is_true}
 use Rattle.vtl_cell.specs.Row.{Row, column_of}
 use Rattle.vtl_rows.specs.Places.{row_at}

@@ -6,7 +6,9 @@ use Rattle.std.specs.Option.{option_map}
 use Rattle.std.proofs.lemmas.Grind.{flat_map-append}
 use Rattle.std.proofs.lemmas.List.{length-map, map-append, take_more}
 use Rattle.vtl_lists.proofs.Sorts.{AllByRecursion-filter}
-use Rattle.vtl_cell.specs.Outcome.{DivZero, Fault, Range, Outcome, fault_in, faults_by, join, unless}
+use Rattle.vtl_decimal.specs.declared.number.Fault.TheVariants.{DivZero, Range}
+use Rattle.vtl_decimal.specs.declared.number.Fault.{Fault}
+use Rattle.vtl_cell.specs.Outcome.{Outcome, fault_in, faults_by, join, unless}
 use Rattle.vtl_cell.specs.Outcomes.{is_true}
 use Rattle.vtl_cell.specs.Row.{Row}
 use Rattle.vtl_decimal.specs.Settings.{Settings}
@@ -37,7 +39,7 @@ use Rattle.sql_from.specs.Held.{base_held, columns_held, rows_held, tables_held}
 use Rattle.sql_from.specs.Joins.{crossed_tuples, joined_tuples, kept_fault, kept_tuples, marks_of, numbers_to, pairs_fault, singles}
 use Rattle.sql_from.specs.Keys.{last_of as last_source}
 use Rattle.sql_from.specs.Rows.{combined, width_of}
-use Rattle.sql_from.specs.Seen.{answer_of}
+use Rattle.vtl_scalar.specs.Seen.{answer_of}
 use Rattle.sql_from.specs.Sources.{IsWide, Sourced, or_nothing, parts_of, scope_held, table_named}
 use Rattle.sql_from.specs.Standing.{MayLookUp, StandsFor, condition_at, rows_for, sight_of}
 use Rattle.sql_from.specs.Tuples.{Numbered}

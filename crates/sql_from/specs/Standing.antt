@@ -1,7 +1,7 @@
 -- What the sources and the tuples of row numbers stand for.
 use Rattle.std.specs.Prelude.{◌≡◌, List, [], map, length, Option, None, Some}
 use Rattle.std.specs.List.{AllByRecursion}
-use Rattle.vtl_cell.specs.Outcome.{Fault}
+use Rattle.vtl_decimal.specs.declared.number.Fault.{Fault}
 use Rattle.vtl_cell.specs.Row.{Row}
 use Rattle.vtl_decimal.specs.Settings.{Settings}
 use Rattle.sql_tree.specs.Trees.{Exp}

@@ -4,7 +4,7 @@ ghost use Rattle.std.specs.Prelude.{◌≡◌, ◌+◌, ◌<◌, ◌^◌, ◌++�
 ghost use Rattle.vtl_cell.specs.Outcome.{join};
 ghost use Rattle.sql_from.specs.Joins.{added, crossed_tuples, ends_with, joined_tuples, keeps_left, keeps_right, kept_fault, kept_tuples, numbers_to, pairs_fault, with_number};
 ghost use Rattle.sql_from.specs.Lookups.{Finds};
-ghost use Rattle.sql_from.specs.Seen.{seen_of};
+ghost use Rattle.vtl_scalar.specs.Seen.{seen_of};
 
 use crate::Tuples;
 use crate::condition::Condition;

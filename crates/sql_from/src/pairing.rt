@@ -3,7 +3,7 @@ ghost use Rattle.std.specs.List.{list_any};
 ghost use Rattle.std.specs.Prelude.{◌≡◌, ℕ, ◌+◌, ◌++◌, length, IfErr, IfOk};
 ghost use Rattle.vtl_cell.specs.Outcome.{faults_by, join};
 ghost use Rattle.sql_from.specs.Joins.{Test, fault_of, numbers_to, pairs_with, passes};
-ghost use Rattle.sql_from.specs.Seen.{seen_of};
+ghost use Rattle.vtl_scalar.specs.Seen.{seen_of};
 
 use crate::pairs::Walked;
 use std::alloc::Global;

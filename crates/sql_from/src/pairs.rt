@@ -3,13 +3,13 @@ ghost use Rattle.std.specs.List.{flat_map, list_any};
 ghost use Rattle.std.specs.Prelude.{◌≡◌, ◌+◌, ◌<◌, ◌^◌, ◌++◌, ◌∷◌, [], length, IfErr, IfOk, OnOk, if◌then◌else◌, ⊤};
 ghost use Rattle.vtl_cell.specs.Outcome.{faults_by, join, unless};
 ghost use Rattle.sql_from.specs.Joins.{fault_of, from_left, numbers_to, pairs_fault, pairs_with, passes};
-ghost use Rattle.sql_from.specs.Seen.{answer_of, seen_of};
+ghost use Rattle.vtl_scalar.specs.Seen.{answer_of, seen_of};
 
+use crate::Tuples;
 use crate::condition::Condition;
 use crate::pairing::Pairing;
-use crate::{Seen, Tuples};
 use std::alloc::Global;
-use vtl_scalar::ScalarErr;
+use vtl_scalar::{ScalarErr, Seen};
 
 // The tuples so far, and the fault of the conditions so far.
 pub(crate) struct Walked {

@@ -18,7 +18,7 @@ ghost use Rattle.sql_from.specs.Keys.{IsLinked, last_of, linked_count};
 ghost use Rattle.sql_from.specs.Lookups.{Finds};
 ghost use Rattle.sql_from.specs.Joins.{crossed_tuples, joined_tuples, kept_fault, kept_tuples, pairs_fault};
 ghost use Rattle.sql_from.specs.Rows.{combined};
-ghost use Rattle.sql_from.specs.Seen.{answer_of, seen_of};
+ghost use Rattle.vtl_scalar.specs.Seen.{answer_of, seen_of};
 ghost use Rattle.sql_from.specs.Sources.{parts_of, scope_held, table_named};
 ghost use Rattle.sql_from.specs.Standing.{MayLookUp, StandsFor, condition_at, rows_for, sight_of};
 ghost use Rattle.sql_from.specs.Steps.{IsPlainJoin, JoinsTwo, is_listed, most_steps, two_counts};
@@ -30,7 +30,7 @@ use crate::joining::{cross_step, join_each, join_found, keep};
 use crate::key_lookup::{KeyLookup, lookup_of};
 use crate::pairs::Walked;
 use crate::source_condition::SourceCondition;
-use crate::{Partners, Seen, Sources, TupleRows, Tuples};
+use crate::{Partners, Sources, TupleRows, Tuples};
 use sql_eval::{Level, Resolved, resolve};
 use sql_meaning::Early;
 use sql_tree::{Join, JoinKind, Select, Source, SqlExpr};
@@ -39,7 +39,7 @@ use std::sync::ledger::Ledger;
 use vtl_decimal::Profile;
 use vtl_index::Steps;
 use vtl_rows::{Table, Tables};
-use vtl_scalar::ScalarErr;
+use vtl_scalar::{ScalarErr, Seen};
 
 /// Why there are no rows: the fault of an expression, or want of memory.
 pub type ExecErr = ScalarErr;

@@ -2,7 +2,8 @@
 use Rattle.std.proofs.Common.{◌≡◌, ℕ, ◌+◌, ◌<◌, ◌≤◌, List, [], ◌∷◌, ◌++◌, length, get_or, map, take, Option, None, Ok, refl, rules, sym, ap, ◌∙◌, subst}
 use Rattle.std.proofs.lemmas.List.{map-append, map_more, take_all}
 use Rattle.vtl_cell.specs.Groups.{group_value}
-use Rattle.vtl_cell.specs.Outcome.{Fault, Outcome, after, fault_in, faults_by, join, unless}
+use Rattle.vtl_decimal.specs.declared.number.Fault.{Fault}
+use Rattle.vtl_cell.specs.Outcome.{Outcome, after, fault_in, faults_by, join, unless}
 use Rattle.vtl_cell.specs.Row.{Row, column_of}
 use Rattle.vtl_decimal.specs.Settings.{Settings}
 use Rattle.vtl_cell.specs.declared.cell.Cell.{Cell}

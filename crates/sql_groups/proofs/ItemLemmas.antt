@@ -3,7 +3,9 @@ use Rattle.std.proofs.Common.{◌≡◌, ℕ, ◌+◌, ◌<◌, List, [], ◌∷
 use Rattle.std.specs.Prelude.{slice_index_or}
 use Rattle.std.proofs.lemmas.List.{map-append, map_more, take_more}
 use Rattle.std.proofs.lemmas.List.Elements.{filter_more}
-use Rattle.vtl_cell.specs.Outcome.{DivZero, Fault, Outcome, Range, after, fault_in, faults_by, join, unless}
+use Rattle.vtl_decimal.specs.declared.number.Fault.TheVariants.{DivZero, Range}
+use Rattle.vtl_decimal.specs.declared.number.Fault.{Fault}
+use Rattle.vtl_cell.specs.Outcome.{Outcome, after, fault_in, faults_by, join, unless}
 use Rattle.vtl_cell.specs.Row.{Row}
 use Rattle.vtl_cell.specs.declared.cell.Cell.{Cell}
 use Rattle.vtl_rows.specs.Places.{row_at}
@@ -13,7 +15,7 @@ use Rattle.sql_tree.specs.declared.parts.Column.{Column}
 use Rattle.sql_meaning.specs.Groups.{rows_with}
 use Rattle.sql_meaning.specs.Outcomes.{cell_or_null}
 use Rattle.sql_meaning.proofs.UpToOrder.{faults_by-append, join_assoc, join_none}
-use Rattle.sql_from.specs.Seen.{answer_of}
+use Rattle.vtl_scalar.specs.Seen.{answer_of}
 use Rattle.sql_from.specs.declared.tuple_rows.TupleRows.{TupleRows}
 use Rattle.sql_groups.specs.Grouped.{AreGroups, Group, Grouped, rows_at}
 use Rattle.sql_groups.specs.Items.{places_of}

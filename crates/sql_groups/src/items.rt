@@ -4,16 +4,15 @@ ghost use Rattle.vtl_cell.specs.Outcome.{fault_in, faults_by, join};
 ghost use Rattle.vtl_scalar.specs.Answers.{Answers};
 ghost use Rattle.vtl_rows.specs.Tables.{fits};
 ghost use Rattle.sql_meaning.specs.Outcomes.{cell_or_null};
-ghost use Rattle.sql_from.specs.Seen.{seen_of};
+ghost use Rattle.vtl_scalar.specs.Seen.{seen_of};
 ghost use Rattle.sql_groups.specs.Items.{fault_for, item_at, passes, row_for, tested};
 
 use sql_eval::{Cells, Resolved, value_at};
-use sql_from::Seen;
 use std::alloc::Global;
 use vtl_cell::{Cell, Kind};
 use vtl_decimal::Profile;
 use vtl_rows::Table;
-use vtl_scalar::{ScalarErr, given_of_kind};
+use vtl_scalar::{ScalarErr, Seen, given_of_kind};
 
 /// An item of a grouped select, and the kind of its column.
 pub(crate) struct GroupItem {

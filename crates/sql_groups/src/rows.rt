@@ -16,7 +16,7 @@ use crate::group_partners::GroupPartners;
 use crate::group_row::GroupRow;
 use crate::grouping::Grouping;
 use crate::items::{GroupSelect, push_group};
-use sql_from::{Seen, TupleRows};
+use sql_from::TupleRows;
 use sql_tree::Column;
 use std::alloc::Global;
 use std::sync::ledger::Ledger;
@@ -24,7 +24,7 @@ use vtl_cell::Cell;
 use vtl_decimal::Profile;
 use vtl_index::Steps;
 use vtl_rows::Table;
-use vtl_scalar::ScalarErr;
+use vtl_scalar::{ScalarErr, Seen};
 
 /// Puts a row of the items behind others for each group that HAVING keeps, in the order of the groups' first rows; or
 /// the worst of the faults of HAVING at all groups and of the items at those that it keeps.

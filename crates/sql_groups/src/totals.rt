@@ -9,17 +9,17 @@ ghost use Rattle.vtl_scalar.specs.Answers.{Answers};
 ghost use Rattle.sql_meaning.specs.Outcomes.{cell_or_null};
 ghost use Rattle.sql_eval.specs.Placed.{aggregate_value, placed_value};
 ghost use Rattle.sql_eval.specs.View.{placed_of};
-ghost use Rattle.sql_from.specs.Seen.{seen_of};
+ghost use Rattle.vtl_scalar.specs.Seen.{seen_of};
 ghost use Rattle.sql_groups.specs.Grouped.{AreWithin, rows_at};
 ghost use Rattle.sql_groups.specs.Kept.{rows_of, tables_of};
 
 use sql_eval::{Cells, Resolved, value_at};
-use sql_from::{Partners, Seen, TupleRows};
+use sql_from::{Partners, TupleRows};
 use std::alloc::{AllocError, Global};
 use vtl_agg::Acc;
 use vtl_cell::{AggKind, Cell};
 use vtl_decimal::Profile;
-use vtl_scalar::ScalarErr;
+use vtl_scalar::{ScalarErr, Seen};
 
 // The rows of this many numbers are fetched side by side.
 const BLOCK: usize = 32;

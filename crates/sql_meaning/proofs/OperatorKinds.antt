@@ -3,7 +3,7 @@ use Rattle.std.proofs.Common.{◌≡◌, ℕ, pos, Bool, true, false, List, [], 
 use Rattle.std.specs.Prelude.{ℤ, IfOk, IsSome, ◌&&◌, not, Contains, option_and_then, encode_utf8_all, option_map, unwrap_or}
 use Rattle.std.specs.Int.RustNames.{int_le}
 use Rattle.std.specs.List.{AllByRecursion, list_all}
-use Rattle.vtl_decimal.specs.declared.number.Fault.{Fault as DecimalFault}
+use Rattle.vtl_decimal.specs.declared.number.Fault.{Fault as DecimalFault, Fault}
 use Rattle.vtl_decimal.specs.Numeral.{number_spelled}
 use Rattle.vtl_decimal.specs.Range.{fit_integer, fit_number}
 use Rattle.vtl_decimal.specs.Settings.{Settings}
@@ -11,7 +11,7 @@ use Rattle.vtl_lists.specs.Sorting.{sorted_by}
 use Rattle.vtl_cell.specs.Conversion.{as_kind}
 use Rattle.vtl_cell.specs.Groups.{aggregate, greatest, group_value, is_integer, least, mean_value, median_of, middle_of, number_or_null, numbers_of, of_nothing, of_values, total_of, values_of, wholes_of}
 use Rattle.vtl_cell.specs.Kinds.{is_null, is_of, kind_of}
-use Rattle.vtl_cell.specs.Outcome.{Fault, Outcome, after, unless}
+use Rattle.vtl_cell.specs.Outcome.{Outcome, after, unless}
 use Rattle.vtl_cell.specs.Outcomes.{all_of, branch, result_of}
 use Rattle.vtl_cell.specs.ScalarArithmetic.{integer, number, units}
 use Rattle.vtl_cell.specs.ScalarKinds.{common_kind, kinds_of, meet, meets, shared_kind}

@@ -16,7 +16,8 @@ use Rattle.vtl_cell.specs.Conversion.{as_kind}
 use Rattle.vtl_cell.specs.Groups.{aggregate, greatest, group_value, is_integer, least, middle_of, number_or_null, numbers_of, of_nothing, of_values, ratio_of, total_of, units_of, values_of, wholes_of}
 use Rattle.vtl_cell.specs.Kinds.{is_null, is_of}
 use Rattle.vtl_decimal.specs.Numeral.{Numeral as Spelled, denominator, integer_of, number_spelled, numeral_of, numerator, signed}
-use Rattle.vtl_cell.specs.Outcome.{Outcome, Range, after, fault_in, faults_by, join}
+use Rattle.vtl_decimal.specs.declared.number.Fault.TheVariants.{Range}
+use Rattle.vtl_cell.specs.Outcome.{Outcome, after, fault_in, faults_by, join}
 use Rattle.vtl_cell.specs.Outcomes.{all_of, branch, first_chosen, is_true, result_of}
 use Rattle.vtl_cell.specs.Profile.{IsOfProfile}
 use Rattle.vtl_decimal.specs.Range.{fit_integer, fit_number}

@@ -1,7 +1,7 @@
 -- What the definitions give for single queries, by computing it.
 use Rattle.std.proofs.Common.{◌≡◌, pos, negsuc, true, false, List, [], ◌∷◌, Some, None, Ok, Err, refl}
 use Rattle.std.specs.Prelude.{codes}
-use Rattle.vtl_cell.specs.Outcome.{DivZero, Range}
+use Rattle.vtl_decimal.specs.declared.number.Fault.TheVariants.{DivZero, Range}
 use Rattle.vtl_cell.specs.Row.{Row}
 use Rattle.vtl_cell.specs.declared.cell.Cell.TheVariants.{Int, Null, Num}
 use Rattle.vtl_cell.specs.declared.operator.AggKind.TheVariants as agg

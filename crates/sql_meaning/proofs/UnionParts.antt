@@ -5,8 +5,9 @@ use Rattle.std.specs.Prelude.{◌^◌, nat_lt, pos, unsigned_abs, zip}
 use Rattle.std.specs.List.{AllByRecursion}
 use Rattle.std.proofs.lemmas.List.{append-nil, length-map}
 use Rattle.vtl_cell.specs.Conversion.{as_kind}
-use Rattle.vtl_decimal.specs.declared.number.Fault.{Fault as DecimalFault}
-use Rattle.vtl_cell.specs.Outcome.{DivZero, Fault, Outcome, Range, after, fault_in, faults_by, join, unless}
+use Rattle.vtl_decimal.specs.declared.number.Fault.{Fault as DecimalFault, Fault}
+use Rattle.vtl_decimal.specs.declared.number.Fault.TheVariants.{DivZero, Range}
+use Rattle.vtl_cell.specs.Outcome.{Outcome, after, fault_in, faults_by, join, unless}
 use Rattle.vtl_decimal.specs.Range.{fit_number}
 use Rattle.vtl_cell.specs.Row.{Row}
 use Rattle.vtl_cell.specs.ScalarArithmetic.{number, units}

@@ -4,7 +4,9 @@ use Rattle.std.specs.List.{filter, count_by, fold}
 use Rattle.vtl_lists.specs.Perm.{Perm, empty, keep, cross, chain}
 use Rattle.vtl_lists.proofs.Perms.{Perm-refl, Perm-same, Perm-map, Perm-filter}
 use Rattle.vtl_tuples.specs.Keys.{each_once}
-use Rattle.vtl_cell.specs.Outcome.{Fault, Outcome, DivZero, Range, after, fault_in, faults_by, join, unless}
+use Rattle.vtl_decimal.specs.declared.number.Fault.{Fault}
+use Rattle.vtl_decimal.specs.declared.number.Fault.TheVariants.{DivZero, Range}
+use Rattle.vtl_cell.specs.Outcome.{Outcome, after, fault_in, faults_by, join, unless}
 use Rattle.vtl_cell.specs.Outcomes.{Same}
 use Rattle.vtl_cell.specs.Row.{Row, same_row}
 use Rattle.vtl_cell.specs.declared.cell.Cell.{Cell}

@@ -22,8 +22,7 @@ use Rattle.vtl_cell.specs.Outcome.{Outcome, after}
 use Rattle.vtl_decimal.specs.Range.{fit_integer, fit_number}
 use Rattle.vtl_cell.specs.Row.{Row, column_of, same_row}
 use Rattle.vtl_cell.specs.ScalarArithmetic.{negation_of, number}
-use Rattle.vtl_cell.specs.ScalarKinds.{meets}
-use Rattle.vtl_cell.specs.ScalarKinds.{kinds_of as scalar_kinds}
+use Rattle.vtl_cell.specs.ScalarKinds.{meets, kinds_of as scalar_kinds}
 use Rattle.vtl_decimal.specs.Settings.{Settings}
 use Rattle.vtl_cell.specs.Sorted.{by_keys, row_rank}
 use Rattle.vtl_text.specs.Texts.{same_text}

@@ -1,7 +1,8 @@
 -- The rows of FROM and WHERE. A row of FROM is the rows of its sources one behind the other.
 use Rattle.std.specs.Prelude.{ℕ, Bool, not, List, [], ◌∷◌, ◌++◌, map, filter, fold, length, replicate, Option, Some, None}
 use Rattle.std.specs.List.{flat_map, list_any}
-use Rattle.vtl_cell.specs.Outcome.{Fault, Outcome, fault_in, faults_by, join, unless}
+use Rattle.vtl_decimal.specs.declared.number.Fault.{Fault}
+use Rattle.vtl_cell.specs.Outcome.{Outcome, fault_in, faults_by, join, unless}
 use Rattle.vtl_cell.specs.Outcomes.{is_true}
 use Rattle.vtl_cell.specs.Row.{Row}
 use Rattle.vtl_cell.specs.declared.cell.Cell.TheVariants as c

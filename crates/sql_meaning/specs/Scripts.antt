@@ -2,7 +2,8 @@
 use Rattle.std.specs.Prelude.{ℕ, ◌==◌, List, [], ◌∷◌, ◌++◌, map, Result, Ok, Err, unwrap_or}
 use Rattle.std.specs.List.{before_first, position_or_len}
 use Rattle.std.specs.Map.{keys_of, lookup}
-use Rattle.vtl_cell.specs.Outcome.{Fault, Outcome}
+use Rattle.vtl_decimal.specs.declared.number.Fault.{Fault}
+use Rattle.vtl_cell.specs.Outcome.{Outcome}
 use Rattle.vtl_lists.specs.Results.{◌>>=◌}
 use Rattle.vtl_cell.specs.Row.{Row}
 use Rattle.vtl_decimal.specs.Settings.{Settings}

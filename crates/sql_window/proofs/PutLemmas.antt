@@ -1,11 +1,10 @@
 -- Where partitions begin, and values that are put back at their rows.
 use Rattle.std.proofs.Common.{All, ◌≡◌, ◌≢◌, ⊎_elim, Some, set, ℕ, zero, suc, ◌+◌, ◌-◌, ◌<◌, ◌≤◌, ◌⊎◌, inl, inr, List, [], ◌∷◌, ◌++◌, length, drop, take, get_or, map, Bool, true, false, cond, refl, sym, ap, ◌∙◌, arith, true≢false, subst, append_assoc, Ok}
-use Rattle.std.specs.Prelude.{filter, IsPermutation}
+use Rattle.std.specs.Prelude.{filter, IsPermutation, Option}
 use Rattle.std.specs.List.{AllByRecursion, range_with_len}
-use Rattle.std.specs.Prelude.{Option}
-use Rattle.std.proofs.lemmas.List.{drop_all, get_or-set_other, get_or-set_same, get_or_default, length-append, length-map, length-set, length_push, same_from_push, take_more}
+use Rattle.std.proofs.lemmas.List.{drop_all, get_or-set_other, get_or-set_same, get_or_default, length-append, length-map, length-set, length_push, same_from_push, take_more, drop_more, map-append, take_all}
 use Rattle.std.proofs.lemmas.List.Elements.{All-from_recursion}
-use Rattle.std.proofs.lemmas.List.FromFn.{fill_by_all, get_or-range_with_len}
+use Rattle.std.proofs.lemmas.List.FromFn.{fill_by_all, get_or-range_with_len, length-range_with_len, map-range_with_len_more}
 use Rattle.std.proofs.lemmas.List.Sorted.{All-permutation, Contains-permutation}
 use Rattle.std.proofs.lemmas.Bool.{cases_eq}
 use Rattle.vtl_cell.specs.Sorted.{rising}
@@ -19,13 +18,10 @@ use Rattle.sql_tree.specs.declared.word_groups.Direction.{Direction}
 use Rattle.sql_tree.specs.declared.word_groups.Direction.TheVariants as direction
 use Rattle.sql_check_parts.specs.Scopes.{Columns, Scope, row_of}
 use Rattle.sql_meaning.specs.Tables.{Base}
-use Rattle.sql_meaning.specs.Values.{at_rows, place_in}
-use Rattle.sql_meaning.specs.Windows.{is_falling}
-use Rattle.sql_meaning.specs.Windows.{key_of as window_key}
+use Rattle.sql_meaning.specs.Values.{at_rows, place_in, View}
+use Rattle.sql_meaning.specs.Windows.{is_falling, key_of as window_key, told_apart, window_value}
 use Rattle.sql_from.specs.Columns.{columns_below, line_feed, source_columns}
-use Rattle.std.proofs.lemmas.List.{drop_more, map-append, take_all}
 use Rattle.std.proofs.Math.Seq.{take-nil}
-use Rattle.std.proofs.lemmas.List.FromFn.{length-range_with_len, map-range_with_len_more}
 use Rattle.vtl_cell.specs.Outcome.{Outcome}
 use Rattle.vtl_cell.specs.Row.{Row}
 use Rattle.vtl_cell.specs.declared.cell.Cell.{Cell}
@@ -33,8 +29,6 @@ use Rattle.vtl_rows.specs.Places.{row_at}
 use Rattle.vtl_rows.specs.Runs.{is_start}
 use Rattle.vtl_rows.specs.declared.column.SortKey.{SortKey}
 use Rattle.sql_tree.specs.declared.windows.Window.{Window}
-use Rattle.sql_meaning.specs.Values.{View}
-use Rattle.sql_meaning.specs.Windows.{told_apart, window_value}
 use Rattle.sql_window.specs.Keys.{falls, order_key, partition_key, rising_key}
 use Rattle.sql_window.specs.Runs.{behind, window_at}
 use Rattle.sql_window.proofs.RankLemmas.{below_or_not}

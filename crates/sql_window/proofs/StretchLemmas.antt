@@ -6,7 +6,7 @@ use Rattle.std.specs.Ordering.{is_eq}
 use Rattle.std.proofs.lemmas.List.{take-append-drop}
 use Rattle.std.proofs.lemmas.List.Sums.{sum_by-append}
 use Rattle.vtl_cell.specs.Row.{Row, same_row}
-use Rattle.vtl_cell.specs.Sorted.{by_keys}
+use Rattle.vtl_cell.specs.Sorted.{by_keys, rising}
 use Rattle.vtl_lists.specs.Sorting.{Rises}
 use Rattle.vtl_cell.proofs.Rows.{same_row-is, same_row-refl}
 use Rattle.vtl_rows.specs.Keys.{agree, key_of}
@@ -15,7 +15,6 @@ use Rattle.vtl_rows.specs.Runs.{is_start}
 use Rattle.vtl_rows.specs.Tables.{cells_at}
 use Rattle.vtl_rows.specs.declared.column.SortKey.{SortKey}
 use Rattle.vtl_rows.proofs.Ties.{ties_agree, ties_between}
-use Rattle.vtl_cell.specs.Sorted.{rising}
 use Rattle.sql_window.specs.Runs.{AreInOrder, IsTold}
 use Rattle.sql_window.proofs.RankLemmas.{count_cons, le_at, starts_apart, tied_with_last, total}
 

@@ -4,9 +4,10 @@ use Rattle.sql_meaning.specs.Scripts.{Export, NamedFault}
 use Rattle.vtl_lists.specs.Perm.{Perm, empty, keep, cross, chain}
 use Rattle.vtl_rows.specs.Named.{NamedTables}
 use Rattle.vtl_lists.specs.Sorting.{insert_by, sorted_by}
-use Rattle.sql_back.specs.TextRuns.{ShowsAs, ShowsMeaning, TellsText}
-use Rattle.vtl_backend.specs.declared.error.RunErr.{RunErr}
-use Rattle.vtl_backend.specs.declared.error.RunErr.TheVariants as err
+use Rattle.sql_engine.specs.Runs.{ShowsAs, ShowsMeaning}
+use Rattle.sql_back.specs.TextRuns.{TellsText}
+use Rattle.vtl_scalar.specs.declared.run_error.RunErr.{RunErr}
+use Rattle.vtl_scalar.specs.declared.run_error.RunErr.TheVariants as err
 use Rattle.vtl_lists.proofs.Perms.{Perm-refl}
 use Rattle.vtl.specs.Falling.{all_falling}
 

@@ -8,7 +8,7 @@ use Rattle.std.proofs.lemmas.Int.{fits_signed_from_abs, ints}
 use Rattle.vtl_decimal.specs.Range.{fit_number}
 use Rattle.vtl_decimal.specs.Rounding.{rounds_up, rounded_size, rounded_quotient}
 use Rattle.vtl_decimal.specs.declared.settings.Rounding.{Rounding}
-use Rattle.vtl_cell.specs.Outcome.{Range}
+use Rattle.vtl_decimal.specs.declared.number.Fault.TheVariants.{Range}
 
 fits_or_not : (n : ℕ) → (n < 2 ^ 127) ⊎ (2 ^ 127 ≤ n)
 fits_or_not n = search arith

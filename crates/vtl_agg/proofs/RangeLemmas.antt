@@ -11,7 +11,8 @@ use Rattle.vtl_decimal.specs.Tally.{tally_of}
 use Rattle.vtl_decimal.proofs.PowerLemmas.{units_fit}
 use Rattle.vtl_decimal.proofs.RoundingLemmas.{rounded_quotient_within}
 use Rattle.vtl_cell.specs.Groups.{aggregate, at, group_value, is_integer, mean_value, middle_of, number_or_null, numbers_of, units_of, values_of, wholes_of}
-use Rattle.vtl_cell.specs.Outcome.{Outcome, Range}
+use Rattle.vtl_decimal.specs.declared.number.Fault.TheVariants.{Range}
+use Rattle.vtl_cell.specs.Outcome.{Outcome}
 use Rattle.vtl_cell.specs.ScalarArithmetic.{integer, number}
 use Rattle.vtl_lists.specs.Sorting.{sorted_by}
 use Rattle.vtl_cell.specs.declared.cell.Cell.{Cell}

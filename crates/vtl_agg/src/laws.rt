@@ -3,7 +3,7 @@ ghost use Rattle.std.specs.Prelude.{◌≡◌, ◌≤◌, false, IfErr, IsOk, Li
 ghost use Rattle.std.specs.List.{AllByRecursion};
 ghost use Rattle.vtl_agg.specs.Added.{IsProper, may_be_out_of_range};
 ghost use Rattle.vtl_cell.specs.Groups.{group_value};
-ghost use Rattle.vtl_cell.specs.Outcome.{Range};
+ghost use Rattle.vtl_decimal.specs.declared.number.Fault.TheVariants.{Range};
 ghost use Rattle.vtl_cell.specs.declared.cell.Cell.{Cell};
 ghost use Rattle.vtl_cell.specs.declared.operator.AggKind.{AggKind};
 ghost use Rattle.vtl_decimal.specs.Settings.{Settings};

@@ -9,7 +9,8 @@ use Rattle.vtl_decimal.specs.Range.{fit_integer}
 use Rattle.vtl_decimal.specs.Settings.{Settings}
 use Rattle.vtl_cell.specs.Groups.{aggregate, count_of_points, group_value, is_integer, values_of, wholes_of}
 use Rattle.vtl_cell.specs.Kinds.{is_null}
-use Rattle.vtl_cell.specs.Outcome.{Outcome, Range, after}
+use Rattle.vtl_decimal.specs.declared.number.Fault.TheVariants.{Range}
+use Rattle.vtl_cell.specs.Outcome.{Outcome, after}
 use Rattle.vtl_cell.specs.Outcomes.{all_of}
 use Rattle.vtl_cell.specs.Row.{Row, column_of, same_row}
 use Rattle.vtl_cell.specs.ScalarArithmetic.{integer}

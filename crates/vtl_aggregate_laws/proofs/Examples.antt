@@ -1,7 +1,8 @@
 -- Why the laws are said as they are.
 use Rattle.std.proofs.Common.{◌≡◌, ℕ, ◌*◌, pos, negsuc, List, [], ◌∷◌, Ok, Err, refl}
 use Rattle.vtl_cell.specs.Groups.{group_value}
-use Rattle.vtl_cell.specs.Outcome.{Outcome, Range}
+use Rattle.vtl_decimal.specs.declared.number.Fault.TheVariants.{Range}
+use Rattle.vtl_cell.specs.Outcome.{Outcome}
 use Rattle.vtl_cell.specs.Row.{Row}
 use Rattle.vtl_decimal.specs.Settings.{Settings}
 use Rattle.vtl_cell.specs.declared.cell.Cell.{Cell}

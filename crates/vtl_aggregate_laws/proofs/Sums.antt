@@ -10,7 +10,8 @@ use Rattle.vtl_decimal.specs.Range.{fit_integer, fit_number}
 use Rattle.vtl_decimal.specs.Settings.{Settings}
 use Rattle.vtl_cell.specs.Groups.{aggregate, group_value, is_integer, numbers_of, total_of, units_of, values_of, whole_of, wholes_of}
 use Rattle.vtl_cell.specs.Kinds.{is_null}
-use Rattle.vtl_cell.specs.Outcome.{Outcome, Range}
+use Rattle.vtl_decimal.specs.declared.number.Fault.TheVariants.{Range}
+use Rattle.vtl_cell.specs.Outcome.{Outcome}
 use Rattle.vtl_cell.specs.Outcomes.{all_of}
 use Rattle.vtl_cell.specs.Row.{Row, column_of}
 use Rattle.vtl_cell.specs.ScalarArithmetic.{integer, number}

@@ -1,7 +1,8 @@
 -- What the definitions give for single data sets.
 use Rattle.std.proofs.Common.{◌≡◌, ℕ, pos, negsuc, true, List, [], ◌∷◌, Option, None, Some, Ok, Err, refl}
 use Rattle.std.specs.Prelude.{codes}
-use Rattle.vtl_cell.specs.Outcome.{DivZero, Outcome, Range}
+use Rattle.vtl_decimal.specs.declared.number.Fault.TheVariants.{DivZero, Range}
+use Rattle.vtl_cell.specs.Outcome.{Outcome}
 use Rattle.vtl_cell.specs.Row.{Row}
 use Rattle.vtl_decimal.specs.Settings.{Settings}
 use Rattle.vtl_cell.specs.declared.cell.Cell.{Cell}

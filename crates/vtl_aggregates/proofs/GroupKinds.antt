@@ -8,7 +8,8 @@ use Rattle.vtl_decimal.specs.declared.number.Fault.{Fault as DecimalFault}
 use Rattle.vtl_decimal.proofs.PowerLemmas.{power_of_ten_fits}
 use Rattle.vtl_cell.specs.Groups.{aggregate, greatest, group_value, is_integer, least, mean_value, middle_of, number_or_null, numbers_of, of_nothing, of_values, total_of, values_of, wholes_of}
 use Rattle.vtl_cell.specs.Kinds.{is_null, is_of}
-use Rattle.vtl_cell.specs.Outcome.{Outcome, Range}
+use Rattle.vtl_decimal.specs.declared.number.Fault.TheVariants.{Range}
+use Rattle.vtl_cell.specs.Outcome.{Outcome}
 use Rattle.vtl_cell.specs.Profile.{IsOfProfile}
 use Rattle.vtl_decimal.specs.Range.{fit_integer, fit_number}
 use Rattle.vtl_cell.specs.ScalarArithmetic.{integer, number}

@@ -7,7 +7,8 @@ use Rattle.std.proofs.Math.Seq.{take-append_seam}
 use Rattle.vtl_lists.specs.Apart.{all_apart}
 use Rattle.vtl_cell.specs.Groups.{count_of_points}
 use Rattle.vtl_cell.specs.Kinds.{is_null, is_of}
-use Rattle.vtl_cell.specs.Outcome.{Fault, Outcome, faults_by, join, unless}
+use Rattle.vtl_decimal.specs.declared.number.Fault.{Fault}
+use Rattle.vtl_cell.specs.Outcome.{Outcome, faults_by, join, unless}
 use Rattle.vtl_cell.specs.Profile.{IsOfProfile}
 use Rattle.vtl_decimal.specs.Range.{fit_integer}
 use Rattle.vtl_cell.specs.Row.{Row, column_of, same_key, same_row}

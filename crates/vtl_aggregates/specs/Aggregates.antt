@@ -1,7 +1,8 @@
 -- What an aggregate operator gives of a data set: `sum(ds group by ..)` and the like on all measures, and the clause `aggr`.
 use Rattle.std.specs.Prelude.{ℕ, Bool, true, List, ◌++◌, map, filter, find, Option, Some, None, option_map, Ok, Err}
 use Rattle.std.specs.Option.{option_map_or}
-use Rattle.vtl_cell.specs.Outcome.{Fault, Outcome, fault_in, faults_by, join, unless}
+use Rattle.vtl_decimal.specs.declared.number.Fault.{Fault}
+use Rattle.vtl_cell.specs.Outcome.{Outcome, fault_in, faults_by, join, unless}
 use Rattle.vtl_cell.specs.Outcomes.{is_true}
 use Rattle.vtl_cell.specs.Row.{Row}
 use Rattle.vtl_decimal.specs.Settings.{Settings}

@@ -1,14 +1,15 @@
 -- Answers that tell the same meaning agree.
 use Rattle.std.proofs.Common.{◌≡◌, ℕ, List, [], ◌∷◌, Result, Ok, Err, sym, ap, ◌∙◌}
-use Rattle.vtl_cell.specs.Outcome.{Fault, DivZero, Range}
+use Rattle.vtl_decimal.specs.declared.number.Fault.{Fault}
+use Rattle.vtl_decimal.specs.declared.number.Fault.TheVariants.{DivZero, Range}
 use Rattle.vtl_lists.specs.Perm.{chain}
 use Rattle.vtl_lists.proofs.Perms.{Perm-sym}
 use Rattle.vtl_rows.specs.Named.{NamedTables}
 use Rattle.vtl_meaning.specs.Meaning.{Outputs}
 use Rattle.vtl_backend.specs.Agree.{Agree, SameTables}
 use Rattle.vtl_backend.specs.Runs.{ShowAll, ShowMeaning, Tells}
-use Rattle.vtl_backend.specs.declared.error.RunErr.{RunErr}
-use Rattle.vtl_backend.specs.declared.error.RunErr.TheVariants as err
+use Rattle.vtl_scalar.specs.declared.run_error.RunErr.{RunErr}
+use Rattle.vtl_scalar.specs.declared.run_error.RunErr.TheVariants as err
 
 same_tables : (ds : Outputs) (ts us : NamedTables) → ShowAll ds ts → ShowAll ds us → SameTables ts us
 same_tables [] [] [] h k = tt

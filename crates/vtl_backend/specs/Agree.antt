@@ -2,8 +2,8 @@
 use Rattle.std.specs.Prelude.{◌≡◌, [], ◌∷◌, Result, Ok, Err}
 use Rattle.vtl_lists.specs.Perm.{Perm}
 use Rattle.vtl_rows.specs.Named.{NamedTables}
-use Rattle.vtl_backend.specs.declared.error.RunErr.{RunErr}
-use Rattle.vtl_backend.specs.declared.error.RunErr.TheVariants as err
+use Rattle.vtl_scalar.specs.declared.run_error.RunErr.{RunErr}
+use Rattle.vtl_scalar.specs.declared.run_error.RunErr.TheVariants as err
 
 -- the same names in the same order, each with the same columns and, up to order, the same rows
 abbrev pub SameTables : NamedTables → NamedTables → Type 0

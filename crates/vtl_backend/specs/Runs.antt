@@ -1,14 +1,15 @@
 -- What a run of a script gives, of every back end.
 use Rattle.std.specs.Prelude.{◌≡◌, ℕ, List, [], ◌∷◌, Result, Ok, Err}
-use Rattle.vtl_cell.specs.Outcome.{DivZero, Fault, Range}
+use Rattle.vtl_decimal.specs.declared.number.Fault.TheVariants.{DivZero, Range}
+use Rattle.vtl_decimal.specs.declared.number.Fault.{Fault}
 use Rattle.vtl_rows.specs.Named.{NamedTables}
 use Rattle.vtl_meaning.specs.Meaning.{Outputs, meaning}
 use Rattle.vtl_check.specs.Checked.{TypedScript}
 use Rattle.vtl_backend.specs.Inputs.{environment_of}
 use Rattle.vtl_backend.specs.Statements.{statements_of}
 use Rattle.vtl_backend.specs.Tables.{Shows}
-use Rattle.vtl_backend.specs.declared.error.RunErr.{RunErr}
-use Rattle.vtl_backend.specs.declared.error.RunErr.TheVariants as err
+use Rattle.vtl_scalar.specs.declared.run_error.RunErr.{RunErr}
+use Rattle.vtl_scalar.specs.declared.run_error.RunErr.TheVariants as err
 
 -- the outputs of a script over the tables of its inputs, or its fault
 abbrev pub script_meaning : TypedScript → NamedTables → Result Outputs (Fault × List ℕ)

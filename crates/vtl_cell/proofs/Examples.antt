@@ -6,7 +6,7 @@ use Rattle.vtl_decimal.specs.declared.settings.Rounding.TheVariants.{HalfUp}
 use Rattle.vtl_cell.specs.declared.cell.Cell.{Cell}
 use Rattle.vtl_cell.specs.declared.cell.Cell.TheVariants.{Null, Int, Num}
 use Rattle.vtl_cell.specs.declared.operator.AggKind.TheVariants.{Sum, Avg, Count, Min, Max, Median}
-use Rattle.vtl_cell.specs.Outcome.{DivZero, Range}
+use Rattle.vtl_decimal.specs.declared.number.Fault.TheVariants.{DivZero, Range}
 use Rattle.vtl_cell.specs.Groups.{group_value, count_of_points, ratio_of}
 use Rattle.vtl_cell.specs.Sorted.{Key, rising, by_keys, in_order, row_rank}
 use Rattle.vtl_cell.specs.Frames.{UnboundedPreceding, Preceding, Current, Following, UnboundedFollowing, frame_of, first_cell, last_cell, lag_of, lead_of}

@@ -17,7 +17,6 @@ pub mod ScalarArithmetic
 pub mod ScalarChoice
 pub mod ScalarComparison
 pub mod ScalarKinds
-pub mod ScalarSpelling
 pub mod ScalarTexts
 pub mod Scalars
 pub mod Sorted

@@ -1,7 +1,7 @@
 -- A value, or the fault of its evaluation.
 use Rattle.std.specs.Prelude.{Result, Ok, Err, Option, Some, None, List, [], ◌∷◌}
-pub use Rattle.vtl_decimal.specs.declared.number.Fault.{Fault}
-pub use Rattle.vtl_decimal.specs.declared.number.Fault.TheVariants.{DivZero, Range}
+use Rattle.vtl_decimal.specs.declared.number.Fault.{Fault}
+use Rattle.vtl_decimal.specs.declared.number.Fault.TheVariants.{DivZero, Range}
 
 abbrev pub Outcome : Type 0 → Type 0
 Outcome A = Result A Fault

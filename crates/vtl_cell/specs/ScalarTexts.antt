@@ -1,5 +1,5 @@
 -- The values of the scalar operators on texts. A text is the list of its characters.
-use Rattle.std.specs.Prelude.{ℕ, ◌++◌, ◌&&◌, nat_le, if◌then◌else◌, pos, List, length, Option, Some, None}
+use Rattle.std.specs.Prelude.{ℕ, ◌++◌, ◌&&◌, nat_le, if◌then◌else◌, pos, List, length, Option, Some, None, Ok}
 use Rattle.vtl_text.specs.Texts.{replace_of, instr_of, substr_of}
 use Rattle.vtl_decimal.specs.Settings.{Settings}
 use Rattle.vtl_decimal.specs.Range.{fit_integer}
@@ -7,7 +7,6 @@ use Rattle.vtl_cell.specs.Outcome.{Outcome}
 use Rattle.vtl_cell.specs.ScalarArithmetic.{integer}
 use Rattle.vtl_cell.specs.declared.cell.Cell.{Cell}
 use Rattle.vtl_cell.specs.declared.cell.Cell.TheVariants as c
-use Rattle.std.specs.Prelude.{Ok}
 
 -- what f gives of a text
 abbrev pub on_text : (List ℕ → List ℕ) → Cell → Cell

@@ -1,6 +1,5 @@
 // The operators on values and on lists of values.
 ghost use Rattle.std.specs.Prelude.{◌≡◌};
-ghost use Rattle.vtl_cell.specs.ScalarSpelling.{vtl_spelling, sql_spelling};
 
 /// A scalar operator (VTL 2.0, Reference Manual, by the operators' names).
 #[derive(Clone, Copy, Debug, PartialEq, Eq)]
@@ -77,96 +76,6 @@ pub enum ScalarOp {
     ValueOr,
     /// `if c then a else b`
     If,
-}
-
-impl ScalarOp {
-    /// How VTL spells the operator.
-    pub fn vtl_word(self) -> &'static str
-        ensures { result.now ≡ vtl_spelling self }
-    {
-        match self {
-            ScalarOp::Identity => "+",
-            ScalarOp::Negate => "-",
-            ScalarOp::Add => "+",
-            ScalarOp::Subtract => "-",
-            ScalarOp::Multiply => "*",
-            ScalarOp::Divide => "/",
-            ScalarOp::Modulo => "mod",
-            ScalarOp::Absolute => "abs",
-            ScalarOp::Floor => "floor",
-            ScalarOp::Ceil => "ceil",
-            ScalarOp::Round => "round",
-            ScalarOp::Truncate => "trunc",
-            ScalarOp::Concat => "||",
-            ScalarOp::Trim => "trim",
-            ScalarOp::TrimLeft => "ltrim",
-            ScalarOp::TrimRight => "rtrim",
-            ScalarOp::Substring => "substr",
-            ScalarOp::Replace => "replace",
-            ScalarOp::Position => "instr",
-            ScalarOp::Length => "length",
-            ScalarOp::Equal => "=",
-            ScalarOp::NotEqual => "<>",
-            ScalarOp::Less => "<",
-            ScalarOp::LessOrEqual => "<=",
-            ScalarOp::Greater => ">",
-            ScalarOp::GreaterOrEqual => ">=",
-            ScalarOp::Between => "between",
-            ScalarOp::In => "in",
-            ScalarOp::NotIn => "not_in",
-            ScalarOp::And => "and",
-            ScalarOp::Or => "or",
-            ScalarOp::Xor => "xor",
-            ScalarOp::Not => "not",
-            ScalarOp::IsNull => "isnull",
-            ScalarOp::ValueOr => "nvl",
-            ScalarOp::If => "if",
-        }
-    }
-
-    /// How SQL spells the operator; `CASE` and `IS NULL` stand for their whole forms.
-    pub fn sql_word(self) -> &'static str
-        ensures { result.now ≡ sql_spelling self }
-    {
-        match self {
-            ScalarOp::Identity => "+",
-            ScalarOp::Negate => "-",
-            ScalarOp::Add => "+",
-            ScalarOp::Subtract => "-",
-            ScalarOp::Multiply => "*",
-            ScalarOp::Divide => "/",
-            ScalarOp::Modulo => "MOD",
-            ScalarOp::Absolute => "ABS",
-            ScalarOp::Floor => "FLOOR",
-            ScalarOp::Ceil => "CEIL",
-            ScalarOp::Round => "ROUND",
-            ScalarOp::Truncate => "TRUNC",
-            ScalarOp::Concat => "||",
-            ScalarOp::Trim => "TRIM",
-            ScalarOp::TrimLeft => "LTRIM",
-            ScalarOp::TrimRight => "RTRIM",
-            ScalarOp::Substring => "SUBSTR",
-            ScalarOp::Replace => "REPLACE",
-            ScalarOp::Position => "INSTR",
-            ScalarOp::Length => "LENGTH",
-            ScalarOp::Equal => "=",
-            ScalarOp::NotEqual => "<>",
-            ScalarOp::Less => "<",
-            ScalarOp::LessOrEqual => "<=",
-            ScalarOp::Greater => ">",
-            ScalarOp::GreaterOrEqual => ">=",
-            ScalarOp::Between => "BETWEEN",
-            ScalarOp::In => "IN",
-            ScalarOp::NotIn => "NOT IN",
-            ScalarOp::And => "AND",
-            ScalarOp::Or => "OR",
-            ScalarOp::Xor => "XOR",
-            ScalarOp::Not => "NOT",
-            ScalarOp::IsNull => "IS NULL",
-            ScalarOp::ValueOr => "COALESCE",
-            ScalarOp::If => "CASE",
-        }
-    }
 }
 
 /// An operator on the values of a group.

@@ -11,14 +11,14 @@ ghost use Rattle.vtl_sets.specs.DataSets.{with_structure};
 ghost use Rattle.vtl_meaning.specs.Made.{IsFiltered};
 ghost use Rattle.vtl_sets.specs.TableOf.{IsTableOf};
 ghost use Rattle.vtl_expr.specs.Prepared.{prepared_exp};
-ghost use Rattle.vtl_expr.specs.Seen.{seen_of};
+ghost use Rattle.vtl_scalar.specs.Seen.{seen_of};
 
 use std::alloc::Global;
 use vtl_cell::Cell;
 use vtl_decimal::Profile;
-use vtl_expr::{Prepared, Seen, prepare, value_at};
+use vtl_expr::{Prepared, prepare, value_at};
 use vtl_rows::Table;
-use vtl_scalar::ScalarErr;
+use vtl_scalar::{ScalarErr, Seen};
 use vtl_sets::{DataSet, new_table};
 use vtl_tree::{CompExpr, Structure};
 

@@ -6,7 +6,9 @@ use Rattle.std.proofs.lemmas.Grind.{flat_map-append}
 use Rattle.std.proofs.lemmas.List.{append-nil, map_more, map-append, take_more}
 use Rattle.vtl_decimal.specs.Settings.{Settings}
 use Rattle.vtl_cell.specs.declared.cell.Cell.{Cell}
-use Rattle.vtl_cell.specs.Outcome.{Fault, DivZero, Range, fault_in, faults_by, join, unless}
+use Rattle.vtl_decimal.specs.declared.number.Fault.{Fault}
+use Rattle.vtl_decimal.specs.declared.number.Fault.TheVariants.{DivZero, Range}
+use Rattle.vtl_cell.specs.Outcome.{fault_in, faults_by, join, unless}
 use Rattle.vtl_cell.specs.Row.{Row}
 use Rattle.vtl_rows.specs.Tables.{fits, fits_kinds}
 use Rattle.vtl_scalar.specs.Answers.{AnswersBy}
@@ -23,7 +25,7 @@ use Rattle.vtl_meaning.specs.Made.{AreFor}
 use Rattle.vtl_meaning.specs.Points.{cell_or_null, each_point, point_fault, point_of}
 use Rattle.vtl_meaning.proofs.Kept.{values_fit}
 use Rattle.vtl_expr.specs.Prepared.{SameValues, prepared_exp}
-use Rattle.vtl_expr.specs.Seen.{answer_of}
+use Rattle.vtl_scalar.specs.Seen.{answer_of}
 use Rattle.vtl_expr.specs.declared.prepared.Prepared.{Prepared}
 
 -- ---- one more value

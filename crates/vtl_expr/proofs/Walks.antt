@@ -2,7 +2,8 @@
 use Rattle.std.proofs.Common.{◌≡◌, ℕ, ◌+◌, ◌<◌, List, [], ◌∷◌, ◌++◌, Bool, cond, length, get_or, take, Option, sym, ap, ◌∙◌}
 use Rattle.std.specs.List.{filter}
 use Rattle.std.proofs.lemmas.List.Elements.{filter_more}
-use Rattle.vtl_cell.specs.Outcome.{Fault, join, faults_by}
+use Rattle.vtl_decimal.specs.declared.number.Fault.{Fault}
+use Rattle.vtl_cell.specs.Outcome.{join, faults_by}
 use Rattle.vtl_tree.proofs.Faults.{faults_by_more}
 
 pub kept_more : {X : Type 0} (p : X → Bool) (xs : List X) (i : ℕ) (x : X) (kept kept' : List X) → i < length xs → x ≡ get_or xs i x → kept ≡ filter p (take i xs) → kept' ≡ kept ++ cond (p x) (x ∷ []) [] → kept' ≡ filter p (take (i + 1) xs)

@@ -21,7 +21,6 @@ mod partners;
 mod places;
 mod points;
 mod prepared;
-mod seen;
 
 pub use choice::choose;
 pub use evaluation::{eval, value_at};
@@ -31,4 +30,3 @@ pub use pairs::pair_measures;
 pub use places::{places_in, push_cells};
 pub use points::each_point;
 pub use prepared::{Prepared, prepare, prepare_all};
-pub use seen::Seen;

@@ -16,7 +16,7 @@ ghost use Rattle.vtl_meaning.specs.Points.{each_point, paired, point_fault, poin
 ghost use Rattle.vtl_sets.specs.TableOf.{IsTableOf, table_columns};
 ghost use Rattle.vtl_expr.specs.Partners.{AllFit, found, with_found};
 ghost use Rattle.vtl_expr.specs.Prepared.{prepared_exp};
-ghost use Rattle.vtl_expr.specs.Seen.{seen_of};
+ghost use Rattle.vtl_scalar.specs.Seen.{seen_of};
 ghost use Rattle.vtl_expr.specs.Sides.{left_column, right_column, side_column};
 
 use crate::namesakes::{Side, namesake_exps};

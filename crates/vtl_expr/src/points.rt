@@ -10,16 +10,15 @@ ghost use Rattle.vtl_sets.specs.TableOf.{table_columns};
 ghost use Rattle.vtl_meaning.specs.Made.{AreFor};
 ghost use Rattle.vtl_meaning.specs.Points.{cell_or_null, each_point, point_fault, point_of};
 ghost use Rattle.vtl_expr.specs.Prepared.{prepared_exp};
-ghost use Rattle.vtl_expr.specs.Seen.{answer_of, seen_of};
+ghost use Rattle.vtl_scalar.specs.Seen.{answer_of, seen_of};
 
 use crate::evaluation::value_at;
 use crate::prepared::{Prepared, prepare_all};
-use crate::seen::Seen;
 use std::alloc::{AllocError, Global};
 use vtl_cell::Cell;
 use vtl_decimal::Profile;
 use vtl_rows::Table;
-use vtl_scalar::ScalarErr;
+use vtl_scalar::{ScalarErr, Seen};
 use vtl_sets::{DataSet, new_table};
 use vtl_tree::{CompExpr, Structure};
 

@@ -1,6 +1,6 @@
 -- The queue of places holds the best cell first, as places come and go.
 use Rattle.std.proofs.Common.{◌≡◌, ℕ, suc, ◌+◌, ◌-◌, ◌<◌, List, [], ◌∷◌, ◌++◌, length, get_or, map, Bool, true, false, not, cond, ◌&&◌, refl, sym, ap, ◌∙◌, arith, ⊎_elim, true≢false}
-use Rattle.std.specs.Prelude.{◌==◌, ◌||◌}
+use Rattle.std.specs.Prelude.{◌==◌, ◌||◌, MatchOption, None, Ok, Option, Some}
 use Rattle.std.specs.List.{All, AllByRecursion, list_any}
 use Rattle.vtl_lists.specs.Sorting.{IsOrder, insert_by, le_by, sorted_by}
 use Rattle.vtl_cell.specs.Groups.{aggregate, group_value, values_of}
@@ -15,7 +15,6 @@ use Rattle.vtl_cell.specs.declared.operator.AggKind.TheVariants as kinds
 use Rattle.vtl_cell.proofs.Aggregates.{falling_order, rising_order}
 use Rattle.vtl_frames.specs.Best.{before_rest, best_places, cell_in, first_of, is_beaten, is_last_beaten, le_of, with_place, without_beaten, without_place}
 use Rattle.vtl_frames.specs.Picks.{cell_or}
-use Rattle.std.specs.Prelude.{MatchOption, None, Ok, Option, Some}
 use Rattle.std.specs.Option.{option_to_list}
 use Rattle.std.proofs.lemmas.List.{append-nil, length_push}
 use Rattle.std.proofs.lemmas.List.Elements.{All-pop}

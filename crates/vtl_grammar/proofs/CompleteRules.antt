@@ -8,7 +8,7 @@ use Rattle.vtl_lexer.specs.declared.keyword.Keyword.TheVariants as keyword
 use Rattle.vtl_lexer.specs.declared.token.Sign.TheVariants as sign
 use Rattle.vtl_lexer.specs.declared.token.TokenKind.{TokenKind}
 use Rattle.vtl_lexer.specs.declared.token.TokenKind.TheVariants as token
-use Rattle.vtl_syntax.specs.Depth.{exp_depth, option_depth, point_rule_depth, hier_rule_depth}
+use Rattle.vtl_syntax.specs.Depth.{exp_depth, option_depth, point_rule_depth, hier_rule_depth, depth_limit}
 use Rattle.vtl_syntax.specs.Trees as tree
 use Rattle.vtl_syntax.specs.Trees.{Exp, PointRuleTree, point_rule}
 use Rattle.vtl_syntax.specs.declared.parts.Comp.{Comp}
@@ -21,7 +21,7 @@ use Rattle.vtl_syntax.specs.declared.statements.HierRule.{HierRule}
 use Rattle.vtl_syntax.specs.declared.word_groups.BinaryOp.{BinaryOp}
 use Rattle.vtl_syntax.specs.declared.word_groups.UnaryOp.{UnaryOp}
 use Rattle.vtl_syntax.specs.declared.word_groups.UnaryOp.TheVariants as unary_op
-use Rattle.vtl_grammar.specs.Fits.{Filled, Fits, PointRuleFits, OptionFits, depth_limit}
+use Rattle.vtl_grammar.specs.Fits.{Filled, Fits, PointRuleFits, OptionFits}
 use Rattle.vtl_grammar.specs.Grammar.{Tokens, maybe_onto, set_onto, clause_onto, error_onto, exp_onto, constant_onto, rule_name_onto, when_onto, point_rule_onto, signed_onto, hier_rule_onto, more_rules_onto, rules_onto}
 use Rattle.vtl_grammar.specs.Reading.{Reads, is_keyword, is_sign, after_keyword, after_sign}
 use Rattle.vtl_grammar.specs.ReadStatements.{whole_exp, rule_name, when_part, holds_read, rule_behind, point_rule_read, more_signed, right_side, hier_rule_read, ends_rules, more_rules, rules_read, point_rules, hier_rules}

@@ -5,10 +5,10 @@ use Rattle.std.proofs.lemmas.List.{append-nil}
 use Rattle.vtl_lexer.specs.declared.keyword.Keyword.TheVariants as keyword
 use Rattle.vtl_lexer.specs.declared.token.Sign.TheVariants as sign
 use Rattle.vtl_lexer.specs.declared.token.TokenKind.TheVariants as token
-use Rattle.vtl_syntax.specs.Depth.{deepest, point_rule_depth, hier_rule_depth}
+use Rattle.vtl_syntax.specs.Depth.{deepest, point_rule_depth, hier_rule_depth, depth_limit}
 use Rattle.vtl_syntax.specs.Trees.{Exp, PointRuleTree, StatementTree, assignment, datapoint, hierarchical, ScriptTree}
 use Rattle.vtl_syntax.specs.declared.word_groups.AssignKind.{AssignKind}
-use Rattle.vtl_grammar.specs.Fits.{PointRuleFits, StatementFits, InGrammar, depth_limit}
+use Rattle.vtl_grammar.specs.Fits.{PointRuleFits, StatementFits, InGrammar}
 use Rattle.vtl_grammar.specs.Grammar.{Tokens, close_bracket, point_rule_onto, rules_onto, statement_onto, script_onto}
 use Rattle.vtl_lists.specs.Options.{given}
 use Rattle.vtl_grammar.specs.Reading.{after_keyword, after_sign}

@@ -7,14 +7,14 @@ use Rattle.vtl_lexer.specs.declared.keyword.Keyword.{Keyword}
 use Rattle.vtl_lexer.specs.declared.keyword.Keyword.TheVariants as keyword
 use Rattle.vtl_lexer.specs.declared.token.Sign.TheVariants as sign
 use Rattle.vtl_lexer.specs.declared.token.TokenKind.TheVariants as token
-use Rattle.vtl_syntax.specs.Depth.{deepest, exp_depth, hier_rule_depth, option_depth, point_rule_depth}
+use Rattle.vtl_syntax.specs.Depth.{deepest, exp_depth, hier_rule_depth, option_depth, point_rule_depth, depth_limit}
 use Rattle.vtl_syntax.specs.Trees.{Exp, PointRuleTree, assignment, datapoint, hierarchical, point_rule}
 use Rattle.vtl_syntax.specs.declared.parts.Comp.{Comp}
 use Rattle.vtl_syntax.specs.declared.parts.ErrorPart.{ErrorPart}
 use Rattle.vtl_syntax.specs.declared.parts.SignedComp.{SignedComp}
 use Rattle.vtl_syntax.specs.declared.statements.HierRule.{HierRule}
 use Rattle.vtl_syntax.specs.declared.word_groups.Addition.{Addition}
-use Rattle.vtl_grammar.specs.Fits.{Filled, Fits, InGrammar, OptionFits, PointRuleFits, depth_limit}
+use Rattle.vtl_grammar.specs.Fits.{Filled, Fits, InGrammar, OptionFits, PointRuleFits}
 use Rattle.vtl_grammar.specs.Grammar.{Tokens, close_bracket, error_onto, exp_onto, hier_rule_onto, maybe_onto, more_rules_onto, open_bracket, point_rule_onto, rule_name_onto, rules_onto, signed_onto, statement_onto, when_onto}
 use Rattle.vtl_grammar.specs.ReadParts.{comps, error_part}
 use Rattle.vtl_grammar.specs.ReadExpressions.{read}

@@ -3,14 +3,13 @@ use Rattle.std.specs.Prelude.{ℕ, zero, suc, Bool, true, false, List, [], ◌�
 use Rattle.vtl_lexer.specs.declared.keyword.Keyword.{Keyword}
 use Rattle.vtl_lexer.specs.declared.keyword.Keyword.TheVariants as keyword
 use Rattle.vtl_lexer.specs.declared.token.Sign.TheVariants as sign
-use Rattle.vtl_syntax.specs.Depth.{hier_rule_depth}
+use Rattle.vtl_syntax.specs.Depth.{hier_rule_depth, depth_limit}
 use Rattle.vtl_syntax.specs.Trees.{Exp, PointRuleTree, point_rule, StatementTree, assignment, datapoint, hierarchical, ScriptTree}
 use Rattle.vtl_syntax.specs.declared.parts.Comp.{Comp}
 use Rattle.vtl_syntax.specs.declared.parts.ErrorPart.{ErrorPart}
 use Rattle.vtl_syntax.specs.declared.parts.SignedComp.{SignedComp}
 use Rattle.vtl_syntax.specs.declared.statements.HierRule.{HierRule}
 use Rattle.vtl_syntax.specs.declared.word_groups.Addition.{Addition}
-use Rattle.vtl_grammar.specs.Fits.{depth_limit}
 use Rattle.vtl_grammar.specs.Grammar.{Tokens}
 use Rattle.vtl_grammar.specs.ReadExpressions.{read}
 use Rattle.vtl_grammar.specs.ReadParts.{comps, error_part}

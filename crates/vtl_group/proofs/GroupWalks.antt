@@ -2,7 +2,9 @@
 use Rattle.std.proofs.Common.{◌≡◌, ℕ, ◌+◌, ◌<◌, List, [], ◌∷◌, ◌++◌, Bool, true, false, cond, length, get_or, map, take, filter, Option, None, Some, refl, sym, ap, ◌∙◌, append_assoc}
 use Rattle.std.proofs.lemmas.List.{map-append, map_more, take_more}
 use Rattle.std.proofs.lemmas.List.Elements.{filter_more}
-use Rattle.vtl_cell.specs.Outcome.{DivZero, Fault, Outcome, Range, fault_in, faults_by, join}
+use Rattle.vtl_decimal.specs.declared.number.Fault.TheVariants.{DivZero, Range}
+use Rattle.vtl_decimal.specs.declared.number.Fault.{Fault}
+use Rattle.vtl_cell.specs.Outcome.{Outcome, fault_in, faults_by, join}
 use Rattle.vtl_cell.specs.Row.{Row}
 use Rattle.vtl_cell.specs.declared.cell.Cell.{Cell}
 use Rattle.vtl_aggregates.specs.Aggregates.{cell_or_null}

@@ -2,7 +2,9 @@
 use Rattle.std.proofs.Common.{◌≡◌, ◌==◌, Bool, true, false, Option, Some, arith, suc, ℕ, List, [], ◌∷◌, ◌++◌, length, get_or, map, Result, Ok, Err, subst, refl, sym, ap, ◌∙◌}
 use Rattle.std.proofs.lemmas.Bool.{eqb-true}
 use Rattle.vtl_cell.specs.Conversion.{as_kind}
-use Rattle.vtl_cell.specs.Outcome.{Fault, DivZero, Range, Outcome, after}
+use Rattle.vtl_decimal.specs.declared.number.Fault.{Fault}
+use Rattle.vtl_decimal.specs.declared.number.Fault.TheVariants.{DivZero, Range}
+use Rattle.vtl_cell.specs.Outcome.{Outcome, after}
 use Rattle.vtl_cell.specs.Outcomes.{all_of, branch, first_chosen, result_of}
 use Rattle.vtl_decimal.specs.Settings.{Settings}
 use Rattle.vtl_cell.specs.declared.cell.Cell.{Cell}

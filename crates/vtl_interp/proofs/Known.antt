@@ -5,7 +5,8 @@ use Rattle.std.specs.Map.{keys_of, lookup}
 use Rattle.std.specs.Cmp.Lexicographic.{bytes_decides}
 use Rattle.std.proofs.lemmas.List.{map-append}
 use Rattle.vtl_decimal.specs.Settings.{Settings}
-use Rattle.vtl_cell.specs.Outcome.{Fault, after}
+use Rattle.vtl_decimal.specs.declared.number.Fault.{Fault}
+use Rattle.vtl_cell.specs.Outcome.{after}
 use Rattle.vtl_cell.specs.Row.{Row}
 use Rattle.vtl_rows.specs.Named.{NamedTables}
 use Rattle.vtl_tree.specs.Environment.{DataSet, Environment}

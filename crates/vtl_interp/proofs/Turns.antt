@@ -3,7 +3,8 @@ use Rattle.std.proofs.Common.{◌≡◌, ℕ, ◌+◌, ◌<◌, List, ◌∷◌,
 use Rattle.std.proofs.lemmas.List.{drop_more}
 use Rattle.std.specs.Map.{keys_of}
 use Rattle.vtl_decimal.specs.Settings.{Settings}
-use Rattle.vtl_cell.specs.Outcome.{DivZero, Fault, Range}
+use Rattle.vtl_decimal.specs.declared.number.Fault.TheVariants.{DivZero, Range}
+use Rattle.vtl_decimal.specs.declared.number.Fault.{Fault}
 use Rattle.vtl_rows.specs.Named.{NamedTables}
 use Rattle.vtl_syntax.specs.declared.expressions.Expr.{Expr}
 use Rattle.vtl_syntax.specs.declared.statements.Statement.{Statement}
@@ -15,8 +16,8 @@ use Rattle.vtl_meaning.specs.Meaning as meant
 use Rattle.vtl_meaning.specs.Meaning.{Outputs, meaning}
 use Rattle.vtl_backend.specs.Statements.{with_nodes}
 use Rattle.vtl_check.specs.Transformations.{Transformation}
-use Rattle.vtl_backend.specs.declared.error.RunErr.{RunErr}
-use Rattle.vtl_backend.specs.declared.error.RunErr.TheVariants as run
+use Rattle.vtl_scalar.specs.declared.run_error.RunErr.{RunErr}
+use Rattle.vtl_scalar.specs.declared.run_error.RunErr.TheVariants as run
 use Rattle.vtl_interp.specs.Reads.{AreRead, IsReadFrom, LastPlaces}
 use Rattle.vtl_interp.specs.Results.{Adds, AreReady, FaultIs, IsAdded, Remain, result_named}
 use Rattle.vtl_interp.specs.declared.held.Held.{Held}

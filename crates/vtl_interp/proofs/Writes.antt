@@ -12,12 +12,12 @@ use Rattle.vtl_syntax.specs.declared.word_groups.AssignKind.TheVariants as assig
 use Rattle.vtl_tree.specs.Environment.{DataSet}
 use Rattle.vtl_tree.specs.Structure.{same_name}
 use Rattle.vtl_meaning.specs.Meaning.{Outputs}
-use Rattle.vtl_cell.specs.Outcome.{Fault}
+use Rattle.vtl_decimal.specs.declared.number.Fault.{Fault}
 use Rattle.vtl_sets.specs.TableOf.{IsTableOf}
 use Rattle.vtl_backend.specs.Runs.{Tells}
 use Rattle.vtl_backend.specs.Statements.{is_written}
-use Rattle.vtl_backend.specs.declared.error.RunErr.{RunErr}
-use Rattle.vtl_backend.specs.declared.error.RunErr.TheVariants as run
+use Rattle.vtl_scalar.specs.declared.run_error.RunErr.{RunErr}
+use Rattle.vtl_scalar.specs.declared.run_error.RunErr.TheVariants as run
 use Rattle.vtl_interp.specs.Results.{FaultIs}
 use Rattle.vtl_interp.specs.Written.{IsBehind, IsWritten}
 

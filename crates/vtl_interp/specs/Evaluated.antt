@@ -1,7 +1,7 @@
 -- What an evaluation gives.
 use Rattle.std.specs.Prelude.{◌≡◌, Result, Ok, Err}
 use Rattle.vtl_decimal.specs.Settings.{Settings}
-use Rattle.vtl_cell.specs.Outcome.{DivZero, Range}
+use Rattle.vtl_decimal.specs.declared.number.Fault.TheVariants.{DivZero, Range}
 use Rattle.vtl_scalar.specs.declared.error.ScalarErr.{ScalarErr}
 use Rattle.vtl_scalar.specs.declared.error.ScalarErr.TheVariants as err
 use Rattle.vtl_tree.specs.Environment.{DataSet, Environment}

@@ -2,7 +2,8 @@
 use Rattle.std.specs.Prelude.{◌≡◌, ℕ, false, true, List, [], ◌∷◌, ◌++◌, Result, Ok, Err}
 use Rattle.std.specs.List.{list_all, list_any}
 use Rattle.vtl_decimal.specs.Settings.{Settings}
-use Rattle.vtl_cell.specs.Outcome.{DivZero, Fault, Range}
+use Rattle.vtl_decimal.specs.declared.number.Fault.TheVariants.{DivZero, Range}
+use Rattle.vtl_decimal.specs.declared.number.Fault.{Fault}
 use Rattle.vtl_scalar.specs.declared.error.ScalarErr.{ScalarErr}
 use Rattle.vtl_scalar.specs.declared.error.ScalarErr.TheVariants as scalar
 use Rattle.vtl_syntax.specs.declared.word_groups.AssignKind.{AssignKind}
@@ -14,8 +15,8 @@ use Rattle.vtl_meaning.specs.Meaning.{Outputs, Statement, is_built, known_in, no
 use Rattle.vtl_rows.specs.Named.{NamedTables}
 use Rattle.vtl_backend.specs.Runs.{ShowAll, ShowMeaning}
 use Rattle.vtl_backend.specs.Statements.{is_written}
-use Rattle.vtl_backend.specs.declared.error.RunErr.{RunErr}
-use Rattle.vtl_backend.specs.declared.error.RunErr.TheVariants as run
+use Rattle.vtl_scalar.specs.declared.run_error.RunErr.{RunErr}
+use Rattle.vtl_scalar.specs.declared.run_error.RunErr.TheVariants as run
 use Rattle.vtl_interp.specs.Evaluated.{Gives}
 use Rattle.vtl_interp.specs.Held.{HoldSame}
 use Rattle.vtl_interp.specs.Written.{IsWritten}

@@ -8,9 +8,10 @@ ghost use Rattle.vtl_interp.specs.Results.{ShownBy};
 use crate::inputs::load;
 use crate::statements::run_statements;
 use std::alloc::Global;
-use vtl_backend::{Backend, RunErr};
+use vtl_backend::Backend;
 use vtl_check::Checked;
 use vtl_rows::{Inputs, Outputs};
+use vtl_scalar::RunErr;
 
 /// The back end that evaluates the operators of a script one after the other, over tables in memory.
 #[derive(Drop)]

@@ -7,9 +7,10 @@ ghost use Rattle.vtl_interp.specs.Reordered.{AreReordered, IsPut, IsReordered};
 
 use crate::windows::have_window;
 use std::alloc::{AllocError, Global};
-use vtl_backend::{Backend, RunErr};
+use vtl_backend::Backend;
 use vtl_check::Checked;
 use vtl_rows::{Inputs, Outputs, SortKey, Table, Tables, are_all};
+use vtl_scalar::RunErr;
 use vtl_text::Txt;
 
 /// Runs a script by a back end over tables that are let go then.

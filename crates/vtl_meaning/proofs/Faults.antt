@@ -3,7 +3,9 @@ use Rattle.std.proofs.Common.{◌≡◌, Bool, true, false, cond, ◌||◌, List
 use Rattle.std.specs.List.{list_any}
 use Rattle.vtl_decimal.specs.Settings.{Settings}
 use Rattle.vtl_cell.specs.declared.cell.Cell.{Cell}
-use Rattle.vtl_cell.specs.Outcome.{Fault, DivZero, Range, Outcome, fault_in, faults_by, join, unless}
+use Rattle.vtl_decimal.specs.declared.number.Fault.{Fault}
+use Rattle.vtl_decimal.specs.declared.number.Fault.TheVariants.{DivZero, Range}
+use Rattle.vtl_cell.specs.Outcome.{Outcome, fault_in, faults_by, join, unless}
 use Rattle.vtl_cell.specs.Row.{Row}
 use Rattle.vtl_tree.specs.Clauses.{filter_of, kept}
 use Rattle.vtl_tree.specs.CompExp.{CompExp}

@@ -9,7 +9,8 @@ use Rattle.vtl_lists.proofs.Aparts.{all_apart-filter}
 use Rattle.vtl_lists.proofs.Sorts.{AllByRecursion-filter}
 use Rattle.vtl_cell.specs.Kinds.{is_null}
 use Rattle.vtl_cell.specs.Order.{same_cell}
-use Rattle.vtl_cell.specs.Outcome.{Fault, Outcome, after, faults_by, unless}
+use Rattle.vtl_decimal.specs.declared.number.Fault.{Fault}
+use Rattle.vtl_cell.specs.Outcome.{Outcome, after, faults_by, unless}
 use Rattle.vtl_cell.specs.Outcomes.{is_true}
 use Rattle.vtl_cell.specs.Row.{Row, column_of, same_key, same_row}
 use Rattle.vtl_cell.specs.declared.cell.Cell.{Cell}

@@ -4,7 +4,8 @@ use Rattle.std.specs.Prelude.{IfOk, option_map}
 use Rattle.std.specs.List.{AllByRecursion, filter, flat_map}
 use Rattle.std.specs.Option.{option_to_list}
 use Rattle.vtl_cell.specs.Conversion.{as_kind}
-use Rattle.vtl_cell.specs.Outcome.{Fault, Outcome, after, fault_in, faults_by, unless}
+use Rattle.vtl_decimal.specs.declared.number.Fault.{Fault}
+use Rattle.vtl_cell.specs.Outcome.{Outcome, after, fault_in, faults_by, unless}
 use Rattle.vtl_cell.specs.Outcomes.{all_of, branch, first_chosen, is_true, result_of}
 use Rattle.vtl_cell.specs.Profile.{IsOfProfile}
 use Rattle.vtl_decimal.specs.Range.{fit_number}

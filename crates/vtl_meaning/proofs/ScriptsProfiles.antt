@@ -3,7 +3,8 @@ use Rattle.std.proofs.Common.{ℕ, Bool, true, false, cond, List, [], ◌∷◌,
 use Rattle.std.specs.Prelude.{IfOk}
 use Rattle.std.specs.List.{filter, flat_map}
 use Rattle.std.specs.Option.{option_map_or}
-use Rattle.vtl_cell.specs.Outcome.{Fault, Outcome, after}
+use Rattle.vtl_decimal.specs.declared.number.Fault.{Fault}
+use Rattle.vtl_cell.specs.Outcome.{Outcome, after}
 use Rattle.vtl_cell.specs.Row.{Row}
 use Rattle.vtl_decimal.specs.Settings.{Settings}
 use Rattle.vtl_lists.proofs.Sorts.{AllByRecursion-filter}

@@ -1,7 +1,7 @@
 -- Data sets and results up to the order of points.
 use Rattle.std.specs.Prelude.{◌≡◌, ℕ, List, [], ◌∷◌, Result, Ok, Err}
 use Rattle.vtl_lists.specs.Perm.{Perm}
-use Rattle.vtl_cell.specs.Outcome.{Fault}
+use Rattle.vtl_decimal.specs.declared.number.Fault.{Fault}
 use Rattle.vtl_tree.specs.Environment.{DataSet, Environment}
 use Rattle.vtl_meaning.specs.Meaning.{Outputs}
 

@@ -1,10 +1,9 @@
 // Rules of hierarchical rulesets.
 ghost use Rattle.std.specs.Prelude.{◌≡◌, length, nat_le};
 ghost use Rattle.vtl_grammar.specs.Faults.{kinds};
-ghost use Rattle.vtl_grammar.specs.Fits.{depth_limit};
+ghost use Rattle.vtl_syntax.specs.Depth.{depth_limit, hier_rule_depth};
 ghost use Rattle.vtl_grammar.specs.ReadStatements.{hier_rule_read, more_signed, right_side};
 ghost use Rattle.read_parts.specs.Fronts.{ReadsAs};
-ghost use Rattle.vtl_syntax.specs.Depth.{hier_rule_depth};
 
 use crate::heads::rule_name;
 use crate::rules::Rule;

@@ -9,7 +9,8 @@ use Rattle.vtl_decimal.specs.Range.{fit_number, fit_integer}
 use Rattle.vtl_decimal.specs.Operators.{remainder, rounded_at}
 use Rattle.vtl_decimal.specs.declared.settings.Rounding.TheVariants.{Down}
 use Rattle.vtl_decimal.proofs.PowerLemmas.{units_fit}
-use Rattle.vtl_cell.specs.Outcome.{Outcome, Range, after}
+use Rattle.vtl_decimal.specs.declared.number.Fault.TheVariants.{Range}
+use Rattle.vtl_cell.specs.Outcome.{Outcome, after}
 use Rattle.vtl_cell.specs.Profile.{IsOfProfile}
 use Rattle.vtl_cell.specs.ScalarArithmetic.{as_number, units, number_in, digits_in, at_digits, negation_of, absolute_of, remainder_of, truncated_of, pair_of}
 use Rattle.vtl_cell.specs.ScalarChoice.{beside, value_or, chosen_of}

@@ -10,7 +10,8 @@ use Rattle.vtl_decimal.specs.Rounding.{floor_quotient, ceil_quotient}
 use Rattle.vtl_decimal.specs.Settings.{Settings}
 use Rattle.vtl_text.specs.Texts.{instr_of}
 use Rattle.vtl_cell.specs.Kinds.{kind_of}
-use Rattle.vtl_cell.specs.Outcome.{Outcome, Range, after}
+use Rattle.vtl_decimal.specs.declared.number.Fault.TheVariants.{Range}
+use Rattle.vtl_cell.specs.Outcome.{Outcome, after}
 use Rattle.vtl_cell.specs.Profile.{IsOfProfile}
 use Rattle.vtl_cell.specs.ScalarArithmetic.{Pair, integers, numbers, neither, pair_of, as_number, number_in, on_number, digits_in, at_digits, integer, number, units, identity_of, negation_of, absolute_of, sum_of, difference_of, product_of, quotient_of, remainder_of, rounded_of, truncated_of}
 use Rattle.vtl_cell.specs.ScalarChoice.{beside, value_or, chosen_of}

@@ -1,13 +1,12 @@
 -- The values of the operators are of the kinds that they give.
 use Rattle.std.proofs.Common.{ℕ, ◌≡◌, Bool, true, false, ℤ, pos, neg_ℤ, List, [], ◌∷◌, map, Result, Ok, Err, Option, Some, None, inl, inr, refl, subst}
-use Rattle.std.specs.Prelude.{unsigned_abs, is_some, ◌&&◌, if◌then◌else◌}
+use Rattle.std.specs.Prelude.{unsigned_abs, is_some, ◌&&◌, if◌then◌else◌, ◌^◌, ◌+ℤ◌, ◌-ℤ◌, ◌*ℤ◌, length}
 use Rattle.vtl_decimal.specs.declared.number.Fault.{Fault as DecimalFault}
 use Rattle.vtl_decimal.specs.declared.settings.Rounding.TheVariants.{Down}
 use Rattle.vtl_decimal.specs.Settings.{Settings}
 use Rattle.vtl_decimal.specs.Range.{fit_number, fit_integer}
 use Rattle.vtl_decimal.specs.Rounding.{floor_quotient, ceil_quotient}
 use Rattle.vtl_decimal.specs.Operators.{product, quotient, remainder, rounded_at}
-use Rattle.std.specs.Prelude.{◌^◌, ◌+ℤ◌, ◌-ℤ◌, ◌*ℤ◌, length}
 use Rattle.vtl_text.specs.Texts.{instr_of, trim_of, ltrim_of, rtrim_of}
 use Rattle.vtl_cell.specs.Kinds.{kind_of}
 use Rattle.vtl_cell.specs.Outcome.{Outcome, after}

@@ -1,6 +1,7 @@
 -- What an answer of the program tells of a value or a fault.
 use Rattle.std.specs.Prelude.{◌≡◌, Result, Ok, Err}
-use Rattle.vtl_cell.specs.Outcome.{Outcome, DivZero, Range}
+use Rattle.vtl_decimal.specs.declared.number.Fault.TheVariants.{DivZero, Range}
+use Rattle.vtl_cell.specs.Outcome.{Outcome}
 use Rattle.vtl_scalar.specs.declared.error.ScalarErr.{ScalarErr}
 use Rattle.vtl_scalar.specs.declared.error.ScalarErr.TheVariants as err
 

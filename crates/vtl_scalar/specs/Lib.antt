@@ -4,3 +4,4 @@ pub mod KindLaws
 pub mod LawOperators
 pub mod Members
 pub mod Operands
+pub mod Seen

@@ -2,7 +2,8 @@
 //!
 //! It is total: where operands do not meet an operator's row the value is null, so an evaluator need not carry
 //! kinds about. `apply_one`, `apply_two` and `apply_three` take lent operands, and `Members` are a set that many values
-//! are looked up in. `to_kind` makes a value one of the kind that an expression has. `Given` is a value that is lent or made.
+//! are looked up in. `to_kind` makes a value one of the kind that an expression has. `Given` is a value that is lent or made. `Seen` is
+//! the fault that a walk has seen so far, and `RunErr` names what has it: both evaluators use them.
 //! It decides no rule of typing and evaluates no expression (`vtl_expr`): operands come as values.
 //! Begin with `scalar_of` in vtl_cell/specs/Scalars.antt, then src/operators.rt.
 #![tactic(auto)]
@@ -17,6 +18,8 @@ mod laws;
 mod members;
 mod operands;
 mod operators;
+mod run_error;
+mod seen;
 mod texts;
 
 pub use comparison::truth;
@@ -31,3 +34,5 @@ pub use laws::{
 };
 pub use members::Members;
 pub use operators::{apply, apply_one, apply_three, apply_two};
+pub use run_error::RunErr;
+pub use seen::Seen;

@@ -22,7 +22,7 @@ use Rattle.vtl_tree.specs.CompExp.{CompExp}
 use Rattle.vtl_tree.specs.Structure.{same_name}
 use Rattle.vtl_tree.specs.declared.structure.Component.{Component}
 use Rattle.vtl_tree.specs.declared.structure.Structure.{Structure}
-use Rattle.vtl_syntax.specs.Trees.{Exp, MaybeExp}
+use Rattle.vtl_syntax.specs.Trees.{Exp, MaybeExp, Calcs, TargetsTree}
 use Rattle.vtl_syntax.specs.Written as written
 use Rattle.vtl_syntax.specs.declared.parts.Comp.{Comp}
 use Rattle.vtl_syntax.specs.declared.parts.GroupPart.{GroupPart}
@@ -37,11 +37,10 @@ use Rattle.vtl_nodes.specs.Trees as nodes
 use Rattle.vtl_nodes.specs.Trees.{FormTree, ItemTree, NodeTree, structure_of}
 use Rattle.vtl_nodes.specs.declared.clauses.SubItem.{SubItem}
 use Rattle.vtl_syntax.specs.Trees as tree
-use Rattle.vtl_syntax.specs.Trees.{Calcs, TargetsTree}
 use Rattle.vtl_syntax.specs.Written.{AreMoreCalcs, AreWrittenCalcs, AreWrittenTargets}
-use Rattle.check_values.specs.Groupings.{grouping_of}
-use Rattle.check_operators.specs.Places.{at_points}
-use Rattle.check_clauses.specs.Targets.{aggr_clause, aggr_name, aggr_tree, calc_name, call_in, is_aggregate, item_of, made_as, with_item, with_made}
+use Rattle.check_values.specs.Groupings.{grouping_of, grouping_typed}
+use Rattle.check_operators.specs.Places.{at_points, Env, at_groups}
+use Rattle.check_clauses.specs.Targets.{aggr_clause, aggr_name, aggr_tree, calc_name, call_in, is_aggregate, item_of, made_as, with_item, with_made, calc_clause, is_analytic, target_of}
 use Rattle.check_expressions.specs.Typing.{aggrs_typed, calc_value, calcs_typed, having_typed, over_operand, targets_typed, typed}
 use Rattle.check_clauses.specs.declared.targets.Made.{Made}
 use Rattle.check_faults.specs.declared.rules.Rule.{Rule}
@@ -50,12 +49,9 @@ use Rattle.check_shapes.specs.Names.{component_of, is_among, known, known_as, na
 use Rattle.check_shapes.specs.declared.names.Wanted.TheVariants as wanted
 use Rattle.check_shapes.specs.declared.renaming.Renaming.{Renaming}
 use Rattle.check_values.specs.Columns.{name_of}
-use Rattle.check_values.specs.Groupings.{grouping_typed}
 use Rattle.check_values.specs.Literals.{kind_met, literal_cell, literal_kind, valued}
 use Rattle.check_clauses.specs.Clauses as clauses
 use Rattle.check_clauses.specs.Clauses.{cell_as, filter_form, kept_of, keeping_form, keeping_tree, name_known, names_typed, old_names, references_in, renamed_of, renaming_form, renaming_known, renaming_to, renamings_typed, sub_form, sub_item, sub_known, sub_names, sub_of, sub_value, subs_typed}
-use Rattle.check_operators.specs.Places.{Env, at_groups}
-use Rattle.check_clauses.specs.Targets.{calc_clause, is_analytic, target_of}
 use Rattle.check_operators.specs.Typed.{TypedTree, components_in, condition_in, value_in}
 use Rattle.check_operators.specs.declared.places.Joined.{Joined}
 use Rattle.check_operators.specs.declared.places.Place.{Place}

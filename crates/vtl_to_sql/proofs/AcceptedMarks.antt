@@ -23,8 +23,7 @@ use Rattle.check_shapes.specs.declared.renaming.Renaming.{Renaming}
 use Rattle.check_clauses.specs.JoinOperands.{is_left}
 use Rattle.check_laws.proofs.Lists as lists
 use Rattle.sql_lexer.specs.Spelling as sql
-use Rattle.sql_lexer.specs.Spelling.{has_no_control, size}
-use Rattle.sql_lexer.specs.Spelling.{is_name as is_sql_name}
+use Rattle.sql_lexer.specs.Spelling.{has_no_control, size, is_name as is_sql_name}
 use Rattle.sql_lexer.proofs.NameParts.{size-append}
 use Rattle.sql_tree.specs.Formed.{IsName}
 use Rattle.vtl_to_sql.proofs.AcceptedComponents.{ArePlain, IsFrom, IsPlain, agreed_named, all_weaker, column_name, plain}

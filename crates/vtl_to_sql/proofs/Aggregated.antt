@@ -7,7 +7,8 @@ use Rattle.std.proofs.lemmas.List.{map-append}
 use Rattle.grammar_forms.specs.Written.{Each}
 use Rattle.vtl_cell.specs.Conversion.{as_kind}
 use Rattle.vtl_cell.specs.Kinds.{is_of}
-use Rattle.vtl_cell.specs.Outcome.{Fault, Outcome, after, fault_in, faults_by, join, unless}
+use Rattle.vtl_decimal.specs.declared.number.Fault.{Fault}
+use Rattle.vtl_cell.specs.Outcome.{Outcome, after, fault_in, faults_by, join, unless}
 use Rattle.vtl_cell.specs.Outcomes.{branch, first_chosen, is_true}
 use Rattle.vtl_cell.specs.Row.{Row}
 use Rattle.vtl_cell.specs.ScalarKinds.{common_kind, meets}

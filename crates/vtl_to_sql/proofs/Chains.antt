@@ -5,7 +5,8 @@ use Rattle.std.specs.List.{AllByRecursion, filter, find, flat_map}
 use Rattle.std.specs.Option.{option_to_list}
 use Rattle.std.proofs.lemmas.List.{length-map, map-append}
 use Rattle.grammar_forms.specs.Written.{Each}
-use Rattle.vtl_cell.specs.Outcome.{Fault, fault_in, faults_by, join}
+use Rattle.vtl_decimal.specs.declared.number.Fault.{Fault}
+use Rattle.vtl_cell.specs.Outcome.{fault_in, faults_by, join}
 use Rattle.vtl_cell.specs.Outcomes.{is_true}
 use Rattle.vtl_cell.specs.Row.{Row, same_row}
 use Rattle.vtl_cell.specs.ScalarKinds.{meets}

@@ -4,7 +4,8 @@ use Rattle.std.specs.Prelude.{IsSome, fold, zip}
 use Rattle.std.specs.List.{AllByRecursion, flat_map}
 use Rattle.std.proofs.lemmas.List.{length-map}
 use Rattle.grammar_forms.specs.Written.{Each}
-use Rattle.vtl_cell.specs.Outcome.{DivZero, Range, Outcome, fault_in, faults_by, unless}
+use Rattle.vtl_decimal.specs.declared.number.Fault.TheVariants.{DivZero, Range}
+use Rattle.vtl_cell.specs.Outcome.{Outcome, fault_in, faults_by, unless}
 use Rattle.vtl_cell.specs.Row.{Row}
 use Rattle.vtl_cell.specs.ScalarKinds.{shared_kind}
 use Rattle.vtl_decimal.specs.Settings.{Settings}

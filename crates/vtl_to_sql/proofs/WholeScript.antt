@@ -4,7 +4,8 @@ use Rattle.std.specs.Prelude.{IsOk, nat_lt, unwrap_or}
 use Rattle.std.specs.Fmt.{decimal}
 use Rattle.std.specs.List.{AllByRecursion}
 use Rattle.std.proofs.lemmas.Bool.{lt-ltb}
-use Rattle.vtl_cell.specs.Outcome.{Outcome, Range, after}
+use Rattle.vtl_decimal.specs.declared.number.Fault.TheVariants.{Range}
+use Rattle.vtl_cell.specs.Outcome.{Outcome, after}
 use Rattle.vtl_cell.specs.Profile.{IsOfProfile}
 use Rattle.vtl_lists.specs.Results.{◌>>=◌}
 use Rattle.vtl_cell.specs.Row.{Row}

@@ -4,7 +4,7 @@ use Rattle.std.specs.List.{AllByRecursion, position_or_len, range_with_len}
 use Rattle.std.specs.Map.{keys_of}
 use Rattle.std.proofs.lemmas.List.{length-map, map-append}
 use Rattle.vtl_lists.specs.Apart.{all_apart}
-use Rattle.vtl_cell.specs.Outcome.{Fault as EvaluationFault}
+use Rattle.vtl_decimal.specs.declared.number.Fault.{Fault as EvaluationFault}
 use Rattle.vtl_cell.specs.Row.{Row, row_cmp}
 use Rattle.vtl_cell.specs.Sorted.{in_order, rising}
 use Rattle.vtl_lists.specs.Sorting.{le_by, sorted_by}

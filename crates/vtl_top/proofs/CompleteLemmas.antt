@@ -4,7 +4,7 @@ use Rattle.std.specs.Option.{IfSome}
 use Rattle.vtl_files.specs.Outside.{Rose}
 use Rattle.vtl_files.specs.declared.files.Files.{Ghosts}
 use Rattle.vtl_files.specs.declared.sink.Sink.{Ghosts as Sinks}
-use Rattle.vtl_cell.specs.Outcome.{Fault}
+use Rattle.vtl_decimal.specs.declared.number.Fault.{Fault}
 use Rattle.vtl_top.specs.Answered.{Ends, EndsAs, Gives, GivesOut}
 use Rattle.vtl_top.specs.Complete.{IsCalm}
 use Rattle.vtl_top.specs.Asked.{asked_step}

@@ -1,13 +1,10 @@
 -- A new file is made of its pieces, and the files of a run are written one after the other.
-use Rattle.std.proofs.Common.{◌≡◌, ℕ, ◌≤◌, List, [], ◌∷◌, ◌++◌, Option, Some, None, refl, sym, ap, ◌∙◌, inr, arith}
+use Rattle.std.proofs.Common.{◌≡◌, ℕ, ◌≤◌, List, [], ◌∷◌, ◌++◌, Option, Some, None, refl, sym, ap, ◌∙◌, inr, arith, inl, length, map, subst, append_assoc}
 use Rattle.std.specs.Option.{option_map}
-use Rattle.std.proofs.lemmas.List.{append-nil}
-use Rattle.vtl_files.specs.Outside.{Rose, append_last, AppendsAll}
+use Rattle.std.proofs.lemmas.List.{append-nil, map-append}
+use Rattle.vtl_files.specs.Outside.{Rose, append_last, AppendsAll, FaultAt}
 use Rattle.vtl_files.specs.Whole.{AppendsFront}
-use Rattle.std.proofs.Common.{inl, length, map, subst, append_assoc}
 use Rattle.std.specs.Prelude.{chars, string_bytes}
-use Rattle.std.proofs.lemmas.List.{map-append}
-use Rattle.vtl_files.specs.Outside.{FaultAt}
 use Rattle.vtl_files.specs.declared.files.Files.{Ghosts}
 use Rattle.vtl_top.specs.OutputView.{NamesPath, output_view}
 use Rattle.vtl_top.specs.Steps.{File}

@@ -4,7 +4,8 @@ use Rattle.std.specs.Prelude.{chars}
 use Rattle.std.specs.List.{list_all}
 use Rattle.std.specs.Str.{is_utf8}
 use Rattle.vtl_files.specs.Outside.{bytes_at}
-use Rattle.vtl_cell.specs.Outcome.{DivZero, Fault as EvaluationFault, Range}
+use Rattle.vtl_decimal.specs.declared.number.Fault.TheVariants.{DivZero, Range}
+use Rattle.vtl_decimal.specs.declared.number.Fault.{Fault as EvaluationFault}
 use Rattle.vtl_cell.specs.Row.{Row}
 use Rattle.vtl_decimal.specs.Settings.{Settings}
 use Rattle.vtl_syntax.specs.Trees.{ScriptTree}
@@ -15,14 +16,13 @@ use Rattle.vtl_csv.specs.InputFile.{Fault, dataset_rows}
 use Rattle.vtl_csv.specs.StructuresFile.{Fault as StructuresFault, structures_of_file}
 use Rattle.vtl_nodes.specs.Trees.{NodeTree}
 use Rattle.vtl_meaning.specs.Meaning.{Outputs, is_built}
-use Rattle.vtl_check.specs.Checked.{env_over}
+use Rattle.vtl_check.specs.Checked.{env_over, TypedScript}
 use Rattle.vtl_check.specs.Script.{has_definitions, script_typed}
 use Rattle.vtl_check.specs.Uses.{reads}
 use Rattle.vtl_top.specs.Expected.{Typed, built_step, csv_limit, dataset_step, fault_status, file_in, inputs_step, meant, one_more_step, outputs_of, points_or_fault, read, run_step, script_in, script_limit, script_of, script_step, sized, structures_limit, structures_step, text_for, text_step, typed_by, typed_or_fault, typed_step, typing_of, unbuilt, with_points}
 use Rattle.vtl_top.specs.Meant.{IsFaulted, IsMistyped, IsRead, IsReady}
 use Rattle.std.specs.Option.{IfSome}
 use Rattle.vtl_files.specs.declared.files.Files.{Ghosts}
-use Rattle.vtl_check.specs.Checked.{TypedScript}
 use Rattle.vtl_top.specs.Answered.{Takes}
 use Rattle.vtl_top.specs.Informed.{HasRun, IsTold, TellsRun}
 use Rattle.vtl_top.proofs.StepLemmas.{if_some_map}

@@ -1,7 +1,8 @@
 -- Steps of a run: what they settle, and the data sets that they read.
 use Rattle.std.proofs.Common.{◌≡◌, inl, inr, ℕ, Bool, true, false, not, List, [], Result, Ok, Err, refl, sym, ap, subst, ◌∙◌, chars}
 use Rattle.vtl_files.specs.declared.files.Files.{Ghosts}
-use Rattle.vtl_cell.specs.Outcome.{DivZero, Fault as EvaluationFault, Range}
+use Rattle.vtl_decimal.specs.declared.number.Fault.TheVariants.{DivZero, Range}
+use Rattle.vtl_decimal.specs.declared.number.Fault.{Fault as EvaluationFault}
 use Rattle.vtl_cell.specs.Row.{Row}
 use Rattle.vtl_rows.specs.Named.{NamedTables}
 use Rattle.vtl_rows.specs.Tables.{Listed}
@@ -10,9 +11,9 @@ use Rattle.vtl_csv.specs.InputFile.{Fault, Reads}
 use Rattle.vtl_csv.specs.declared.input.InputErr.{InputErr}
 use Rattle.vtl_csv.specs.declared.input.InputErr.TheVariants as input
 use Rattle.vtl_meaning.specs.Meaning.{Outputs, is_built}
-use Rattle.vtl_backend.specs.Runs.{Tells}
-use Rattle.vtl_backend.specs.declared.error.RunErr.{RunErr}
-use Rattle.vtl_backend.specs.declared.error.RunErr.TheVariants as run
+use Rattle.vtl_backend.specs.Runs.{Tells, script_meaning}
+use Rattle.vtl_scalar.specs.declared.run_error.RunErr.{RunErr}
+use Rattle.vtl_scalar.specs.declared.run_error.RunErr.TheVariants as run
 use Rattle.vtl_top.specs.Answered.{Came, Takes}
 use Rattle.std.specs.Prelude.{IfOk, IsErrAnd, map}
 use Rattle.vtl_syntax.specs.declared.statements.Statement.{Statement}
@@ -25,7 +26,6 @@ use Rattle.vtl_tree.specs.Structures.{Named}
 use Rattle.vtl_check.specs.Checked.{TypedScript, nodes_of, tree_of}
 use Rattle.vtl_check.specs.Script.{has_definitions}
 use Rattle.vtl_backend.specs.Inputs.{environment_of, inputs_of}
-use Rattle.vtl_backend.specs.Runs.{script_meaning}
 use Rattle.vtl_top.specs.Expected.{IsTextOf, Typed, built_step, fault_status, inputs_step, meant, outputs_of, points_or_fault, run_step, script_step, structures_step, text_for, text_step, typed_by, typed_step, typing_of, unbuilt}
 use Rattle.vtl_top.specs.InputsRead.{rows_in}
 use Rattle.vtl_top.specs.Kinds.{refused, told_by}

@@ -2,7 +2,8 @@
 use Rattle.std.proofs.Common.{◌≡◌, inl, inr, ℕ, List, [], map, Option, Some, None, Result, Ok, Err, refl, sym, ap, subst, ◌∙◌, chars}
 use Rattle.std.specs.Option.{option_map}
 use Rattle.vtl_files.specs.declared.files.Files.{Ghosts}
-use Rattle.vtl_cell.specs.Outcome.{DivZero, Fault as EvaluationFault, Range}
+use Rattle.vtl_decimal.specs.declared.number.Fault.TheVariants.{DivZero, Range}
+use Rattle.vtl_decimal.specs.declared.number.Fault.{Fault as EvaluationFault}
 use Rattle.vtl_decimal.specs.Settings.{Settings}
 use Rattle.vtl_rows.specs.Named.{NamedTables}
 use Rattle.vtl_tree.specs.Environment.{Environment}
@@ -17,8 +18,8 @@ use Rattle.sql_check_parts.specs.Statements.{Fault, script_fault, script_setting
 use Rattle.sql_meaning.specs.Scripts.{Export, NamedFault, script_value}
 use Rattle.sql_engine.specs.Exported.{shown}
 use Rattle.sql_engine.specs.Runs.{FaultIs, ShowsExports}
-use Rattle.sql_engine.specs.declared.error.RunErr.{RunErr}
-use Rattle.sql_engine.specs.declared.error.RunErr.TheVariants as engine
+use Rattle.vtl_scalar.specs.declared.run_error.RunErr.{RunErr}
+use Rattle.vtl_scalar.specs.declared.run_error.RunErr.TheVariants as engine
 use Rattle.vtl_top.specs.Answered.{Came, Takes}
 use Rattle.vtl_top.specs.Expected.{fault_status, inputs_step}
 use Rattle.vtl_top.specs.Kinds.{refused, told_by}

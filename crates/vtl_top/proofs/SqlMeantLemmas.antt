@@ -2,7 +2,8 @@
 use Rattle.std.proofs.Common.{◌≡◌, ◌⊎◌, inl, inr, ℕ, List, [], map, Option, Some, None, Result, Ok, Err, refl, sym, ap, subst, ◌∙◌, chars}
 use Rattle.std.specs.Prelude.{IsUtf8}
 use Rattle.vtl_files.specs.Outside.{bytes_at}
-use Rattle.vtl_cell.specs.Outcome.{DivZero, Fault as EvaluationFault, Range}
+use Rattle.vtl_decimal.specs.declared.number.Fault.TheVariants.{DivZero, Range}
+use Rattle.vtl_decimal.specs.declared.number.Fault.{Fault as EvaluationFault}
 use Rattle.vtl_decimal.specs.Settings.{Settings}
 use Rattle.vtl_tree.specs.Environment.{Environment}
 use Rattle.sql_tree.specs.Texts.{IsScript}

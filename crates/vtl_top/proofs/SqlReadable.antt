@@ -1,5 +1,5 @@
 -- The INPUTs of a script that is formed and typed can be read, and tables of their data sets are what the engine asks for.
-use Rattle.std.proofs.Common.{◌≡◌, ℕ, Bool, true, false, ◌||◌, List, [], ◌∷◌, ◌++◌, map, Option, Some, None, refl, sym, ap, subst, ◌∙◌}
+use Rattle.std.proofs.Common.{◌≡◌, ℕ, Bool, true, false, ◌||◌, List, [], ◌∷◌, ◌++◌, map, Option, Some, None, refl, sym, ap, subst, ◌∙◌, Result, Ok, Err, IfOk}
 use Rattle.std.specs.Cmp.Lexicographic.{nat_list_eq_equiv}
 use Rattle.std.specs.List.{AllByRecursion, list_any}
 use Rattle.std.specs.Map.{keys_of}
@@ -19,14 +19,12 @@ use Rattle.vtl_tree.specs.Structures.{Named}
 use Rattle.sql_tree.specs.Formed.{FormedScript, IsStatement}
 use Rattle.sql_tree.specs.Grammar.{most_levels}
 use Rattle.sql_tree.specs.Trees as tree
-use Rattle.sql_tree.specs.Trees.{StatementTree}
+use Rattle.sql_tree.specs.Trees.{StatementTree, ScriptTree}
 use Rattle.sql_check_parts.specs.Scopes.{Columns, Tables}
 use Rattle.sql_check_parts.specs.Statements.{Given, IsTypedScript, after, input_columns, is_taken, nothing, settings_of}
 use Rattle.sql_check_laws.specs.Statements.{AreTyped}
 use Rattle.sql_check_laws.proofs.TypedStatements.{script_typed}
 use Rattle.grammar_forms.specs.Written.{Each}
-use Rattle.std.proofs.Common.{Result, Ok, Err, IfOk}
-use Rattle.sql_tree.specs.Trees.{ScriptTree}
 use Rattle.sql_tree.specs.View.{script_tree, statement_tree}
 use Rattle.sql_tree.specs.declared.statements.SqlScript.{SqlScript}
 use Rattle.vtl_top.specs.InputsRead.{AreReadable}

@@ -1,17 +1,16 @@
 -- The status of a file that was not read, or does not hold what it should.
-use Rattle.std.specs.Prelude.{◌≡◌, ◌⊎◌, List, ℕ, chars, Result, Ok, Err}
+use Rattle.std.specs.Prelude.{◌≡◌, ◌⊎◌, List, ℕ, chars, Result, Ok, Err, IsUtf8}
 use Rattle.vtl_files.specs.declared.read_err.ReadErr.{ReadErr}
 use Rattle.vtl_files.specs.declared.read_err.ReadErr.TheVariants as e
 use Rattle.vtl_parser.specs.declared.parsing.ParseErr.{ParseErr}
 use Rattle.vtl_parser.specs.declared.parsing.ParseErr.TheVariants as parse
-use Rattle.std.specs.Prelude.{IsUtf8}
 use Rattle.vtl_parser.specs.Parsed.{IsFaulty, IsScript}
 use Rattle.vtl_syntax.specs.View.{script_tree}
 use Rattle.vtl_syntax.specs.declared.statements.Script.{Script}
 use Rattle.vtl_cell.specs.Row.{Row}
 use Rattle.vtl_rows.specs.Tables.{Listed}
-use Rattle.vtl_backend.specs.declared.error.RunErr.{RunErr}
-use Rattle.vtl_backend.specs.declared.error.RunErr.TheVariants as run
+use Rattle.vtl_scalar.specs.declared.run_error.RunErr.{RunErr, RunErr as SqlRunErr}
+use Rattle.vtl_scalar.specs.declared.run_error.RunErr.TheVariants as run
 use Rattle.vtl_tree.specs.declared.structure.Structure.{Structure}
 use Rattle.vtl_sets.specs.TableOf.{IsTableOf}
 use Rattle.vtl_csv.specs.InputFile.{Fault}
@@ -22,8 +21,7 @@ use Rattle.sql_parser.specs.declared.parsing.SqlErr.{SqlErr}
 use Rattle.sql_parser.specs.declared.parsing.SqlErr.TheVariants as sql
 use Rattle.sql_check.specs.declared.error.SqlTypeErr.{SqlTypeErr}
 use Rattle.sql_check.specs.declared.error.SqlTypeErr.TheVariants as typed
-use Rattle.sql_engine.specs.declared.error.RunErr.{RunErr as SqlRunErr}
-use Rattle.sql_engine.specs.declared.error.RunErr.TheVariants as engine
+use Rattle.vtl_scalar.specs.declared.run_error.RunErr.TheVariants as engine
 use Rattle.vtl_csv.specs.declared.input.InputErr.{InputErr}
 use Rattle.vtl_csv.specs.declared.input.InputErr.TheVariants as input
 use Rattle.vtl_top.specs.Expected.{points_or_fault}

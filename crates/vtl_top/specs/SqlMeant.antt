@@ -2,7 +2,7 @@
 use Rattle.std.specs.Prelude.{◌≡◌, List, [], map, Err, Ok, Some, IsUtf8}
 use Rattle.vtl_files.specs.Outside.{bytes_at}
 use Rattle.vtl_tree.specs.Environment.{Environment}
-use Rattle.vtl_cell.specs.Outcome.{Fault}
+use Rattle.vtl_decimal.specs.declared.number.Fault.{Fault}
 use Rattle.sql_tree.specs.Texts.{IsScript}
 use Rattle.sql_tree.specs.Trees.{ScriptTree}
 use Rattle.sql_check_parts.specs.Statements.{Fault as Breach, IsTypedScript, script_fault, script_settings}

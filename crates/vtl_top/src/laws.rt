@@ -5,7 +5,7 @@ ghost use Rattle.vtl_tree.specs.Structure.{IsStructure, key_width, same_name};
 ghost use Rattle.vtl_tree.specs.Structures.{Named};
 ghost use Rattle.vtl_tree.specs.declared.structure.Structure.{Structure};
 ghost use Rattle.vtl_csv.specs.StructuresFile.{structures_of_file};
-ghost use Rattle.vtl_cell.specs.Outcome.{Fault};
+ghost use Rattle.vtl_decimal.specs.declared.number.Fault.{Fault};
 ghost use Rattle.vtl_top.specs.Answered.{Ends};
 ghost use Rattle.vtl_top.specs.Complete.{IsCalm};
 ghost use Rattle.vtl_top.specs.Asked.{asked_step};

@@ -36,11 +36,12 @@ pub use laws::{
 pub use run::read_built;
 pub use sql_back::{Bundled, SqlBack, TextEngine};
 pub use top::{vtl, vtl_by, vtl_with};
-pub use vtl_backend::{Backend, RunErr};
+pub use vtl_backend::Backend;
 pub use vtl_cell::Cell;
 pub use vtl_check::Checked;
 pub use vtl_decimal::{Profile, Rounding};
 pub use vtl_rows::{Inputs, Outputs, SortKey, Table};
+pub use vtl_scalar::RunErr;
 pub use vtl_status::{Status, tell};
 pub use vtl_text::Txt;
 pub use words::Source;

@@ -20,7 +20,7 @@ use crate::refusal::not_text;
 use crate::sql_inputs::read_sql_inputs;
 use crate::words::Engine;
 use sql_check::{SqlChecked, SqlTypeErr, check};
-use sql_engine::{RunErr, run};
+use sql_engine::run;
 use sql_parser::{SqlErr, parse};
 use sql_tree::SqlScript;
 use std::alloc::{AllocError, Global};
@@ -32,6 +32,7 @@ use vtl_decimal::Profile;
 use vtl_files::Files;
 use vtl_index::Steps;
 use vtl_rows::{Table, Tables};
+use vtl_scalar::RunErr;
 use vtl_status::Status;
 use vtl_text::Txt;
 

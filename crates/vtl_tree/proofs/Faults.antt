@@ -1,7 +1,9 @@
 -- The fault of many values does not depend on their order.
 use Rattle.std.proofs.Common.{◌≡◌, ℕ, ◌+◌, ◌<◌, length, take, get_or, List, [], ◌∷◌, ◌++◌, Option, Some, None, refl, sym, ap, ◌∙◌, subst}
 use Rattle.std.proofs.lemmas.List.{take_more}
-use Rattle.vtl_cell.specs.Outcome.{Fault, DivZero, Range, join, faults_by, unless}
+use Rattle.vtl_decimal.specs.declared.number.Fault.{Fault}
+use Rattle.vtl_decimal.specs.declared.number.Fault.TheVariants.{DivZero, Range}
+use Rattle.vtl_cell.specs.Outcome.{join, faults_by, unless}
 use Rattle.vtl_cell.specs.Outcomes.{Same}
 use Rattle.vtl_lists.specs.Perm.{Perm, empty, keep, cross, chain}
 

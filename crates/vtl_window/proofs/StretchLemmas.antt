@@ -3,7 +3,7 @@ use Rattle.std.proofs.Common.{◌≡◌, ℕ, zero, suc, ◌+◌, ◌-◌, ◌<�
 use Rattle.std.specs.Prelude.{filter}
 use Rattle.std.specs.Ordering.{is_eq}
 use Rattle.vtl_cell.specs.Row.{Row, same_row}
-use Rattle.vtl_cell.specs.Sorted.{by_keys}
+use Rattle.vtl_cell.specs.Sorted.{by_keys, rising}
 use Rattle.vtl_cell.proofs.Rows.{same_row-is, same_row-refl}
 use Rattle.vtl_rows.specs.Keys.{agree, key_of}
 use Rattle.vtl_rows.specs.Places.{row_at}
@@ -11,7 +11,6 @@ use Rattle.vtl_rows.specs.Runs.{is_start}
 use Rattle.vtl_rows.specs.Tables.{cells_at}
 use Rattle.vtl_rows.specs.declared.column.SortKey.{SortKey}
 use Rattle.vtl_rows.proofs.Ties.{ties_agree, ties_between}
-use Rattle.vtl_cell.specs.Sorted.{rising}
 use Rattle.vtl_window.specs.Runs.{AreInOrder}
 use Rattle.vtl_window.proofs.RankLemmas.{le_at, starts_apart, tied_with_last, total}
 

@@ -2,7 +2,9 @@
 use Rattle.std.proofs.Common.{◌≡◌, ℕ, zero, suc, ◌<◌, Bool, true, false, cond, List, [], ◌∷◌, length, map, get_or, Option, Some, None, Ok, Err, refl, sym, ap, ◌∙◌, subst, arith}
 use Rattle.std.specs.Prelude.{IfOk, option_map}
 use Rattle.std.specs.List.{AllByRecursion, find}
-use Rattle.vtl_cell.specs.Outcome.{DivZero, Fault, Range, faults_by, unless}
+use Rattle.vtl_decimal.specs.declared.number.Fault.TheVariants.{DivZero, Range}
+use Rattle.vtl_decimal.specs.declared.number.Fault.{Fault}
+use Rattle.vtl_cell.specs.Outcome.{faults_by, unless}
 use Rattle.vtl_cell.specs.Row.{Row}
 use Rattle.vtl_decimal.specs.Settings.{Settings}
 use Rattle.vtl_cell.specs.declared.cell.Cell.{Cell}
@@ -16,8 +18,7 @@ use Rattle.vtl_tree.specs.Structure.{columns_of, same_name, same_role}
 use Rattle.vtl_tree.specs.declared.structure.Component.{Component}
 use Rattle.vtl_tree.specs.declared.structure.Role.TheVariants as role
 use Rattle.vtl_tree.specs.declared.structure.Structure.{Structure}
-use Rattle.vtl_aggregates.specs.Aggregates.{Made}
-use Rattle.vtl_aggregates.specs.Aggregates.{group_fault as point_fault}
+use Rattle.vtl_aggregates.specs.Aggregates.{Made, group_fault as point_fault}
 use Rattle.vtl_windows.specs.Analytics.{analytic_of, item_named, made_of, measure_call, point_of, value_for}
 use Rattle.vtl_meaning.specs.Made.{AreValuesOver, IsValueOver, IsWindowed}
 use Rattle.vtl_sets.specs.TableOf.{table_columns}

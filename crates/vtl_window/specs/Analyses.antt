@@ -1,7 +1,8 @@
 -- Columns of the result, cell by cell.
 use Rattle.std.specs.Prelude.{List, map, Option}
 use Rattle.std.specs.Vec.Iter.{into_iter_items}
-use Rattle.vtl_cell.specs.Outcome.{Fault, Outcome, fault_in, faults_by}
+use Rattle.vtl_decimal.specs.declared.number.Fault.{Fault}
+use Rattle.vtl_cell.specs.Outcome.{Outcome, fault_in, faults_by}
 use Rattle.vtl_cell.specs.Row.{Row, column_of}
 use Rattle.vtl_cell.specs.declared.cell.Cell.{Cell}
 use Rattle.vtl_tree.specs.declared.structure.Component.{Component}

@@ -3,12 +3,11 @@ ghost use Rattle.std.specs.Prelude.{◌≡◌, IfErr, IfOk};
 ghost use Rattle.vtl_cell.specs.Outcome.{Outcome, fault_in, join};
 ghost use Rattle.vtl_cell.specs.declared.cell.Cell as cell;
 ghost use Rattle.vtl_aggregates.specs.Aggregates.{cell_or_null};
-ghost use Rattle.vtl_expr.specs.Seen.{seen_of};
+ghost use Rattle.vtl_scalar.specs.Seen.{seen_of};
 ghost use Rattle.vtl_scalar.specs.Answers.{Answers};
 
 use vtl_cell::Cell;
-use vtl_expr::Seen;
-use vtl_scalar::ScalarErr;
+use vtl_scalar::{ScalarErr, Seen};
 
 /// The value that was answered, or null where it has a fault, which is noted. It fails only if memory ran out.
 pub(crate) fn noted(seen: &mut Seen, answer: Result<Cell, ScalarErr>) -> Result<Cell, ScalarErr>

@@ -4,7 +4,7 @@ ghost use Rattle.std.specs.Prelude.{◌≡◌, ◌<◌, ℕ, All, IfErr, IfOk, I
 ghost use Rattle.vtl_cell.specs.Conversion.{as_kind};
 ghost use Rattle.vtl_cell.specs.Outcome.{Outcome, after, join};
 ghost use Rattle.vtl_cell.specs.declared.cell.Cell as cell;
-ghost use Rattle.vtl_expr.specs.Seen.{seen_of};
+ghost use Rattle.vtl_scalar.specs.Seen.{seen_of};
 ghost use Rattle.vtl_scalar.specs.Answers.{Answers};
 ghost use Rattle.vtl_window.specs.Analyses.{cells_by, faults_of};
 
@@ -13,8 +13,7 @@ use crate::partition::Outcomes;
 use std::alloc::{AllocError, Global};
 use vtl_cell::{Cell, Kind};
 use vtl_decimal::{Fault, Profile};
-use vtl_expr::Seen;
-use vtl_scalar::{ScalarErr, to_kind};
+use vtl_scalar::{ScalarErr, Seen, to_kind};
 
 // So many nulls.
 fn nulls(alloc: Global, count: usize) -> Result<Vec<Cell>, AllocError>

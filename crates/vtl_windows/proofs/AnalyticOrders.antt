@@ -17,8 +17,7 @@ use Rattle.vtl_tree.proofs.Faults.{Same_unless, faults_by-Perm}
 use Rattle.vtl_nodes.specs.Trees as nodes
 use Rattle.vtl_nodes.specs.Trees.{AnalyticTree, ValueTree}
 use Rattle.check_shapes.specs.Columns.{place_of}
-use Rattle.vtl_aggregates.specs.Aggregates.{Made}
-use Rattle.vtl_aggregates.specs.Aggregates.{group_fault as point_fault}
+use Rattle.vtl_aggregates.specs.Aggregates.{Made, group_fault as point_fault}
 use Rattle.vtl_windows.specs.Analytics.{analytic_of, each_point, made_of, point_of, tree_value, value_for}
 use Rattle.vtl_windows.specs.Windows.{argument, op_value}
 use Rattle.vtl_windows.proofs.Partitions.{stand_same}

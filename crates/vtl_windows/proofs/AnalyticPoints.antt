@@ -7,7 +7,8 @@ use Rattle.std.proofs.Math.Seq.{take-append_seam}
 use Rattle.std.proofs.lemmas.List.{length-map, map-append}
 use Rattle.vtl_lists.specs.Apart.{all_apart}
 use Rattle.vtl_cell.specs.Kinds.{is_null}
-use Rattle.vtl_cell.specs.Outcome.{Fault, Outcome, faults_by, unless}
+use Rattle.vtl_decimal.specs.declared.number.Fault.{Fault}
+use Rattle.vtl_cell.specs.Outcome.{Outcome, faults_by, unless}
 use Rattle.vtl_cell.specs.Profile.{IsOfProfile}
 use Rattle.vtl_cell.specs.Row.{Row, column_of, same_key, same_row}
 use Rattle.vtl_decimal.specs.Settings.{Settings}
@@ -22,8 +23,7 @@ use Rattle.vtl_nodes.specs.Trees as nodes
 use Rattle.vtl_nodes.specs.Trees.{AnalyticTree, ValueTree}
 use Rattle.check_shapes.specs.Columns.{identifiers_of, others_of, place_of, places_in}
 use Rattle.check_shapes.specs.Names.{component_of}
-use Rattle.vtl_aggregates.specs.Aggregates.{Made, cell_or_null}
-use Rattle.vtl_aggregates.specs.Aggregates.{group_fault as point_fault}
+use Rattle.vtl_aggregates.specs.Aggregates.{Made, cell_or_null, group_fault as point_fault}
 use Rattle.vtl_aggregates.proofs.GroupKinds.{GivesOf, GivesOfProfile, IsOf, null_is_of}
 use Rattle.vtl_aggregates.proofs.GroupPoints.{HasCell, all_more, found_cell}
 use Rattle.vtl_windows.specs.Analytics.{analytic_of, made_of, point_of, tree_value, value_for}

@@ -18,8 +18,7 @@ use Rattle.vtl_nodes.specs.declared.calls.AnalyticOp.{AnalyticOp}
 use Rattle.vtl_nodes.specs.declared.calls.Window.{Window}
 use Rattle.check_shapes.specs.Columns.{place_of}
 use Rattle.check_shapes.specs.Measures.{is_measure}
-use Rattle.vtl_aggregates.specs.Aggregates.{Made, cell_or_null}
-use Rattle.vtl_aggregates.specs.Aggregates.{group_fault as point_fault}
+use Rattle.vtl_aggregates.specs.Aggregates.{Made, cell_or_null, group_fault as point_fault}
 use Rattle.vtl_windows.specs.Windows.{call_value}
 
 -- ---- the values that are made

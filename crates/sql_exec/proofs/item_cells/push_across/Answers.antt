@@ -2,7 +2,7 @@ use Rattle.std.proofs.Common.{◌<◌, ◌≤◌, ◌++◌, length, get_or, ap, 
 use Rattle.std.proofs.lemmas.List.{get_or_default, take_all}
 use Rattle.vtl_cell.specs.Outcome.{fault_in, join}
 use Rattle.sql_meaning.specs.Outcomes.{cell_or_null, row_at, row_fault}
-use Rattle.sql_from.specs.Seen.{seen_of}
+use Rattle.vtl_scalar.specs.Seen.{seen_of}
 use Rattle.sql_meaning.proofs.UpToOrder.{join_none}
 use Rattle.sql_exec.specs.ItemCells.{next_value}
 use Rattle.sql_exec.proofs.ItemWalks.{across_all, across_next, across_none, here}

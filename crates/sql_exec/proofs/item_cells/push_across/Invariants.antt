@@ -1,7 +1,7 @@
 use Rattle.std.proofs.Common.{◌≡◌, ◌++◌, take}
 use Rattle.vtl_cell.specs.Outcome.{join}
 use Rattle.sql_meaning.specs.Outcomes.{row_at, row_fault}
-use Rattle.sql_from.specs.Seen.{seen_of}
+use Rattle.vtl_scalar.specs.Seen.{seen_of}
 use Rattle.sql_exec.specs.ItemCells.{next_value}
 use Rattle.sql_exec.proofs.ItemWalks.{IsAcross}
 use Rattle.sql_exec.proofs.item_cells.push_across.Given as goal

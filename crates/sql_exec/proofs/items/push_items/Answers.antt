@@ -2,7 +2,7 @@ use Rattle.std.proofs.Common.{ℕ}
 use Rattle.vtl_cell.specs.Outcome.{fault_in}
 use Rattle.vtl_cell.specs.Row.{Row}
 use Rattle.sql_meaning.specs.Outcomes.{cell_or_null}
-use Rattle.sql_from.specs.Seen.{seen_of}
+use Rattle.vtl_scalar.specs.Seen.{seen_of}
 use Rattle.sql_exec.specs.Items.{made_at_row}
 use Rattle.sql_exec.proofs.Steps.{mapped_more, seen_more}
 use Rattle.sql_exec.proofs.items.push_items.Goals as goal

@@ -1,5 +1,5 @@
 use Rattle.std.proofs.Common.{◌≡◌, ◌∙◌, ◌<◌, ◌-◌, ◌++◌, ◌∷◌, [], List, ℕ, length, get_or, take, arith, sym}
-use Rattle.sql_from.specs.Seen.{seen_of}
+use Rattle.vtl_scalar.specs.Seen.{seen_of}
 use Rattle.sql_from.proofs.Walks.{keep_more, keep_seen, whole_tuple}
 use Rattle.sql_from.proofs.joining.keep.Goals as goal
 

@@ -1,6 +1,6 @@
 use Rattle.std.proofs.Common.{◌≡◌, take}
 use Rattle.vtl_cell.specs.Outcome.{join}
-use Rattle.sql_from.specs.Seen.{seen_of}
+use Rattle.vtl_scalar.specs.Seen.{seen_of}
 use Rattle.sql_from.specs.Joins.{kept_fault, kept_tuples}
 use Rattle.sql_from.proofs.joining.keep.Given as goal
 

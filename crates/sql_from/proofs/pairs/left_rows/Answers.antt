@@ -1,6 +1,6 @@
 use Rattle.std.proofs.Common.{◌∙◌, ◌<◌, length, arith}
 use Rattle.vtl_cell.specs.Outcome.{faults_by}
-use Rattle.sql_from.specs.Seen.{seen_of}
+use Rattle.vtl_scalar.specs.Seen.{seen_of}
 use Rattle.sql_from.specs.Joins.{fault_of, from_left, numbers_to}
 use Rattle.sql_from.proofs.Walks.{flat_more, seen_more}
 use Rattle.sql_from.proofs.pairs.left_rows.Goals as goal

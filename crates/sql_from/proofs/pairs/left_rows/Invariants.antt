@@ -1,7 +1,7 @@
 use Rattle.std.proofs.Common.{◌≡◌, ◌+◌, take}
 use Rattle.std.specs.List.{flat_map}
 use Rattle.vtl_cell.specs.Outcome.{join}
-use Rattle.sql_from.specs.Seen.{seen_of}
+use Rattle.vtl_scalar.specs.Seen.{seen_of}
 use Rattle.sql_from.specs.Joins.{from_left, pairs_fault}
 use Rattle.sql_from.proofs.pairs.left_rows.Given as goal
 

@@ -1,5 +1,5 @@
 use Rattle.std.proofs.Common.{◌∙◌, ◌||◌, ap, sym}
-use Rattle.sql_from.specs.Seen.{seen_of}
+use Rattle.vtl_scalar.specs.Seen.{seen_of}
 use Rattle.sql_from.proofs.Walks.{any_more, faults_more, pairs_more}
 use Rattle.sql_from.specs.Joins.{passes}
 use Rattle.sql_from.proofs.pairs.pairs_of.Goals.{then-met, else-met}

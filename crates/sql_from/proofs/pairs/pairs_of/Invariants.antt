@@ -1,7 +1,7 @@
 use Rattle.std.proofs.Common.{◌≡◌, ◌++◌}
 use Rattle.std.specs.List.{list_any}
 use Rattle.vtl_cell.specs.Outcome.{faults_by, join}
-use Rattle.sql_from.specs.Seen.{seen_of}
+use Rattle.vtl_scalar.specs.Seen.{seen_of}
 use Rattle.sql_from.specs.Joins.{fault_of, numbers_to, pairs_with, passes}
 use Rattle.sql_from.proofs.pairs.pairs_of.Given as goal
 

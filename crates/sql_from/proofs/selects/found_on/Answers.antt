@@ -7,7 +7,7 @@ use Rattle.sql_from.specs.Held.{rows_held}
 use Rattle.sql_from.specs.Joins.{Test, joined_tuples, pairs_fault}
 use Rattle.sql_from.specs.Lookups.{Finds}
 use Rattle.sql_from.specs.Rows.{combined}
-use Rattle.sql_from.specs.Seen.{seen_of}
+use Rattle.vtl_scalar.specs.Seen.{seen_of}
 use Rattle.sql_from.specs.Sources.{Sourced, parts_of}
 use Rattle.sql_from.specs.Standing.{condition_at}
 use Rattle.sql_from.proofs.selects.found_on.Goals as goal

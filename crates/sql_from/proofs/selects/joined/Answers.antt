@@ -10,7 +10,7 @@ use Rattle.sql_meaning.specs.From.{first_of, with_join}
 use Rattle.sql_meaning.specs.Plans.{early_at, try_early}
 use Rattle.sql_meaning.specs.Values.{View, at_rows}
 use Rattle.sql_from.specs.Held.{base_held}
-use Rattle.sql_from.specs.Seen.{seen_of}
+use Rattle.vtl_scalar.specs.Seen.{seen_of}
 use Rattle.sql_from.specs.Sources.{Sourced}
 use Rattle.sql_from.specs.Standing.{StandsFor, sight_of}
 use Rattle.sql_from.specs.Steps.{is_listed}

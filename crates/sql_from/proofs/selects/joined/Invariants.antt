@@ -1,7 +1,7 @@
 use Rattle.std.proofs.Common.{◌≡◌, true, drop, map}
 use Rattle.sql_tree.specs.View.{join_tree, select_tree}
 use Rattle.sql_from.specs.Held.{base_held}
-use Rattle.sql_from.specs.Seen.{seen_of}
+use Rattle.vtl_scalar.specs.Seen.{seen_of}
 use Rattle.sql_from.specs.Steps.{IsPlainJoin, is_listed}
 use Rattle.sql_from.proofs.Counted.{Taken}
 use Rattle.sql_from.proofs.Standing.{Left}

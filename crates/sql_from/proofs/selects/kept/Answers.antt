@@ -6,7 +6,7 @@ use Rattle.sql_eval.specs.View.{placed_of}
 use Rattle.sql_from.specs.Held.{rows_held}
 use Rattle.sql_from.specs.Joins.{Test, kept_fault, kept_tuples}
 use Rattle.sql_from.specs.Rows.{combined}
-use Rattle.sql_from.specs.Seen.{seen_of}
+use Rattle.vtl_scalar.specs.Seen.{seen_of}
 use Rattle.sql_from.specs.Sources.{Sourced, parts_of}
 use Rattle.sql_from.specs.Standing.{condition_at}
 use Rattle.sql_from.proofs.selects.kept.Goals as goal

@@ -3,7 +3,7 @@ use Rattle.std.specs.Option.{option_map}
 use Rattle.sql_tree.specs.View.{expr_tree}
 use Rattle.sql_meaning.specs.From.{kept_of}
 use Rattle.sql_from.specs.Held.{base_held}
-use Rattle.sql_from.specs.Seen.{seen_of}
+use Rattle.vtl_scalar.specs.Seen.{seen_of}
 use Rattle.sql_from.proofs.Standing.{if_both, kept_stands}
 use Rattle.sql_from.proofs.selects.kept_where.Goals as goal
 

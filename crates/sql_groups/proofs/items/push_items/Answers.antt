@@ -1,5 +1,5 @@
 use Rattle.sql_groups.specs.Items.{item_at}
-use Rattle.sql_from.specs.Seen.{seen_of}
+use Rattle.vtl_scalar.specs.Seen.{seen_of}
 use Rattle.sql_groups.proofs.ItemLemmas.{cells_more, seen_more}
 use Rattle.sql_groups.proofs.items.push_items.Goals as goal
 

@@ -2,7 +2,7 @@ use Rattle.std.proofs.Common.{◌≡◌, ◌++◌, map, take}
 use Rattle.vtl_cell.specs.Outcome.{fault_in, faults_by, join}
 use Rattle.sql_meaning.specs.Outcomes.{cell_or_null}
 use Rattle.sql_groups.specs.Items.{item_at}
-use Rattle.sql_from.specs.Seen.{seen_of}
+use Rattle.vtl_scalar.specs.Seen.{seen_of}
 use Rattle.sql_groups.proofs.items.push_items.Given as goal
 
 abbrev pub invariant-loop-item : goal.invariant-loop-item

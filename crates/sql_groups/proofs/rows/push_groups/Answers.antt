@@ -8,7 +8,7 @@ use Rattle.sql_meaning.proofs.Lists.{all_at}
 use Rattle.sql_from.specs.Held.{rows_held}
 use Rattle.sql_from.specs.KeyPartners.{Asking}
 use Rattle.sql_meaning.specs.Profiles.{AreOfProfile, IsRowOfProfile}
-use Rattle.sql_from.specs.Seen.{seen_of}
+use Rattle.vtl_scalar.specs.Seen.{seen_of}
 use Rattle.sql_groups.specs.Grouped.{AreWithin, Group, rows_at}
 use Rattle.sql_groups.specs.Items.{around, fault_for, fault_of_key, is_kept, keys_in, passes, places_of, row_for, row_of_key, tested}
 use Rattle.sql_groups.specs.Kept.{rows_of}

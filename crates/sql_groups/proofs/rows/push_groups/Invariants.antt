@@ -2,7 +2,7 @@ use Rattle.std.proofs.Common.{◌≡◌, ◌++◌, map, take}
 use Rattle.std.specs.List.{filter}
 use Rattle.vtl_cell.specs.Outcome.{faults_by}
 use Rattle.sql_groups.specs.Items.{around, fault_of_key, is_kept, row_of_key}
-use Rattle.sql_from.specs.Seen.{seen_of}
+use Rattle.vtl_scalar.specs.Seen.{seen_of}
 use Rattle.sql_groups.proofs.rows.push_groups.Given as goal
 
 abbrev pub invariant-loop-number : goal.invariant-loop-number

@@ -10,7 +10,7 @@ use Rattle.sql_from.specs.Held.{rows_held}
 use Rattle.sql_from.specs.Rows.{combined}
 use Rattle.sql_from.specs.Sources.{Sourced, parts_of}
 use Rattle.sql_groups.specs.Kept.{rows_of, tables_of}
-use Rattle.sql_from.specs.Seen.{seen_of}
+use Rattle.vtl_scalar.specs.Seen.{seen_of}
 use Rattle.sql_groups.proofs.GatheredLemmas.{all_gathered, faults_more, values_more, values_to}
 use Rattle.sql_groups.proofs.totals.of_values.Goals as goal
 

@@ -6,7 +6,7 @@ use Rattle.sql_eval.specs.Placed.{placed_value}
 use Rattle.sql_eval.specs.View.{placed_of}
 use Rattle.sql_groups.specs.Grouped.{rows_at}
 use Rattle.sql_groups.specs.Kept.{rows_of, tables_of}
-use Rattle.sql_from.specs.Seen.{seen_of}
+use Rattle.vtl_scalar.specs.Seen.{seen_of}
 use Rattle.sql_groups.proofs.totals.of_values.Given as goal
 
 abbrev pub invariant-loop-number : goal.invariant-loop-number

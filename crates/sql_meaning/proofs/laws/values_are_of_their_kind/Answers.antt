@@ -1,5 +1,4 @@
-use Rattle.std.specs.Prelude.{None}
-use Rattle.std.specs.Prelude.{[]}
+use Rattle.std.specs.Prelude.{None, []}
 use Rattle.sql_meaning.proofs.ExpressionKinds.{value_has}
 use Rattle.sql_meaning.proofs.WindowKinds.{sees_row}
 use Rattle.sql_meaning.specs.Values.{place_in}

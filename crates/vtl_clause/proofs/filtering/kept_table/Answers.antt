@@ -1,6 +1,7 @@
 use Rattle.std.proofs.Common.{◌≡◌, ◌<◌, ◌≤◌, List, [], ◌∷◌, ◌++◌, cond, Option, length, true, arith, ap, sym, subst, ◌∙◌}
 use Rattle.std.proofs.lemmas.List.{take_all}
-use Rattle.vtl_cell.specs.Outcome.{Fault, fault_in, faults_by, join}
+use Rattle.vtl_decimal.specs.declared.number.Fault.{Fault}
+use Rattle.vtl_cell.specs.Outcome.{fault_in, faults_by, join}
 use Rattle.vtl_cell.specs.Outcomes.{is_true}
 use Rattle.vtl_cell.specs.Row.{Row}
 use Rattle.vtl_rows.specs.Tables.{Listed, fits}
@@ -12,7 +13,7 @@ use Rattle.vtl_tree.specs.View.{comp_exp_of}
 use Rattle.vtl_sets.specs.TableOf.{table_columns}
 use Rattle.vtl_sets.proofs.TableLemmas.{answered_is_table, point_fits}
 use Rattle.vtl_meaning.proofs.Kept.{filtered_kept}
-use Rattle.vtl_expr.specs.Seen.{seen_of}
+use Rattle.vtl_scalar.specs.Seen.{seen_of}
 use Rattle.vtl_expr.proofs.PointLemmas.{answered_keeps, finished, holds_at}
 use Rattle.vtl_expr.proofs.Walks.{kept_more, seen_more}
 use Rattle.vtl_clause.proofs.filtering.kept_table.Goals as goal

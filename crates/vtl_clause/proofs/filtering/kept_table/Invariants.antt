@@ -4,7 +4,7 @@ use Rattle.vtl_tree.specs.Clauses.{kept}
 use Rattle.vtl_tree.specs.Value.{value}
 use Rattle.vtl_tree.specs.View.{comp_exp_of}
 use Rattle.vtl_sets.specs.TableOf.{table_columns}
-use Rattle.vtl_expr.specs.Seen.{seen_of}
+use Rattle.vtl_scalar.specs.Seen.{seen_of}
 use Rattle.vtl_clause.proofs.filtering.kept_table.Given as goal
 
 abbrev pub invariant-loop-i : goal.invariant-loop-i

@@ -1,9 +1,8 @@
 use Rattle.std.proofs.Common.{◌≡◌, ◌∙◌, true, sym, subst}
-use Rattle.std.specs.Prelude.{IfSome}
+use Rattle.std.specs.Prelude.{IfSome, List}
 use Rattle.vtl_cell.specs.Row.{Row}
 use Rattle.vtl_rows.specs.Tables.{fits}
 use Rattle.vtl_rows.specs.declared.column.Column.{Column}
-use Rattle.std.specs.Prelude.{List}
 use Rattle.vtl_combine.specs.Unpivots.{measure_by, named_row}
 use Rattle.vtl_combine.proofs.UnpivotLemmas.{drawn_holds, drawn_next_behind}
 use Rattle.vtl_combine.proofs.unpivoting.push_unpivoted.Goals as goal

@@ -8,7 +8,7 @@ use Rattle.vtl_sets.specs.TableOf.{table_columns}
 use Rattle.vtl_meaning.specs.Points.{point_fault, point_of}
 use Rattle.vtl_expr.specs.Partners.{found, with_found}
 use Rattle.vtl_expr.specs.Prepared.{prepared_exp}
-use Rattle.vtl_expr.specs.Seen.{seen_of}
+use Rattle.vtl_scalar.specs.Seen.{seen_of}
 use Rattle.vtl_expr.proofs.PointLemmas.{drawn_faults, drawn_mapped, finished, holds_at}
 use Rattle.vtl_expr.proofs.pairs.each_beside.Goals as goal
 

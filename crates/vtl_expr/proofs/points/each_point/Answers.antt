@@ -5,7 +5,7 @@ use Rattle.vtl_tree.specs.DataSet.{is_point}
 use Rattle.vtl_tree.specs.Structure.{columns_of}
 use Rattle.vtl_tree.specs.View.{comp_exp_of}
 use Rattle.vtl_meaning.specs.Points.{point_fault, point_of}
-use Rattle.vtl_expr.specs.Seen.{seen_of}
+use Rattle.vtl_scalar.specs.Seen.{seen_of}
 use Rattle.vtl_expr.proofs.PointLemmas.{fault_whole, fitting, holds_at, point_whole, rows_more}
 use Rattle.vtl_expr.proofs.Walks.{seen_more}
 use Rattle.vtl_expr.proofs.points.each_point.Goals as goal

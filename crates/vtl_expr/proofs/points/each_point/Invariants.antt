@@ -3,7 +3,7 @@ use Rattle.vtl_cell.specs.Outcome.{faults_by}
 use Rattle.vtl_tree.specs.View.{comp_exp_of}
 use Rattle.vtl_sets.specs.TableOf.{table_columns}
 use Rattle.vtl_meaning.specs.Points.{point_fault, point_of}
-use Rattle.vtl_expr.specs.Seen.{seen_of}
+use Rattle.vtl_scalar.specs.Seen.{seen_of}
 use Rattle.vtl_expr.proofs.points.each_point.Given as goal
 
 abbrev pub invariant-loop-i : goal.invariant-loop-i

@@ -4,7 +4,7 @@ use Rattle.vtl_tree.specs.Value.{value}
 use Rattle.vtl_tree.proofs.Faults.{join_assoc}
 use Rattle.vtl_meaning.specs.Points.{cell_or_null, point_fault, point_of}
 use Rattle.vtl_expr.specs.Prepared.{prepared_exp}
-use Rattle.vtl_expr.specs.Seen.{seen_of}
+use Rattle.vtl_scalar.specs.Seen.{seen_of}
 use Rattle.vtl_expr.proofs.PointLemmas.{fault_more, values_more}
 use Rattle.vtl_expr.proofs.points.push_values.Goals as goal
 

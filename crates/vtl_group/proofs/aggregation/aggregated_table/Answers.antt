@@ -11,7 +11,7 @@ use Rattle.vtl_tree.specs.Structure.{columns_of}
 use Rattle.vtl_tree.specs.View.{comp_exp_of}
 use Rattle.vtl_nodes.specs.View.{agg_tree}
 use Rattle.check_shapes.specs.Columns.{identifiers_of, others_of}
-use Rattle.vtl_expr.specs.Seen.{seen_of}
+use Rattle.vtl_scalar.specs.Seen.{seen_of}
 use Rattle.vtl_sets.specs.TableOf.{table_columns}
 use Rattle.vtl_expr.proofs.PointLemmas.{answered_keeps, finished}
 use Rattle.vtl_sets.proofs.TableLemmas.{answered_is_table, point_fits}

@@ -3,7 +3,7 @@ use Rattle.vtl_cell.specs.Outcome.{faults_by}
 use Rattle.vtl_tree.specs.Structure.{columns_of}
 use Rattle.vtl_nodes.specs.View.{agg_tree}
 use Rattle.check_shapes.specs.Columns.{others_of}
-use Rattle.vtl_expr.specs.Seen.{seen_of}
+use Rattle.vtl_scalar.specs.Seen.{seen_of}
 use Rattle.vtl_sets.specs.TableOf.{table_columns}
 use Rattle.vtl_group.proofs.Recipes.{fault_at, kept, keys, point}
 use Rattle.vtl_group.proofs.aggregation.aggregated_table.Given as goal

@@ -1,4 +1,4 @@
-use Rattle.vtl_expr.specs.Seen.{seen_of}
+use Rattle.vtl_scalar.specs.Seen.{seen_of}
 use Rattle.vtl_group.specs.Calls.{call_value, rows_at}
 use Rattle.vtl_group.specs.declared.calls.Call.{Call}
 use Rattle.vtl_cell.specs.Outcome.{Outcome}

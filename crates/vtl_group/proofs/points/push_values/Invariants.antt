@@ -1,6 +1,6 @@
 use Rattle.std.proofs.Common.{◌≡◌, ◌++◌, take}
 use Rattle.vtl_cell.specs.Outcome.{join}
-use Rattle.vtl_expr.specs.Seen.{seen_of}
+use Rattle.vtl_scalar.specs.Seen.{seen_of}
 use Rattle.vtl_group.specs.Calls.{rows_at}
 use Rattle.vtl_group.specs.Points.{faults_of_calls, values_of_calls}
 use Rattle.vtl_group.proofs.points.push_values.Given as goal

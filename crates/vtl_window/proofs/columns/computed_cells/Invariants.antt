@@ -2,7 +2,7 @@ use Rattle.std.proofs.Common.{◌≡◌, take}
 use Rattle.vtl_cell.specs.Outcome.{join}
 use Rattle.vtl_tree.specs.Value.{value}
 use Rattle.vtl_expr.specs.Prepared.{prepared_exp}
-use Rattle.vtl_expr.specs.Seen.{seen_of}
+use Rattle.vtl_scalar.specs.Seen.{seen_of}
 use Rattle.vtl_window.specs.Analyses.{cells_by, faults_of}
 use Rattle.vtl_window.proofs.columns.computed_cells.Given as goal
 

@@ -4,7 +4,7 @@ use Rattle.vtl_cell.specs.Outcome.{Outcome, join}
 use Rattle.vtl_cell.specs.Row.{Row, column_of}
 use Rattle.vtl_cell.specs.declared.cell.Cell.{Cell}
 use Rattle.vtl_tree.specs.Structure.{columns_of}
-use Rattle.vtl_expr.specs.Seen.{seen_of}
+use Rattle.vtl_scalar.specs.Seen.{seen_of}
 use Rattle.vtl_windows.specs.Analytics.{value_for}
 use Rattle.check_shapes.specs.Columns.{place_of}
 use Rattle.vtl_nodes.specs.View.{analytic_tree}

@@ -5,7 +5,7 @@ use Rattle.vtl_cell.specs.declared.cell.Cell.{Cell}
 use Rattle.vtl_tree.specs.Value.{value}
 use Rattle.vtl_tree.specs.View.{comp_exp_of}
 use Rattle.vtl_expr.specs.Prepared.{prepared_exp}
-use Rattle.vtl_expr.specs.Seen.{seen_of}
+use Rattle.vtl_scalar.specs.Seen.{seen_of}
 use Rattle.vtl_window.specs.Analyses.{faults_of}
 use Rattle.vtl_window.proofs.AnalysisLemmas.{ok_same}
 use Rattle.vtl_window.proofs.columns.scalar_cells.Goals as goal

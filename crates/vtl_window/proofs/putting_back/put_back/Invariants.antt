@@ -4,7 +4,7 @@ use Rattle.std.specs.Vec.Iter.{into_iter_items}
 use Rattle.vtl_cell.specs.Conversion.{as_kind}
 use Rattle.vtl_cell.specs.Outcome.{Outcome, after, join}
 use Rattle.vtl_cell.specs.declared.cell.Cell.{Cell}
-use Rattle.vtl_expr.specs.Seen.{seen_of}
+use Rattle.vtl_scalar.specs.Seen.{seen_of}
 use Rattle.vtl_window.specs.Analyses.{cells_by, faults_of}
 use Rattle.vtl_window.proofs.PutLemmas.{IsPutBack}
 use Rattle.vtl_window.proofs.putting_back.put_back.Given as goal

@@ -11,7 +11,7 @@ use Rattle.vtl_tree.specs.Shown.{shown}
 use Rattle.vtl_tree.specs.Structure.{columns_of}
 use Rattle.vtl_aggregates.specs.Aggregates.{cell_or_null}
 use Rattle.check_shapes.specs.Columns.{place_of}
-use Rattle.vtl_expr.specs.Seen.{seen_of}
+use Rattle.vtl_scalar.specs.Seen.{seen_of}
 use Rattle.vtl_windows.specs.Analytics.{tree_value}
 use Rattle.vtl_windows.specs.Windows.{call_value}
 use Rattle.vtl_nodes.specs.Trees.{analytic}

@@ -4,7 +4,7 @@ use Rattle.std.specs.List.{filter}
 use Rattle.vtl_cell.specs.Outcome.{join}
 use Rattle.sql_meaning.proofs.UpToOrder.{join_none}
 use Rattle.sql_from.specs.Joins.{fault_of, numbers_to, passes}
-use Rattle.sql_from.specs.Seen.{seen_of}
+use Rattle.vtl_scalar.specs.Seen.{seen_of}
 use Rattle.sql_from.proofs.Found.{any_kept, no_faults}
 use Rattle.sql_from.proofs.lookup.LookupPairing.add_pairs.Goals as goal
 

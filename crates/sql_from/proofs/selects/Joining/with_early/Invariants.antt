@@ -4,7 +4,7 @@ use Rattle.sql_tree.specs.View.{select_tree}
 use Rattle.sql_meaning.specs.From.{Joined}
 use Rattle.sql_meaning.specs.Plans.{early_at, try_early}
 use Rattle.sql_from.specs.Asking.{condition_asks}
-use Rattle.sql_from.specs.Seen.{seen_of}
+use Rattle.vtl_scalar.specs.Seen.{seen_of}
 use Rattle.sql_from.specs.Standing.{StandsFor, sight_of}
 use Rattle.sql_from.proofs.selects.Joining.with_early.Given as goal
 

@@ -2,7 +2,7 @@ use Rattle.std.proofs.Common.{List, sym, subst}
 use Rattle.std.specs.Prelude.{fold}
 use Rattle.sql_tree.specs.Trees.{Exp}
 use Rattle.sql_meaning.specs.Plans.{try_early}
-use Rattle.sql_from.specs.Seen.{seen_of}
+use Rattle.vtl_scalar.specs.Seen.{seen_of}
 use Rattle.sql_from.specs.Standing.{StandsFor, sight_of}
 use Rattle.sql_tree.specs.View.{expr_tree, select_tree}
 use Rattle.sql_from.proofs.Counted.{early_asks}

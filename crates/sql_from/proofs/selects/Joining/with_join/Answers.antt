@@ -12,7 +12,7 @@ use Rattle.sql_meaning.specs.From.{with_join}
 use Rattle.sql_from.specs.Held.{base_held, tables_held}
 use Rattle.sql_from.specs.Joins.{joined_tuples, pairs_fault}
 use Rattle.sql_from.specs.Keys.{last_of}
-use Rattle.sql_from.specs.Seen.{seen_of}
+use Rattle.vtl_scalar.specs.Seen.{seen_of}
 use Rattle.sql_from.specs.Sources.{IsWide, Sourced, parts_of, scope_held}
 use Rattle.sql_from.specs.Standing.{StandsFor, condition_at}
 use Rattle.sql_from.proofs.Counted.{on_bounded}

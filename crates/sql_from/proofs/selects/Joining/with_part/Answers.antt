@@ -1,5 +1,5 @@
 use Rattle.sql_tree.specs.View.{expr_tree}
-use Rattle.sql_from.specs.Seen.{seen_of}
+use Rattle.vtl_scalar.specs.Seen.{seen_of}
 use Rattle.sql_from.proofs.Standing.{tried_stands}
 use Rattle.sql_from.proofs.selects.Joining.with_part.Goals as goal
 

@@ -1,6 +1,6 @@
 use Rattle.std.proofs.Common.{◌≡◌, ◌<◌, ◌^◌, ◌-◌, true, Ok, Err, cond, ap, arith}
 use Rattle.std.specs.Prelude.{nat_lt, pos}
-use Rattle.vtl_cell.specs.Outcome.{Range}
+use Rattle.vtl_decimal.specs.declared.number.Fault.TheVariants.{Range}
 use Rattle.vtl_cell.specs.ScalarArithmetic.{integer}
 use Rattle.std.proofs.Math.Nat.{one-le-pow}
 use Rattle.sql_from.proofs.tuple_row.TupleRowCells.count_all.Goals as goal

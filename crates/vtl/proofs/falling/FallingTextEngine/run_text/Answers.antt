@@ -1,5 +1,5 @@
 use Rattle.std.proofs.Common.{subst, sym}
-use Rattle.sql_back.specs.TextRuns.{ShowsMeaning}
+use Rattle.sql_engine.specs.Runs.{ShowsMeaning}
 use Rattle.vtl.proofs.FallingRows.{fault_stays, meaning_falls}
 use Rattle.vtl.proofs.falling.FallingTextEngine.run_text.Goals as goal
 

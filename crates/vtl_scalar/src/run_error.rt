@@ -1,13 +1,14 @@
-// How a run can fail.
+// How a run of a script can fail, in VTL and in SQL.
 use std::alloc::{AllocError, AllocFailed};
 use vtl_text::Txt;
 
-/// Why a script gives no outputs.
+/// Why a script gives no outputs, or its text in SQL no exports. A name is that of a result in VTL, and that of a table up to
+/// its first `$` in SQL.
 #[derive(Debug, Drop)]
 pub enum RunErr {
-    /// A statement divides by zero: the name of its result.
+    /// A statement divides by zero: its name.
     DivZero(Txt),
-    /// A number of a statement is out of range: the name of its result.
+    /// A number of a statement is out of range: its name.
     Range(Txt),
     /// There was not enough memory.
     OutOfMemory,
@@ -15,7 +16,7 @@ pub enum RunErr {
 
 impl From<AllocError> for RunErr {
     ghost use Rattle.std.specs.Prelude.{◌≡◌};
-    ghost use Rattle.vtl_backend.specs.declared.error.RunErr.TheVariants.{OutOfMemory};
+    ghost use Rattle.vtl_scalar.specs.declared.run_error.RunErr.TheVariants.{OutOfMemory};
 
     ghost from_gives = { λ _ e. e ≡ OutOfMemory };
 
@@ -26,7 +27,7 @@ impl From<AllocError> for RunErr {
 
 impl<T: Drop> From<AllocFailed<T>> for RunErr {
     ghost use Rattle.std.specs.Prelude.{◌≡◌};
-    ghost use Rattle.vtl_backend.specs.declared.error.RunErr.TheVariants.{OutOfMemory};
+    ghost use Rattle.vtl_scalar.specs.declared.run_error.RunErr.TheVariants.{OutOfMemory};
 
     ghost from_gives = { λ _ e. e ≡ OutOfMemory };
 

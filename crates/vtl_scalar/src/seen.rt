@@ -1,9 +1,9 @@
-// The fault that a walk over many points has seen.
+// The fault that a walk over many points or tuples has seen.
 ghost use Rattle.std.specs.Prelude.{◌≡◌};
 ghost use Rattle.vtl_cell.specs.Outcome.{unless};
-ghost use Rattle.vtl_expr.specs.Seen.{answer_of, seen_of, SeesAlso};
+ghost use Rattle.vtl_scalar.specs.Seen.{answer_of, seen_of, SeesAlso};
 
-use vtl_scalar::ScalarErr;
+use crate::error::ScalarErr;
 
 /// The fault that was seen so far: a division by zero comes before a number out of range.
 #[derive(Clone, Copy, Debug, PartialEq, Eq)]

@@ -1,10 +1,12 @@
 -- The fault seen so far.
 use Rattle.std.specs.Prelude.{◌≡◌, Option, Some, None, Result, Ok, Err}
-use Rattle.vtl_cell.specs.Outcome.{Fault, DivZero, Range, Outcome, join}
+use Rattle.vtl_decimal.specs.declared.number.Fault.{Fault}
+use Rattle.vtl_decimal.specs.declared.number.Fault.TheVariants.{DivZero, Range}
+use Rattle.vtl_cell.specs.Outcome.{Outcome, join}
 use Rattle.vtl_scalar.specs.declared.error.ScalarErr.{ScalarErr}
 use Rattle.vtl_scalar.specs.declared.error.ScalarErr.TheVariants as err
-use Rattle.vtl_expr.specs.declared.seen.Seen.{Seen}
-use Rattle.vtl_expr.specs.declared.seen.Seen.TheVariants as seen
+use Rattle.vtl_scalar.specs.declared.seen.Seen.{Seen}
+use Rattle.vtl_scalar.specs.declared.seen.Seen.TheVariants as seen
 
 abbrev pub seen_of : Seen → Option Fault
 seen_of seen.Nothing = None
