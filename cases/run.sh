@@ -1,7 +1,7 @@
 #!/bin/sh
 # Runs all of cases/ and examples/ by the built programs, in less than a minute: cases/run.sh [NAME ..], where a NAME is a
-# folder of cases/, `examples`, `launcher`, `sentences`, `check` or `ways`. Prints what differs, and at the end 'N passed,
-# M failed'.
+# folder of cases/, `examples`, `launcher`, `check`, or `sentences`, `crates`, for which no program is needed. Prints what
+# differs, the longest chain of libraries, and at the end 'N passed, M failed'.
 top=$(CDPATH='' cd -- "$(dirname -- "$0")/.." && pwd) || exit 1
 vtl=$top/crates/vtl/out/vtl
 probe=$top/crates/vtl_probe/out/vtl_probe
@@ -303,7 +303,7 @@ wanted() { case " $names " in *" $1 "*) ;; *) return 1 ;; esac; }
 
 # All of it, in three parts side by side.
 run_all() {
-    names='examples launcher sentences check ways'
+    names='examples launcher check sentences crates'
     for folder in "$top"/cases/*/; do
         case $(basename "$folder") in
             run | engine | translated) ;;
@@ -330,9 +330,20 @@ if [ $# = 0 ]; then
     exit
 fi
 names=$*
-for program in "$vtl" "$probe"; do
-    [ -x "$program" ] || fail "there is no program at $program; scripts/build.sh $(basename "$program") builds it"
-done
+needs_programs() {
+    for name in $names; do
+        case $name in
+            sentences | crates) ;;
+            *) return 0 ;;
+        esac
+    done
+    return 1
+}
+if needs_programs; then
+    for program in "$vtl" "$probe"; do
+        [ -x "$program" ] || fail "there is no program at $program; scripts/build.sh $(basename "$program") builds it"
+    done
+fi
 cd "$top" || exit 1
 program=$vtl
 for folder in cases/*/; do
@@ -421,15 +432,26 @@ if wanted check && [ -x "$probe" ]; then
         esac
     done
 fi
-# What keeps a merge short.
-if wanted ways; then
-    scripts/ways.sh >"$made/said" || fail "scripts/ways.sh: exit code $?"
-    while read -r word first second; do
-        case $word in
-            ways) within "$second" 5000 "ways down from $first" ;;
-            chain) within "$first" 17 "libraries in the longest chain, $second" ;;
-        esac
-    done <"$made/said"
+# What crates say of one another, and what keeps a merge short.
+if wanted crates; then
+    scripts/crates.sh >"$made/said"
+    if cmp -s crates.txt "$made/said"; then
+        pass
+    else
+        fail "crates.txt: not what the files of the crates name, as scripts/crates.sh prints it"
+        diff crates.txt "$made/said"
+    fi
+    scripts/crates.sh relays >"$made/said"
+    if [ -s "$made/said" ]; then
+        fail "words are to be named by the crate that holds them, and are handed on here:"
+        cat "$made/said"
+    else
+        pass
+    fi
+    scripts/crates.sh chain >"$made/said"
+    read -r count libraries <"$made/said"
+    echo "the longest chain has $count libraries: $libraries"
+    within "$count" 17 "libraries in the longest chain"
 fi
 echo "$passed passed, $failed failed"
 [ "$failed" = 0 ]

@@ -34,8 +34,11 @@ pub use laws::{
     sql_breaches_are_refused, sql_faults_are_meant, structures_have_identifiers, texts_are_meant,
 };
 pub use run::read_built;
-pub use sql_back::{Bundled, SqlBack, TextEngine};
 pub use top::{vtl, vtl_by, vtl_with};
+pub use words::Source;
+
+// Words of the product that stand in other crates. This is the only crate that hands on words of another one.
+pub use sql_back::{Bundled, SqlBack, TextEngine};
 pub use vtl_backend::Backend;
 pub use vtl_cell::Cell;
 pub use vtl_check::Checked;
@@ -44,4 +47,3 @@ pub use vtl_rows::{Inputs, Outputs, SortKey, Table};
 pub use vtl_scalar::RunErr;
 pub use vtl_status::{Status, tell};
 pub use vtl_text::Txt;
-pub use words::Source;
