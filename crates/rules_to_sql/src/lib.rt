@@ -4,7 +4,6 @@
 //! readable; over any columns that name the components it has the kind and the value that it has in VTL, faults
 //! included, fits where it stands, and can be printed. Which select it stands in is for others to decide.
 //! It knows no data sets, no nodes and no scripts of either language.
-//! It passes on the words of both meanings and the trait `Backend`, so that crates above name it alone.
 //! Begin with specs/ToSql.antt and Constants.antt, then `laws.rt`.
 #![tactic(auto)]
 
