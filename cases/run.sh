@@ -1,7 +1,7 @@
 #!/bin/sh
 # Runs all of cases/ and examples/ by the built programs, in less than a minute: cases/run.sh [NAME ..], where a NAME is a
-# folder of cases/, `examples`, `launcher`, `check`, or `sentences`, `crates`, for which no program is needed. Prints what
-# differs, the longest chain of libraries, and at the end 'N passed, M failed'.
+# folder of cases/, `examples`, `launcher`, `check`, or `sentences`, `pages`, `crates`, for which no program is needed.
+# Prints what differs, the longest chain of libraries, and at the end 'N passed, M failed'.
 top=$(CDPATH='' cd -- "$(dirname -- "$0")/.." && pwd) || exit 1
 vtl=$top/crates/vtl/out/vtl
 probe=$top/crates/vtl_probe/out/vtl_probe
@@ -303,7 +303,7 @@ wanted() { case " $names " in *" $1 "*) ;; *) return 1 ;; esac; }
 
 # All of it, in three parts side by side.
 run_all() {
-    names='examples launcher check sentences crates'
+    names='examples launcher check sentences pages crates'
     for folder in "$top"/cases/*/; do
         case $(basename "$folder") in
             run | engine | translated) ;;
@@ -333,7 +333,7 @@ names=$*
 needs_programs() {
     for name in $names; do
         case $name in
-            sentences | crates) ;;
+            sentences | pages | crates) ;;
             *) return 0 ;;
         esac
     done
@@ -430,6 +430,18 @@ if wanted check && [ -x "$probe" ]; then
         case $(cat "$case/line" 2>/dev/null) in
             'error: syntax '* | 'error: structures '* | 'error: type '*) refused "${case%/}" ;;
         esac
+    done
+fi
+# The pages that are taken from the files of the crates.
+if wanted pages; then
+    scripts/index.sh "$made/pages" || fail "scripts/index.sh: exit code $?"
+    for page in INDEX.md RESTS.md LEMMAS.md index; do
+        if diff -r "docs/$page" "$made/pages/$page" >"$made/said"; then
+            pass
+        else
+            fail "docs/$page: not what scripts/index.sh writes"
+            head -n 10 "$made/said"
+        fi
     done
 fi
 # What crates say of one another, and what keeps a merge short.
