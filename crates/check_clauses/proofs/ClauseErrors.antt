@@ -1,9 +1,9 @@
 -- An error of one step is the error of all.
 use Rattle.std.proofs.Common.{◌≡◌, ap, rules, Result, Err, Box, Global}
-use Rattle.vtl_nodes.specs.Trees.{structure_of}
-use Rattle.vtl_nodes.specs.View.{node_tree}
-use Rattle.vtl_nodes.specs.declared.nodes.Node.{Node}
-use Rattle.vtl_nodes.specs.declared.nodes.Node as nodes
+use Rattle.vtl_tree.specs.Trees.{structure_of}
+use Rattle.vtl_tree.specs.NodeView.{node_tree}
+use Rattle.vtl_tree.specs.declared.nodes.Node.{Node}
+use Rattle.vtl_tree.specs.declared.nodes.Node as nodes
 use Rattle.check_operators.specs.Typed.{boxed_tree, components_in}
 use Rattle.check_faults.specs.Answers.{Answers}
 use Rattle.check_faults.specs.declared.error.TypeErr.{TypeErr}

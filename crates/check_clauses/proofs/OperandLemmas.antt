@@ -1,6 +1,6 @@
 -- Operands behind others.
 use Rattle.std.proofs.Common.{◌≡◌, List, [], ◌∷◌, ◌++◌, Result, Ok, Err, refl, sym, ap, ◌∙◌, append_assoc}
-use Rattle.vtl_nodes.specs.Trees.{OperandTree}
+use Rattle.vtl_tree.specs.Trees.{OperandTree}
 use Rattle.vtl_lists.specs.Results.{◌>>=◌}
 use Rattle.check_faults.specs.declared.rules.Rule.{Rule}
 use Rattle.check_clauses.specs.JoinOperands.{PartTyped, operand_in, operands_in}

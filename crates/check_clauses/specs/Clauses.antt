@@ -14,20 +14,20 @@ use Rattle.vtl_syntax.specs.declared.parts.RenamePart.{RenamePart}
 use Rattle.vtl_syntax.specs.declared.parts.SubPart.{SubPart}
 use Rattle.vtl_tree.specs.declared.structure.Component.{Component}
 use Rattle.vtl_tree.specs.declared.structure.Structure.{Structure}
-use Rattle.vtl_nodes.specs.Trees as nodes
-use Rattle.vtl_nodes.specs.Trees.{FormTree, NodeTree, node, structure_of}
-use Rattle.vtl_nodes.specs.declared.clauses.SubItem.{SubItem}
+use Rattle.vtl_tree.specs.Trees as nodes
+use Rattle.vtl_tree.specs.Trees.{FormTree, NodeTree, node, structure_of}
+use Rattle.vtl_tree.specs.declared.clauses.SubItem.{SubItem}
 use Rattle.vtl_lists.specs.Results.{◌>>=◌}
 use Rattle.check_faults.specs.declared.rules.Rule.{Rule}
-use Rattle.check_shapes.specs.Choices.{chosen}
+use Rattle.vtl_tree.specs.Choices.{chosen}
 use Rattle.check_shapes.specs.Clauses.{pivot_form, rename_form, unpivot_form}
 use Rattle.check_shapes.specs.Names.{known}
 use Rattle.check_shapes.specs.Shape.{shaped}
-use Rattle.check_shapes.specs.declared.choices.Choice.{Choice}
-use Rattle.check_shapes.specs.declared.choices.Choice.TheVariants as choice
-use Rattle.check_shapes.specs.declared.names.Wanted.{Wanted}
-use Rattle.check_shapes.specs.declared.names.Wanted.TheVariants as wanted
-use Rattle.check_shapes.specs.declared.renaming.Renaming.{Renaming}
+use Rattle.vtl_tree.specs.declared.choices.Choice.{Choice}
+use Rattle.vtl_tree.specs.declared.choices.Choice.TheVariants as choice
+use Rattle.vtl_tree.specs.declared.names.Wanted.{Wanted}
+use Rattle.vtl_tree.specs.declared.names.Wanted.TheVariants as wanted
+use Rattle.vtl_tree.specs.declared.renaming.Renaming.{Renaming}
 use Rattle.check_values.specs.Columns.{name_of}
 use Rattle.check_values.specs.Literals.{kind_met, literal_cell, literal_kind, valued}
 use Rattle.check_operators.specs.Places.{name_written, written_by}

@@ -8,15 +8,16 @@ use Rattle.vtl_syntax.specs.declared.parts.Comp.TheVariants as comp
 use Rattle.vtl_syntax.specs.declared.word_groups.JoinKind.{JoinKind}
 use Rattle.vtl_tree.specs.declared.structure.Component.{Component}
 use Rattle.check_joins.specs.Joins as joins
-use Rattle.check_joins.specs.declared.joins.Operand.{Operand}
-use Rattle.vtl_nodes.specs.Trees as nodes
-use Rattle.vtl_nodes.specs.Trees.{NodeTree, OperandTree, operands_of, structure_of}
+use Rattle.vtl_tree.specs.Joins as held
+use Rattle.vtl_tree.specs.declared.joins.Operand.{Operand}
+use Rattle.vtl_tree.specs.Trees as nodes
+use Rattle.vtl_tree.specs.Trees.{NodeTree, OperandTree, operands_of, structure_of}
 use Rattle.vtl_lists.specs.Results.{◌>>=◌}
 use Rattle.check_faults.specs.Rules.{ruled}
 use Rattle.check_faults.specs.declared.rules.Rule.{Rule}
 use Rattle.check_faults.specs.declared.rules.Rule.TheVariants as rule
-use Rattle.check_shapes.specs.Names.{component_of, is_among}
-use Rattle.check_shapes.specs.declared.renaming.Renaming.{Renaming}
+use Rattle.vtl_tree.specs.Names.{component_of, is_among}
+use Rattle.vtl_tree.specs.declared.renaming.Renaming.{Renaming}
 use Rattle.check_values.specs.Columns.{name_of}
 use Rattle.check_operators.specs.Typed.{TypedTree, components_in, dataset_in}
 use Rattle.check_operators.specs.declared.places.Joined.{Joined}
@@ -59,7 +60,7 @@ abbrev pub shape_of : OperandTree → Operand
 shape_of o = record { alias = o.alias; structure = structure_of o.node }
 
 abbrev pub joined_of : JoinKind → List OperandTree → Joined
-joined_of kind os = record { kind = kind; operands = map shape_of os; held = joins.held_names kind (map shape_of os) }
+joined_of kind os = record { kind = kind; operands = map shape_of os; held = held.held_names kind (map shape_of os) }
 
 abbrev pub using_names : Option (List Comp) → Option (List (List ℕ))
 using_names u = option_map (map name_of) u
@@ -75,7 +76,7 @@ abbrev pub is_left : List Component → Renaming → Bool
 is_left xs r = is_some (component_of r.from xs)
 
 abbrev pub left_names : Joined → List Component → List Renaming
-left_names j xs = filter (is_left xs) (joins.last_renamings j.kind j.held j.operands)
+left_names j xs = filter (is_left xs) (held.last_renamings j.kind j.held j.operands)
 
 -- the last naming, which each join has
 unfoldable pub last_naming : Joined → NodeTree → Result NodeTree Rule

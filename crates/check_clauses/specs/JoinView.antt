@@ -1,9 +1,9 @@
 -- The operands of a join that are kept in vectors.
 use Rattle.std.specs.Prelude.{List, Vec, map}
 use Rattle.std.specs.declared.alloc.Global.{Global}
-use Rattle.vtl_nodes.specs.Trees.{OperandTree}
-use Rattle.vtl_nodes.specs.View.{operand_tree}
-use Rattle.vtl_nodes.specs.declared.nodes.JoinOperand.{JoinOperand}
+use Rattle.vtl_tree.specs.Trees.{OperandTree}
+use Rattle.vtl_tree.specs.NodeView.{operand_tree}
+use Rattle.vtl_tree.specs.declared.nodes.JoinOperand.{JoinOperand}
 use Rattle.check_operators.specs.Typed.{typed_tree}
 use Rattle.check_clauses.specs.JoinOperands.{PartTyped}
 use Rattle.check_clauses.specs.declared.join_operands.Part.{Part}

@@ -17,20 +17,20 @@ use Rattle.vtl_tree.specs.declared.structure.Component.{Component}
 use Rattle.vtl_tree.specs.declared.structure.Role.{Role}
 use Rattle.vtl_tree.specs.declared.structure.Structure.{Structure}
 use Rattle.vtl_tree.specs.declared.structure.Role.TheVariants as role
-use Rattle.vtl_nodes.specs.Trees as nodes
-use Rattle.vtl_nodes.specs.Trees.{AggTree, FormTree, ItemTree, NodeTree, ValueTree}
-use Rattle.vtl_nodes.specs.declared.specifications.AggItems.TheVariants as items
-use Rattle.vtl_nodes.specs.declared.specifications.AggTarget.{AggTarget}
+use Rattle.vtl_tree.specs.Trees as nodes
+use Rattle.vtl_tree.specs.Trees.{AggTree, FormTree, ItemTree, NodeTree, ValueTree}
+use Rattle.vtl_tree.specs.declared.specifications.AggItems.TheVariants as items
+use Rattle.vtl_tree.specs.declared.specifications.AggTarget.{AggTarget}
 use Rattle.vtl_lists.specs.Results.{◌>>=◌}
 use Rattle.check_faults.specs.Rules.{ruled}
 use Rattle.check_faults.specs.declared.rules.Rule.{Rule}
 use Rattle.check_faults.specs.declared.rules.Rule.TheVariants as rule
 use Rattle.check_shapes.specs.Clauses.{aggr_form, calc_form, target_tests}
-use Rattle.check_shapes.specs.Names.{component_of, is_among}
-use Rattle.check_shapes.specs.declared.targets.Target.{Target}
+use Rattle.vtl_tree.specs.Names.{component_of, is_among}
+use Rattle.vtl_tree.specs.declared.targets.Target.{Target}
 use Rattle.check_values.specs.Columns.{name_of}
 use Rattle.check_values.specs.Groupings.{grouping_choice, grouping_names, grouping_of}
-use Rattle.check_values.specs.Kinds.{exp_kind, given_kind}
+use Rattle.vtl_tree.specs.Kinds.{exp_kind, given_kind}
 use Rattle.check_operators.specs.Typed.{TypedTree, components_in, value_in}
 use Rattle.check_clauses.specs.Clauses.{made_of}
 use Rattle.check_clauses.specs.declared.targets.Made.{Made}

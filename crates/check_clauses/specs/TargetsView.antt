@@ -1,9 +1,9 @@
 -- Targets that are kept in vectors.
 use Rattle.std.specs.Prelude.{◌≡◌, List, Result, Ok, Err, Vec, map}
 use Rattle.std.specs.declared.alloc.Global.{Global}
-use Rattle.vtl_nodes.specs.Trees.{ItemTree}
-use Rattle.vtl_nodes.specs.View.{item_tree}
-use Rattle.vtl_nodes.specs.declared.clauses.CalcItem.{CalcItem}
+use Rattle.vtl_tree.specs.Trees.{ItemTree}
+use Rattle.vtl_tree.specs.NodeView.{item_tree}
+use Rattle.vtl_tree.specs.declared.clauses.CalcItem.{CalcItem}
 use Rattle.check_faults.specs.declared.error.TypeErr.{TypeErr}
 use Rattle.check_faults.specs.declared.error.TypeErr.TheVariants as err
 use Rattle.check_faults.specs.declared.rules.Rule.{Rule}

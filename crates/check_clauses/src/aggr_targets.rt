@@ -1,8 +1,8 @@
 // The targets of `aggr`, once their values are typed.
 ghost use Rattle.std.specs.Option.{option_map};
 ghost use Rattle.std.specs.Prelude.{◌≡◌, IfOk, map};
-ghost use Rattle.vtl_nodes.specs.Trees as tree;
-ghost use Rattle.vtl_nodes.specs.View.{agg_tree, node_tree};
+ghost use Rattle.vtl_tree.specs.Trees as tree;
+ghost use Rattle.vtl_tree.specs.NodeView.{agg_tree, node_tree};
 ghost use Rattle.check_clauses.specs.Clauses.{made_of};
 ghost use Rattle.check_faults.specs.Answers.{Answers};
 ghost use Rattle.vtl_syntax.specs.View.{expr_tree};
@@ -10,7 +10,7 @@ ghost use Rattle.vtl_tree.specs.View.{comp_exp_of};
 ghost use Rattle.check_operators.specs.Typed.{boxed_tree, typed_tree};
 ghost use Rattle.check_values.specs.Groupings.{grouping_choice as choice_by, grouping_names as names_by};
 ghost use Rattle.check_shapes.specs.Clauses.{aggr_form};
-ghost use Rattle.check_shapes.specs.Names.{is_among as among};
+ghost use Rattle.vtl_tree.specs.Names.{is_among as among};
 ghost use Rattle.check_clauses.specs.Targets.{aggr_clause, aggr_name, call_in, grouped, is_aggregate, made_as, made_names, made_target, targets_in, with_made};
 ghost use Rattle.check_clauses.specs.TargetsView.{AnswersLeft};
 
@@ -18,14 +18,14 @@ use crate::Made;
 use crate::targets::role_of;
 use check_faults::{Rule, TypeErr, broken};
 use check_operators::{Typed, made_node};
-use check_shapes::Target;
 use check_values::{grouping_choice, grouping_names, grouping_of, name};
 use std::alloc::{AllocError, Global};
 use vtl_cell::Kind;
-use vtl_nodes::{AggItems, AggSpec, AggTarget, Node, NodeForm};
 use vtl_syntax::{Comp, Expr, GroupPart, WrittenRole};
 use vtl_text::{List, Txt};
-use vtl_tree::{AggCall, CompExpr, Structure};
+use vtl_tree::{
+    AggCall, AggItems, AggSpec, AggTarget, CompExpr, Node, NodeForm, Structure, Target,
+};
 
 fn is_target(name: &Txt, done: &[Made]) -> bool
     ensures { result ≡ among name.now (made_names done.now) }

@@ -1,11 +1,11 @@
 // The targets of `calc`, once their values are typed.
 ghost use Rattle.std.specs.List.{list_any};
 ghost use Rattle.std.specs.Prelude.{◌≡◌, IfOk, map};
-ghost use Rattle.vtl_nodes.specs.View.{form_tree, item_tree, node_tree, value_tree};
+ghost use Rattle.vtl_tree.specs.NodeView.{form_tree, item_tree, node_tree, value_tree};
 ghost use Rattle.check_faults.specs.Answers.{Answers};
 ghost use Rattle.check_operators.specs.Typed.{boxed_tree};
 ghost use Rattle.check_shapes.specs.Clauses.{calc_form};
-ghost use Rattle.check_shapes.specs.Names.{is_among};
+ghost use Rattle.vtl_tree.specs.Names.{is_among};
 ghost use Rattle.check_clauses.specs.Clauses.{made_of};
 ghost use Rattle.check_clauses.specs.Targets.{calc_clause, calc_name, calc_tree, component_kind, is_analytic, item_names, role_of, target_of, value_kind, with_item};
 ghost use Rattle.check_clauses.specs.TargetsView.{AnswersLeft, items_view};
@@ -13,14 +13,15 @@ ghost use Rattle.check_clauses.specs.TargetsView.{AnswersLeft, items_view};
 use crate::targets::role_of;
 use check_faults::{Rule, TypeErr, broken};
 use check_operators::made_node;
-use check_shapes::{Target, component_of, is_identifier_name};
-use check_values::{given_kind, kind, name};
+use check_values::name;
 use std::alloc::{AllocError, Global};
 use vtl_cell::Kind;
-use vtl_nodes::{AnalyticSpec, CalcItem, CalcValue, Node, NodeForm};
 use vtl_syntax::{Comp, WrittenRole};
 use vtl_text::{List, Txt};
-use vtl_tree::{Component, Structure};
+use vtl_tree::{
+    AnalyticSpec, CalcItem, CalcValue, Component, Node, NodeForm, Structure, Target, component_of,
+    given_kind, is_identifier_name, kind,
+};
 
 fn is_target(name: &Txt, done: &[CalcItem]) -> bool
     ensures { result ≡ is_among name.now (item_names (map item_tree done.now)) }

@@ -1,20 +1,19 @@
 // The clauses `filter`, `keep` and `drop`.
 ghost use Rattle.std.specs.Prelude.{◌≡◌, []};
-ghost use Rattle.vtl_nodes.specs.View.{form_tree};
+ghost use Rattle.vtl_tree.specs.NodeView.{form_tree};
 ghost use Rattle.vtl_tree.specs.View.{comp_exp_of};
 ghost use Rattle.check_faults.specs.Answers.{Answers};
-ghost use Rattle.check_shapes.specs.declared.names.Wanted.TheVariants as wanted_role;
+ghost use Rattle.vtl_tree.specs.declared.names.Wanted.TheVariants as wanted_role;
 ghost use Rattle.check_operators.specs.Typed.{boxed_tree, typed_tree};
 ghost use Rattle.check_clauses.specs.Clauses.{filter_form, keeping_choice, keeping_form, keeping_tree, name_known, names_typed, references_in};
 
 use check_faults::TypeErr;
 use check_operators::{Joined, Typed, made_node, name_written, written_by};
-use check_shapes::{Choice, Wanted, choose, known};
+use check_shapes::{choose, known};
 use std::alloc::Global;
-use vtl_nodes::{Node, NodeForm};
 use vtl_syntax::{Keeping, Reference};
 use vtl_text::{List, Txt};
-use vtl_tree::{Component, share_structure};
+use vtl_tree::{Choice, Component, Node, NodeForm, Wanted, share_structure};
 
 /// `filter`. The condition breaks `WrongKind` and `DatasetOrValue`.
 #[tactic(auto, unfolding(crate::specs::Clauses::filter_form))]

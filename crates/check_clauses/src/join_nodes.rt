@@ -1,9 +1,9 @@
 // Joined sets, what the body of a join sees of them, and their final naming.
 ghost use Rattle.std.specs.Option.{option_copied};
 ghost use Rattle.std.specs.Prelude.{◌≡◌, IfOk, map};
-ghost use Rattle.vtl_nodes.specs.Trees as tree;
-ghost use Rattle.vtl_nodes.specs.Trees.{operands_of};
-ghost use Rattle.vtl_nodes.specs.View.{operand_tree};
+ghost use Rattle.vtl_tree.specs.Trees as tree;
+ghost use Rattle.vtl_tree.specs.Trees.{operands_of};
+ghost use Rattle.vtl_tree.specs.NodeView.{operand_tree};
 ghost use Rattle.check_faults.specs.Answers.{Answers};
 ghost use Rattle.check_operators.specs.Typed.{boxed_tree};
 ghost use Rattle.check_joins.specs.Joins.{join_form};
@@ -14,15 +14,16 @@ ghost use Rattle.check_clauses.specs.JoinView.{operands_view};
 
 use crate::renames::renamed;
 use check_faults::TypeErr;
-use check_joins::{Operand, held_names, join, last_renamings};
+use check_joins::{held_names, join, last_renamings};
 use check_operators::{Joined, made_node};
-use check_shapes::{Renaming, component_of};
 use check_values::name;
 use std::alloc::{AllocError, Global};
-use vtl_nodes::{JoinOperand, JoinSpec, Node, NodeForm};
 use vtl_syntax::{Comp, JoinKind};
 use vtl_text::{List, Shared, Txt};
-use vtl_tree::{Component, Structure, share_structure};
+use vtl_tree::{
+    Component, JoinOperand, JoinSpec, Node, NodeForm, Operand, Renaming, Structure, component_of,
+    share_structure,
+};
 
 fn shape_of(alloc: Global, operand: &JoinOperand) -> Result<Operand, AllocError>
     ensures { IfOk result (λ o. o ≡ shape_of (operand_tree operand.now)) }

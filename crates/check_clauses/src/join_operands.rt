@@ -1,10 +1,10 @@
 // The operands of a join, one after another.
 ghost use Rattle.std.specs.Prelude.{◌≡◌, map};
-ghost use Rattle.vtl_nodes.specs.View.{operand_tree};
+ghost use Rattle.vtl_tree.specs.NodeView.{operand_tree};
 ghost use Rattle.check_faults.specs.Answers.{Answers};
 ghost use Rattle.vtl_syntax.specs.View.{expr_tree};
 ghost use Rattle.check_operators.specs.Typed.{typed_tree};
-ghost use Rattle.check_shapes.specs.Names.{is_among};
+ghost use Rattle.vtl_tree.specs.Names.{is_among};
 ghost use Rattle.check_clauses.specs.JoinOperands.{alias_of, aliases_in, new_alias, operand_in, operands_in, own_alias, with_part};
 ghost use Rattle.check_clauses.specs.JoinView.{operands_view, part_view, parts_view};
 ghost use Rattle.check_clauses.specs.TargetsView.{AnswersLeft};
@@ -12,9 +12,9 @@ ghost use Rattle.check_clauses.specs.TargetsView.{AnswersLeft};
 use check_faults::{Rule, TypeErr, broken};
 use check_operators::Typed;
 use std::alloc::Global;
-use vtl_nodes::JoinOperand;
 use vtl_syntax::{Comp, Expr};
 use vtl_text::Txt;
+use vtl_tree::JoinOperand;
 
 /// An operand of a join that is typed, with its alias.
 #[derive(Drop)]

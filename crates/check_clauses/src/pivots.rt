@@ -5,13 +5,12 @@ ghost use Rattle.check_clauses.specs.Clauses.{pivot_names, pivot_of, unpivot_of}
 
 use check_faults::TypeErr;
 use check_operators::made_node;
-use check_shapes::{Wanted, known};
+use check_shapes::known;
 use check_values::name;
 use std::alloc::Global;
-use vtl_nodes::{Node, NodeForm};
 use vtl_syntax::Comp;
 use vtl_text::Txt;
-use vtl_tree::Component;
+use vtl_tree::{Component, Node, NodeForm, Wanted};
 
 // The two names of `pivot`: an identifier and a measure.
 fn check_pivot_names(id: &Txt, m: &Txt, components: &[Component]) -> Result<(), TypeErr>

@@ -7,13 +7,12 @@ ghost use Rattle.check_clauses.specs.Clauses.{old_names, renamed_of, renaming_fo
 use crate::clauses::name_known;
 use check_faults::TypeErr;
 use check_operators::{Joined, made_node};
-use check_shapes::{Renaming, Wanted, rename};
+use check_shapes::rename;
 use check_values::name;
 use std::alloc::Global;
-use vtl_nodes::{Node, NodeForm};
 use vtl_syntax::RenamePart;
 use vtl_text::{List, Txt};
-use vtl_tree::Component;
+use vtl_tree::{Component, Node, NodeForm, Renaming, Wanted};
 
 // The renamed data set. It breaks `RepeatedComponent` where a name would stand twice.
 pub(crate) fn renamed(

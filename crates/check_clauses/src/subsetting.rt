@@ -1,7 +1,7 @@
 // The clause `sub`.
 ghost use Rattle.std.specs.Prelude.{◌≡◌, [], IfOk};
 ghost use Rattle.check_faults.specs.Answers.{Answers};
-ghost use Rattle.check_shapes.specs.Choices.{chosen};
+ghost use Rattle.vtl_tree.specs.Choices.{chosen};
 ghost use Rattle.check_shapes.specs.Shape.{shaped};
 ghost use Rattle.check_values.specs.Literals.{literal_cell, valued};
 ghost use Rattle.check_operators.specs.Typed.{boxed_tree};
@@ -9,16 +9,15 @@ ghost use Rattle.check_clauses.specs.Clauses.{cell_as, sub_form, sub_known, sub_
 
 use check_faults::{Rule, TypeErr};
 use check_operators::made_node;
-use check_shapes::{Choice, Wanted, choose, known};
+use check_shapes::{choose, known};
 use check_values::{kind_met, literal, literal_kind, name};
 use std::alloc::{AllocError, Global};
 use vtl_cell::{Cell, Kind};
 use vtl_decimal::Profile;
-use vtl_nodes::{Node, NodeForm, SubItem};
 use vtl_scalar::to_kind;
 use vtl_syntax::{Literal, SubPart};
 use vtl_text::{List, Txt};
-use vtl_tree::{Component, Structure};
+use vtl_tree::{Choice, Component, Node, NodeForm, Structure, SubItem, Wanted};
 
 // The value of a literal as one of a kind.
 fn literal_as(

@@ -3,9 +3,8 @@ ghost use Rattle.std.specs.Prelude.{◌≡◌};
 ghost use Rattle.check_clauses.specs.Targets.{role_of};
 
 use vtl_cell::Kind;
-use vtl_nodes::AggTarget;
 use vtl_syntax::WrittenRole;
-use vtl_tree::Role;
+use vtl_tree::{AggTarget, Role};
 
 /// A target of `aggr`, with the kind of its value.
 #[derive(Drop)]

@@ -18,7 +18,7 @@ use Rattle.vtl_syntax.specs.declared.parts.Keeping.{Keeping}
 use Rattle.vtl_syntax.specs.declared.parts.RenamePart.{RenamePart}
 use Rattle.vtl_syntax.specs.declared.word_groups.AggregateName.{AggregateName}
 use Rattle.vtl_syntax.specs.declared.word_groups.JoinKind.{JoinKind}
-use Rattle.vtl_nodes.specs.Trees.{NodeTree, OperandTree}
+use Rattle.vtl_tree.specs.Trees.{NodeTree, OperandTree}
 use Rattle.vtl_lists.specs.Results.{◌>>=◌}
 use Rattle.check_faults.specs.declared.rules.Rule.{Rule}
 use Rattle.check_operators.specs.Places.{Env, in_aggregate}

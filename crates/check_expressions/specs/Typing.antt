@@ -16,7 +16,7 @@ use Rattle.vtl_syntax.specs.declared.word_groups.DifferenceName.{DifferenceName}
 use Rattle.vtl_syntax.specs.declared.word_groups.Retain.{Retain}
 use Rattle.vtl_syntax.specs.declared.word_groups.JoinKind.{JoinKind}
 use Rattle.vtl_tree.specs.CompExp.{CompExp}
-use Rattle.vtl_nodes.specs.Trees.{ItemTree, NodeTree, OperandTree, ValueTree, scalar}
+use Rattle.vtl_tree.specs.Trees.{ItemTree, NodeTree, OperandTree, ValueTree, scalar}
 use Rattle.vtl_lists.specs.Results.{◌>>=◌}
 use Rattle.check_values.specs.Groupings.{grouping_of, grouping_typed}
 use Rattle.check_faults.specs.declared.rules.Rule.{Rule}

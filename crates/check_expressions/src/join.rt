@@ -3,16 +3,16 @@ ghost use Rattle.check_faults.specs.Answers.{Answers};
 ghost use Rattle.check_operators.specs.Typed.{boxed_tree, typed_tree};
 ghost use Rattle.check_clauses.specs.JoinOperands.{joined_of};
 ghost use Rattle.check_expressions.specs.Typing.{body_end, keeping_step, last_step, renaming_step};
-ghost use Rattle.vtl_nodes.specs.View.{operand_tree};
+ghost use Rattle.vtl_tree.specs.NodeView.{operand_tree};
 ghost use Rattle.std.specs.Prelude.{◌≡◌, IfOk, Some, map};
 
 use check_clauses::{joined, keeping, last_naming, renaming};
 use check_faults::TypeErr;
 use check_operators::{Joined, Typed};
 use std::alloc::{AllocError, Global};
-use vtl_nodes::{JoinOperand, Node};
 use vtl_syntax::{JoinKind, Keeping, RenamePart};
 use vtl_text::List;
+use vtl_tree::{JoinOperand, Node};
 
 /// What the body of a join sees of its operands.
 pub fn seen_by_body(

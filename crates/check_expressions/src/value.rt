@@ -1,7 +1,7 @@
 // The values of targets, and functions, once their operands are typed.
 ghost use Rattle.std.specs.Prelude.{◌≡◌, ◌++◌, ◌∷◌, [], IfOk, map};
 ghost use Rattle.std.specs.Option.{option_map};
-ghost use Rattle.vtl_nodes.specs.View.{value_tree};
+ghost use Rattle.vtl_tree.specs.NodeView.{value_tree};
 ghost use Rattle.check_faults.specs.Answers.{Answers};
 ghost use Rattle.vtl_syntax.specs.Trees.{exps_of};
 ghost use Rattle.vtl_syntax.specs.View.{expr_tree};
@@ -16,8 +16,8 @@ use check_operators::{Place, Typed, operator};
 use check_values::{function_operator, literals_fit, takes};
 use std::alloc::{AllocError, Global};
 use vtl_decimal::Profile;
-use vtl_nodes::CalcValue;
 use vtl_syntax::{Expr, FunctionName};
+use vtl_tree::CalcValue;
 
 /// One more operand after others.
 pub fn with_operand(operands: Vec<Typed>, operand: Typed) -> Result<Vec<Typed>, AllocError>

@@ -1,7 +1,7 @@
 // The typing of expressions.
 ghost use Rattle.std.specs.Option.{is_some, option_map};
 ghost use Rattle.std.specs.Prelude.{◌||◌, ◌∷◌, [], Bool, None, Some, map};
-ghost use Rattle.vtl_nodes.specs.View.{item_tree, node_tree, value_tree};
+ghost use Rattle.vtl_tree.specs.NodeView.{item_tree, node_tree, value_tree};
 ghost use Rattle.check_faults.specs.Answers.{Answers};
 ghost use Rattle.vtl_syntax.specs.Trees.{calcs_of, exps_of, maybe_targets, parts_of};
 ghost use Rattle.vtl_syntax.specs.View.{calc_tree, clause_tree, expr_tree, part_tree, targets_tree};
@@ -30,13 +30,12 @@ use check_operators::{
 use check_values::{binary_operator, grouping, grouping_of, unary_operator};
 use std::alloc::{AllocError, Global};
 use vtl_cell::ScalarOp;
-use vtl_nodes::{CalcItem, CalcValue, JoinOperand, Node};
 use vtl_syntax::{
     AggregateName, BasicOut, CalcPart, Clause, Comp, DifferenceName, ErrorPart, Expr, GroupPart,
     JoinKind, JoinPart, Keeping, RenamePart, Retain, Targets,
 };
 use vtl_text::{List, Txt};
-use vtl_tree::CompExpr;
+use vtl_tree::{CalcItem, CalcValue, CompExpr, JoinOperand, Node};
 
 // One more operand after others.
 #[cycle(typing)]

@@ -13,18 +13,19 @@ use Rattle.vtl_syntax.specs.declared.word_groups.AggregateName.{AggregateName}
 use Rattle.vtl_syntax.specs.declared.word_groups.AggregateName.TheVariants as aggregate
 use Rattle.vtl_tree.specs.CompExp as exp
 use Rattle.vtl_tree.specs.CompExp.{CompExp}
-use Rattle.vtl_nodes.specs.Trees as nodes
-use Rattle.vtl_nodes.specs.Trees.{AggTree, NodeTree}
-use Rattle.vtl_nodes.specs.declared.specifications.AggItems.TheVariants as items
+use Rattle.vtl_tree.specs.Trees as nodes
+use Rattle.vtl_tree.specs.Trees.{AggTree, NodeTree}
+use Rattle.vtl_tree.specs.declared.specifications.AggItems.TheVariants as items
 use Rattle.vtl_lists.specs.Results.{◌>>=◌}
 use Rattle.check_faults.specs.Rules.{ruled}
 use Rattle.check_faults.specs.declared.rules.Rule.{Rule}
 use Rattle.check_faults.specs.declared.rules.Rule.TheVariants as rule
-use Rattle.check_shapes.specs.Measures.{Gives, measured_form}
-use Rattle.check_shapes.specs.declared.measures.Outcome.{Outcome}
-use Rattle.check_shapes.specs.declared.measures.Outcome.TheVariants as outcome
+use Rattle.vtl_tree.specs.Measures.{Gives}
+use Rattle.check_shapes.specs.Measures.{measured_form}
+use Rattle.vtl_tree.specs.declared.measures.Outcome.{Outcome}
+use Rattle.vtl_tree.specs.declared.measures.Outcome.TheVariants as outcome
 use Rattle.check_values.specs.Groupings.{grouping_choice, grouping_names, grouping_of}
-use Rattle.check_values.specs.Kinds.{exp_kind}
+use Rattle.vtl_tree.specs.Kinds.{exp_kind}
 use Rattle.check_operators.specs.Typed.{TypedTree, components_in, made_of, of_value}
 use Rattle.check_operators.specs.Places.{written_in}
 use Rattle.check_operators.specs.declared.places.Inside.{Inside}

@@ -19,19 +19,20 @@ use Rattle.vtl_syntax.specs.declared.word_groups.ValueWindowName.TheVariants as 
 use Rattle.vtl_tree.specs.declared.structure.Component.{Component}
 use Rattle.vtl_tree.specs.declared.structure.Structure.{Structure}
 use Rattle.vtl_tree.specs.CompExp.{CompExp}
-use Rattle.vtl_nodes.specs.Trees as nodes
-use Rattle.vtl_nodes.specs.Trees.{NodeTree, ValueTree}
-use Rattle.vtl_nodes.specs.declared.calls.AnalyticOp.{AnalyticOp}
-use Rattle.vtl_nodes.specs.declared.calls.AnalyticOp.TheVariants as op
-use Rattle.vtl_nodes.specs.declared.calls.Window.{Window}
+use Rattle.vtl_tree.specs.Trees as nodes
+use Rattle.vtl_tree.specs.Trees.{NodeTree, ValueTree}
+use Rattle.vtl_tree.specs.declared.calls.AnalyticOp.{AnalyticOp}
+use Rattle.vtl_tree.specs.declared.calls.AnalyticOp.TheVariants as op
+use Rattle.vtl_tree.specs.declared.calls.Window.{Window}
 use Rattle.vtl_lists.specs.Results.{◌>>=◌}
 use Rattle.check_faults.specs.Rules.{ruled}
 use Rattle.check_faults.specs.declared.rules.Rule.{Rule}
 use Rattle.check_faults.specs.declared.rules.Rule.TheVariants as rule
-use Rattle.check_shapes.specs.Measures.{Gives, measured_form}
-use Rattle.check_shapes.specs.declared.choices.Choice.TheVariants as choice
-use Rattle.check_shapes.specs.declared.measures.Outcome.TheVariants as outcome
-use Rattle.check_values.specs.Kinds.{exp_kind}
+use Rattle.vtl_tree.specs.Measures.{Gives}
+use Rattle.check_shapes.specs.Measures.{measured_form}
+use Rattle.vtl_tree.specs.declared.choices.Choice.TheVariants as choice
+use Rattle.vtl_tree.specs.declared.measures.Outcome.TheVariants as outcome
+use Rattle.vtl_tree.specs.Kinds.{exp_kind}
 use Rattle.check_values.specs.Literals.{literal_cell, literal_kind, met_beside, valued}
 use Rattle.check_values.specs.Windows.{frame_alone, points_typed, window_typed}
 use Rattle.check_operators.specs.Places.{columns_at, columns_in}

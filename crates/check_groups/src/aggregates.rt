@@ -4,8 +4,8 @@ ghost use Rattle.std.specs.Prelude.{◌≡◌, Ok, true};
 ghost use Rattle.check_faults.specs.Answers.{Answers};
 ghost use Rattle.vtl_syntax.specs.Trees.{maybe_exp};
 ghost use Rattle.vtl_syntax.specs.View.{expr_tree};
-ghost use Rattle.vtl_nodes.specs.Trees.{aggregate};
-ghost use Rattle.vtl_nodes.specs.View.{form_tree};
+ghost use Rattle.vtl_tree.specs.Trees.{aggregate};
+ghost use Rattle.vtl_tree.specs.NodeView.{form_tree};
 ghost use Rattle.check_shapes.specs.Measures.{measured_form};
 ghost use Rattle.vtl_tree.specs.View.{comp_exp_of};
 ghost use Rattle.check_operators.specs.Typed.{boxed_tree, typed_tree};
@@ -16,14 +16,13 @@ use crate::arguments::{operand_name, share_name};
 use crate::kinds::{agg_kind, aggregate_kind, count_kind};
 use check_faults::{Rule, TypeErr, broken};
 use check_operators::{Inside, Place, Typed, made_of};
-use check_shapes::{Operator, Outcome, measured};
-use check_values::{grouping_choice, grouping_names, grouping_of, kind};
+use check_shapes::{Operator, measured};
+use check_values::{grouping_choice, grouping_names, grouping_of};
 use std::alloc::Global;
 use vtl_cell::Kind;
-use vtl_nodes::{AggItems, AggSpec, Node, NodeForm};
 use vtl_syntax::{AggregateName, Expr, GroupPart};
 use vtl_text::{List, Txt};
-use vtl_tree::{AggCall, CompExpr, Structure};
+use vtl_tree::{AggCall, AggItems, AggSpec, CompExpr, Node, NodeForm, Outcome, Structure, kind};
 
 fn group_call(function: AggregateName, component: Option<Txt>, kind: Kind) -> Typed
     ensures { Ok (typed_tree result) ≡ group_call function component kind }

@@ -1,7 +1,7 @@
 // Analytic calls that are whole targets of `calc`.
 ghost use Rattle.std.specs.Option.{option_map};
 ghost use Rattle.std.specs.Prelude.{◌≡◌};
-ghost use Rattle.vtl_nodes.specs.View.{value_tree};
+ghost use Rattle.vtl_tree.specs.NodeView.{value_tree};
 ghost use Rattle.check_faults.specs.Answers.{Answers};
 ghost use Rattle.vtl_syntax.specs.Trees.{maybe_exp};
 ghost use Rattle.vtl_syntax.specs.View.{expr_tree};
@@ -17,13 +17,11 @@ use crate::over_kinds::{is_rank, is_unfit_over};
 use crate::over_nodes::given_structure;
 use check_faults::{Rule, TypeErr, broken};
 use check_operators::{Place, Typed};
-use check_values::kind;
 use std::alloc::Global;
 use vtl_decimal::Profile;
-use vtl_nodes::{AnalyticCall, AnalyticOp, CalcValue, Window};
 use vtl_syntax::Expr;
 use vtl_text::Txt;
-use vtl_tree::CompExpr;
+use vtl_tree::{AnalyticCall, AnalyticOp, CalcValue, CompExpr, Window, kind};
 
 fn operand_exp(call: &Expr) -> Option<&Expr>
     ensures { maybe_exp (option_map (λ e. expr_tree e.now) result) ≡ operand_exp (expr_tree call.now) }

@@ -15,9 +15,8 @@ use check_values::{frame_alone, window};
 use std::alloc::{AllocError, Global};
 use vtl_cell::Kind;
 use vtl_decimal::Profile;
-use vtl_nodes::Window;
 use vtl_syntax::{Expr, OverPart};
-use vtl_tree::Component;
+use vtl_tree::{Component, Window};
 
 fn over_of(call: &Expr) -> Option<&OverPart>
     ensures { unwrap_or (option_copied result) no_window ≡ over_of (expr_tree call.now) }

@@ -9,9 +9,9 @@ use check_values::{literal, literal_kind, met_beside, points};
 use std::alloc::Global;
 use vtl_cell::{Cell, Kind};
 use vtl_decimal::Profile;
-use vtl_nodes::{AnalyticOp, Window};
 use vtl_syntax::{AggregateName, Expr, Literal, ShiftName, ValueWindowName};
 use vtl_text::Txt;
+use vtl_tree::{AnalyticOp, Window};
 
 /// What an analytic call asks of its window.
 #[derive(Clone, Copy, Debug, PartialEq, Eq)]

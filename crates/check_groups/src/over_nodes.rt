@@ -1,7 +1,7 @@
 // Analytic calls of the measures of a data set.
 ghost use Rattle.std.specs.Prelude.{◌≡◌};
-ghost use Rattle.vtl_nodes.specs.Trees.{analytic_of, of_measures};
-ghost use Rattle.vtl_nodes.specs.View.{form_tree};
+ghost use Rattle.vtl_tree.specs.Trees.{analytic_of, of_measures};
+ghost use Rattle.vtl_tree.specs.NodeView.{form_tree};
 ghost use Rattle.check_faults.specs.Answers.{Answers};
 ghost use Rattle.vtl_syntax.specs.View.{expr_tree};
 ghost use Rattle.check_operators.specs.Typed.{boxed_tree, typed_tree};
@@ -12,12 +12,11 @@ use crate::calls::suits;
 use crate::over_kinds::over_kind;
 use check_faults::{Rule, TypeErr, broken};
 use check_operators::{Typed, made_of};
-use check_shapes::{Choice, Operator, Outcome, measured};
+use check_shapes::{Operator, measured};
 use std::alloc::Global;
 use vtl_cell::Kind;
-use vtl_nodes::{AnalyticOp, AnalyticSpec, Node, NodeForm, Window};
 use vtl_syntax::Expr;
-use vtl_tree::Structure;
+use vtl_tree::{AnalyticOp, AnalyticSpec, Choice, Node, NodeForm, Outcome, Structure, Window};
 
 // An analytic call of each measure, by the kinds that it takes and gives.
 #[derive(Drop)]

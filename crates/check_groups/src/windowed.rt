@@ -12,12 +12,11 @@ use crate::over_kinds::is_unfit_over;
 use crate::over_nodes::{given_structure, over_node};
 use check_faults::{Rule, TypeErr};
 use check_operators::{Place, Typed};
-use check_values::kind;
 use std::alloc::Global;
 use vtl_cell::Kind;
 use vtl_decimal::Profile;
-use vtl_nodes::{Node, Window};
 use vtl_syntax::Expr;
+use vtl_tree::{Node, Window, kind};
 
 fn elsewhere_rule(place: &Place, kind: Option<Kind>) -> Rule
     ensures { result ≡ elsewhere_rule place.now kind }

@@ -11,14 +11,14 @@ use Rattle.vtl_tree.specs.Structure.{same_name, same_role}
 use Rattle.vtl_tree.specs.declared.structure.Component.{Component}
 use Rattle.vtl_tree.specs.declared.structure.Role.TheVariants as role
 use Rattle.vtl_tree.specs.declared.structure.Structure.{Structure}
-use Rattle.check_shapes.specs.Choices.{is_identifier}
-use Rattle.check_shapes.specs.Names.{component_of}
-use Rattle.check_shapes.specs.Operands.{is_alike, is_there}
-use Rattle.check_shapes.specs.Pairs.{contains}
-use Rattle.check_shapes.specs.declared.operands.Compared.TheVariants as compared
-use Rattle.check_shapes.proofs.Twins.{there-twin}
-use Rattle.check_joins.specs.declared.joins.Operand.{Operand}
-use Rattle.check_joins.specs.Joins.{contains_all}
+use Rattle.vtl_tree.specs.Choices.{is_identifier}
+use Rattle.vtl_tree.specs.Names.{component_of}
+use Rattle.vtl_tree.specs.Operands.{is_alike, is_there}
+use Rattle.vtl_tree.specs.Pairs.{contains}
+use Rattle.vtl_tree.specs.declared.operands.Compared.TheVariants as compared
+use Rattle.vtl_tree.proofs.Twins.{there-twin}
+use Rattle.vtl_tree.specs.declared.joins.Operand.{Operand}
+use Rattle.vtl_tree.specs.Joins.{contains_all}
 
 same-name : (a b : List ℕ) → same_name a b ≡ true → a ≡ b
 same-name a b e = (bytes_eq-Decides a b).0 e

@@ -1,19 +1,22 @@
 // Joins: the joined set, and the names in it.
 ghost use Rattle.std.specs.Option.{option_copied};
-ghost use Rattle.std.specs.Prelude.{◌≡◌, ◌++◌, IfOk, OnOk, codes, filter, flat_map, map};
+ghost use Rattle.std.specs.Prelude.{◌≡◌, ◌++◌, IfOk, OnOk, codes, filter};
 ghost use Rattle.vtl_tree.specs.Shown.{shown};
 ghost use Rattle.vtl_tree.specs.Structure.{names_of as names_in};
 ghost use Rattle.check_faults.specs.Answers.{Answers};
-ghost use Rattle.check_joins.specs.Joins.{all_own, held_by, held_names, holds, is_held, is_marked, is_part, is_reference, is_shared, join_form, joined, joined_components, joined_identifiers, joined_name, last_renamings, marked, member_form, operand_of, own, own_renamings, plain, structures_of, with_mark};
+ghost use Rattle.vtl_tree.specs.Joins.{all_own, held_names, holds, is_held, is_marked, is_part, is_reference, is_shared, joined, joined_components, joined_identifiers, joined_name, last_renamings, marked, operand_of, own, own_renamings, plain, structures_of, with_mark};
+ghost use Rattle.check_joins.specs.Joins.{join_form, member_form};
 
-use crate::Operand;
 use crate::joins::{check_using, go_together, is_cross, is_misused, reference, taken};
 use check_faults::{Rule, TypeErr, broken};
-use check_shapes::{Renaming, component_of, is_identifier, push_identifiers, shaped};
+use check_shapes::shaped;
 use std::alloc::{AllocError, Global};
 use vtl_syntax::JoinKind;
 use vtl_text::{Txt, concat};
-use vtl_tree::{Component, MAX_COMPONENTS, Structure, share_codes};
+use vtl_tree::{
+    Component, MAX_COMPONENTS, Operand, Renaming, Structure, component_of, is_identifier,
+    push_identifiers, share_codes,
+};
 
 fn is_held(kind: JoinKind, component: &Component) -> bool
     ensures { result ≡ is_held kind component.now }

@@ -1,31 +1,21 @@
 // Joins: which operands go together.
 ghost use Rattle.std.specs.List.{list_all, list_any};
-ghost use Rattle.std.specs.Option.{option_copied, option_map_or};
-ghost use Rattle.std.specs.Prelude.{◌≡◌, [], ◌++◌, IfOk, OnOk, false, filter, is_some, length};
-ghost use Rattle.vtl_tree.specs.Shown.{shown};
+ghost use Rattle.std.specs.Option.{option_copied};
+ghost use Rattle.std.specs.Prelude.{◌≡◌, [], false, filter, is_some};
 ghost use Rattle.check_faults.specs.Answers.{Answers};
 ghost use Rattle.check_faults.specs.Rules.{ruled};
-ghost use Rattle.check_shapes.specs.Choices.{is_identifier as is_id, is_identifier_name as is_id_name};
-ghost use Rattle.check_shapes.specs.Names.{component_of as component_named, is_among as among};
-ghost use Rattle.check_joins.specs.Joins.{agrees, all_go_with, clashes, containing, contains_all, go_together, goes_with, is_cross, is_exactly, is_misused, reference, structures_of, taken, takes_using, using_behind, using_form, using_tests};
+ghost use Rattle.vtl_tree.specs.Choices.{is_identifier as is_id, is_identifier_name as is_id_name};
+ghost use Rattle.vtl_tree.specs.Names.{component_of as component_named, is_among as among};
+ghost use Rattle.vtl_tree.specs.Joins.{agrees, all_go_with, clashes, containing, contains_all, go_together, goes_with, is_cross, is_exactly, reference, taken, takes_using};
+ghost use Rattle.check_joins.specs.Joins.{is_misused, using_behind, using_form, using_tests};
 
 use check_faults::{Rule, TypeErr, broken};
-use check_shapes::{
-    Compared, agree, component_of, contains, is_among, is_identifier, is_identifier_name,
-};
-use std::alloc::{AllocError, Global};
 use vtl_syntax::JoinKind;
 use vtl_text::Txt;
-use vtl_tree::{Component, Role, Structure};
-
-/// An operand of a join.
-#[derive(Drop)]
-pub struct Operand {
-    /// Its alias, which no other operand has.
-    pub alias: Txt,
-    /// Its structure.
-    pub structure: Structure,
-}
+use vtl_tree::{
+    Compared, Component, Operand, Role, Structure, agree, component_of, contains, is_among,
+    is_identifier, is_identifier_name,
+};
 
 pub(crate) fn is_cross(kind: JoinKind) -> bool
     ensures { result ≡ is_cross kind }

@@ -11,4 +11,3 @@ mod joined;
 mod joins;
 
 pub use joined::{held_names, join, last_renamings, member};
-pub use joins::Operand;

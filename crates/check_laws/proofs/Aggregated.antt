@@ -26,22 +26,25 @@ use Rattle.vtl_tree.specs.declared.structure.Component.{Component}
 use Rattle.vtl_tree.specs.declared.structure.Role.TheVariants as role
 use Rattle.vtl_tree.specs.declared.structure.Structure.{Structure}
 use Rattle.vtl_cell.specs.AggregateKinds as kinds
-use Rattle.vtl_aggregates.specs.Shapes as shapes
-use Rattle.vtl_aggregates.specs.Shapes.{IsTypedAggregate, given_of}
-use Rattle.check_shapes.specs.Choices.{chosen, is_chosen, is_identifier}
-use Rattle.check_shapes.specs.Clauses.{aggr_form, target_component}
-use Rattle.check_shapes.specs.Columns.{kind_named, place_of}
+use Rattle.vtl_meaning.specs.AggregateShapes as shapes
+use Rattle.vtl_meaning.specs.AggregateShapes.{IsTypedAggregate, given_of}
+use Rattle.vtl_tree.specs.Choices.{chosen, is_chosen, is_identifier}
+use Rattle.vtl_tree.specs.ClauseShapes.{target_component}
+use Rattle.check_shapes.specs.Clauses.{aggr_form}
+use Rattle.vtl_tree.specs.Columns.{kind_named, place_of}
 use Rattle.check_values.specs.Groupings.{choice_of, grouping_choice, grouping_names, grouping_of, grouping_typed}
 use Rattle.vtl_meaning.specs.Made.{Aggregates, IsColumnAt, IsGroupCondition, IsGrouped, IsTypedInGroups}
-use Rattle.check_shapes.specs.Measures.{any_unmet, given_measures, measured_form, measured_tests, measures, namesake, paired}
-use Rattle.check_shapes.specs.Names.{all_known, component_of, is_among}
+use Rattle.vtl_tree.specs.Measures.{any_unmet, given_measures, measures, namesake, paired}
+use Rattle.check_shapes.specs.Measures.{measured_form, measured_tests}
+use Rattle.vtl_tree.specs.Names.{component_of, is_among}
+use Rattle.check_shapes.specs.Names.{all_known}
 use Rattle.check_shapes.specs.Shape.{shaped}
 use Rattle.vtl_meaning.specs.Shapes.{IsShaped}
-use Rattle.vtl_nodes.specs.Trees.{AggTree}
-use Rattle.check_shapes.specs.declared.choices.Choice.TheVariants as choice
-use Rattle.check_shapes.specs.declared.names.Wanted.TheVariants as wanted
-use Rattle.vtl_nodes.specs.declared.specifications.AggItems.TheVariants as items
-use Rattle.vtl_aggregates.proofs.Shaped.{fits}
+use Rattle.vtl_tree.specs.Trees.{AggTree}
+use Rattle.vtl_tree.specs.declared.choices.Choice.TheVariants as choice
+use Rattle.vtl_tree.specs.declared.names.Wanted.TheVariants as wanted
+use Rattle.vtl_tree.specs.declared.specifications.AggItems.TheVariants as items
+use Rattle.vtl_meaning.proofs.AggregateShaped.{fits}
 use Rattle.check_groups.specs.Aggregates.{agg_kind, of_measure, outcome_of}
 use Rattle.check_clauses.specs.Targets.{call_in, is_aggregate, made_as, made_target, role_of, targets_in, with_made}
 use Rattle.check_operators.specs.Typed.{value}

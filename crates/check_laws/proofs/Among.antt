@@ -6,14 +6,14 @@ use Rattle.vtl_tree.specs.Structure.{columns_of, same_name}
 use Rattle.vtl_tree.specs.declared.structure.Component.{Component}
 use Rattle.vtl_tree.specs.declared.structure.Role.TheVariants as role
 use Rattle.vtl_tree.specs.declared.structure.Structure.{Structure}
-use Rattle.check_shapes.specs.Choices.{is_identifier}
-use Rattle.check_shapes.specs.Measures.{is_measure}
-use Rattle.check_shapes.specs.Names.{component_of}
-use Rattle.check_shapes.specs.Operands.{agree, is_within}
-use Rattle.check_shapes.specs.Pairs.{contains}
-use Rattle.check_shapes.specs.declared.operands.Compared.TheVariants as compared
-use Rattle.check_shapes.proofs.Twins.{HasTwin}
-use Rattle.check_shapes.specs.Columns.{identifiers_of, measures_of, place_of}
+use Rattle.vtl_tree.specs.Choices.{is_identifier}
+use Rattle.vtl_tree.specs.Measures.{is_measure}
+use Rattle.vtl_tree.specs.Names.{component_of}
+use Rattle.vtl_tree.specs.Operands.{agree, is_within}
+use Rattle.vtl_tree.specs.Pairs.{contains}
+use Rattle.vtl_tree.specs.declared.operands.Compared.TheVariants as compared
+use Rattle.vtl_tree.proofs.Twins.{HasTwin}
+use Rattle.vtl_tree.specs.Columns.{identifiers_of, measures_of, place_of}
 use Rattle.vtl_meaning.specs.Made.{AreAmong, IsColumnAt}
 use Rattle.vtl_meaning.specs.Shapes.{IsShaped}
 use Rattle.check_laws.proofs.Columns.{IsFound, all-found, at-place, found-filter, in-columns, into-columns}

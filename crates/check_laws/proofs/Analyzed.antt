@@ -20,28 +20,30 @@ use Rattle.vtl_tree.specs.declared.structure.Component.{Component}
 use Rattle.vtl_tree.specs.declared.structure.Role.{Role}
 use Rattle.vtl_tree.specs.declared.structure.Role.TheVariants as role
 use Rattle.vtl_tree.specs.declared.structure.Structure.{Structure}
-use Rattle.vtl_windows.specs.Shapes as shapes
-use Rattle.vtl_windows.specs.Shapes.{IsMadeBy, IsTakenItem, IsTypedAnalytic, given_of, taken, takes, tree_kind}
-use Rattle.check_shapes.specs.Choices.{chosen, is_identifier_name}
-use Rattle.check_shapes.specs.Clauses.{calc_form, calculated, is_new, target_component}
-use Rattle.check_shapes.specs.Columns.{column_named, kind_named, place_of}
-use Rattle.check_values.specs.Kinds.{exp_kind, given_kind}
+use Rattle.vtl_meaning.specs.AnalyticShapes as shapes
+use Rattle.vtl_meaning.specs.AnalyticShapes.{IsMadeBy, IsTakenItem, IsTypedAnalytic, given_of, taken, takes, tree_kind}
+use Rattle.vtl_tree.specs.Choices.{chosen, is_identifier_name}
+use Rattle.vtl_tree.specs.ClauseShapes.{calculated, is_new, target_component}
+use Rattle.check_shapes.specs.Clauses.{calc_form}
+use Rattle.vtl_tree.specs.Columns.{column_named, kind_named, place_of}
+use Rattle.vtl_tree.specs.Kinds.{exp_kind, given_kind}
 use Rattle.vtl_cell.specs.Literals as literals
 use Rattle.vtl_meaning.specs.Made.{IsColumnAt, IsTyped, IsValueOver, IsWindowOver, IsWindowed}
-use Rattle.check_shapes.specs.Measures.{any_unmet, given_measure, given_measures, is_measure, measured_tests, measures, namesake, paired}
-use Rattle.check_shapes.specs.Names.{component_of}
+use Rattle.vtl_tree.specs.Measures.{any_unmet, given_measure, given_measures, is_measure, measures, namesake, paired}
+use Rattle.check_shapes.specs.Measures.{measured_tests}
+use Rattle.vtl_tree.specs.Names.{component_of}
 use Rattle.check_shapes.specs.Shape.{shaped}
 use Rattle.vtl_meaning.specs.Shapes.{IsShaped}
-use Rattle.vtl_nodes.specs.Trees as nodes
-use Rattle.vtl_nodes.specs.Trees.{ItemTree, ValueTree}
-use Rattle.vtl_nodes.specs.declared.calls.AnalyticCall.{AnalyticCall}
-use Rattle.vtl_nodes.specs.declared.calls.AnalyticOp.{AnalyticOp}
-use Rattle.vtl_nodes.specs.declared.calls.AnalyticOp.TheVariants as op
-use Rattle.vtl_nodes.specs.declared.calls.Window.{Window}
-use Rattle.check_shapes.specs.declared.choices.Choice.TheVariants as choice
-use Rattle.check_shapes.specs.declared.measures.Outcome.TheVariants as outcome
-use Rattle.check_shapes.specs.declared.targets.Target.{Target}
-use Rattle.vtl_windows.proofs.Shaped.{fits}
+use Rattle.vtl_tree.specs.Trees as nodes
+use Rattle.vtl_tree.specs.Trees.{ItemTree, ValueTree}
+use Rattle.vtl_tree.specs.declared.calls.AnalyticCall.{AnalyticCall}
+use Rattle.vtl_tree.specs.declared.calls.AnalyticOp.{AnalyticOp}
+use Rattle.vtl_tree.specs.declared.calls.AnalyticOp.TheVariants as op
+use Rattle.vtl_tree.specs.declared.calls.Window.{Window}
+use Rattle.vtl_tree.specs.declared.choices.Choice.TheVariants as choice
+use Rattle.vtl_tree.specs.declared.measures.Outcome.TheVariants as outcome
+use Rattle.vtl_tree.specs.declared.targets.Target.{Target}
+use Rattle.vtl_meaning.proofs.AnalyticShaped.{fits}
 use Rattle.vtl_meaning.proofs.Profiles.{value_gives}
 use Rattle.vtl_meaning.proofs.ValueKinds.{value_is_of}
 use Rattle.check_clauses.specs.Targets.{component_kind, target_of, value_kind}

@@ -15,15 +15,16 @@ use Rattle.vtl_tree.specs.declared.structure.Component.{Component}
 use Rattle.vtl_tree.specs.declared.structure.Role.{Role}
 use Rattle.vtl_tree.specs.declared.structure.Role.TheVariants as role
 use Rattle.vtl_tree.specs.declared.structure.Structure.{Structure}
-use Rattle.vtl_nodes.specs.Trees.{ItemTree}
-use Rattle.check_shapes.specs.Choices.{is_identifier, is_identifier_name}
-use Rattle.check_shapes.specs.Clauses.{calc_form, calculated, is_new, retargeted, target_component}
-use Rattle.check_shapes.specs.Clauses as clauses
-use Rattle.check_shapes.specs.Measures.{made}
-use Rattle.check_shapes.specs.Names.{component_of}
-use Rattle.check_shapes.specs.declared.targets.Target.{Target}
-use Rattle.check_values.specs.Kinds.{exp_kind}
-use Rattle.check_shapes.specs.Columns.{column_named}
+use Rattle.vtl_tree.specs.Trees.{ItemTree}
+use Rattle.vtl_tree.specs.Choices.{is_identifier, is_identifier_name}
+use Rattle.vtl_tree.specs.ClauseShapes.{calculated, is_new, retargeted, target_component}
+use Rattle.check_shapes.specs.Clauses.{calc_form}
+use Rattle.vtl_tree.specs.ClauseShapes as clauses
+use Rattle.vtl_tree.specs.Measures.{made}
+use Rattle.vtl_tree.specs.Names.{component_of}
+use Rattle.vtl_tree.specs.declared.targets.Target.{Target}
+use Rattle.vtl_tree.specs.Kinds.{exp_kind}
+use Rattle.vtl_tree.specs.Columns.{column_named}
 use Rattle.vtl_meaning.specs.Made.{IsCalculated, IsTyped}
 use Rattle.vtl_meaning.specs.Operators.{calculated_exp, target_named, value_exp}
 use Rattle.vtl_meaning.specs.Shapes.{IsShaped, calculated_components, target_of}

@@ -11,12 +11,12 @@ use Rattle.vtl_tree.specs.Structures.{is_null_kind, structure_of}
 use Rattle.vtl_tree.specs.declared.structure.Component.{Component}
 use Rattle.vtl_tree.specs.declared.structure.Role.TheVariants as role
 use Rattle.vtl_tree.specs.declared.structure.Structure.{Structure}
-use Rattle.check_shapes.specs.Measures.{is_measure, measures}
-use Rattle.check_shapes.specs.Operands.{agree, agreed_identifiers, all_agree, all_meet}
+use Rattle.vtl_tree.specs.Measures.{is_measure, measures}
+use Rattle.vtl_tree.specs.Operands.{agree, agreed_identifiers, all_agree, all_meet}
 use Rattle.check_shapes.specs.Pairs.{are_choices, if_form, if_tests}
 use Rattle.check_shapes.specs.Shape.{shaped}
-use Rattle.check_shapes.specs.declared.operands.Compared.TheVariants as compared
-use Rattle.check_shapes.specs.Columns.{identifiers_of}
+use Rattle.vtl_tree.specs.declared.operands.Compared.TheVariants as compared
+use Rattle.vtl_tree.specs.Columns.{identifiers_of}
 use Rattle.vtl_meaning.specs.Made.{AreAmong, IsAlternative, IsChoice}
 use Rattle.vtl_meaning.specs.Shapes.{IsShaped}
 use Rattle.check_laws.specs.Gives.{ArePassed, Gives}

@@ -29,20 +29,20 @@ use Rattle.vtl_tree.specs.declared.structure.Component.{Component}
 use Rattle.vtl_tree.specs.declared.structure.Role.{Role}
 use Rattle.vtl_tree.specs.declared.structure.Role.TheVariants as role
 use Rattle.vtl_tree.specs.declared.structure.Structure.{Structure}
-use Rattle.vtl_nodes.specs.Trees as nodes
-use Rattle.vtl_nodes.specs.Trees.{FormTree, ItemTree, NodeTree, ValueTree, structure_of}
-use Rattle.vtl_nodes.specs.declared.clauses.SubItem.{SubItem}
-use Rattle.check_shapes.specs.Choices.{chosen, is_identifier_name}
+use Rattle.vtl_tree.specs.Trees as nodes
+use Rattle.vtl_tree.specs.Trees.{FormTree, ItemTree, NodeTree, ValueTree, structure_of}
+use Rattle.vtl_tree.specs.declared.clauses.SubItem.{SubItem}
+use Rattle.vtl_tree.specs.Choices.{chosen, is_identifier_name}
 use Rattle.check_shapes.specs.Clauses.{aggr_form, calc_form, pivot_form, rename_form, target_tests, unpivot_form}
 use Rattle.check_shapes.specs.Names.{known}
 use Rattle.check_shapes.specs.Shape.{shaped}
-use Rattle.check_shapes.specs.declared.choices.Choice.TheVariants as choice
-use Rattle.check_shapes.specs.declared.names.Wanted.{Wanted}
-use Rattle.check_shapes.specs.declared.names.Wanted.TheVariants as wanted
-use Rattle.check_shapes.specs.declared.renaming.Renaming.{Renaming}
+use Rattle.vtl_tree.specs.declared.choices.Choice.TheVariants as choice
+use Rattle.vtl_tree.specs.declared.names.Wanted.{Wanted}
+use Rattle.vtl_tree.specs.declared.names.Wanted.TheVariants as wanted
+use Rattle.vtl_tree.specs.declared.renaming.Renaming.{Renaming}
 use Rattle.check_values.specs.Columns.{name_of}
 use Rattle.check_values.specs.Groupings.{grouping_choice, grouping_names}
-use Rattle.check_values.specs.Kinds.{exp_kind}
+use Rattle.vtl_tree.specs.Kinds.{exp_kind}
 use Rattle.check_values.specs.Literals.{kind_met, literal_cell, literal_kind, valued}
 use Rattle.check_operators.specs.Places.{Env, at_points, columns_in, name_written, written_by}
 use Rattle.check_operators.specs.Typed.{TypedTree, value, dataset, components_in, condition_in}

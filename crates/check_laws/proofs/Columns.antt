@@ -12,8 +12,8 @@ use Rattle.vtl_tree.specs.declared.structure.Component.{Component}
 use Rattle.vtl_tree.specs.declared.structure.Role.{Role}
 use Rattle.vtl_tree.specs.declared.structure.Role.TheVariants as role
 use Rattle.vtl_tree.specs.declared.structure.Structure.{Structure}
-use Rattle.check_shapes.specs.Names.{component_of, is_among}
-use Rattle.check_shapes.specs.Columns.{kind_named, place_of}
+use Rattle.vtl_tree.specs.Names.{component_of, is_among}
+use Rattle.vtl_tree.specs.Columns.{kind_named, place_of}
 use Rattle.vtl_meaning.specs.Made.{IsColumnAt}
 use Rattle.check_laws.proofs.Lists as lists
 

@@ -8,16 +8,17 @@ use Rattle.vtl_tree.specs.Structures.{structure_of}
 use Rattle.vtl_tree.specs.declared.structure.Component.{Component}
 use Rattle.vtl_tree.specs.declared.structure.Role.TheVariants as role
 use Rattle.vtl_tree.specs.declared.structure.Structure.{Structure}
-use Rattle.check_shapes.specs.Choices.{is_identifier}
-use Rattle.check_shapes.specs.Measures.{bool_var, measures}
-use Rattle.check_shapes.specs.Names.{component_of, is_among}
-use Rattle.check_shapes.specs.Operands.{agree, agreed, agreed_identifiers, all_agree, is_alike, is_there}
-use Rattle.check_shapes.specs.Pairs.{exists_form, exists_tests, is_at_odds, is_common, set_form, set_tests}
+use Rattle.vtl_tree.specs.Choices.{is_identifier}
+use Rattle.vtl_tree.specs.Measures.{bool_var, measures}
+use Rattle.vtl_tree.specs.Names.{component_of, is_among}
+use Rattle.vtl_tree.specs.Operands.{agree, agreed, agreed_identifiers, all_agree, is_alike, is_there}
+use Rattle.vtl_tree.specs.Pairs.{is_common}
+use Rattle.check_shapes.specs.Pairs.{exists_form, exists_tests, is_at_odds, set_form, set_tests}
 use Rattle.check_shapes.specs.Shape.{shaped}
-use Rattle.check_shapes.specs.declared.operands.Compared.TheVariants as compared
-use Rattle.check_shapes.proofs.Twins.{HasTwin, there-twin}
+use Rattle.vtl_tree.specs.declared.operands.Compared.TheVariants as compared
+use Rattle.vtl_tree.proofs.Twins.{HasTwin, there-twin}
 use Rattle.vtl_meaning.specs.Agreement.{common_identifiers, has_identifier}
-use Rattle.check_shapes.specs.Columns.{identifiers_of, measures_of, place_of}
+use Rattle.vtl_tree.specs.Columns.{identifiers_of, measures_of, place_of}
 use Rattle.vtl_meaning.specs.Made.{AreAmong, IsAlternative, IsColumnAt, IsCombined, IsExistence, component_kinds}
 use Rattle.vtl_meaning.specs.Shapes.{IsShaped}
 use Rattle.check_laws.specs.Gives.{ArePassed, Gives}

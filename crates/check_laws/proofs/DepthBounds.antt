@@ -13,14 +13,14 @@ use Rattle.vtl_tree.specs.Structure.{columns_of, same_name}
 use Rattle.vtl_tree.specs.View.{comp_exps_of}
 use Rattle.vtl_tree.specs.declared.structure.Component.{Component}
 use Rattle.vtl_tree.specs.declared.structure.Structure.{Structure}
-use Rattle.vtl_nodes.specs.Nodes.{all_nodes, form_nodes, nodes_in}
-use Rattle.vtl_nodes.specs.Trees as nodes
-use Rattle.vtl_nodes.specs.Trees.{FormTree, ItemTree, MeasureTree, NodeTree, ValueTree}
-use Rattle.check_shapes.specs.Pairs.{contains}
+use Rattle.vtl_tree.specs.Nodes.{all_nodes, form_nodes, nodes_in}
+use Rattle.vtl_tree.specs.Trees as nodes
+use Rattle.vtl_tree.specs.Trees.{FormTree, ItemTree, MeasureTree, NodeTree, ValueTree}
+use Rattle.vtl_tree.specs.Pairs.{contains}
 use Rattle.check_operators.specs.Typed as typed
 use Rattle.check_operators.specs.Typed.{TypedTree, value, dataset}
 use Rattle.check_clauses.specs.Clauses as clauses
-use Rattle.check_shapes.specs.Columns.{column_behind, column_named, columns_named, identifiers_of, measures_of}
+use Rattle.vtl_tree.specs.Columns.{column_behind, column_named, columns_named, identifiers_of, measures_of}
 use Rattle.vtl_meaning.specs.Operators.{calculated_exp, calculated_exps, for_measures, measured_exps, pair_exps, target_named, value_exp, with_measure, with_namesake}
 use Rattle.check_laws.specs.Depths.{comp_depth, comps_depth, exps_in, held_exps, item_exps, made_exps, node_depth, value_exps}
 use Rattle.check_laws.specs.Gives.{Gives}

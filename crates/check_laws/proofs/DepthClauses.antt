@@ -19,14 +19,14 @@ use Rattle.vtl_syntax.specs.declared.parts.SubPart.{SubPart}
 use Rattle.vtl_syntax.specs.declared.word_groups.JoinKind.{JoinKind}
 use Rattle.vtl_tree.specs.CompExp.{CompExp}
 use Rattle.vtl_tree.specs.declared.structure.Structure.{Structure}
-use Rattle.vtl_nodes.specs.Nodes.{nodes_in, operand_nodes}
-use Rattle.vtl_nodes.specs.Trees as nodes
-use Rattle.vtl_nodes.specs.Trees.{NodeTree, OperandTree, ValueTree, operands_of, structure_of}
+use Rattle.vtl_tree.specs.Nodes.{nodes_in, operand_nodes}
+use Rattle.vtl_tree.specs.Trees as nodes
+use Rattle.vtl_tree.specs.Trees.{NodeTree, OperandTree, ValueTree, operands_of, structure_of}
 use Rattle.check_shapes.specs.Clauses.{calc_form, pivot_form}
-use Rattle.check_shapes.specs.declared.names.Wanted.TheVariants as wanted
-use Rattle.check_shapes.specs.declared.renaming.Renaming.{Renaming}
+use Rattle.vtl_tree.specs.declared.names.Wanted.TheVariants as wanted
+use Rattle.vtl_tree.specs.declared.renaming.Renaming.{Renaming}
 use Rattle.check_values.specs.Columns.{name_of}
-use Rattle.check_values.specs.Kinds.{exp_kind}
+use Rattle.vtl_tree.specs.Kinds.{exp_kind}
 use Rattle.check_operators.specs.Typed.{TypedTree, value, dataset, components_in, condition_in, dataset_in}
 use Rattle.check_operators.specs.declared.places.Joined.{Joined}
 use Rattle.check_operators.specs.declared.places.Place.{Place}

@@ -19,12 +19,12 @@ use Rattle.vtl_tree.specs.Structure.{same_name}
 use Rattle.vtl_tree.specs.View.{comp_exps_of}
 use Rattle.vtl_tree.specs.declared.structure.Component.{Component}
 use Rattle.vtl_tree.specs.declared.structure.Structure.{Structure}
-use Rattle.vtl_nodes.specs.Nodes.{nodes_in}
-use Rattle.vtl_nodes.specs.Trees.{NodeTree, choose, measures, named, pair, structure_of}
-use Rattle.check_shapes.specs.Names.{is_among}
+use Rattle.vtl_tree.specs.Nodes.{nodes_in}
+use Rattle.vtl_tree.specs.Trees.{NodeTree, choose, measures, named, pair, structure_of}
+use Rattle.vtl_tree.specs.Names.{is_among}
 use Rattle.check_values.specs.Calls.{call_form, call_kind, or_null}
 use Rattle.check_values.specs.Columns.{column_from, column_typed, name_of}
-use Rattle.check_values.specs.Kinds.{exp_kind}
+use Rattle.vtl_tree.specs.Kinds.{exp_kind}
 use Rattle.check_values.specs.Literals.{constant_cell, constant_typed, valued}
 use Rattle.check_operators.specs.Operators.{Operands, if_placed, membership, no_operands, on_choice, on_datasets, on_measures, on_operands, on_pair, operator_form, parted, set_form, with_operand, with_value}
 use Rattle.check_operators.specs.Places.{Env, Written, alone, component_typed, constant_form, known_by, member_inside, member_written, name_typed, written_typed}

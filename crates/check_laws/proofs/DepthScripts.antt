@@ -9,7 +9,7 @@ use Rattle.vtl_syntax.specs.Trees as tree
 use Rattle.vtl_syntax.specs.Trees.{Exp, ScriptTree}
 use Rattle.vtl_syntax.specs.Written.{AreWritten, IsWritten}
 use Rattle.vtl_tree.specs.Structures.{has_name}
-use Rattle.vtl_nodes.specs.Trees.{NodeTree}
+use Rattle.vtl_tree.specs.Trees.{NodeTree}
 use Rattle.check_operators.specs.Places.{Env}
 use Rattle.check_operators.specs.declared.places.Place.TheVariants as place
 use Rattle.vtl_check.specs.Checked.{IsTyped, TypedScript, env_over, nodes_of, tree_of}

@@ -8,7 +8,7 @@ use Rattle.check_faults.specs.declared.rules.Rule.TheVariants as rule
 use Rattle.vtl_syntax.specs.Depth.{calcs_depth, clause_depth, exp_depth, exps_depth, maybe_depth, maybe_targets_depth, parts_depth, targets_depth}
 use Rattle.vtl_syntax.specs.Trees as tree
 use Rattle.vtl_syntax.specs.Trees.{Calcs, ClauseTree, Exp, Exps, MaybeExp, MaybeTargets, Parts, TargetsTree}
-use Rattle.vtl_nodes.specs.Trees.{ItemTree, NodeTree}
+use Rattle.vtl_tree.specs.Trees.{ItemTree, NodeTree}
 use Rattle.check_values.specs.Groupings.{grouping_of, grouping_typed}
 use Rattle.check_values.specs.Operators.{exps_length, of_binary, of_function, of_unary, takes}
 use Rattle.check_values.specs.Literals.{literals_fit}

@@ -8,14 +8,15 @@ use Rattle.vtl_syntax.specs.Trees.{Exp}
 use Rattle.vtl_syntax.specs.declared.parts.GroupPart.{GroupPart}
 use Rattle.vtl_syntax.specs.declared.word_groups.AggregateName.{AggregateName}
 use Rattle.vtl_tree.specs.CompExp.{CompExp}
-use Rattle.vtl_nodes.specs.Trees as nodes
-use Rattle.vtl_nodes.specs.Trees.{NodeTree, ValueTree, structure_of}
-use Rattle.vtl_nodes.specs.declared.calls.AnalyticOp.{AnalyticOp}
-use Rattle.vtl_nodes.specs.declared.calls.AnalyticOp.TheVariants as analytic
-use Rattle.vtl_nodes.specs.declared.calls.Window.{Window}
-use Rattle.check_shapes.specs.Measures.{measured_form, measures}
+use Rattle.vtl_tree.specs.Trees as nodes
+use Rattle.vtl_tree.specs.Trees.{NodeTree, ValueTree, structure_of}
+use Rattle.vtl_tree.specs.declared.calls.AnalyticOp.{AnalyticOp}
+use Rattle.vtl_tree.specs.declared.calls.AnalyticOp.TheVariants as analytic
+use Rattle.vtl_tree.specs.declared.calls.Window.{Window}
+use Rattle.vtl_tree.specs.Measures.{measures}
+use Rattle.check_shapes.specs.Measures.{measured_form}
 use Rattle.check_values.specs.Groupings.{grouping_choice, grouping_names}
-use Rattle.check_values.specs.Kinds.{exp_kind}
+use Rattle.vtl_tree.specs.Kinds.{exp_kind}
 use Rattle.check_operators.specs.Places.{Env, columns_in}
 use Rattle.check_operators.specs.Typed.{TypedTree, value, dataset, components_in}
 use Rattle.check_operators.specs.declared.places.Place.{Place}

@@ -10,7 +10,7 @@ use Rattle.check_faults.specs.declared.rules.Rule.TheVariants as rule
 use Rattle.vtl_syntax.specs.Trees as tree
 use Rattle.vtl_syntax.specs.Trees.{MaybeExp}
 use Rattle.vtl_tree.specs.CompExp.{CompExp}
-use Rattle.check_values.specs.Kinds.{exp_kind}
+use Rattle.vtl_tree.specs.Kinds.{exp_kind}
 use Rattle.check_operators.specs.Places.{Env}
 use Rattle.check_operators.specs.Typed.{TypedTree, value, dataset, condition_in}
 use Rattle.check_expressions.specs.Typing.{having_typed, maybe_typed, typed}

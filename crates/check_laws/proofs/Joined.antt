@@ -19,14 +19,15 @@ use Rattle.vtl_tree.specs.declared.structure.Role.TheVariants as role
 use Rattle.vtl_tree.specs.declared.structure.Structure.{Structure}
 use Rattle.check_faults.specs.Rules.{Tests, ruled}
 use Rattle.check_faults.specs.declared.rules.Rule.TheVariants as rule
-use Rattle.check_joins.specs.Joins as joins
-use Rattle.check_joins.specs.Joins.{agrees, all_go_with, all_own, clashes, go_together, go_with, goes_with, held_names, is_cross, is_exactly, is_misused, is_part, join_form, join_tests, joined, joined_components, joined_identifiers, own, reference, structures_of, taken, using_form}
-use Rattle.check_joins.specs.declared.joins.Operand.{Operand}
-use Rattle.check_shapes.specs.Choices.{is_identifier}
-use Rattle.check_shapes.specs.Operands.{agreed_identifiers}
-use Rattle.check_shapes.specs.Pairs.{contains}
+use Rattle.vtl_tree.specs.Joins as joins
+use Rattle.vtl_tree.specs.Joins.{agrees, all_go_with, all_own, clashes, go_together, go_with, goes_with, held_names, is_cross, is_exactly, is_part, joined, joined_components, joined_identifiers, own, reference, structures_of, taken}
+use Rattle.check_joins.specs.Joins.{is_misused, join_form, join_tests, using_form}
+use Rattle.vtl_tree.specs.declared.joins.Operand.{Operand}
+use Rattle.vtl_tree.specs.Choices.{is_identifier}
+use Rattle.vtl_tree.specs.Operands.{agreed_identifiers}
+use Rattle.vtl_tree.specs.Pairs.{contains}
 use Rattle.check_shapes.specs.Shape.{shaped}
-use Rattle.check_shapes.specs.Columns.{identifiers_of}
+use Rattle.vtl_tree.specs.Columns.{identifiers_of}
 use Rattle.vtl_meaning.specs.Joined.{contains_all, reference_place}
 use Rattle.vtl_meaning.specs.Made.{AreAmong, GoTogether, HasIdentifiers, IsJoined, component_kinds, kinds_of_all}
 use Rattle.vtl_meaning.specs.Shapes.{IsJoinedFrom, IsShaped}

@@ -13,10 +13,11 @@ use Rattle.vtl_tree.specs.declared.structure.Structure.{Structure}
 use Rattle.check_faults.specs.Rules.{ruled}
 use Rattle.check_faults.specs.declared.rules.Rule.TheVariants as rule
 use Rattle.check_joins.specs.Joins as joins
-use Rattle.check_joins.specs.declared.joins.Operand.{Operand}
-use Rattle.check_shapes.specs.Names.{is_among}
-use Rattle.vtl_nodes.specs.Trees as nodes
-use Rattle.vtl_nodes.specs.Trees.{NodeTree, OperandTree, operands_of}
+use Rattle.vtl_tree.specs.Joins as held
+use Rattle.vtl_tree.specs.declared.joins.Operand.{Operand}
+use Rattle.vtl_tree.specs.Names.{is_among}
+use Rattle.vtl_tree.specs.Trees as nodes
+use Rattle.vtl_tree.specs.Trees.{NodeTree, OperandTree, operands_of}
 use Rattle.check_operators.specs.Places.{Env}
 use Rattle.check_operators.specs.Typed.{TypedTree, components_in, dataset_in}
 use Rattle.check_operators.specs.declared.places.Joined.{Joined}
@@ -103,7 +104,7 @@ joined-gives env kind u os are =
     form = nodes.join (operands_of os) (record { kind = kind; using = using_names u })
 
     IsJoin : List Operand → Structure → Type 0
-    IsJoin xs s = IsShaped s × IsJoined kind (joins.structures_of xs) s × IsJoinedFrom kind xs s
+    IsJoin xs s = IsShaped s × IsJoined kind (held.structures_of xs) s × IsJoinedFrom kind xs s
 
 pub last-gives : (env : Env) (j : Joined) (n : NodeTree) → IsMade env.settings env.known n → Gives (IsMade env.settings env.known) (last_naming j n)
 unfolding last_naming

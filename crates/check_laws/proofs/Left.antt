@@ -8,15 +8,17 @@ use Rattle.vtl_tree.specs.Structure.{columns_of, names_of, same_name}
 use Rattle.vtl_tree.specs.Structures.{structure_of}
 use Rattle.vtl_tree.specs.declared.structure.Component.{Component}
 use Rattle.vtl_tree.specs.declared.structure.Structure.{Structure}
-use Rattle.vtl_nodes.specs.declared.clauses.SubItem.{SubItem}
-use Rattle.check_shapes.specs.Choices.{choice_form, chosen, is_chosen, is_identifier}
-use Rattle.check_shapes.specs.Names.{all_known, component_of, is_among, known, known_as, name_tests, names_behind, serves}
+use Rattle.vtl_tree.specs.declared.clauses.SubItem.{SubItem}
+use Rattle.vtl_tree.specs.Choices.{chosen, is_chosen, is_identifier}
+use Rattle.check_shapes.specs.Choices.{choice_form}
+use Rattle.vtl_tree.specs.Names.{component_of, is_among, serves}
+use Rattle.check_shapes.specs.Names.{all_known, known, known_as, name_tests, names_behind}
 use Rattle.check_shapes.specs.Shape.{shaped}
-use Rattle.check_shapes.specs.declared.choices.Choice.{Choice}
-use Rattle.check_shapes.specs.declared.choices.Choice.TheVariants as choice
-use Rattle.check_shapes.specs.declared.names.Wanted.{Wanted}
-use Rattle.check_shapes.specs.declared.names.Wanted.TheVariants as wanted
-use Rattle.check_shapes.specs.Columns.{identifiers_of, kind_named, place_of}
+use Rattle.vtl_tree.specs.declared.choices.Choice.{Choice}
+use Rattle.vtl_tree.specs.declared.choices.Choice.TheVariants as choice
+use Rattle.vtl_tree.specs.declared.names.Wanted.{Wanted}
+use Rattle.vtl_tree.specs.declared.names.Wanted.TheVariants as wanted
+use Rattle.vtl_tree.specs.Columns.{identifiers_of, kind_named, place_of}
 use Rattle.vtl_meaning.specs.Made.{AreAmong, IsColumnAt, IsLeft, IsSub}
 use Rattle.vtl_meaning.specs.Shapes.{IsChosen, IsShaped, is_known}
 use Rattle.check_laws.specs.Gives.{Gives}

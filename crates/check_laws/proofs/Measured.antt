@@ -16,15 +16,16 @@ use Rattle.vtl_tree.specs.View.{comp_exps_of}
 use Rattle.vtl_tree.specs.declared.structure.Component.{Component}
 use Rattle.vtl_tree.specs.declared.structure.Role.TheVariants as role
 use Rattle.vtl_tree.specs.declared.structure.Structure.{Structure}
-use Rattle.vtl_nodes.specs.Trees.{MeasureTree}
-use Rattle.check_shapes.specs.Choices.{chosen, is_identifier}
-use Rattle.check_shapes.specs.Measures.{Gives as GivesKind, any_unmet, bool_var, given_measure, given_measures, is_measure, is_miscounted, is_unmet, measured_form, measured_tests, measures, namesake, paired}
+use Rattle.vtl_tree.specs.Trees.{MeasureTree}
+use Rattle.vtl_tree.specs.Choices.{chosen, is_identifier}
+use Rattle.vtl_tree.specs.Measures.{Gives as GivesKind, any_unmet, bool_var, given_measure, given_measures, is_measure, is_miscounted, is_unmet, measures, namesake, paired}
+use Rattle.check_shapes.specs.Measures.{measured_form, measured_tests}
 use Rattle.check_shapes.specs.Shape.{shaped}
-use Rattle.check_shapes.specs.declared.choices.Choice.TheVariants as choice
-use Rattle.check_shapes.specs.declared.measures.Outcome.{Outcome}
-use Rattle.check_shapes.specs.declared.measures.Outcome.TheVariants as outcome
-use Rattle.check_values.specs.Kinds.{exp_kind}
-use Rattle.check_shapes.specs.Columns.{column_named, columns_named, identifiers_of, measures_of}
+use Rattle.vtl_tree.specs.declared.choices.Choice.TheVariants as choice
+use Rattle.vtl_tree.specs.declared.measures.Outcome.{Outcome}
+use Rattle.vtl_tree.specs.declared.measures.Outcome.TheVariants as outcome
+use Rattle.vtl_tree.specs.Kinds.{exp_kind}
+use Rattle.vtl_tree.specs.Columns.{column_named, columns_named, identifiers_of, measures_of}
 use Rattle.vtl_meaning.specs.Literals.{HasLiterals}
 use Rattle.vtl_meaning.specs.Made.{AreFor, HasIdentifiers, IsMeasured, IsTyped}
 use Rattle.vtl_meaning.specs.Operators.{for_measures, with_measure}

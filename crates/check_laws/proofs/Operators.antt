@@ -22,10 +22,11 @@ use Rattle.vtl_tree.specs.Structure.{columns_of}
 use Rattle.vtl_tree.specs.View.{comp_exps_of}
 use Rattle.vtl_tree.specs.declared.structure.Component.{Component}
 use Rattle.vtl_tree.specs.declared.structure.Structure.{Structure}
-use Rattle.vtl_nodes.specs.Trees.{FormTree, NodeTree, choose, measures, pair, structure_of}
-use Rattle.check_shapes.specs.Measures.{any_unmet, measured_form}
+use Rattle.vtl_tree.specs.Trees.{FormTree, NodeTree, choose, measures, pair, structure_of}
+use Rattle.vtl_tree.specs.Measures.{any_unmet}
+use Rattle.check_shapes.specs.Measures.{measured_form}
 use Rattle.check_shapes.specs.Pairs as pairs
-use Rattle.check_shapes.specs.declared.choices.Choice.TheVariants as choice
+use Rattle.vtl_tree.specs.declared.choices.Choice.TheVariants as choice
 use Rattle.check_values.specs.Calls.{call_form}
 use Rattle.check_values.specs.Literals.{set_typed}
 use Rattle.check_operators.specs.Operators.{Operands, between_values, by_operands, first_fits, given_structure, if_placed, is_binary, is_choice, membership, no_operands, of_two, on_choice, on_datasets, on_measures, on_operands, on_pair, operator_form, outcome_of, parted, set_form, takes_dataset, with_operand, with_value}

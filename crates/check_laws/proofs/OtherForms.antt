@@ -4,15 +4,18 @@ use Rattle.std.specs.List.{filter}
 use Rattle.check_faults.specs.Rules.{ruled}
 use Rattle.vtl_tree.specs.declared.structure.Component.{Component}
 use Rattle.vtl_tree.specs.declared.structure.Structure.{Structure}
-use Rattle.check_shapes.specs.Choices.{chosen}
-use Rattle.check_shapes.specs.Clauses.{calc_form, calculated, is_new, target_component}
-use Rattle.check_shapes.specs.Measures.{Gives as GivesKind, given_measures, measured_form, measured_tests}
-use Rattle.check_shapes.specs.Operands.{agreed_identifiers}
-use Rattle.check_shapes.specs.Pairs.{check_form, check_measures, check_tests}
+use Rattle.vtl_tree.specs.Choices.{chosen}
+use Rattle.vtl_tree.specs.ClauseShapes.{calculated, is_new, target_component}
+use Rattle.check_shapes.specs.Clauses.{calc_form}
+use Rattle.vtl_tree.specs.Measures.{Gives as GivesKind, given_measures}
+use Rattle.check_shapes.specs.Measures.{measured_form, measured_tests}
+use Rattle.vtl_tree.specs.Operands.{agreed_identifiers}
+use Rattle.vtl_tree.specs.Pairs.{check_measures}
+use Rattle.check_shapes.specs.Pairs.{check_form, check_tests}
 use Rattle.check_shapes.specs.Shape.{shaped}
-use Rattle.check_shapes.specs.declared.choices.Choice.{Choice}
-use Rattle.check_shapes.specs.declared.measures.Outcome.{Outcome}
-use Rattle.check_shapes.specs.declared.targets.Target.{Target}
+use Rattle.vtl_tree.specs.declared.choices.Choice.{Choice}
+use Rattle.vtl_tree.specs.declared.measures.Outcome.{Outcome}
+use Rattle.vtl_tree.specs.declared.targets.Target.{Target}
 use Rattle.vtl_meaning.specs.Shapes.{IsShaped}
 use Rattle.check_laws.specs.Gives.{Gives}
 use Rattle.check_laws.proofs.Shapes.{any-shaped, shaped-gives}

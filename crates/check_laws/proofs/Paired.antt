@@ -12,16 +12,17 @@ use Rattle.vtl_tree.specs.View.{comp_exps_of}
 use Rattle.vtl_tree.specs.declared.structure.Component.{Component}
 use Rattle.vtl_tree.specs.declared.structure.Role.TheVariants as role
 use Rattle.vtl_tree.specs.declared.structure.Structure.{Structure}
-use Rattle.check_shapes.specs.Choices.{is_identifier}
-use Rattle.check_shapes.specs.Measures.{Gives as GivesKind, any_unmet, given_measures, is_measure, is_miscounted, measure_kind, measures, namesake, paired}
-use Rattle.check_shapes.specs.Names.{component_of}
-use Rattle.check_shapes.specs.Operands.{agree, agreed, agreed_identifiers, is_within}
-use Rattle.check_shapes.specs.Pairs.{contains, pair_form, pair_identifiers, pair_tests}
+use Rattle.vtl_tree.specs.Choices.{is_identifier}
+use Rattle.vtl_tree.specs.Measures.{Gives as GivesKind, any_unmet, given_measures, is_measure, is_miscounted, measure_kind, measures, namesake, paired}
+use Rattle.vtl_tree.specs.Names.{component_of}
+use Rattle.vtl_tree.specs.Operands.{agree, agreed, agreed_identifiers, is_within}
+use Rattle.vtl_tree.specs.Pairs.{contains, pair_identifiers}
+use Rattle.check_shapes.specs.Pairs.{pair_form, pair_tests}
 use Rattle.check_shapes.specs.Shape.{shaped}
-use Rattle.check_shapes.specs.declared.measures.Outcome.{Outcome}
-use Rattle.check_shapes.specs.declared.operands.Compared.TheVariants as compared
-use Rattle.check_values.specs.Kinds.{exp_kind}
-use Rattle.check_shapes.specs.Columns.{column_behind, column_named, columns_named, identifiers_of, measures_of}
+use Rattle.vtl_tree.specs.declared.measures.Outcome.{Outcome}
+use Rattle.vtl_tree.specs.declared.operands.Compared.TheVariants as compared
+use Rattle.vtl_tree.specs.Kinds.{exp_kind}
+use Rattle.vtl_tree.specs.Columns.{column_behind, column_named, columns_named, identifiers_of, measures_of}
 use Rattle.vtl_meaning.specs.Literals.{are_literals}
 use Rattle.vtl_meaning.specs.Made.{AreFor, HasIdentifiers, IsPaired}
 use Rattle.vtl_meaning.specs.Operators.{for_measures, with_namesake}
@@ -34,7 +35,7 @@ use Rattle.check_laws.proofs.Measured.{IsGivenBy, for-given, for-parts, given-ki
 use Rattle.check_laws.proofs.Shapes.{AreParts, shaped-gives}
 use Rattle.check_laws.proofs.Steps.{tested-then}
 use Rattle.check_laws.proofs.Tests.{and-true, not-false, or-false}
-use Rattle.check_shapes.proofs.Twins.{HasTwin}
+use Rattle.vtl_tree.proofs.Twins.{HasTwin}
 use Rattle.check_laws.proofs.Twins.{agreed-kind, agreed-kinds, agreed-name, agreed-names, agreed-roles, within-twins}
 
 -- a measure of the first operand with its namesake, and the measure that they become

@@ -25,8 +25,8 @@ use Rattle.vtl_syntax.specs.declared.word_groups.ValueWindowName.{ValueWindowNam
 use Rattle.vtl_syntax.specs.declared.word_groups.ValueWindowName.TheVariants as window
 use Rattle.vtl_cell.specs.Literals.{integer_written, longest_reach}
 use Rattle.vtl_tree.specs.declared.structure.Component.{Component}
-use Rattle.vtl_nodes.specs.declared.calls.Frame.{Frame}
-use Rattle.vtl_nodes.specs.declared.calls.Window.{Window}
+use Rattle.vtl_tree.specs.declared.calls.Frame.{Frame}
+use Rattle.vtl_tree.specs.declared.calls.Window.{Window}
 use Rattle.check_values.specs.Windows.{bound_typed, frame_alone, frame_typed, or_none, order_typed, partition_typed, points_at, points_in, points_typed, window_typed}
 use Rattle.check_operators.specs.Typed.{TypedTree}
 use Rattle.check_operators.specs.declared.places.Place.{Place}

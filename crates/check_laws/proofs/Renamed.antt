@@ -8,8 +8,9 @@ use Rattle.vtl_tree.specs.declared.structure.Component.{Component}
 use Rattle.vtl_tree.specs.declared.structure.Role.{Role}
 use Rattle.vtl_tree.specs.declared.structure.Role.TheVariants as role
 use Rattle.vtl_tree.specs.declared.structure.Structure.{Structure}
-use Rattle.check_shapes.specs.Clauses.{rename_form, renamed}
-use Rattle.check_shapes.specs.declared.renaming.Renaming.{Renaming}
+use Rattle.vtl_tree.specs.ClauseShapes.{renamed}
+use Rattle.check_shapes.specs.Clauses.{rename_form}
+use Rattle.vtl_tree.specs.declared.renaming.Renaming.{Renaming}
 use Rattle.vtl_meaning.specs.Made.{IsRenamed}
 use Rattle.vtl_meaning.specs.Shapes.{IsRenamedBy, IsShaped}
 use Rattle.check_laws.specs.Gives.{Gives}

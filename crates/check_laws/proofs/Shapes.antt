@@ -14,12 +14,12 @@ use Rattle.vtl_tree.specs.declared.structure.Component.{Component}
 use Rattle.vtl_tree.specs.declared.structure.Role.{Role}
 use Rattle.vtl_tree.specs.declared.structure.Role.TheVariants as role
 use Rattle.vtl_tree.specs.declared.structure.Structure.{Structure}
-use Rattle.check_shapes.specs.Choices.{chosen, is_chosen, is_identifier}
-use Rattle.check_shapes.specs.Measures.{is_measure}
-use Rattle.check_shapes.specs.Names.{is_among}
+use Rattle.vtl_tree.specs.Choices.{chosen, is_chosen, is_identifier}
+use Rattle.vtl_tree.specs.Measures.{is_measure}
+use Rattle.vtl_tree.specs.Names.{is_among}
 use Rattle.check_shapes.specs.Shape.{result_tests, shaped}
-use Rattle.check_shapes.specs.declared.choices.Choice.TheVariants as choice
-use Rattle.check_shapes.specs.Columns.{identifiers_of, measures_of, others_of}
+use Rattle.vtl_tree.specs.declared.choices.Choice.TheVariants as choice
+use Rattle.vtl_tree.specs.Columns.{identifiers_of, measures_of, others_of}
 use Rattle.vtl_meaning.specs.Shapes.{IsShaped}
 use Rattle.check_laws.specs.Gives.{ArePassed, Gives}
 use Rattle.check_laws.proofs.Lists as lists

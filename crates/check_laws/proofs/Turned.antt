@@ -13,15 +13,17 @@ use Rattle.vtl_tree.specs.declared.structure.Role.TheVariants as role
 use Rattle.vtl_tree.specs.declared.structure.Structure.{Structure}
 use Rattle.check_faults.specs.Rules.{ruled}
 use Rattle.check_faults.specs.declared.rules.Rule.TheVariants as rule
-use Rattle.check_shapes.specs.Choices.{chosen, is_identifier}
-use Rattle.check_shapes.specs.Clauses.{are_unlike, code_measure, first_kind, has_no_name, names_column, pivot_codes, pivot_components, pivot_form, unpivot_form}
-use Rattle.check_shapes.specs.Measures.{made, measures}
-use Rattle.check_shapes.specs.Names.{component_of, known}
+use Rattle.vtl_tree.specs.Choices.{chosen, is_identifier}
+use Rattle.vtl_tree.specs.ClauseShapes.{code_measure, first_kind, names_column, pivot_components}
+use Rattle.check_shapes.specs.Clauses.{are_unlike, has_no_name, pivot_codes, pivot_form, unpivot_form}
+use Rattle.vtl_tree.specs.Measures.{made, measures}
+use Rattle.vtl_tree.specs.Names.{component_of}
+use Rattle.check_shapes.specs.Names.{known}
 use Rattle.check_shapes.specs.Shape.{shaped}
-use Rattle.check_shapes.specs.declared.choices.Choice.TheVariants as choice
-use Rattle.check_shapes.specs.declared.names.Wanted.TheVariants as wanted
-use Rattle.check_shapes.proofs.Twins.{kinds-same}
-use Rattle.check_shapes.specs.Columns.{identifiers_of, kind_named, place_of}
+use Rattle.vtl_tree.specs.declared.choices.Choice.TheVariants as choice
+use Rattle.vtl_tree.specs.declared.names.Wanted.TheVariants as wanted
+use Rattle.vtl_tree.proofs.Twins.{kinds-same}
+use Rattle.vtl_tree.specs.Columns.{identifiers_of, kind_named, place_of}
 use Rattle.vtl_meaning.specs.Made.{IsColumnAt, IsPivoted, IsUnpivoted, component_kinds}
 use Rattle.vtl_meaning.specs.Shapes.{IsShaped}
 use Rattle.vtl_meaning.specs.Turned.{codes_of, other_identifiers}

@@ -6,10 +6,10 @@ use Rattle.vtl_tree.specs.declared.structure.Component.{Component}
 use Rattle.vtl_tree.specs.declared.structure.Role.{Role}
 use Rattle.vtl_tree.specs.declared.structure.Role.TheVariants as role
 use Rattle.vtl_tree.specs.declared.structure.Structure.{Structure}
-use Rattle.check_shapes.specs.Choices.{is_identifier}
-use Rattle.check_shapes.specs.Operands.{agreed, agreed_identifiers, is_coded_alike, is_there, is_within}
-use Rattle.check_shapes.specs.declared.operands.Compared.{Compared}
-use Rattle.check_shapes.proofs.Twins.{HasTwin, there-twin}
+use Rattle.vtl_tree.specs.Choices.{is_identifier}
+use Rattle.vtl_tree.specs.Operands.{agreed, agreed_identifiers, is_coded_alike, is_there, is_within}
+use Rattle.vtl_tree.specs.declared.operands.Compared.{Compared}
+use Rattle.vtl_tree.proofs.Twins.{HasTwin, there-twin}
 use Rattle.check_laws.proofs.Lists as lists
 use Rattle.check_laws.proofs.Shapes.{identifier-roles}
 

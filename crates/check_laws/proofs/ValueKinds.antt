@@ -7,7 +7,7 @@ use Rattle.vtl_syntax.specs.Trees.{Exp}
 use Rattle.vtl_tree.specs.CompExp.{CompExp}
 use Rattle.vtl_tree.specs.DataSet.{is_point}
 use Rattle.vtl_tree.specs.Value.{value as value_of}
-use Rattle.check_values.specs.Kinds.{exp_kind}
+use Rattle.vtl_tree.specs.Kinds.{exp_kind}
 use Rattle.check_operators.specs.Places.{Env}
 use Rattle.check_operators.specs.Typed.{value}
 use Rattle.check_operators.specs.declared.places.Inside.{Inside}

@@ -20,11 +20,11 @@ use Rattle.vtl_tree.specs.Structures.{Named}
 use Rattle.vtl_tree.specs.View.{comp_exps_of}
 use Rattle.vtl_tree.specs.declared.structure.Component.{Component}
 use Rattle.vtl_tree.specs.declared.structure.Structure.{Structure}
-use Rattle.check_shapes.specs.Names.{component_of, is_among}
+use Rattle.vtl_tree.specs.Names.{component_of, is_among}
 use Rattle.check_values.specs.Calls.{call_form, call_kind, or_null}
 use Rattle.check_values.specs.Columns.{column_from, column_typed, name_of}
-use Rattle.check_shapes.specs.Columns.{column_named, kind_named, place_of}
-use Rattle.check_values.specs.Kinds.{exp_kind}
+use Rattle.vtl_tree.specs.Columns.{column_named, kind_named, place_of}
+use Rattle.vtl_tree.specs.Kinds.{exp_kind}
 use Rattle.vtl_cell.specs.OperatorKinds.{kind_by_operands}
 use Rattle.check_values.specs.Literals.{constant_typed}
 use Rattle.check_operators.specs.Places.{Env, Written, alone, component_typed, constant_form, known_by, name_typed, name_written, written_typed}

@@ -29,19 +29,19 @@ use Rattle.vtl_tree.specs.Structure.{same_name}
 use Rattle.vtl_tree.specs.declared.structure.Component.{Component}
 use Rattle.vtl_cell.specs.AggregateKinds.{number_of, sum_kind}
 use Rattle.vtl_cell.specs.AggregateKinds as kinds
-use Rattle.vtl_windows.specs.Shapes.{default_in, takes}
-use Rattle.check_shapes.specs.Columns.{place_of}
-use Rattle.check_values.specs.Kinds.{given_kind}
+use Rattle.vtl_meaning.specs.AnalyticShapes.{default_in, takes}
+use Rattle.vtl_tree.specs.Columns.{place_of}
+use Rattle.vtl_tree.specs.Kinds.{given_kind}
 use Rattle.vtl_cell.specs.Literals.{is_null_kind}
 use Rattle.vtl_meaning.specs.Made.{IsColumnAt, IsNamedColumn, is_suited}
-use Rattle.check_shapes.specs.Names.{component_of}
+use Rattle.vtl_tree.specs.Names.{component_of}
 use Rattle.check_values.specs.Windows.{frame_alone, frame_typed, is_known, key_of, key_typed, name_form, or_none, order_typed, partition_typed, points_typed, window_typed}
 use Rattle.check_values.specs.Columns.{name_of}
 use Rattle.check_values.specs.Literals.{beside_all, literal_cell, literal_kind, stands_beside, valued}
-use Rattle.vtl_nodes.specs.declared.calls.AnalyticOp.{AnalyticOp}
-use Rattle.vtl_nodes.specs.declared.calls.AnalyticOp.TheVariants as op
-use Rattle.vtl_nodes.specs.declared.calls.OrderKey.{OrderKey}
-use Rattle.vtl_nodes.specs.declared.calls.Window.{Window}
+use Rattle.vtl_tree.specs.declared.calls.AnalyticOp.{AnalyticOp}
+use Rattle.vtl_tree.specs.declared.calls.AnalyticOp.TheVariants as op
+use Rattle.vtl_tree.specs.declared.calls.OrderKey.{OrderKey}
+use Rattle.vtl_tree.specs.declared.calls.Window.{Window}
 use Rattle.check_operators.specs.Typed.{TypedTree}
 use Rattle.check_groups.specs.Windowed.{call_typed, default_typed, is_rank, kinds_beside, of_aggregate, of_shift, of_window, over_columns, over_kind, over_of, over_parts, over_window, shift_call, suits, window_needed}
 use Rattle.check_groups.specs.declared.calls.Call.{Call}

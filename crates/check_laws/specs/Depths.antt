@@ -4,9 +4,9 @@ use Rattle.std.specs.List.{flat_map}
 use Rattle.vtl_syntax.specs.Depth.{deepest}
 use Rattle.vtl_tree.specs.CompExp.{CompExp, CompExps, column, const, call, aggregate, no_comp_exps, comp_exp}
 use Rattle.vtl_tree.specs.declared.structure.Structure.{Structure}
-use Rattle.vtl_nodes.specs.Nodes.{nodes_in}
-use Rattle.vtl_nodes.specs.Trees as nodes
-use Rattle.vtl_nodes.specs.Trees.{AnalyticTree, FormTree, ItemTree, NodeTree, PointRuleTree, ValueTree, structure_of}
+use Rattle.vtl_tree.specs.Nodes.{nodes_in}
+use Rattle.vtl_tree.specs.Trees as nodes
+use Rattle.vtl_tree.specs.Trees.{AnalyticTree, FormTree, ItemTree, NodeTree, PointRuleTree, ValueTree, structure_of}
 use Rattle.vtl_meaning.specs.Operators.{calculated_exps, measured_exps, pair_exps}
 
 -- ---- component expressions

@@ -3,15 +3,15 @@ use Rattle.std.proofs.Common.{◌≡◌, ◌≢◌, ◌<◌, ◌+◌, List, [], 
 use Rattle.std.specs.Prelude.{map, Result, Err}
 use Rattle.vtl_cell.specs.declared.kind.Kind.{Kind}
 use Rattle.vtl_cell.specs.declared.operator.ScalarOp.{ScalarOp}
-use Rattle.vtl_nodes.specs.Trees.{NodeTree}
+use Rattle.vtl_tree.specs.Trees.{NodeTree}
 use Rattle.vtl_tree.specs.CompExp.{CompExp}
 use Rattle.check_faults.specs.Answers.{Answers}
 use Rattle.check_faults.specs.declared.error.TypeErr.{TypeErr}
-use Rattle.check_shapes.specs.Measures.{Gives}
-use Rattle.check_shapes.specs.declared.measures.Outcome.{Outcome}
+use Rattle.vtl_tree.specs.Measures.{Gives}
+use Rattle.vtl_tree.specs.declared.measures.Outcome.{Outcome}
 use Rattle.vtl_tree.specs.declared.structure.Component.{Component}
 use Rattle.vtl_tree.specs.declared.structure.Structure.{Structure}
-use Rattle.check_values.specs.Kinds.{exp_kind}
+use Rattle.vtl_tree.specs.Kinds.{exp_kind}
 use Rattle.vtl_cell.specs.OperatorKinds.{counted_kinds, takes_literals}
 use Rattle.check_operators.specs.Operators.{beside_literal, between_kinds, first_fits, given_structure, meets_first, misplaced_rule, on_datasets, outcome_of, structure_by}
 

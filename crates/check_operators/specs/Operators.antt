@@ -12,18 +12,19 @@ use Rattle.vtl_tree.specs.CompExp.{CompExp, const}
 use Rattle.vtl_tree.specs.View.{comp_exp_of}
 use Rattle.vtl_tree.specs.declared.structure.Component.{Component}
 use Rattle.vtl_tree.specs.declared.structure.Structure.{Structure}
-use Rattle.vtl_nodes.specs.Trees.{NodeTree, structure_of, measures, pair, choose}
+use Rattle.vtl_tree.specs.Trees.{NodeTree, structure_of, measures, pair, choose}
 use Rattle.vtl_lists.specs.Results.{◌>>=◌}
 use Rattle.check_faults.specs.Rules.{ruled}
 use Rattle.check_faults.specs.declared.rules.Rule.{Rule}
 use Rattle.check_faults.specs.declared.rules.Rule.TheVariants as rule
-use Rattle.check_shapes.specs.Measures.{Gives, any_unmet, measured_form}
+use Rattle.vtl_tree.specs.Measures.{Gives, any_unmet}
+use Rattle.check_shapes.specs.Measures.{measured_form}
 use Rattle.check_shapes.specs.Pairs as pairs
-use Rattle.check_shapes.specs.declared.choices.Choice.TheVariants as choice
-use Rattle.check_shapes.specs.declared.measures.Outcome.{Outcome}
-use Rattle.check_shapes.specs.declared.measures.Outcome.TheVariants as outcome
+use Rattle.vtl_tree.specs.declared.choices.Choice.TheVariants as choice
+use Rattle.vtl_tree.specs.declared.measures.Outcome.{Outcome}
+use Rattle.vtl_tree.specs.declared.measures.Outcome.TheVariants as outcome
 use Rattle.check_values.specs.Calls.{call_form}
-use Rattle.check_values.specs.Kinds.{exp_kind}
+use Rattle.vtl_tree.specs.Kinds.{exp_kind}
 use Rattle.vtl_cell.specs.OperatorKinds.{counted_kinds, takes_literals}
 use Rattle.check_values.specs.Literals.{set_typed}
 use Rattle.check_operators.specs.Typed.{TypedTree, value, dataset, beside_kinds, boxed_tree, components_in, made_of, of_value}

@@ -16,12 +16,12 @@ use Rattle.vtl_tree.specs.Structures.{Named}
 use Rattle.vtl_tree.specs.declared.structure.Component.{Component}
 use Rattle.vtl_tree.specs.declared.structure.Structure.{Structure}
 use Rattle.check_joins.specs.Joins as joins
-use Rattle.vtl_nodes.specs.Trees.{NodeTree, named, node, structure_of}
+use Rattle.vtl_tree.specs.Trees.{NodeTree, named, node, structure_of}
 use Rattle.vtl_lists.specs.Results.{◌>>=◌}
 use Rattle.check_faults.specs.Rules.{ruled}
 use Rattle.check_faults.specs.declared.rules.Rule.{Rule}
 use Rattle.check_faults.specs.declared.rules.Rule.TheVariants as rule
-use Rattle.check_shapes.specs.Names.{is_among}
+use Rattle.vtl_tree.specs.Names.{is_among}
 use Rattle.check_values.specs.Columns.{column_typed, name_of}
 use Rattle.check_values.specs.Literals.{constant_typed}
 use Rattle.check_operators.specs.Typed.{TypedTree, dataset, of_value}

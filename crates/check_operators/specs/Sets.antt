@@ -12,15 +12,15 @@ use Rattle.vtl_syntax.specs.declared.word_groups.SetOpName.{SetOpName}
 use Rattle.vtl_syntax.specs.declared.word_groups.SetOpName.TheVariants as set
 use Rattle.vtl_syntax.specs.declared.parts.Comp.{Comp}
 use Rattle.vtl_tree.specs.declared.structure.Structure.{Structure}
-use Rattle.vtl_nodes.specs.Trees.{FormTree, NodeTree, NodeTrees, nodes_of, structure_of, member, union, intersect, set_diff, sym_diff, exists_in, check, maybe_node}
-use Rattle.vtl_nodes.specs.declared.specifications.CheckSpec.{CheckSpec}
+use Rattle.vtl_tree.specs.Trees.{FormTree, NodeTree, NodeTrees, nodes_of, structure_of, member, union, intersect, set_diff, sym_diff, exists_in, check, maybe_node}
+use Rattle.vtl_tree.specs.declared.specifications.CheckSpec.{CheckSpec}
 use Rattle.vtl_lists.specs.Results.{◌>>=◌}
 use Rattle.check_faults.specs.declared.rules.Rule.{Rule}
 use Rattle.check_faults.specs.declared.rules.Rule.TheVariants as rule
 use Rattle.check_shapes.specs.Choices.{choice_form}
 use Rattle.check_shapes.specs.Pairs as pairs
-use Rattle.check_shapes.specs.declared.choices.Choice.TheVariants as choice
-use Rattle.check_shapes.specs.declared.names.Wanted.TheVariants as wanted
+use Rattle.vtl_tree.specs.declared.choices.Choice.TheVariants as choice
+use Rattle.vtl_tree.specs.declared.names.Wanted.TheVariants as wanted
 use Rattle.check_values.specs.Columns.{name_of}
 use Rattle.vtl_cell.specs.Literals.{integer_written}
 use Rattle.check_operators.specs.Typed.{TypedTree, components_in, dataset_in, made_of}

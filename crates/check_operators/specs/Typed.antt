@@ -8,15 +8,15 @@ use Rattle.vtl_tree.specs.CompExp.{CompExp}
 use Rattle.vtl_tree.specs.View.{comp_exp_of}
 use Rattle.vtl_tree.specs.declared.structure.Component.{Component}
 use Rattle.vtl_tree.specs.declared.structure.Structure.{Structure}
-use Rattle.vtl_nodes.specs.Trees.{FormTree, NodeTree, node, structure_of}
-use Rattle.vtl_nodes.specs.View.{node_tree}
-use Rattle.vtl_nodes.specs.declared.nodes.Node.{Node}
+use Rattle.vtl_tree.specs.Trees.{FormTree, NodeTree, node, structure_of}
+use Rattle.vtl_tree.specs.NodeView.{node_tree}
+use Rattle.vtl_tree.specs.declared.nodes.Node.{Node}
 use Rattle.vtl_lists.specs.Results.{◌>>=◌}
 use Rattle.check_faults.specs.Rules.{ruled}
 use Rattle.check_faults.specs.declared.rules.Rule.{Rule}
 use Rattle.check_faults.specs.declared.rules.Rule.TheVariants as rule
-use Rattle.check_shapes.specs.Measures.{measures}
-use Rattle.check_values.specs.Kinds.{exp_kind}
+use Rattle.vtl_tree.specs.Measures.{measures}
+use Rattle.vtl_tree.specs.Kinds.{exp_kind}
 use Rattle.check_operators.specs.declared.typed.Typed.{Typed}
 use Rattle.check_operators.specs.declared.typed.Typed.TheVariants as typed
 

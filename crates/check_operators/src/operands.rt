@@ -6,8 +6,7 @@ ghost use Rattle.check_operators.specs.Typed.{typed_tree, typed_trees, value};
 
 use crate::Typed;
 use std::alloc::{AllocError, Global};
-use vtl_nodes::Node;
-use vtl_tree::CompExpr;
+use vtl_tree::{CompExpr, Node};
 
 /// Operands: the data sets, and the values before and after the first of them.
 #[derive(Drop)]

@@ -14,15 +14,14 @@ use crate::placing::{
 use crate::typed::made_of;
 use crate::{Place, Typed};
 use check_faults::{Rule, TypeErr, broken};
-use check_shapes::{Choice, Operator, Outcome, any_unmet, choose_by, measured, pair};
-use check_values::{call, kind, kinds_in, set as set_members};
+use check_shapes::{Operator, any_unmet, choose_by, measured, pair};
+use check_values::{call, kinds_in, set as set_members};
 use std::alloc::{AllocError, Global};
 use vtl_cell::{Cell, Kind, ScalarOp, counted_kinds};
 use vtl_decimal::Profile;
-use vtl_nodes::{MeasureOp, Node, NodeForm};
 use vtl_syntax::Literal;
 use vtl_text::List;
-use vtl_tree::{CompExpr, Structure};
+use vtl_tree::{Choice, CompExpr, MeasureOp, Node, NodeForm, Outcome, Structure, kind};
 
 // What an operator gives for the measures of a structure, by the kinds that it gives for them.
 fn structure_by(

@@ -1,17 +1,15 @@
 // Where an expression stands, and what its names stand for there.
 ghost use Rattle.std.specs.Prelude.{◌≡◌, ◌++◌, IfOk, OnOk};
-ghost use Rattle.vtl_nodes.specs.View.{node_tree};
+ghost use Rattle.vtl_tree.specs.NodeView.{node_tree};
 ghost use Rattle.vtl_tree.specs.Shown.{shown};
 ghost use Rattle.std.specs.Option.{option_map};
 ghost use Rattle.vtl_tree.specs.Structure.{columns_of, names_of};
 ghost use Rattle.check_operators.specs.Places.{at_groups, at_points, columns_at, in_aggregate, regrouped};
 
-use check_joins::Operand;
 use std::alloc::{AllocError, Global};
-use vtl_nodes::Node;
 use vtl_syntax::JoinKind;
 use vtl_text::{List, Shared, Txt};
-use vtl_tree::{Component, Structure, share_component};
+use vtl_tree::{Component, Node, Operand, Structure, share_component};
 
 /// Where an expression stands.
 #[derive(Drop)]

@@ -4,8 +4,8 @@ ghost use Rattle.check_operators.specs.Operators.{is_binary, is_choice, misplace
 ghost use Rattle.vtl_cell.specs.OperatorKinds.{takes_literals};
 
 use check_faults::Rule;
-use check_shapes::Outcome;
 use vtl_cell::ScalarOp;
+use vtl_tree::Outcome;
 
 /// Whether an operator stands between two operands, either of which may be a data set.
 pub(crate) fn is_binary(op: ScalarOp) -> bool

@@ -9,14 +9,12 @@ ghost use Rattle.check_operators.specs.Typed.{typed_tree};
 use crate::typed::made_of;
 use crate::{Inside, Place, Typed};
 use check_faults::{Rule, TypeErr};
-use check_shapes::is_among;
 use check_values::{column, name as name_of};
 use std::alloc::Global;
 use vtl_decimal::Profile;
-use vtl_nodes::NodeForm;
 use vtl_syntax::Comp;
 use vtl_text::{ByName, List, Txt};
-use vtl_tree::{CompExpr, Structure, share_structure};
+use vtl_tree::{CompExpr, NodeForm, Structure, is_among, share_structure};
 
 /// How numbers are read, and the data sets that are known: the declared ones, and then the results so far.
 #[derive(Drop)]

@@ -1,8 +1,8 @@
 // Operators on whole data sets.
 ghost use Rattle.std.specs.Option.{option_map, option_to_list};
 ghost use Rattle.std.specs.Prelude.{◌≡◌, ◌∷◌, [], IfOk, map};
-ghost use Rattle.vtl_nodes.specs.Trees.{nodes_of, structure_of};
-ghost use Rattle.vtl_nodes.specs.View.{form_tree, node_tree};
+ghost use Rattle.vtl_tree.specs.Trees.{nodes_of, structure_of};
+ghost use Rattle.vtl_tree.specs.NodeView.{form_tree, node_tree};
 ghost use Rattle.check_faults.specs.Answers.{Answers};
 ghost use Rattle.check_shapes.specs.Choices.{choice_form};
 ghost use Rattle.check_shapes.specs.Pairs.{check_form as check_structure};
@@ -14,15 +14,14 @@ ghost use Rattle.check_operators.specs.Typed.{boxed_tree, typed_tree, typed_tree
 use crate::Typed;
 use crate::typed::made_of;
 use check_faults::{Rule, TypeErr};
-use check_shapes::{Choice, Wanted, choose_known, exists_in, set_operator};
+use check_shapes::{choose_known, exists_in, set_operator};
 use check_values::name;
 use std::alloc::{AllocError, Global};
 use vtl_cell::integer_written;
 use vtl_decimal::Profile;
-use vtl_nodes::{CheckSpec, Node, NodeForm};
 use vtl_syntax::{BasicOut, Comp, DifferenceName, ErrorPart, Retain, SetOpName};
 use vtl_text::Txt;
-use vtl_tree::Structure;
+use vtl_tree::{CheckSpec, Choice, Node, NodeForm, Structure, Wanted};
 
 fn member_structure(alloc: Global, name: &Txt, structure: &Structure) -> Result<Structure, TypeErr>
     ensures { Answers (λ s. s) result (choice_form Wanted.Measure Choice.Keep (name.now ∷ []) structure.now.components) }

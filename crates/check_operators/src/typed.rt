@@ -1,21 +1,19 @@
 // Typed expressions: values and data sets.
 ghost use Rattle.std.specs.Prelude.{◌≡◌, ◌∷◌, [], IfOk, not};
 ghost use Rattle.vtl_cell.specs.ScalarKinds.{meets};
-ghost use Rattle.vtl_nodes.specs.Trees.{node};
-ghost use Rattle.vtl_nodes.specs.View.{form_tree};
+ghost use Rattle.vtl_tree.specs.Trees.{node};
+ghost use Rattle.vtl_tree.specs.NodeView.{form_tree};
 ghost use Rattle.check_faults.specs.Answers.{Answers};
 ghost use Rattle.check_faults.specs.Rules.{ruled};
-ghost use Rattle.check_shapes.specs.Measures.{is_measure};
+ghost use Rattle.vtl_tree.specs.Measures.{is_measure};
 ghost use Rattle.vtl_tree.specs.View.{comp_exp_of};
-ghost use Rattle.check_values.specs.Kinds.{exp_kind};
+ghost use Rattle.vtl_tree.specs.Kinds.{exp_kind};
 ghost use Rattle.check_operators.specs.Typed.{beside_kinds, boxed_tree, condition_in, dataset_in, made_of, measure_kinds, typed_tree, value_in};
 
 use check_faults::{Rule, TypeErr};
-use check_values::kind;
 use std::alloc::{AllocError, Global};
 use vtl_cell::{Kind, meets};
-use vtl_nodes::{Node, NodeForm};
-use vtl_tree::{CompExpr, Component, Role, Structure};
+use vtl_tree::{CompExpr, Component, Node, NodeForm, Role, Structure, kind};
 
 /// A typed expression.
 #[derive(Drop)]

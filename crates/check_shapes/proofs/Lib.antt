@@ -1,3 +1,0 @@
-pub mod ColumnPlaces
-pub mod CountLemmas
-pub mod Twins

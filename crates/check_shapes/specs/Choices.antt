@@ -1,36 +1,14 @@
 -- Components that are chosen by their roles and names.
-use Rattle.std.specs.Prelude.{ℕ, Bool, false, not, ◌&&◌, ◌||◌, List, Result, filter}
-use Rattle.std.specs.Option.{option_map_or}
-use Rattle.vtl_tree.specs.Structure.{same_role}
-use Rattle.vtl_tree.specs.declared.structure.Role.TheVariants as role
+use Rattle.std.specs.Prelude.{ℕ, List, Result}
 use Rattle.vtl_tree.specs.declared.structure.Component.{Component}
-use Rattle.check_shapes.specs.Names.{all_known, component_of, is_among}
+use Rattle.check_shapes.specs.Names.{all_known}
 use Rattle.vtl_lists.specs.Results.{◌>>=◌}
 use Rattle.check_faults.specs.declared.rules.Rule.{Rule}
 use Rattle.check_shapes.specs.Shape.{shaped}
-use Rattle.check_shapes.specs.declared.names.Wanted.{Wanted}
+use Rattle.vtl_tree.specs.declared.names.Wanted.{Wanted}
 use Rattle.vtl_tree.specs.declared.structure.Structure.{Structure}
-use Rattle.check_shapes.specs.declared.choices.Choice.{Choice}
-use Rattle.check_shapes.specs.declared.choices.Choice.TheVariants as choice
-
-abbrev pub is_identifier : Component → Bool
-is_identifier x = same_role x.role role.Identifier
-
--- the component of this name is an identifier
-abbrev pub is_identifier_name : List Component → List ℕ → Bool
-is_identifier_name xs name = option_map_or is_identifier (component_of name xs) false
-
--- `keep` and `#` leave the identifiers and what is listed, `drop` and `sub` what is not; `group by` the identifiers that are
--- listed, `group except` and `pivot` those that are not
-abbrev pub is_chosen : Choice → List (List ℕ) → Component → Bool
-is_chosen choice.Keep names x = is_identifier x || is_among x.name names
-is_chosen choice.Drop names x = not (is_among x.name names)
-is_chosen choice.By names x = is_identifier x && is_among x.name names
-is_chosen choice.Except names x = is_identifier x && not (is_among x.name names)
-
--- the chosen components, in their order
-abbrev pub chosen : Choice → List (List ℕ) → List Component → List Component
-chosen c names xs = filter (is_chosen c names) xs
+use Rattle.vtl_tree.specs.declared.choices.Choice.{Choice}
+use Rattle.vtl_tree.specs.Choices.{chosen}
 
 -- the clauses `keep` and `drop` (a measure or an attribute is wanted) and `sub` (an identifier), and `#` (one name, a measure): names
 -- in written order, and then what is chosen by them

@@ -1,30 +1,13 @@
 -- Names of components, as an operator asks for them.
-use Rattle.std.specs.Prelude.{ℕ, Bool, true, false, not, ◌||◌, List, [], ◌∷◌, ◌++◌, Option, Some, None, Result, Ok, Err, find}
-use Rattle.std.specs.List.{list_any}
-use Rattle.vtl_tree.specs.Structure.{same_name, same_role}
+use Rattle.std.specs.Prelude.{ℕ, not, List, [], ◌∷◌, ◌++◌, Option, Some, None, Result, Ok, Err}
 use Rattle.vtl_tree.specs.declared.structure.Role.{Role}
-use Rattle.vtl_tree.specs.declared.structure.Role.TheVariants as role
 use Rattle.vtl_tree.specs.declared.structure.Component.{Component}
 use Rattle.vtl_lists.specs.Results.{◌>>=◌}
 use Rattle.check_faults.specs.Rules.{ruled, Tests}
 use Rattle.check_faults.specs.declared.rules.Rule.{Rule}
 use Rattle.check_faults.specs.declared.rules.Rule.TheVariants as rule
-use Rattle.check_shapes.specs.declared.names.Wanted.{Wanted}
-use Rattle.check_shapes.specs.declared.names.Wanted.TheVariants as wanted
-
-abbrev pub is_among : List ℕ → List (List ℕ) → Bool
-is_among name names = list_any (λ other. same_name other name) names
-
--- the component of this name
-abbrev pub component_of : List ℕ → List Component → Option Component
-component_of name xs = find (λ x. same_name x.name name) xs
-
--- whether the role serves at a place
-abbrev pub serves : Wanted → Role → Bool
-serves wanted.Any r = true
-serves wanted.Identifier r = same_role r role.Identifier
-serves wanted.Measure r = same_role r role.Measure
-serves wanted.Value r = not (same_role r role.Identifier)
+use Rattle.vtl_tree.specs.declared.names.Wanted.{Wanted}
+use Rattle.vtl_tree.specs.Names.{is_among, component_of, serves}
 
 -- the rules that a component's name can break behind other names: it stands there already, or its role does not serve
 abbrev pub name_tests : Wanted → List (List ℕ) → List ℕ → Role → Tests

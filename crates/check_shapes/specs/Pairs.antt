@@ -1,32 +1,25 @@
 -- Operators on several data sets.
-use Rattle.std.specs.Prelude.{Bool, true, false, not, ◌&&◌, ◌||◌, ◌++◌, List, [], ◌∷◌, Some, Result, filter, map, length, codes, nat_eq, if◌then◌else◌}
+use Rattle.std.specs.Prelude.{Bool, not, ◌&&◌, ◌||◌, ◌++◌, List, [], ◌∷◌, Some, Result, filter, length, nat_eq}
 use Rattle.std.specs.List.{list_any, list_all}
 use Rattle.vtl_cell.specs.declared.kind.Kind.TheVariants as k
 use Rattle.vtl_tree.specs.declared.structure.Role.TheVariants as role
 use Rattle.vtl_tree.specs.declared.structure.Component.{Component}
 use Rattle.vtl_tree.specs.declared.structure.Structure.{Structure}
-use Rattle.check_shapes.specs.Choices.{is_identifier}
-use Rattle.check_shapes.specs.Measures.{Gives, any_unmet, bool_var, given_measures, is_miscounted, made, measures}
-use Rattle.check_shapes.specs.Operands.{agree, agreed_identifiers, all_agree, all_meet, has_one_measure, is_there, is_within}
+use Rattle.vtl_tree.specs.Choices.{is_identifier}
+use Rattle.vtl_tree.specs.Measures.{Gives, any_unmet, bool_var, given_measures, is_miscounted, measures}
+use Rattle.vtl_tree.specs.Operands.{agree, agreed_identifiers, all_agree, all_meet, has_one_measure, is_there}
 use Rattle.vtl_lists.specs.Results.{◌>>=◌}
 use Rattle.check_faults.specs.Rules.{ruled, Tests}
 use Rattle.check_faults.specs.declared.rules.Rule.{Rule}
 use Rattle.check_faults.specs.declared.rules.Rule.TheVariants as rule
 use Rattle.check_shapes.specs.Shape.{shaped}
-use Rattle.check_shapes.specs.declared.measures.Outcome.{Outcome}
-use Rattle.check_shapes.specs.declared.operands.Compared.TheVariants as compared
+use Rattle.vtl_tree.specs.declared.measures.Outcome.{Outcome}
+use Rattle.vtl_tree.specs.declared.operands.Compared.TheVariants as compared
+use Rattle.vtl_tree.specs.Pairs.{contains, pair_identifiers, is_common, check_measures}
 
 -- an operand's identifiers, beside other operands, and then measures
 abbrev pub identified : List Structure → Structure → List Component → Result Structure Rule
 identified others s ms = shaped (agreed_identifiers others s.components ++ ms)
-
--- the first operand's identifiers contain those of the second
-abbrev pub contains : Structure → Structure → Bool
-contains s t = is_within compared.Kinds role.Identifier t.components s.components
-
--- the identifiers of the operand that has all of the other's, the left one where they have the same
-abbrev pub pair_identifiers : Structure → Structure → List Component
-pair_identifiers s t = if contains s t then agreed_identifiers (t ∷ []) s.components else agreed_identifiers (s ∷ []) t.components
 
 -- an operator on the measures of two data sets
 abbrev pub pair_tests : Outcome → Gives → Structure → Structure → Tests
@@ -65,10 +58,6 @@ set_tests s others =
 abbrev pub set_form : Structure → List Structure → Result Structure Rule
 set_form s others = ruled (set_tests s others) (tt {0}) >>= λ u. identified others s (measures s.components)
 
--- an identifier that both have under different kinds
-abbrev pub is_common : Structure → Component → Bool
-is_common t x = is_there compared.Names t.components x
-
 abbrev pub is_at_odds : Structure → Component → Bool
 is_at_odds t x = is_common t x && not (is_there compared.Kinds t.components x)
 
@@ -88,18 +77,6 @@ abbrev pub check_tests : Structure → List Structure → Tests
 check_tests s others =
     (rule.IdentifiersDisagree, not (all_agree compared.Kinds role.Identifier s.components others))
     ∷ (rule.MeasuresDisagree, not (has_one_measure k.Bool s.components) || not (list_all has_one_number others)) ∷ []
-
-abbrev pub imbalance : Component
-imbalance = made (codes "imbalance") role.Measure k.Num
-
-abbrev pub errorcode : Component
-errorcode = made (codes "errorcode") role.Measure k.Text
-
-abbrev pub errorlevel : Component
-errorlevel = made (codes "errorlevel") role.Measure k.Int
-
-abbrev pub check_measures : List Component
-check_measures = bool_var ∷ imbalance ∷ errorcode ∷ errorlevel ∷ []
 
 abbrev pub check_form : Structure → List Structure → Result Structure Rule
 check_form s others = ruled (check_tests s others) (tt {0}) >>= λ u. identified others s check_measures

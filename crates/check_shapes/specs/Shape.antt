@@ -1,5 +1,5 @@
 -- Components as the structure of a result.
-use Rattle.std.specs.Prelude.{Bool, not, ◌||◌, List, [], ◌∷◌, length, nat_lt, nat_eq, Result}
+use Rattle.std.specs.Prelude.{not, ◌||◌, List, [], ◌∷◌, length, nat_lt, nat_eq, Result}
 use Rattle.std.specs.List.{list_any}
 use Rattle.vtl_lists.specs.Apart.{all_apart}
 use Rattle.vtl_tree.specs.Structure.{most_components, names_of, same_name}

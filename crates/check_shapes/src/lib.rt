@@ -7,27 +7,19 @@
 #![tactic(auto)]
 
 mod choices;
-mod columns;
-mod counting;
-mod expressions;
-mod kinds;
 mod measures;
 mod names;
-mod operands;
 mod pairs;
 mod pivots;
 mod renaming;
 mod shape;
 mod targets;
 
-pub use choices::{Choice, choose, choose_known, is_chosen, is_identifier, is_identifier_name};
-pub use columns::{kind_named, place_of};
-pub use expressions::{column_behind, copied, push_column};
-pub use measures::{Operator, Outcome, any_unmet, measured};
-pub use names::{Wanted, check_names, check_new_name, component_of, is_among, known};
-pub use operands::{Compared, agree, push_identifiers};
-pub use pairs::{check, choose_by, contains, exists_in, pair, set_operator};
+pub use choices::{choose, choose_known};
+pub use measures::{Operator, any_unmet, measured};
+pub use names::{check_names, check_new_name, known};
+pub use pairs::{check, choose_by, exists_in, pair, set_operator};
 pub use pivots::{pivot, unpivot};
-pub use renaming::{Renaming, rename};
+pub use renaming::rename;
 pub use shape::{results_are_structures, shaped};
-pub use targets::{Target, aggr, calc, check_target};
+pub use targets::{aggr, calc, check_target};

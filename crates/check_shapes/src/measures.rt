@@ -1,19 +1,20 @@
 // The measures that an operator gives.
 ghost use Rattle.std.specs.Option.{option_copied};
-ghost use Rattle.std.specs.Prelude.{◌≡◌, ◌++◌, ◌∷◌, [], IfOk, OnOk, chars, length, map, filter};
+ghost use Rattle.std.specs.Prelude.{◌≡◌, ◌++◌, IfOk, OnOk, chars, map};
 ghost use Rattle.vtl_tree.specs.declared.structure.Role.TheVariants as role;
 ghost use Rattle.check_faults.specs.Answers.{Answers};
-ghost use Rattle.check_shapes.specs.Measures.{any_unmet, bool_var as bool_measure, int_var as int_measure, given_measure, given_measures, is_measure, is_miscounted, is_unmet, made, measured_form, measures, namesake, paired};
+ghost use Rattle.vtl_tree.specs.Measures.{any_unmet, bool_var as bool_measure, int_var as int_measure, given_measure, given_measures, is_measure, is_miscounted, is_unmet, made, measures, namesake, paired};
+ghost use Rattle.check_shapes.specs.Measures.{measured_form};
 
-use crate::choices::push_chosen;
-use crate::counting::count_measures;
-use crate::names::component_of;
-use crate::{Choice, shaped};
+use crate::shaped;
 use check_faults::{Rule, TypeErr, broken};
 use std::alloc::{AllocError, Global};
 use vtl_cell::Kind;
 use vtl_text::Txt;
-use vtl_tree::{Component, Role, Structure, is_same_role, share_component};
+use vtl_tree::{
+    Choice, Component, Outcome, Role, Structure, component_of, count_measures, is_measure,
+    push_chosen,
+};
 
 /// An operator on measures, by the kinds that it takes and gives.
 pub trait Operator {
@@ -27,40 +28,6 @@ pub trait Operator {
     /// operator's row.
     fn gives(&self, measure: Kind, namesake: Kind) -> Option<Kind>
         ensures { result ≡ gives self.now measure namesake };
-}
-
-/// Which measures an operator asks for, and which it gives.
-#[derive(Clone, Copy, Debug, PartialEq, Eq)]
-pub enum Outcome {
-    /// At least one measure; each is one of the result.
-    Each,
-    /// Any number of measures; each is one of the result.
-    All,
-    /// One measure; the result has `bool_var` alone.
-    Truth,
-    /// Any number of measures; the result has `int_var` alone.
-    Count,
-}
-
-pub(crate) fn is_measure(component: &Component) -> bool
-    ensures { result ≡ is_measure component.now }
-{
-    is_same_role(component.role, Role::Measure)
-}
-
-/// Adds the measures, in their order.
-pub(crate) fn push_measures(
-    out: &mut Vec<Component>,
-    components: &[Component],
-) -> Result<(), AllocError>
-    ensures { OnOk result (out.new.items ≡ out.old.items ++ measures components.now) }
-{
-    for component in components {
-        if is_measure(component) {
-            out.push(share_component(component)?)?;
-        }
-    }
-    Ok(())
 }
 
 fn namesake(others: Option<&[Component]>, measure: &Component) -> Option<Kind>

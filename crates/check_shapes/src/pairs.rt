@@ -1,50 +1,24 @@
 // Operators on several data sets.
 ghost use Rattle.std.specs.List.{list_all, list_any};
 ghost use Rattle.std.specs.Option.{option_copied, option_to_list};
-ghost use Rattle.std.specs.Prelude.{◌≡◌, ◌++◌, ◌∷◌, [], IfOk, OnOk, filter};
+ghost use Rattle.std.specs.Prelude.{◌≡◌, ◌++◌, [], IfOk, OnOk, filter};
 ghost use Rattle.vtl_tree.specs.Shown.{shown};
 ghost use Rattle.check_faults.specs.Answers.{Answers};
-ghost use Rattle.check_shapes.specs.Choices.{is_identifier as is_id};
-ghost use Rattle.check_shapes.specs.Measures.{measures};
-ghost use Rattle.check_shapes.specs.Pairs.{are_choices, check_form, check_measures, contains, errorcode as errorcode_measure, errorlevel as errorlevel_measure, exists_form, has_one_number, identified, if_form, imbalance as imbalance_measure, is_at_odds, is_common, pair_form, pair_identifiers, set_form};
+ghost use Rattle.vtl_tree.specs.Choices.{is_identifier as is_id};
+ghost use Rattle.vtl_tree.specs.Measures.{measures};
+ghost use Rattle.vtl_tree.specs.Pairs.{check_measures, contains, errorcode as errorcode_measure, errorlevel as errorlevel_measure, imbalance as imbalance_measure, is_common};
+ghost use Rattle.check_shapes.specs.Pairs.{are_choices, check_form, exists_form, has_one_number, identified, if_form, is_at_odds, pair_form, set_form};
 
-use crate::choices::is_identifier;
-use crate::counting::count_measures;
-use crate::measures::{any_unmet, bool_var, is_miscounted, new_measure, push_given, push_measures};
-use crate::operands::{
-    Compared, agree, all_agree, all_meet, has_one_measure, is_there, is_within, push_identifiers,
-};
-use crate::{Operator, Outcome, shaped};
+use crate::measures::{any_unmet, bool_var, is_miscounted, new_measure, push_given};
+use crate::{Operator, shaped};
 use check_faults::{Rule, TypeErr, broken};
 use std::alloc::{AllocError, Global};
 use vtl_cell::Kind;
-use vtl_tree::{Component, Role, Structure};
-
-/// Whether the identifiers of the first structure contain those of the second.
-pub fn contains(all: &Structure, some: &Structure) -> bool
-    ensures { result ≡ contains all.now some.now }
-{
-    is_within(
-        Compared::Kinds,
-        Role::Identifier,
-        some.components.as_slice(),
-        all.components.as_slice(),
-    )
-}
-
-fn push_pair_identifiers(
-    out: &mut Vec<Component>,
-    left: &Structure,
-    right: &Structure,
-) -> Result<(), AllocError>
-    ensures { OnOk result (out.new.items ≡ out.old.items ++ pair_identifiers left.now right.now) }
-{
-    if contains(left, right) {
-        push_identifiers(out, &[right], left.components.as_slice())
-    } else {
-        push_identifiers(out, &[left], right.components.as_slice())
-    }
-}
+use vtl_tree::{
+    Compared, Component, Outcome, Role, Structure, agree, all_agree, all_meet, contains,
+    count_measures, has_one_measure, is_identifier, is_there, push_identifiers, push_measures,
+    push_pair_identifiers,
+};
 
 /// An operator on the measures of two data sets. It breaks `WrongKind` where a measure and its namesake do not meet the
 /// operator's row, `IdentifiersDisagree` where neither operand's identifiers contain the other's, and

@@ -3,19 +3,19 @@ ghost use Rattle.std.specs.List.{list_all};
 ghost use Rattle.std.specs.Prelude.{◌≡◌, ◌++◌, IfOk, OnOk, map};
 ghost use Rattle.vtl_cell.specs.Kinds.{same_kind};
 ghost use Rattle.check_faults.specs.Answers.{Answers};
-ghost use Rattle.check_shapes.specs.Clauses.{are_unlike, code_measure, first_kind, has_no_name, names_column, pivot_codes, pivot_components, pivot_form, unpivot_form};
-ghost use Rattle.check_shapes.specs.Measures.{measures};
+ghost use Rattle.vtl_tree.specs.ClauseShapes.{code_measure, first_kind, names_column, pivot_components};
+ghost use Rattle.check_shapes.specs.Clauses.{are_unlike, has_no_name, pivot_codes, pivot_form, unpivot_form};
+ghost use Rattle.vtl_tree.specs.Measures.{measures};
 
-use crate::choices::push_chosen;
-use crate::measures::{made, push_measures};
+use crate::measures::made;
 use crate::names::known;
 use crate::shape::names_of;
-use crate::{Choice, Wanted, shaped};
+use crate::shaped;
 use check_faults::{Rule, TypeErr, broken};
 use std::alloc::{AllocError, Global};
 use vtl_cell::{Kind, is_same_kind};
 use vtl_text::{Shared, Txt, is_component_name};
-use vtl_tree::{Component, Role, Structure};
+use vtl_tree::{Choice, Component, Role, Structure, Wanted, push_chosen, push_measures};
 
 fn has_no_name(texts: &[Txt]) -> bool
     ensures { result ≡ has_no_name texts.now }

@@ -1,32 +1,14 @@
 // The clause `rename`.
 ghost use Rattle.std.specs.Prelude.{◌≡◌, ◌++◌, IfOk, OnOk, map};
 ghost use Rattle.check_faults.specs.Answers.{Answers};
-ghost use Rattle.check_shapes.specs.Clauses.{new_name, rename_form, renamed};
+ghost use Rattle.vtl_tree.specs.ClauseShapes.{new_name, renamed};
+ghost use Rattle.check_shapes.specs.Clauses.{rename_form};
 
 use crate::shaped;
 use check_faults::TypeErr;
 use std::alloc::{AllocError, Global};
 use vtl_text::Txt;
-use vtl_tree::{Component, Structure, share_codes};
-
-/// `from to to`
-#[derive(Debug)]
-pub struct Renaming {
-    /// The name of a component.
-    pub from: Txt,
-    /// Its new name.
-    pub to: Txt,
-}
-
-// Written out, so that a proof above sees one call and not the drop of each part.
-impl Drop for Renaming {
-    fn drop(self) {
-        let Renaming {
-            from: _from,
-            to: _to,
-        } = self;
-    }
-}
+use vtl_tree::{Component, Renaming, Structure, share_codes};
 
 fn new_name<'a>(renamings: &'a [Renaming], name: &'a Txt) -> &'a Txt
     ensures { result.now ≡ new_name renamings.now name.now }

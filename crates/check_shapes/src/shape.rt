@@ -1,6 +1,6 @@
 // Components as the structure of a result.
 ghost use Rattle.std.specs.List.{list_any};
-ghost use Rattle.std.specs.Prelude.{◌≡◌, List, IfOk, Ok, ℕ, map};
+ghost use Rattle.std.specs.Prelude.{◌≡◌, List, IfOk, Ok};
 ghost use Rattle.vtl_tree.specs.Structure.{IsStructure, names_of};
 ghost use Rattle.vtl_tree.specs.Structures.{is_null_kind};
 ghost use Rattle.vtl_tree.specs.declared.structure.Component.{Component as Column};

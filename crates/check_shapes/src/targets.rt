@@ -2,29 +2,19 @@
 ghost use Rattle.std.specs.Option.{option_copied};
 ghost use Rattle.std.specs.Prelude.{◌≡◌, ◌++◌, IfOk, OnOk, map, filter};
 ghost use Rattle.check_faults.specs.Answers.{Answers};
-ghost use Rattle.check_shapes.specs.Clauses.{aggr_form, calc_form, calculated, is_new, retargeted, target_component, target_of, target_tests};
+ghost use Rattle.vtl_tree.specs.ClauseShapes.{calculated, is_new, target_component, target_of};
+ghost use Rattle.check_shapes.specs.Clauses.{aggr_form, calc_form, target_tests};
 ghost use Rattle.check_faults.specs.Rules.{ruled};
 
-use crate::choices::{is_identifier_name, push_chosen};
 use crate::measures::made;
-use crate::names::{component_of, is_among};
-use crate::{Choice, shaped};
+use crate::shaped;
 use check_faults::{Rule, TypeErr, broken};
 use std::alloc::{AllocError, Global};
-use vtl_cell::Kind;
 use vtl_text::Txt;
-use vtl_tree::{Component, Role, Structure, share_component};
-
-/// A target of `calc` or `aggr`, with the kind of its value.
-#[derive(Debug, Drop)]
-pub struct Target {
-    /// Its name.
-    pub name: Txt,
-    /// The role, where one is written.
-    pub role: Option<Role>,
-    /// The kind of its value.
-    pub kind: Kind,
-}
+use vtl_tree::{
+    Choice, Component, Role, Structure, Target, component_of, is_among, is_identifier_name,
+    push_chosen, share_component,
+};
 
 /// The name of a target of `calc`, after the names of other targets. It breaks `RepeatedName` where it stands there
 /// already, and `WrongRole` where it is that of an identifier.

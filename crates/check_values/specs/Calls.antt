@@ -7,7 +7,7 @@ use Rattle.vtl_cell.specs.declared.kind.Kind.TheVariants as k
 use Rattle.vtl_cell.specs.declared.operator.ScalarOp.{ScalarOp}
 use Rattle.vtl_tree.specs.CompExp.{CompExp, call}
 use Rattle.vtl_tree.specs.View.{comp_exps_of}
-use Rattle.check_values.specs.Kinds.{exp_kind}
+use Rattle.vtl_tree.specs.Kinds.{exp_kind}
 use Rattle.vtl_cell.specs.OperatorKinds.{kind_by_operands}
 use Rattle.check_faults.specs.Rules.{ruled}
 use Rattle.check_faults.specs.declared.rules.Rule.{Rule}

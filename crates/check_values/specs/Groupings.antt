@@ -7,11 +7,11 @@ use Rattle.vtl_tree.specs.Structure.{names_of}
 use Rattle.vtl_tree.specs.declared.structure.Component.{Component}
 use Rattle.vtl_lists.specs.Results.{◌>>=◌}
 use Rattle.check_faults.specs.declared.rules.Rule.{Rule}
-use Rattle.check_shapes.specs.Choices.{chosen}
+use Rattle.vtl_tree.specs.Choices.{chosen}
 use Rattle.check_shapes.specs.Names.{all_known}
-use Rattle.check_shapes.specs.declared.choices.Choice.{Choice}
-use Rattle.check_shapes.specs.declared.choices.Choice.TheVariants as choice
-use Rattle.check_shapes.specs.declared.names.Wanted.TheVariants as wanted
+use Rattle.vtl_tree.specs.declared.choices.Choice.{Choice}
+use Rattle.vtl_tree.specs.declared.choices.Choice.TheVariants as choice
+use Rattle.vtl_tree.specs.declared.names.Wanted.TheVariants as wanted
 use Rattle.check_values.specs.Columns.{name_of}
 
 abbrev pub choice_of : GroupKind → Choice

@@ -1,7 +1,6 @@
 pub mod Calls
 pub mod Columns
 pub mod Groupings
-pub mod Kinds
 pub mod Literals
 pub mod Operators
 pub mod Windows

@@ -15,11 +15,11 @@ use Rattle.vtl_syntax.specs.declared.word_groups.Side.{Side}
 use Rattle.vtl_syntax.specs.declared.word_groups.Side.TheVariants as side
 use Rattle.vtl_tree.specs.Structure.{same_name}
 use Rattle.vtl_tree.specs.declared.structure.Component.{Component}
-use Rattle.vtl_nodes.specs.declared.calls.Bound.{Bound}
-use Rattle.vtl_nodes.specs.declared.calls.Bound.TheVariants as bound
-use Rattle.vtl_nodes.specs.declared.calls.Frame.{Frame}
-use Rattle.vtl_nodes.specs.declared.calls.OrderKey.{OrderKey}
-use Rattle.vtl_nodes.specs.declared.calls.Window.{Window}
+use Rattle.vtl_tree.specs.declared.calls.Bound.{Bound}
+use Rattle.vtl_tree.specs.declared.calls.Bound.TheVariants as bound
+use Rattle.vtl_tree.specs.declared.calls.Frame.{Frame}
+use Rattle.vtl_tree.specs.declared.calls.OrderKey.{OrderKey}
+use Rattle.vtl_tree.specs.declared.calls.Window.{Window}
 use Rattle.check_values.specs.Columns.{name_of}
 use Rattle.vtl_cell.specs.Literals.{integer_written, longest_reach}
 use Rattle.vtl_lists.specs.Results.{◌>>=◌}

@@ -3,14 +3,13 @@ ghost use Rattle.std.specs.Prelude.{◌≡◌, IfOk, is_some, map};
 ghost use Rattle.vtl_tree.specs.View.{comp_exp_of};
 ghost use Rattle.check_faults.specs.Answers.{Answers};
 ghost use Rattle.check_values.specs.Calls.{call_form, call_kind};
-ghost use Rattle.check_values.specs.Kinds.{exp_kind};
+ghost use Rattle.vtl_tree.specs.Kinds.{exp_kind};
 ghost use Rattle.vtl_cell.specs.OperatorKinds.{kind_by_operands};
 
-use crate::kind;
 use check_faults::{Rule, TypeErr};
 use std::alloc::{AllocError, Global};
 use vtl_cell::{Kind, ScalarOp, kind_by_operands, operator_kind};
-use vtl_tree::CompExpr;
+use vtl_tree::{CompExpr, kind};
 
 /// The kinds of values.
 pub fn kinds_in(alloc: Global, args: &[CompExpr]) -> Result<Vec<Kind>, AllocError>

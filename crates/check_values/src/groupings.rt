@@ -1,18 +1,18 @@
 // How the points of a data set form groups.
 ghost use Rattle.std.specs.Prelude.{◌≡◌, IfOk, map};
 ghost use Rattle.check_faults.specs.Answers.{Answers};
-ghost use Rattle.check_shapes.specs.Choices.{chosen};
+ghost use Rattle.vtl_tree.specs.Choices.{chosen};
 ghost use Rattle.vtl_tree.specs.Structure.{names_of};
 ghost use Rattle.check_values.specs.Columns.{name_of};
 ghost use Rattle.check_values.specs.Groupings.{choice_of, grouping_choice, grouping_names, grouping_of, grouping_typed};
 
 use crate::name;
 use check_faults::TypeErr;
-use check_shapes::{Choice, Wanted, check_names, is_chosen};
+use check_shapes::check_names;
 use std::alloc::{AllocError, Global};
 use vtl_syntax::{Comp, GroupKind, GroupPart};
 use vtl_text::{List, Txt};
-use vtl_tree::Component;
+use vtl_tree::{Choice, Component, Wanted, is_chosen};
 
 fn choice_of(kind: GroupKind) -> Choice
     ensures { result ≡ choice_of kind }

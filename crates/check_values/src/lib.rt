@@ -9,7 +9,6 @@
 mod calls;
 mod columns;
 mod groupings;
-mod kinds;
 mod literals;
 mod operators;
 mod windows;
@@ -17,7 +16,6 @@ mod windows;
 pub use calls::{call, kinds_in};
 pub use columns::{column, name};
 pub use groupings::{grouping, grouping_choice, grouping_names, grouping_of};
-pub use kinds::{given_kind, kind};
 pub use literals::{constant, kind_met, literal, literal_kind, literals_fit, met_beside, set};
 pub use operators::{binary_operator, function_operator, takes, unary_operator};
 pub use windows::{frame_alone, points, window};

@@ -11,10 +11,9 @@ use check_faults::{Rule, TypeErr};
 use std::alloc::{AllocError, Global};
 use vtl_cell::{LONGEST_REACH, integer_written};
 use vtl_decimal::Profile;
-use vtl_nodes::{Bound, Frame, OrderKey, Window};
 use vtl_syntax::{Comp, DataPoints, Direction, Limit, OrderPart, OverPart, Side};
 use vtl_text::{List, Txt};
-use vtl_tree::Component;
+use vtl_tree::{Bound, Component, Frame, OrderKey, Window};
 
 fn is_known(name: &Txt, columns: &[Component]) -> bool
     ensures { result ≡ is_known name.now columns.now }

@@ -23,7 +23,7 @@ use Rattle.sql_check_parts.specs.Kinds.{kind_in, kinds_in, operator_kind}
 use Rattle.sql_check_parts.specs.Scopes.{found, or_null}
 use Rattle.sql_meaning.specs.Outcomes.{operated}
 use Rattle.sql_meaning.specs.Values.{View, cell_at, literal_cell, value, values}
-use Rattle.vtl_aggregates.specs.Expressions.{value_over, values_over}
+use Rattle.vtl_meaning.specs.GroupExpressions.{value_over, values_over}
 use Rattle.rules_to_sql.specs.Held.{AllHoldValues, HoldsValues}
 use Rattle.rules_to_sql.specs.ToSql.{Naming, aggregate_to_sql, all_to_sql, members_behind, members_to_sql, to_sql}
 use Rattle.rules_to_sql.proofs.KeptKinds.{KindsStay, call_kind, kinds_stay}

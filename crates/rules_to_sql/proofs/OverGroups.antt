@@ -18,8 +18,8 @@ use Rattle.vtl_cell.specs.AggregateKinds.{aggregate_kind}
 use Rattle.vtl_tree.specs.CompExp.{CompExp}
 use Rattle.vtl_tree.specs.declared.expression.AggCall.{AggCall}
 use Rattle.vtl_tree.specs.declared.structure.Component.{Component}
-use Rattle.check_values.specs.Kinds.{exp_kind}
-use Rattle.check_shapes.specs.Columns.{kind_named, place_of}
+use Rattle.vtl_tree.specs.Kinds.{exp_kind}
+use Rattle.vtl_tree.specs.Columns.{kind_named, place_of}
 use Rattle.sql_tree.specs.Formed.{Formed}
 use Rattle.sql_tree.specs.Trees.{Text}
 use Rattle.sql_check_laws.specs.Fits.{Fits}
@@ -31,7 +31,7 @@ use Rattle.sql_meaning.specs.Outcomes.{all_values}
 use Rattle.sql_meaning.specs.Tables.{Base}
 use Rattle.sql_meaning.specs.Values.{at_groups, place_in, same_column, value}
 use Rattle.vtl_meaning.specs.Made.{Aggregates, IsGroupedColumn, IsTypedInGroups}
-use Rattle.vtl_aggregates.specs.Expressions.{aggregated, value_at_group}
+use Rattle.vtl_meaning.specs.GroupExpressions.{aggregated, value_at_group}
 use Rattle.rules_to_sql.specs.Held.{HoldsValues}
 use Rattle.rules_to_sql.specs.Names.{AreNamesFormed, Names}
 use Rattle.rules_to_sql.specs.ToSql.{aggregate_to_sql, group_columns, of_source, to_sql}

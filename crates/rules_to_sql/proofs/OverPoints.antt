@@ -11,7 +11,7 @@ use Rattle.vtl_tree.specs.CompExp.{CompExp, CompExps, column, const, call, aggre
 use Rattle.vtl_tree.specs.Value as points
 use Rattle.vtl_tree.specs.declared.expression.AggCall.{AggCall}
 use Rattle.vtl_tree.specs.declared.structure.Component.{Component}
-use Rattle.check_values.specs.Kinds.{exp_kind}
+use Rattle.vtl_tree.specs.Kinds.{exp_kind}
 use Rattle.vtl_meaning.specs.Made.{AreTyped, AreTypedOver, IsColumnAt, IsTyped, IsTypedOver}
 use Rattle.sql_tree.specs.Formed.{Formed}
 use Rattle.sql_tree.specs.Trees.{Text}
@@ -21,7 +21,7 @@ use Rattle.sql_check_parts.specs.Kinds.{kind_in}
 use Rattle.sql_check_parts.specs.Scopes.{Scope, Tables}
 use Rattle.sql_meaning.specs.Tables.{Base}
 use Rattle.sql_meaning.specs.Values.{at_rows, value}
-use Rattle.vtl_aggregates.specs.Expressions.{value_over, values_over}
+use Rattle.vtl_meaning.specs.GroupExpressions.{value_over, values_over}
 use Rattle.rules_to_sql.specs.Held.{HoldsValues}
 use Rattle.rules_to_sql.specs.Names.{AreNamesFormed, Names}
 use Rattle.rules_to_sql.specs.ToSql.{Naming, to_sql}

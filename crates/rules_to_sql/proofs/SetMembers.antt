@@ -15,7 +15,7 @@ use Rattle.vtl_cell.specs.declared.operator.ScalarOp.TheVariants as op
 use Rattle.vtl_tree.specs.CompExp as comp
 use Rattle.vtl_tree.specs.CompExp.{CompExp, CompExps, no_comp_exps, comp_exp}
 use Rattle.vtl_tree.specs.declared.expression.AggCall.{AggCall}
-use Rattle.check_values.specs.Kinds.{exp_kind}
+use Rattle.vtl_tree.specs.Kinds.{exp_kind}
 use Rattle.vtl_meaning.specs.Literals.{HasLiterals, all_pass, is_member}
 use Rattle.vtl_meaning.specs.Made.{AreTypedOver, IsTypedOver, kinds_in}
 use Rattle.sql_tree.specs.Formed.{IsLiteral}
@@ -23,7 +23,7 @@ use Rattle.sql_tree.specs.Trees.{Text}
 use Rattle.sql_check_laws.specs.Fits.{HasValue}
 use Rattle.sql_check_parts.specs.Literals.{literal_kind}
 use Rattle.sql_meaning.specs.Values.{literal_cell}
-use Rattle.vtl_aggregates.specs.Expressions.{value_over, values_over}
+use Rattle.vtl_meaning.specs.GroupExpressions.{value_over, values_over}
 use Rattle.rules_to_sql.specs.Held.{AllHold, AllHoldValues, HoldsValues, IsMemberHeld, OperandsHold, asks_a_set}
 use Rattle.rules_to_sql.specs.ToSql.{member_to_sql, members_to_sql}
 use Rattle.rules_to_sql.proofs.FormedConstants.{literal_formed}

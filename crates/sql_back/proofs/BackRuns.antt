@@ -12,7 +12,7 @@ use Rattle.vtl_rows.specs.Tables.{Listed}
 use Rattle.vtl_tree.specs.Environment.{DataSet}
 use Rattle.vtl_tree.specs.Structure.{columns_of}
 use Rattle.vtl_tree.specs.declared.structure.Component.{Component}
-use Rattle.vtl_nodes.specs.Trees.{NodeTree}
+use Rattle.vtl_tree.specs.Trees.{NodeTree}
 use Rattle.sql_tree.specs.Texts.{IsScript as IsSpelled}
 use Rattle.sql_engine.specs.Exported.{entry_column}
 use Rattle.sql_engine.specs.InputTables.{rows_given}

@@ -6,9 +6,9 @@ use Rattle.vtl_cell.specs.declared.cell.Cell.{Cell}
 use Rattle.vtl_rows.specs.Tables.{cells_at}
 use Rattle.vtl_tree.specs.Structure.{names_of, same_name}
 use Rattle.vtl_tree.specs.declared.structure.Component.{Component}
-use Rattle.check_shapes.specs.Columns.{place_of}
-use Rattle.check_shapes.specs.Names.{is_among}
-use Rattle.vtl_aggregates.specs.Groups.{places_named}
+use Rattle.vtl_tree.specs.Columns.{place_of}
+use Rattle.vtl_tree.specs.Names.{is_among}
+use Rattle.vtl_meaning.specs.Groups.{places_named}
 
 here : (name : List ℕ) (x : Component) (xs : List Component) → same_name x.name name ≡ true → place_of name (x ∷ xs) ≡ zero
 here name x xs e = rw e refl

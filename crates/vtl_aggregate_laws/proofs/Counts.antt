@@ -21,7 +21,7 @@ use Rattle.vtl_cell.proofs.Aggregates.{count-Perm, group-Perm}
 use Rattle.vtl_lists.proofs.Perms.{Perm-map}
 use Rattle.vtl_rows.specs.Tables.{cells_at}
 use Rattle.vtl_tuples.proofs.Lists.{filter-flat_map, map-flat_map, map_each}
-use Rattle.vtl_aggregates.specs.Groups.{keys_by, points_with}
+use Rattle.vtl_meaning.specs.Groups.{keys_by, points_with}
 use Rattle.vtl_aggregate_laws.specs.Parts.{of_column, of_groups, values_at}
 use Rattle.vtl_aggregate_laws.proofs.Pieces.{parts}
 use Rattle.vtl_aggregate_laws.proofs.Totals.{total, total-cons}

@@ -16,7 +16,7 @@ use Rattle.vtl_cell.specs.declared.operator.AggKind.TheVariants.{Max, Min}
 use Rattle.vtl_cell.proofs.Aggregates.{falling_order, group-Perm, rising_order}
 use Rattle.vtl_lists.proofs.Perms.{AllByRecursion-Perm, Perm-map, Perm-sym}
 use Rattle.vtl_lists.proofs.Sorts.{Perm-sorted_by}
-use Rattle.vtl_aggregates.specs.Groups.{keys_by, points_with}
+use Rattle.vtl_meaning.specs.Groups.{keys_by, points_with}
 use Rattle.vtl_aggregate_laws.specs.Parts.{of_column, of_groups, values_at}
 use Rattle.vtl_aggregate_laws.proofs.Pieces.{parts}
 use Rattle.vtl_aggregate_laws.proofs.Told.{Tells, told}

@@ -22,17 +22,17 @@ use Rattle.vtl_tree.specs.Structure.{columns_of, names_of, same_name}
 use Rattle.vtl_tree.specs.declared.expression.AggCall.{AggCall}
 use Rattle.vtl_tree.specs.declared.structure.Component.{Component}
 use Rattle.vtl_tree.specs.declared.structure.Structure.{Structure}
-use Rattle.vtl_nodes.specs.declared.specifications.AggItems.TheVariants as items
+use Rattle.vtl_tree.specs.declared.specifications.AggItems.TheVariants as items
 use Rattle.vtl_tuples.specs.Keys.{each_once}
 use Rattle.vtl_tuples.proofs.Lists.{filter-map, filter_each, map-map, map_each, map_same}
-use Rattle.check_shapes.specs.Columns.{identifiers_of, others_of, place_of}
-use Rattle.check_shapes.specs.Measures.{given_measure, measures}
-use Rattle.check_shapes.specs.Names.{is_among}
-use Rattle.vtl_aggregates.specs.Aggregates.{Made, aggregate_of, cell_or_null, condition_of, each_group, made_of, measure_call}
-use Rattle.vtl_aggregates.specs.Expressions.{aggregated}
-use Rattle.vtl_aggregates.specs.Groups.{keys_by, places_named, points_with}
-use Rattle.vtl_aggregates.specs.Shapes.{IsAggregated, made_components, of_measure}
-use Rattle.vtl_aggregates.proofs.GroupPoints.{all_more, all_once}
+use Rattle.vtl_tree.specs.Columns.{identifiers_of, others_of, place_of}
+use Rattle.vtl_tree.specs.Measures.{given_measure, measures}
+use Rattle.vtl_tree.specs.Names.{is_among}
+use Rattle.vtl_meaning.specs.Aggregates.{Made, aggregate_of, cell_or_null, condition_of, each_group, made_of, measure_call}
+use Rattle.vtl_meaning.specs.GroupExpressions.{aggregated}
+use Rattle.vtl_meaning.specs.Groups.{keys_by, places_named, points_with}
+use Rattle.vtl_meaning.specs.AggregateShapes.{IsAggregated, made_components, of_measure}
+use Rattle.vtl_meaning.proofs.GroupPoints.{all_more, all_once}
 use Rattle.vtl_aggregate_laws.specs.Parts.{gathered_by, grouped}
 use Rattle.vtl_aggregate_laws.proofs.ColumnCells.{behind, by_name, key_is}
 use Rattle.vtl_aggregate_laws.proofs.Counts.{count_of_parts}

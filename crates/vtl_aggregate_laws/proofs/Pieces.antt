@@ -11,8 +11,8 @@ use Rattle.vtl_rows.specs.Tables.{cells_at}
 use Rattle.vtl_tuples.specs.Keys.{TellsApart}
 use Rattle.vtl_tuples.proofs.Lists.{filter_same}
 use Rattle.vtl_tuples.proofs.Onces.{alike, among_once, once_apart}
-use Rattle.vtl_aggregates.specs.Groups.{keys_by, points_with}
-use Rattle.vtl_aggregates.proofs.GroupPoints.{all_more}
+use Rattle.vtl_meaning.specs.Groups.{keys_by, points_with}
+use Rattle.vtl_meaning.proofs.GroupPoints.{all_more}
 
 -- what either of two tests keeps, where none keeps what the other does
 filter_either : {X : Type 0} (p q : X → Bool) → ((x : X) → p x ≡ true → q x ≡ false) → (xs : List X) → Perm (filter p xs ++ filter q xs) (filter (λ x. p x || q x) xs)

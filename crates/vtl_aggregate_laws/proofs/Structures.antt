@@ -13,14 +13,14 @@ use Rattle.vtl_tree.specs.declared.structure.Component.{Component}
 use Rattle.vtl_tree.specs.declared.structure.Role.{Role}
 use Rattle.vtl_tree.specs.declared.structure.Role.TheVariants as role
 use Rattle.vtl_tree.specs.declared.structure.Structure.{Structure}
-use Rattle.vtl_nodes.specs.declared.specifications.AggItems.TheVariants as items
-use Rattle.check_shapes.specs.Choices.{chosen, is_identifier}
-use Rattle.check_shapes.specs.Columns.{identifiers_of, measures_of, others_of}
-use Rattle.check_shapes.specs.Measures.{given_measure, measures}
-use Rattle.check_shapes.specs.Names.{component_of, is_among}
-use Rattle.check_shapes.specs.declared.choices.Choice.TheVariants as choice
-use Rattle.vtl_aggregates.specs.Shapes.{IsAggregated, made_components, of_measure}
-use Rattle.vtl_aggregates.proofs.GroupPoints.{all_more}
+use Rattle.vtl_tree.specs.declared.specifications.AggItems.TheVariants as items
+use Rattle.vtl_tree.specs.Choices.{chosen, is_identifier}
+use Rattle.vtl_tree.specs.Columns.{identifiers_of, measures_of, others_of}
+use Rattle.vtl_tree.specs.Measures.{given_measure, measures}
+use Rattle.vtl_tree.specs.Names.{component_of, is_among}
+use Rattle.vtl_tree.specs.declared.choices.Choice.TheVariants as choice
+use Rattle.vtl_meaning.specs.AggregateShapes.{IsAggregated, made_components, of_measure}
+use Rattle.vtl_meaning.proofs.GroupPoints.{all_more}
 use Rattle.vtl_aggregate_laws.specs.Parts.{grouped}
 
 -- ---- names

@@ -20,7 +20,7 @@ use Rattle.vtl_cell.specs.declared.cell.Cell.TheVariants as c
 use Rattle.vtl_cell.specs.declared.operator.AggKind.TheVariants.{Sum}
 use Rattle.vtl_cell.proofs.Aggregates.{group-Perm}
 use Rattle.vtl_lists.proofs.Perms.{Perm-map}
-use Rattle.vtl_aggregates.specs.Groups.{keys_by, points_with}
+use Rattle.vtl_meaning.specs.Groups.{keys_by, points_with}
 use Rattle.vtl_aggregate_laws.specs.Parts.{of_column, of_groups, values_at}
 use Rattle.vtl_aggregate_laws.proofs.Pieces.{parts}
 use Rattle.vtl_aggregate_laws.proofs.Told.{Tells, told}

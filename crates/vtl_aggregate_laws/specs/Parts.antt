@@ -8,9 +8,9 @@ use Rattle.vtl_decimal.specs.Settings.{Settings}
 use Rattle.vtl_cell.specs.declared.cell.Cell.{Cell}
 use Rattle.vtl_cell.specs.declared.operator.AggKind.{AggKind}
 use Rattle.vtl_cell.specs.declared.operator.AggKind.TheVariants as agg
-use Rattle.vtl_nodes.specs.Trees.{AggTree}
-use Rattle.vtl_nodes.specs.declared.specifications.AggItems.TheVariants as items
-use Rattle.vtl_aggregates.specs.Groups.{keys_by, points_with}
+use Rattle.vtl_tree.specs.Trees.{AggTree}
+use Rattle.vtl_tree.specs.declared.specifications.AggItems.TheVariants as items
+use Rattle.vtl_meaning.specs.Groups.{keys_by, points_with}
 
 -- the values of a column
 abbrev pub values_at : ℕ → List Row → List Cell

@@ -10,9 +10,9 @@ ghost use Rattle.vtl_cell.specs.declared.operator.AggKind.{AggKind};
 ghost use Rattle.vtl_cell.specs.declared.operator.AggKind.TheVariants.{Count, Max, Min, Sum};
 ghost use Rattle.vtl_tree.specs.Environment.{DataSet};
 ghost use Rattle.vtl_tree.specs.declared.structure.Structure.{Structure};
-ghost use Rattle.vtl_aggregates.specs.Aggregates.{aggregate_of};
-ghost use Rattle.vtl_aggregates.specs.Groups.{keys_by, points_with};
-ghost use Rattle.vtl_aggregates.specs.Shapes.{IsAggregated};
+ghost use Rattle.vtl_meaning.specs.Aggregates.{aggregate_of};
+ghost use Rattle.vtl_meaning.specs.Groups.{keys_by, points_with};
+ghost use Rattle.vtl_meaning.specs.AggregateShapes.{IsAggregated};
 ghost use Rattle.vtl_aggregate_laws.specs.Parts.{gathered_by, grouped, of_column, of_groups};
 
 /// Each point is in one group and no other: the points of all groups are the points, up to order.

@@ -1,5 +1,5 @@
 //! The whole and its parts: what an aggregate gives of all points, told from what it gives of their groups. Laws on the
-//! definitions of `vtl_aggregates`; no code.
+//! definitions of `vtl_meaning`; no code.
 //!
 //! They stand apart, so that a change of them has nothing else proved again; no crate stands on this one.
 //! It knows no script, no window and no table, and types nothing.

@@ -1,12 +1,12 @@
 // Whether all forms of a script are evaluated so far.
 ghost use Rattle.std.specs.Prelude.{◌≡◌, map};
-ghost use Rattle.vtl_nodes.specs.Trees.{nodes_of, operands_of};
-ghost use Rattle.vtl_nodes.specs.View.{node_tree, operand_tree};
+ghost use Rattle.vtl_tree.specs.Trees.{nodes_of, operands_of};
+ghost use Rattle.vtl_tree.specs.NodeView.{node_tree, operand_tree};
 ghost use Rattle.vtl_meaning.specs.Meaning.{are_nodes_built as are_trees_built, are_operands_built as are_operand_trees_built, is_built as is_tree_built};
 ghost use Rattle.vtl_backend.specs.Statements.{is_script_built};
 
 use vtl_check::Checked;
-use vtl_nodes::{JoinOperand, Node, NodeForm};
+use vtl_tree::{JoinOperand, Node, NodeForm};
 
 /// Whether a script holds only forms that back ends evaluate so far.
 #[tactic(auto, using(crate::proofs::BuiltNodes::nodes_built))]

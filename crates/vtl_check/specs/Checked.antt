@@ -7,9 +7,9 @@ use Rattle.vtl_syntax.specs.View.{statement_tree}
 use Rattle.vtl_syntax.specs.declared.statements.Script.{Script}
 use Rattle.vtl_syntax.specs.declared.statements.Statement.{Statement}
 use Rattle.vtl_tree.specs.Structures.{Named}
-use Rattle.vtl_nodes.specs.Trees.{NodeTree}
-use Rattle.vtl_nodes.specs.View.{node_tree}
-use Rattle.vtl_nodes.specs.declared.nodes.Node.{Node}
+use Rattle.vtl_tree.specs.Trees.{NodeTree}
+use Rattle.vtl_tree.specs.NodeView.{node_tree}
+use Rattle.vtl_tree.specs.declared.nodes.Node.{Node}
 use Rattle.check_operators.specs.Places.{Env}
 use Rattle.vtl_check.specs.Script.{script_typed}
 use Rattle.vtl_check.specs.Transformations.{transformations}

@@ -1,9 +1,9 @@
 -- How many nodes an expression on data sets has: a name is none, and a join counts by its last naming, which each has.
 use Rattle.std.specs.Prelude.{ℕ, Bool, true, false, List, length}
 use Rattle.std.specs.List.{filter}
-use Rattle.vtl_nodes.specs.Nodes.{nodes_in}
-use Rattle.vtl_nodes.specs.Trees as nodes
-use Rattle.vtl_nodes.specs.Trees.{FormTree, NodeTree}
+use Rattle.vtl_tree.specs.Nodes.{nodes_in}
+use Rattle.vtl_tree.specs.Trees as nodes
+use Rattle.vtl_tree.specs.Trees.{FormTree, NodeTree}
 
 -- whether a node counts itself
 abbrev pub is_counted_form : FormTree → Bool

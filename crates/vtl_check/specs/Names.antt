@@ -1,9 +1,9 @@
 -- The names of the data sets that expressions read, as often as they stand, in written order.
 use Rattle.std.specs.Prelude.{ℕ, List, [], ◌∷◌}
 use Rattle.std.specs.List.{flat_map}
-use Rattle.vtl_nodes.specs.Nodes.{nodes_in}
-use Rattle.vtl_nodes.specs.Trees as nodes
-use Rattle.vtl_nodes.specs.Trees.{FormTree, NodeTree}
+use Rattle.vtl_tree.specs.Nodes.{nodes_in}
+use Rattle.vtl_tree.specs.Trees as nodes
+use Rattle.vtl_tree.specs.Trees.{FormTree, NodeTree}
 
 -- the name that a node reads itself: its operands are nodes of their own
 abbrev pub name_at_form : FormTree → List (List ℕ)

@@ -4,7 +4,7 @@ use Rattle.std.specs.List.{list_any}
 use Rattle.vtl_syntax.specs.Trees as tree
 use Rattle.vtl_syntax.specs.Trees.{Exp, ScriptTree, StatementTree}
 use Rattle.vtl_tree.specs.Structures.{has_name}
-use Rattle.vtl_nodes.specs.Trees.{NodeTree, structure_of}
+use Rattle.vtl_tree.specs.Trees.{NodeTree, structure_of}
 use Rattle.vtl_lists.specs.Results.{◌>>=◌}
 use Rattle.check_faults.specs.Rules.{number_of, ruled}
 use Rattle.check_faults.specs.declared.error.TypeErr.{TypeErr}

@@ -1,7 +1,7 @@
 -- What is left of so many nodes behind an expression, or none where it has more.
 use Rattle.std.specs.Prelude.{ℕ, ◌-◌, if◌then◌else◌, nat_le, Option, None, Some, option_and_then}
-use Rattle.vtl_nodes.specs.Trees as nodes
-use Rattle.vtl_nodes.specs.Trees.{FormTree, MaybeNode, NodeTree, NodeTrees, OperandTrees}
+use Rattle.vtl_tree.specs.Trees as nodes
+use Rattle.vtl_tree.specs.Trees.{FormTree, MaybeNode, NodeTree, NodeTrees, OperandTrees}
 
 -- what is left of a number without so many
 abbrev pub without : (taken left : ℕ) → Option ℕ

@@ -7,7 +7,7 @@ use Rattle.vtl_syntax.specs.declared.word_groups.AssignKind.TheVariants as assig
 use Rattle.vtl_tree.specs.Structure.{same_name}
 use Rattle.vtl_tree.specs.Structures.{Named, has_name}
 use Rattle.vtl_tree.specs.declared.structure.Structure.{Structure}
-use Rattle.vtl_nodes.specs.Trees.{NodeTree, structure_of}
+use Rattle.vtl_tree.specs.Trees.{NodeTree, structure_of}
 use Rattle.vtl_check.specs.Names.{names_of}
 use Rattle.vtl_check.specs.Transformations.{Transformation}
 

@@ -4,7 +4,7 @@ ghost use Rattle.std.specs.Option.{option_copied};
 ghost use Rattle.std.specs.Prelude.{◌≡◌, IfOk, Ok, false, length, map};
 ghost use Rattle.vtl_syntax.specs.View.{script_tree, statement_tree};
 ghost use Rattle.vtl_syntax.specs.Written.{AreWritten};
-ghost use Rattle.vtl_nodes.specs.View.{node_tree};
+ghost use Rattle.vtl_tree.specs.NodeView.{node_tree};
 ghost use Rattle.vtl_tree.specs.Structure.{same_name};
 ghost use Rattle.vtl_tree.specs.Structures.{AreStructures};
 ghost use Rattle.vtl_check.specs.Checked.{AreUses, IsTyped, TypedScript, env_over, inputs_of, known_of, nodes_of, outputs_of, tree_of, typed_script};
@@ -20,10 +20,9 @@ use check_operators::Scope;
 use std::alloc::{AllocError, Global};
 use std::marker::Model;
 use vtl_decimal::Profile;
-use vtl_nodes::Node;
 use vtl_syntax::{Script, Statement};
 use vtl_text::{ByName, Txt};
-use vtl_tree::{Structure, Structures};
+use vtl_tree::{Node, Structure, Structures};
 
 /// A script that is written and typed over declared structures, with its nodes. The script is shared.
 #[derive(Drop)]
@@ -44,7 +43,7 @@ impl Model for Checked {
     ghost use Rattle.vtl_syntax.specs.View.{statement_tree};
     ghost use Rattle.vtl_syntax.specs.Written.{AreWritten};
     ghost use Rattle.vtl_syntax.specs.contracts.statements.Statement as s;
-    ghost use Rattle.vtl_nodes.specs.contracts.nodes.Node as n;
+    ghost use Rattle.vtl_tree.specs.contracts.nodes.Node as n;
 
     ghost Value = { TypedScript };
 

@@ -1,12 +1,12 @@
 // How many nodes expressions have.
 ghost use Rattle.std.specs.Prelude.{◌≡◌, ◌≤◌, ◌+◌, if◌then◌else◌, map, IfSome, None, Some, option_map};
-ghost use Rattle.vtl_nodes.specs.Trees.{maybe_node, nodes_of, operands_of};
-ghost use Rattle.vtl_nodes.specs.View.{node_tree, operand_tree};
+ghost use Rattle.vtl_tree.specs.Trees.{maybe_node, nodes_of, operands_of};
+ghost use Rattle.vtl_tree.specs.NodeView.{node_tree, operand_tree};
 ghost use Rattle.vtl_check.specs.Count.{count};
 ghost use Rattle.vtl_check.specs.Script.{is_too_much, most_nodes};
 ghost use Rattle.vtl_check.specs.Spent.{all_spent, maybe_spent, operands_spent, spent, without};
 
-use vtl_nodes::{JoinOperand, Node, NodeForm};
+use vtl_tree::{JoinOperand, Node, NodeForm};
 
 /// The most nodes of a script.
 const MAX_NODES: usize = 4096;

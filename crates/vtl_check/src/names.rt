@@ -1,14 +1,14 @@
 // The names of the data sets that expressions read.
 ghost use Rattle.std.specs.Option.{option_map};
 ghost use Rattle.std.specs.Prelude.{◌≡◌, ◌++◌, IfOk, OnOk, map};
-ghost use Rattle.vtl_nodes.specs.Nodes.{all_nodes, maybe_nodes, operand_nodes};
-ghost use Rattle.vtl_nodes.specs.Trees.{maybe_node, nodes_of, operands_of};
-ghost use Rattle.vtl_nodes.specs.View.{node_tree, operand_tree};
+ghost use Rattle.vtl_tree.specs.Nodes.{all_nodes, maybe_nodes, operand_nodes};
+ghost use Rattle.vtl_tree.specs.Trees.{maybe_node, nodes_of, operands_of};
+ghost use Rattle.vtl_tree.specs.NodeView.{node_tree, operand_tree};
 ghost use Rattle.vtl_check.specs.Names.{names_at, names_in, names_of};
 
 use std::alloc::{AllocError, Global};
-use vtl_nodes::{JoinOperand, Node, NodeForm};
 use vtl_text::Txt;
+use vtl_tree::{JoinOperand, Node, NodeForm};
 
 /// The names of the data sets that expressions read, each as often as it occurs.
 pub fn read_names(alloc: Global, nodes: &[Node]) -> Result<Vec<Txt>, AllocError>

@@ -2,7 +2,7 @@
 ghost use Rattle.std.specs.Prelude.{◌≡◌, ◌≤◌, ◌+◌, ◌++◌, [], ◌∷◌, false, map, IfOk, OnOk};
 ghost use Rattle.vtl_syntax.specs.View.{expr_tree, statement_tree};
 ghost use Rattle.vtl_tree.specs.Structures.{has_name};
-ghost use Rattle.vtl_nodes.specs.View.{node_tree};
+ghost use Rattle.vtl_tree.specs.NodeView.{node_tree};
 ghost use Rattle.check_faults.specs.Answers.{Answers};
 ghost use Rattle.check_operators.specs.Places.{env_of};
 ghost use Rattle.check_operators.specs.Typed.{boxed_tree};
@@ -17,10 +17,9 @@ use check_expressions::typing;
 use check_faults::{Rule, TypeErr};
 use check_operators::{Place, Scope};
 use std::alloc::{AllocError, Global};
-use vtl_nodes::Node;
 use vtl_syntax::{Expr, Statement};
 use vtl_text::Txt;
-use vtl_tree::share_structure;
+use vtl_tree::{Node, share_structure};
 
 // The value of a statement, where it is a data set.
 fn value(alloc: Global, scope: &Scope, e: &Expr) -> Result<Box<Node>, TypeErr>

@@ -1,7 +1,7 @@
 // The data sets that a typed script reads, and those that it gives.
 ghost use Rattle.std.specs.Map.{keys_of, lookup};
 ghost use Rattle.std.specs.Prelude.{◌≡◌, ◌++◌, IfOk, OnOk, length, map};
-ghost use Rattle.vtl_nodes.specs.View.{node_tree};
+ghost use Rattle.vtl_tree.specs.NodeView.{node_tree};
 ghost use Rattle.vtl_syntax.specs.View.{statement_tree};
 ghost use Rattle.vtl_tree.specs.Structure.{same_name};
 ghost use Rattle.vtl_check.specs.Transformations.{transformations};
@@ -10,10 +10,9 @@ ghost use Rattle.vtl_check.specs.Uses.{output_named, outputs_in, read_behind, re
 use crate::known::{is_known, put};
 use crate::names::read_names;
 use std::alloc::{AllocError, Global};
-use vtl_nodes::Node;
 use vtl_syntax::{AssignKind, Statement};
 use vtl_text::{ByName, Txt};
-use vtl_tree::{Structure, share_structure};
+use vtl_tree::{Node, Structure, share_structure};
 
 /// The data sets that a script reads and gives.
 #[derive(Drop)]

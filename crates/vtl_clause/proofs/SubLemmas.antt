@@ -8,10 +8,10 @@ use Rattle.vtl_rows.specs.Tables.{cells_at, fits}
 use Rattle.vtl_tree.specs.DataSet.{IsDataSet, is_point}
 use Rattle.vtl_tree.specs.Structure.{columns_of}
 use Rattle.vtl_tree.specs.declared.structure.Structure.{Structure}
-use Rattle.vtl_nodes.specs.declared.clauses.SubItem.{SubItem}
+use Rattle.vtl_tree.specs.declared.clauses.SubItem.{SubItem}
 use Rattle.vtl_sets.specs.TableOf.{table_columns}
 use Rattle.vtl_sets.proofs.TableLemmas.{point_fits}
-use Rattle.check_shapes.specs.Columns.{places_in}
+use Rattle.vtl_tree.specs.Columns.{places_in}
 use Rattle.vtl_meaning.specs.Made.{IsSub}
 use Rattle.vtl_meaning.specs.Operators.{has_values}
 use Rattle.vtl_meaning.specs.Points.{with_points}

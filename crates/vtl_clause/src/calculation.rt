@@ -5,23 +5,21 @@ ghost use Rattle.vtl_scalar.specs.Answers.{Answers, AnswersBy};
 ghost use Rattle.vtl_tree.specs.Shown.{shown};
 ghost use Rattle.vtl_tree.specs.Structure.{columns_of};
 ghost use Rattle.vtl_tree.specs.View.{comp_exp_of};
-ghost use Rattle.vtl_nodes.specs.View.{item_tree, value_tree};
+ghost use Rattle.vtl_tree.specs.NodeView.{item_tree, value_tree};
 ghost use Rattle.vtl_sets.specs.DataSets.{with_structure};
 ghost use Rattle.vtl_meaning.specs.Made.{IsCalculated};
 ghost use Rattle.vtl_meaning.specs.Operators.{calculated_exp, calculated_of, target_named, value_exp};
 ghost use Rattle.vtl_sets.specs.TableOf.{IsTableOf};
 
-use check_shapes::{copied, push_column};
 use std::alloc::{AllocError, Global};
 use vtl_cell::Cell;
 use vtl_decimal::Profile;
 use vtl_expr::each_point;
-use vtl_nodes::{CalcItem, CalcValue};
 use vtl_rows::Table;
 use vtl_scalar::ScalarErr;
 use vtl_sets::DataSet;
 use vtl_text::Txt;
-use vtl_tree::{CompExpr, Component, Structure};
+use vtl_tree::{CalcItem, CalcValue, CompExpr, Component, Structure, copied, push_column};
 
 // The target of a name.
 fn target_named<'a>(items: &'a [CalcItem], name: &Txt) -> Option<&'a CalcItem>

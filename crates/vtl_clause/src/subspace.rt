@@ -10,14 +10,12 @@ ghost use Rattle.vtl_meaning.specs.Operators.{sub_of};
 ghost use Rattle.vtl_sets.specs.TableOf.{IsTableOf};
 ghost use Rattle.vtl_clause.specs.Pins.{are_met, wanted_by, wanted_in};
 
-use check_shapes::place_of;
 use std::alloc::{AllocError, Global};
 use vtl_cell::{Cell, is_same};
 use vtl_expr::{places_in, push_cells};
-use vtl_nodes::SubItem;
 use vtl_rows::Table;
 use vtl_sets::{DataSet, new_table};
-use vtl_tree::Structure;
+use vtl_tree::{Structure, SubItem, place_of};
 
 // The place of an identifier, and the value that is wanted there.
 #[derive(Drop)]

@@ -21,7 +21,7 @@ use Rattle.vtl_tuples.proofs.Lists.{map-map, map_each}
 use Rattle.vtl_sets.specs.TableOf.{table_columns}
 use Rattle.vtl_sets.proofs.TableLemmas.{point_fits}
 use Rattle.vtl_meaning.specs.Agreement.{values_in}
-use Rattle.check_shapes.specs.Columns.{place_of}
+use Rattle.vtl_tree.specs.Columns.{place_of}
 use Rattle.vtl_meaning.specs.LookUps.{value_named}
 use Rattle.vtl_meaning.specs.Made.{IsPivoted}
 use Rattle.vtl_meaning.specs.Turned.{coded_value, codes_of, is_coded, other_identifiers, pivot_of, pivoted_point}

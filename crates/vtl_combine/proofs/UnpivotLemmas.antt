@@ -16,7 +16,7 @@ use Rattle.vtl_tree.specs.declared.structure.Structure.{Structure}
 use Rattle.vtl_tuples.proofs.Lists.{flat_map_same}
 use Rattle.vtl_sets.specs.TableOf.{table_columns}
 use Rattle.vtl_sets.proofs.TableLemmas.{point_fits}
-use Rattle.check_shapes.specs.Columns.{measures_of}
+use Rattle.vtl_tree.specs.Columns.{measures_of}
 use Rattle.vtl_meaning.specs.LookUps.{value_named}
 use Rattle.vtl_meaning.specs.Made.{IsUnpivoted}
 use Rattle.vtl_meaning.specs.Points.{with_points}

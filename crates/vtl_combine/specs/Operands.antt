@@ -10,7 +10,7 @@ use Rattle.vtl_syntax.specs.declared.word_groups.Retain.{Retain}
 use Rattle.vtl_tree.specs.Environment.{DataSet}
 use Rattle.vtl_tree.specs.Structure.{IsStructure, columns_of, key_width}
 use Rattle.vtl_tree.specs.declared.structure.Structure.{Structure}
-use Rattle.check_shapes.specs.Columns.{identifiers_of, places_in}
+use Rattle.vtl_tree.specs.Columns.{identifiers_of, places_in}
 use Rattle.vtl_meaning.specs.Made.{AreAmong}
 use Rattle.vtl_meaning.specs.Operators.{left_of}
 use Rattle.vtl_meaning.specs.Sets.{has_point, is_retained}

@@ -10,7 +10,7 @@ use Rattle.vtl_index.specs.Seekers.{Sought, first_meant}
 use Rattle.vtl_tree.specs.Environment.{DataSet}
 use Rattle.vtl_tree.specs.Structure.{columns_of}
 use Rattle.vtl_tree.specs.declared.structure.Structure.{Structure}
-use Rattle.check_shapes.specs.Columns.{place_of, places_in}
+use Rattle.vtl_tree.specs.Columns.{place_of, places_in}
 use Rattle.vtl_meaning.specs.Turned.{codes_of, other_identifiers}
 use Rattle.vtl_combine.specs.declared.pivoting.CodedPoints.{CodedPoints}
 

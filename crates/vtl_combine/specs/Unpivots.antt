@@ -6,7 +6,7 @@ use Rattle.vtl_cell.specs.Row.{Row, column_of}
 use Rattle.vtl_cell.specs.declared.cell.Cell.TheVariants as c
 use Rattle.vtl_rows.specs.Tables.{cells_at}
 use Rattle.vtl_tree.specs.declared.structure.Component.{Component}
-use Rattle.check_shapes.specs.Columns.{place_of}
+use Rattle.vtl_tree.specs.Columns.{place_of}
 use Rattle.vtl_combine.specs.declared.unpivoting.NamedMeasure.{NamedMeasure}
 
 -- a name and a place

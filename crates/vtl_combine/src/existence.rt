@@ -5,7 +5,7 @@ ghost use Rattle.vtl_tree.specs.Shown.{shown};
 ghost use Rattle.vtl_tree.specs.Structure.{names_of};
 ghost use Rattle.vtl_sets.specs.DataSets.{data_set};
 ghost use Rattle.vtl_sets.specs.TableOf.{IsTableOf};
-ghost use Rattle.check_shapes.specs.Names.{is_among};
+ghost use Rattle.vtl_tree.specs.Names.{is_among};
 ghost use Rattle.vtl_meaning.specs.Agreement.{common_identifiers};
 ghost use Rattle.vtl_meaning.specs.Made.{IsExistence};
 ghost use Rattle.vtl_meaning.specs.Sets.{existence_of, is_retained};

@@ -10,7 +10,6 @@ ghost use Rattle.vtl_combine.specs.Pivots.{AreCoded, coded, pivoted};
 
 use crate::firsts::first_rows;
 use crate::rows::{numbers, row_or_none};
-use check_shapes::{Choice, component_of, is_chosen, place_of};
 use std::alloc::{AllocError, Global};
 use std::marker::Brand;
 use std::slice;
@@ -21,7 +20,7 @@ use vtl_index::{Groups, Seeker, Steps};
 use vtl_rows::Table;
 use vtl_sets::{DataSet, new_table};
 use vtl_text::Txt;
-use vtl_tree::{Component, Structure};
+use vtl_tree::{Choice, Component, Structure, component_of, is_chosen, place_of};
 
 // What a pivot takes its points from: a table, the places of the other identifiers, the rows by these and by the
 // identifier behind them, its codes, and the place of the measure.

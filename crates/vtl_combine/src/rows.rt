@@ -5,7 +5,7 @@ ghost use Rattle.vtl_rows.specs.Places.{row_at};
 ghost use Rattle.vtl_tree.specs.DataSet.{IsDataSet};
 ghost use Rattle.vtl_tree.specs.Structure.{columns_of, key_width};
 ghost use Rattle.vtl_sets.specs.TableOf.{table_columns};
-ghost use Rattle.check_shapes.specs.Columns.{identifiers_of, places_in};
+ghost use Rattle.vtl_tree.specs.Columns.{identifiers_of, places_in};
 ghost use Rattle.vtl_meaning.specs.Operators.{left_of};
 ghost use Rattle.vtl_combine.specs.Operands.{HasColumns, left_at, pick_at};
 

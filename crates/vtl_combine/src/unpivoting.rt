@@ -6,20 +6,19 @@ ghost use Rattle.vtl_rows.specs.Tables.{cells_at, fits};
 ghost use Rattle.vtl_tree.specs.Structure.{columns_of};
 ghost use Rattle.vtl_sets.specs.DataSets.{data_set};
 ghost use Rattle.vtl_sets.specs.TableOf.{IsTableOf};
-ghost use Rattle.check_shapes.specs.Columns.{measures_of};
+ghost use Rattle.vtl_tree.specs.Columns.{measures_of};
 ghost use Rattle.vtl_meaning.specs.Made.{IsUnpivoted};
 ghost use Rattle.vtl_meaning.specs.Turned.{unpivot_of};
 ghost use Rattle.vtl_combine.specs.Unpivots.{measure_by, measure_in, named_row, unpivoted};
 
 use crate::rows::own_key;
-use check_shapes::place_of;
 use std::alloc::{AllocError, Global};
 use vtl_cell::{Cell, clone_cell};
 use vtl_expr::push_cells;
 use vtl_rows::Table;
 use vtl_sets::{DataSet, new_table};
 use vtl_text::Txt;
-use vtl_tree::{Role, Structure, is_same_role};
+use vtl_tree::{Role, Structure, is_same_role, place_of};
 
 // A measure by its name and its place.
 #[derive(Drop)]

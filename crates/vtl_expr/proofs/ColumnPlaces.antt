@@ -10,7 +10,7 @@ use Rattle.vtl_tree.specs.declared.structure.Component.{Component}
 use Rattle.vtl_tree.specs.declared.structure.Structure.{Structure}
 use Rattle.vtl_sets.specs.TableOf.{column_for}
 use Rattle.vtl_sets.proofs.ColumnLemmas.{some_columns}
-use Rattle.check_shapes.specs.Columns.{place_of, places_in}
+use Rattle.vtl_tree.specs.Columns.{place_of, places_in}
 use Rattle.vtl_meaning.specs.Made.{AreAmong, IsColumnAt}
 
 -- ---- columns that are chosen by their names

@@ -9,7 +9,7 @@ use Rattle.vtl_rows.specs.Tables.{cells_at}
 use Rattle.vtl_tree.specs.DataSet.{IsDataSet, is_point, look}
 use Rattle.vtl_tree.specs.Structure.{columns_of, key_width}
 use Rattle.vtl_tree.specs.declared.structure.Structure.{Structure}
-use Rattle.check_shapes.specs.Columns.{identifiers_of, places_in}
+use Rattle.vtl_tree.specs.Columns.{identifiers_of, places_in}
 use Rattle.vtl_meaning.proofs.Places.{all_more, key_cells, key_within}
 use Rattle.vtl_expr.specs.Partners.{AreFirst}
 

@@ -14,9 +14,9 @@ use Rattle.vtl_tree.specs.Shown.{shown}
 use Rattle.vtl_tree.specs.Structure.{columns_of}
 use Rattle.vtl_tree.specs.declared.structure.Component.{Component}
 use Rattle.vtl_tree.specs.declared.structure.Structure.{Structure}
-use Rattle.check_shapes.specs.Pairs.{contains}
+use Rattle.vtl_tree.specs.Pairs.{contains}
 use Rattle.vtl_sets.specs.TableOf.{table_columns}
-use Rattle.check_shapes.specs.Columns.{column_behind, column_named, columns_named, identifiers_of, kind_named, measures_of, place_of, places_in}
+use Rattle.vtl_tree.specs.Columns.{column_behind, column_named, columns_named, identifiers_of, kind_named, measures_of, place_of, places_in}
 use Rattle.vtl_meaning.specs.Made.{AreFor}
 use Rattle.vtl_meaning.specs.Operators.{for_measures, pair_columns, pair_exps, pairs_of, with_namesake}
 use Rattle.vtl_meaning.specs.Points.{beside, paired, point_of}

@@ -8,7 +8,7 @@ use Rattle.vtl_tree.specs.DataSet.{IsDataSet}
 use Rattle.vtl_tree.specs.Environment.{DataSet}
 use Rattle.vtl_tree.specs.Structure.{columns_of, key_width}
 use Rattle.vtl_tree.specs.declared.structure.Structure.{Structure}
-use Rattle.check_shapes.specs.Columns.{identifiers_of, measures_of, places_in}
+use Rattle.vtl_tree.specs.Columns.{identifiers_of, measures_of, places_in}
 use Rattle.vtl_expr.specs.Partners.{found, sought_by, with_found}
 use Rattle.vtl_expr.specs.declared.choice.Alternative.{Alternative}
 use Rattle.vtl_expr.specs.declared.choice.Choice.{Choice}

@@ -9,7 +9,7 @@ use Rattle.vtl_tree.specs.DataSet.{look}
 use Rattle.vtl_tree.specs.Environment.{DataSet}
 use Rattle.vtl_tree.specs.Structure.{columns_of}
 use Rattle.vtl_tree.specs.declared.structure.Structure.{Structure}
-use Rattle.check_shapes.specs.Columns.{identifiers_of, places_in}
+use Rattle.vtl_tree.specs.Columns.{identifiers_of, places_in}
 
 -- points, and the places at which rows that ask for them have their identifiers
 pub record Sought : Type 0 where

@@ -3,11 +3,10 @@ ghost use Rattle.std.specs.Prelude.{◌≡◌, ◌++◌, map, IfOk, OnOk};
 ghost use Rattle.vtl_tree.specs.Shown.{shown};
 ghost use Rattle.vtl_tree.specs.Structure.{columns_of};
 ghost use Rattle.vtl_tree.specs.View.{comp_exp_of};
-ghost use Rattle.check_shapes.specs.Columns.{columns_named};
+ghost use Rattle.vtl_tree.specs.Columns.{columns_named};
 
-use check_shapes::{copied, push_column};
 use std::alloc::{AllocError, Global};
-use vtl_tree::{CompExpr, Component, Structure};
+use vtl_tree::{CompExpr, Component, Structure, copied, push_column};
 
 // Puts equal expressions after others.
 pub(crate) fn push_copies(

@@ -2,7 +2,7 @@
 ghost use Rattle.std.specs.Prelude.{◌≡◌, IfOk};
 ghost use Rattle.vtl_tree.specs.Structure.{columns_of};
 ghost use Rattle.vtl_sets.specs.DataSets.{data_set};
-ghost use Rattle.check_shapes.specs.Columns.{places_in};
+ghost use Rattle.vtl_tree.specs.Columns.{places_in};
 ghost use Rattle.vtl_meaning.specs.Made.{IsLeft};
 ghost use Rattle.vtl_meaning.specs.Operators.{left_of};
 ghost use Rattle.vtl_sets.specs.TableOf.{IsTableOf};

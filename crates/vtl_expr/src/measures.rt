@@ -4,7 +4,7 @@ ghost use Rattle.vtl_scalar.specs.Answers.{Answers, AnswersBy};
 ghost use Rattle.vtl_tree.specs.Shown.{shown};
 ghost use Rattle.vtl_tree.specs.Structure.{columns_of};
 ghost use Rattle.vtl_tree.specs.View.{comp_exp_of};
-ghost use Rattle.vtl_nodes.specs.View.{measure_tree};
+ghost use Rattle.vtl_tree.specs.NodeView.{measure_tree};
 ghost use Rattle.vtl_sets.specs.DataSets.{with_structure};
 ghost use Rattle.vtl_meaning.specs.Made.{IsMeasured};
 ghost use Rattle.vtl_meaning.specs.Operators.{for_measures, measured_exps, measured_of, with_measure};
@@ -13,14 +13,12 @@ ghost use Rattle.vtl_sets.specs.TableOf.{IsTableOf};
 use crate::columns::measures;
 use crate::expressions::{columns_named, push_copies};
 use crate::points::each_point;
-use check_shapes::push_column;
 use std::alloc::{AllocError, Global};
 use vtl_decimal::Profile;
-use vtl_nodes::MeasureOp;
 use vtl_rows::Table;
 use vtl_scalar::ScalarErr;
 use vtl_sets::DataSet;
-use vtl_tree::{CompExpr, Component, Structure};
+use vtl_tree::{CompExpr, Component, MeasureOp, Structure, push_column};
 
 // The operator at a measure, which becomes another measure.
 fn with_measure(

@@ -3,17 +3,16 @@ ghost use Rattle.std.specs.Prelude.{◌≡◌, ◌++◌, ◌∷◌, [], map, len
 ghost use Rattle.vtl_tree.specs.Shown.{shown};
 ghost use Rattle.vtl_tree.specs.Structure.{columns_of};
 ghost use Rattle.vtl_tree.specs.View.{comp_exp_of};
-ghost use Rattle.check_shapes.specs.Columns.{columns_named, identifiers_of, measures_of};
+ghost use Rattle.vtl_tree.specs.Columns.{columns_named, identifiers_of, measures_of};
 ghost use Rattle.vtl_meaning.specs.Operators.{for_measures, with_namesake};
 ghost use Rattle.vtl_expr.specs.Sides.{side_column};
 
 use crate::columns::measures;
 use crate::expressions::columns_named;
-use check_shapes::column_behind;
 use std::alloc::{AllocError, Global};
 use vtl_cell::ScalarOp;
 use vtl_text::Txt;
-use vtl_tree::{CompExpr, Component, Structure};
+use vtl_tree::{CompExpr, Component, Structure, column_behind};
 
 // The columns of an operand, and those that stand before them.
 #[derive(Drop)]

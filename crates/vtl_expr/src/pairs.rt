@@ -8,7 +8,7 @@ ghost use Rattle.vtl_scalar.specs.Answers.{Answers, AnswersBy};
 ghost use Rattle.vtl_tree.specs.DataSet.{IsDataSet};
 ghost use Rattle.vtl_tree.specs.Structure.{IsStructure, columns_of};
 ghost use Rattle.vtl_tree.specs.View.{comp_exp_of};
-ghost use Rattle.check_shapes.specs.Pairs.{contains};
+ghost use Rattle.vtl_tree.specs.Pairs.{contains};
 ghost use Rattle.vtl_sets.specs.DataSets.{with_structure};
 ghost use Rattle.vtl_meaning.specs.Made.{AreFor, IsPaired};
 ghost use Rattle.vtl_meaning.specs.Operators.{pair_of};
@@ -23,7 +23,6 @@ use crate::namesakes::{Side, namesake_exps};
 use crate::partners::Partners;
 use crate::points::Points;
 use crate::prepared::{Prepared, prepare_all};
-use check_shapes::contains;
 use std::alloc::{AllocError, Global};
 use std::marker::Brand;
 use std::sync::ledger::{Blank, Ledger};
@@ -33,7 +32,7 @@ use vtl_index::Steps;
 use vtl_rows::Table;
 use vtl_scalar::ScalarErr;
 use vtl_sets::DataSet;
-use vtl_tree::{CompExpr, Structure};
+use vtl_tree::{CompExpr, Structure, contains};
 
 // Adds the point of a row and its partner, where it has one.
 fn push_pair<L: Ledger>(

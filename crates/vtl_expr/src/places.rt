@@ -4,12 +4,11 @@ ghost use Rattle.vtl_cell.specs.Row.{column_of};
 ghost use Rattle.vtl_rows.specs.Tables.{cells_at};
 ghost use Rattle.vtl_tree.specs.Shown.{shown};
 ghost use Rattle.vtl_tree.specs.Structure.{columns_of};
-ghost use Rattle.check_shapes.specs.Columns.{places_in};
+ghost use Rattle.vtl_tree.specs.Columns.{places_in};
 
-use check_shapes::place_of;
 use std::alloc::{AllocError, Global};
 use vtl_cell::{Cell, clone_cell};
-use vtl_tree::{Component, Structure};
+use vtl_tree::{Component, Structure, place_of};
 
 /// The places of components, by their names, among the columns of a structure.
 pub fn places_in(

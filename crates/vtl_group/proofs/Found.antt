@@ -9,10 +9,10 @@ use Rattle.vtl_rows.specs.Tables.{Listed, cells_at}
 use Rattle.vtl_tree.specs.CompExp.{CompExp}
 use Rattle.vtl_tree.specs.View.{comp_exp_of}
 use Rattle.vtl_tree.specs.declared.structure.Component.{Component}
-use Rattle.vtl_nodes.specs.Trees.{AggTree}
+use Rattle.vtl_tree.specs.Trees.{AggTree}
 use Rattle.vtl_index.specs.Groups.{firsts, rows_led}
 use Rattle.vtl_index.specs.Leads.{leads_of}
-use Rattle.vtl_aggregates.specs.Groups.{keys_by, places_named, points_with}
+use Rattle.vtl_meaning.specs.Groups.{keys_by, places_named, points_with}
 use Rattle.vtl_group.specs.Calls.{AreWithin, column_place, placed_for, rows_at}
 use Rattle.vtl_group.specs.Points.{fault_for, passes, row_for, tested}
 use Rattle.vtl_group.specs.Walks.{first_of, group_in}

@@ -7,7 +7,7 @@ use Rattle.vtl_decimal.specs.declared.number.Fault.{Fault}
 use Rattle.vtl_cell.specs.Outcome.{Outcome, fault_in, faults_by, join}
 use Rattle.vtl_cell.specs.Row.{Row}
 use Rattle.vtl_cell.specs.declared.cell.Cell.{Cell}
-use Rattle.vtl_aggregates.specs.Aggregates.{cell_or_null}
+use Rattle.vtl_meaning.specs.Aggregates.{cell_or_null}
 use Rattle.vtl_tree.proofs.Faults.{faults_by-append, join_assoc, join_none}
 
 map_choice : {X Y : Type 0} (f : X → Y) (b : Bool) (x : X) → map f (cond b (x ∷ []) []) ≡ cond b (f x ∷ []) []

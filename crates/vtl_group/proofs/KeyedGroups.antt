@@ -11,7 +11,7 @@ use Rattle.vtl_index.specs.Leads.{leads_of}
 use Rattle.vtl_index.proofs.KeyGroups.{are_leads, keys_once, rows_of_key}
 use Rattle.vtl_index.proofs.Ranges.{all_indexed, none_pass, passing, passing_at, passing_is}
 use Rattle.vtl_tuples.specs.Keys as tuples
-use Rattle.vtl_aggregates.specs.Groups.{keys_by, points_with}
+use Rattle.vtl_meaning.specs.Groups.{keys_by, points_with}
 use Rattle.vtl_group.specs.Calls.{AreWithin, rows_at}
 use Rattle.vtl_group.specs.Walks.{first_of}
 

@@ -13,8 +13,8 @@ use Rattle.vtl_rows.specs.Places.{row_at}
 use Rattle.vtl_rows.specs.declared.column.Column.{Column}
 use Rattle.vtl_tree.specs.Structure.{same_name}
 use Rattle.vtl_tree.specs.declared.expression.AggCall.{AggCall}
-use Rattle.vtl_nodes.specs.declared.specifications.AggItems.{AggItems}
-use Rattle.vtl_aggregates.specs.Aggregates.{call_for}
+use Rattle.vtl_tree.specs.declared.specifications.AggItems.{AggItems}
+use Rattle.vtl_meaning.specs.Aggregates.{call_for}
 use Rattle.vtl_group.specs.declared.calls.Call.{Call}
 use Rattle.vtl_group.specs.declared.calls.Call.TheVariants as call
 

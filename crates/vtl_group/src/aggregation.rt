@@ -1,12 +1,12 @@
 // Aggregates of data sets.
 ghost use Rattle.std.specs.Prelude.{◌≡◌, IfOk, map};
-ghost use Rattle.vtl_aggregates.specs.Aggregates.{aggregate_of};
-ghost use Rattle.vtl_aggregates.specs.Shapes.{IsAggregated};
-ghost use Rattle.check_shapes.specs.Columns.{others_of};
+ghost use Rattle.vtl_meaning.specs.Aggregates.{aggregate_of};
+ghost use Rattle.vtl_meaning.specs.AggregateShapes.{IsAggregated};
+ghost use Rattle.vtl_tree.specs.Columns.{others_of};
 ghost use Rattle.vtl_sets.specs.DataSets.{with_structure};
 ghost use Rattle.vtl_sets.specs.TableOf.{IsTableOf};
 ghost use Rattle.vtl_group.specs.Calls.{column_place, placed_for};
-ghost use Rattle.vtl_nodes.specs.View.{agg_tree};
+ghost use Rattle.vtl_tree.specs.NodeView.{agg_tree};
 ghost use Rattle.vtl_scalar.specs.Answers.{Answers, AnswersBy};
 ghost use Rattle.vtl_tree.specs.Shown.{shown};
 
@@ -15,12 +15,11 @@ use crate::points::{Points, Recipe};
 use std::alloc::{AllocError, Global};
 use vtl_decimal::Profile;
 use vtl_index::Groups;
-use vtl_nodes::{AggItems, AggSpec};
 use vtl_rows::{Column, Table};
 use vtl_scalar::ScalarErr;
 use vtl_sets::DataSet;
 use vtl_text::Txt;
-use vtl_tree::{Component, Structure};
+use vtl_tree::{AggItems, AggSpec, Component, Structure};
 
 // The places of columns by their names.
 fn column_places(alloc: Global, columns: &[Column], names: &[Txt]) -> Result<Vec<usize>, AllocError>

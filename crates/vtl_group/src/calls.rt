@@ -2,7 +2,7 @@
 ghost use Rattle.std.specs.Prelude.{◌≡◌, ◌++◌, ◌∷◌, [], List, OnOk, map};
 ghost use Rattle.std.specs.Option.{option_copied};
 ghost use Rattle.vtl_agg.specs.Added.{HasRoom, IsAdded};
-ghost use Rattle.vtl_aggregates.specs.Aggregates.{measure_call, target_named};
+ghost use Rattle.vtl_meaning.specs.Aggregates.{measure_call, target_named};
 ghost use Rattle.vtl_cell.specs.Groups.{group_value};
 ghost use Rattle.vtl_cell.specs.Row.{column_of};
 ghost use Rattle.vtl_cell.specs.declared.cell.Cell as cells;
@@ -13,11 +13,10 @@ use std::alloc::{AllocError, Global};
 use vtl_agg::Acc;
 use vtl_cell::{AggKind, Cell};
 use vtl_decimal::{Profile, whole};
-use vtl_nodes::{AggItems, AggTarget};
 use vtl_rows::{Column, Table};
 use vtl_scalar::ScalarErr;
 use vtl_text::Txt;
-use vtl_tree::AggCall;
+use vtl_tree::{AggCall, AggItems, AggTarget};
 
 // The rows of this many numbers are fetched side by side.
 const BLOCK: usize = 32;

@@ -1,7 +1,7 @@
 // The value of an expression over a group.
 ghost use Rattle.std.specs.Prelude.{◌≡◌, length, map, option_map};
 ghost use Rattle.std.specs.List.{position_or_len};
-ghost use Rattle.vtl_aggregates.specs.Expressions.{grouped_cell};
+ghost use Rattle.vtl_meaning.specs.GroupExpressions.{grouped_cell};
 ghost use Rattle.vtl_cell.specs.Outcomes.{all_of};
 ghost use Rattle.vtl_cell.specs.Row.{column_of};
 ghost use Rattle.vtl_group.specs.Calls.{AreWithin, rows_at};

@@ -1,6 +1,6 @@
 // Points that are made of groups, one after the other.
 ghost use Rattle.std.specs.Prelude.{◌≡◌, ◌<◌, ◌++◌, ◌∷◌, [], true, None, IfErr, IfOk, OnOk, if◌then◌else◌, length, map, option_map};
-ghost use Rattle.vtl_aggregates.specs.Aggregates.{cell_or_null};
+ghost use Rattle.vtl_meaning.specs.Aggregates.{cell_or_null};
 ghost use Rattle.vtl_cell.specs.Outcome.{fault_in, join, unless};
 ghost use Rattle.vtl_scalar.specs.Seen.{answer_of, seen_of};
 ghost use Rattle.vtl_sets.specs.TableOf.{table_columns};

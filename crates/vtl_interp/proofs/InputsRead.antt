@@ -10,7 +10,7 @@ use Rattle.vtl_tree.specs.Structures.{Named, has_name}
 use Rattle.vtl_tree.specs.declared.structure.Structure.{Structure}
 use Rattle.vtl_text.proofs.Apart.{apart_push}
 use Rattle.vtl_tree.proofs.StructuresLemmas.{not_found, not_there}
-use Rattle.vtl_nodes.specs.Trees.{NodeTree}
+use Rattle.vtl_tree.specs.Trees.{NodeTree}
 use Rattle.vtl_check.specs.Names.{names_of}
 use Rattle.vtl_check.specs.Uses.{read_behind, reads, with_declared, with_new}
 use Rattle.vtl_meaning.specs.Meaning.{known_in}

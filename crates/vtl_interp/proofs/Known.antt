@@ -14,7 +14,7 @@ use Rattle.vtl_tree.specs.Structure.{same_name}
 use Rattle.vtl_tree.specs.Structures.{Named}
 use Rattle.vtl_tree.specs.declared.structure.Structure.{Structure}
 use Rattle.vtl_tree.proofs.StructuresLemmas.{not_found}
-use Rattle.vtl_nodes.specs.Trees.{NodeTree, structure_of}
+use Rattle.vtl_tree.specs.Trees.{NodeTree, structure_of}
 use Rattle.vtl_check.specs.Checked.{IsTyped, TypedScript, known_of, nodes_of, tree_of}
 use Rattle.vtl_check.specs.Transformations.{Transformation, transformations}
 use Rattle.vtl_check.specs.Uses.{results_behind, with_new}

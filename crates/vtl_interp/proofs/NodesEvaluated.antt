@@ -14,23 +14,23 @@ use Rattle.vtl_scalar.specs.declared.error.ScalarErr.{ScalarErr}
 use Rattle.vtl_tree.specs.Environment.{DataSet, Environment, data_of}
 use Rattle.vtl_tree.specs.Structure.{same_name}
 use Rattle.vtl_tree.specs.declared.structure.Structure.{Structure}
-use Rattle.vtl_nodes.specs.Trees as nodes
-use Rattle.vtl_nodes.specs.Trees.{FormTree, NodeTree, nodes_of, operands_of, structure_of}
-use Rattle.vtl_nodes.specs.View.{agg_tree, analytic_tree, form_tree, item_tree, measure_tree, node_tree, operand_tree}
-use Rattle.vtl_nodes.specs.declared.clauses.CalcItem.{CalcItem}
-use Rattle.vtl_nodes.specs.declared.clauses.SubItem.{SubItem}
-use Rattle.vtl_nodes.specs.declared.nodes.JoinOperand.{JoinOperand}
-use Rattle.vtl_nodes.specs.declared.nodes.MeasureOp.{MeasureOp}
-use Rattle.vtl_nodes.specs.declared.nodes.Node as node
-use Rattle.vtl_nodes.specs.declared.nodes.Node.{Node}
-use Rattle.vtl_nodes.specs.declared.nodes.NodeForm.{NodeForm}
-use Rattle.vtl_nodes.specs.declared.nodes.NodeForm.TheVariants as form
-use Rattle.vtl_nodes.specs.declared.nodes.NodeForm as forms
-use Rattle.vtl_nodes.specs.declared.specifications.AggSpec.{AggSpec}
-use Rattle.vtl_nodes.specs.declared.specifications.AnalyticSpec.{AnalyticSpec}
-use Rattle.vtl_nodes.specs.declared.specifications.JoinSpec.{JoinSpec}
+use Rattle.vtl_tree.specs.Trees as nodes
+use Rattle.vtl_tree.specs.Trees.{FormTree, NodeTree, nodes_of, operands_of, structure_of}
+use Rattle.vtl_tree.specs.NodeView.{agg_tree, analytic_tree, form_tree, item_tree, measure_tree, node_tree, operand_tree}
+use Rattle.vtl_tree.specs.declared.clauses.CalcItem.{CalcItem}
+use Rattle.vtl_tree.specs.declared.clauses.SubItem.{SubItem}
+use Rattle.vtl_tree.specs.declared.nodes.JoinOperand.{JoinOperand}
+use Rattle.vtl_tree.specs.declared.nodes.MeasureOp.{MeasureOp}
+use Rattle.vtl_tree.specs.declared.nodes.Node as node
+use Rattle.vtl_tree.specs.declared.nodes.Node.{Node}
+use Rattle.vtl_tree.specs.declared.nodes.NodeForm.{NodeForm}
+use Rattle.vtl_tree.specs.declared.nodes.NodeForm.TheVariants as form
+use Rattle.vtl_tree.specs.declared.nodes.NodeForm as forms
+use Rattle.vtl_tree.specs.declared.specifications.AggSpec.{AggSpec}
+use Rattle.vtl_tree.specs.declared.specifications.AnalyticSpec.{AnalyticSpec}
+use Rattle.vtl_tree.specs.declared.specifications.JoinSpec.{JoinSpec}
 use Rattle.vtl_syntax.specs.declared.word_groups.Retain.{Retain}
-use Rattle.vtl_aggregates.specs.Shapes.{IsAggregated}
+use Rattle.vtl_meaning.specs.AggregateShapes.{IsAggregated}
 use Rattle.vtl_sets.specs.DataSets.{with_structure}
 use Rattle.vtl_meaning.specs.Joined.{structures_of}
 use Rattle.vtl_meaning.specs.Made.{AreCombined, IsChoice, IsJoined, IsMade, IsMadeForm, IsMeasured, IsWindowed, node_structures}

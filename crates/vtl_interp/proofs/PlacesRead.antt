@@ -5,7 +5,7 @@ use Rattle.std.specs.Map.{lookup}
 use Rattle.std.specs.Cmp.Lexicographic.{bytes_decides, nat_list_eq_equiv}
 use Rattle.vtl_tree.specs.Environment.{DataSet, Environment, data_of}
 use Rattle.vtl_tree.specs.Structure.{same_name}
-use Rattle.vtl_nodes.specs.Trees.{NodeTree}
+use Rattle.vtl_tree.specs.Trees.{NodeTree}
 use Rattle.vtl_check.specs.Names.{names_in, names_of}
 use Rattle.vtl_interp.specs.Reads.{AreRead, AreReadThere, IsFrom, IsReadFrom, LastPlaces, NotedAs, reads_at}
 use Rattle.vtl_interp.proofs.Environments.{data_looked}

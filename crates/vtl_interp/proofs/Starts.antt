@@ -5,8 +5,8 @@ use Rattle.vtl_decimal.specs.Settings.{Settings}
 use Rattle.vtl_rows.specs.Named.{NamedTables}
 use Rattle.vtl_syntax.specs.View.{statement_tree}
 use Rattle.vtl_syntax.specs.declared.statements.Statement.{Statement}
-use Rattle.vtl_nodes.specs.View.{node_tree}
-use Rattle.vtl_nodes.specs.declared.nodes.Node.{Node}
+use Rattle.vtl_tree.specs.NodeView.{node_tree}
+use Rattle.vtl_tree.specs.declared.nodes.Node.{Node}
 use Rattle.vtl_tree.specs.Environment.{Environment}
 use Rattle.vtl_tree.specs.Structure.{same_name}
 use Rattle.vtl_tree.specs.Structures.{Named}

@@ -10,8 +10,8 @@ use Rattle.vtl_syntax.specs.declared.expressions.Expr.{Expr}
 use Rattle.vtl_syntax.specs.declared.statements.Statement.{Statement}
 use Rattle.vtl_syntax.specs.declared.word_groups.AssignKind.{AssignKind}
 use Rattle.vtl_tree.specs.Environment.{Environment, data_of}
-use Rattle.vtl_nodes.specs.View.{node_tree}
-use Rattle.vtl_nodes.specs.declared.nodes.Node.{Node}
+use Rattle.vtl_tree.specs.NodeView.{node_tree}
+use Rattle.vtl_tree.specs.declared.nodes.Node.{Node}
 use Rattle.vtl_meaning.specs.Meaning as meant
 use Rattle.vtl_meaning.specs.Meaning.{Outputs, meaning}
 use Rattle.vtl_backend.specs.Statements.{with_nodes}

@@ -5,8 +5,8 @@ use Rattle.vtl_decimal.specs.declared.number.Fault.TheVariants.{DivZero, Range}
 use Rattle.vtl_scalar.specs.declared.error.ScalarErr.{ScalarErr}
 use Rattle.vtl_scalar.specs.declared.error.ScalarErr.TheVariants as err
 use Rattle.vtl_tree.specs.Environment.{DataSet, Environment}
-use Rattle.vtl_nodes.specs.Trees as nodes
-use Rattle.vtl_nodes.specs.Trees.{FormTree, NodeTree, structure_of}
+use Rattle.vtl_tree.specs.Trees as nodes
+use Rattle.vtl_tree.specs.Trees.{FormTree, NodeTree, structure_of}
 use Rattle.vtl_meaning.specs.Meaning.{node_value}
 
 -- the data set of an expression, with its structure and its points

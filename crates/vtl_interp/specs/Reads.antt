@@ -4,7 +4,7 @@ use Rattle.std.specs.List.{AllByRecursion, list_any}
 use Rattle.std.specs.Map.{lookup}
 use Rattle.vtl_tree.specs.Environment.{Environment, data_of}
 use Rattle.vtl_tree.specs.Structure.{same_name}
-use Rattle.vtl_nodes.specs.Trees.{NodeTree}
+use Rattle.vtl_tree.specs.Trees.{NodeTree}
 use Rattle.vtl_check.specs.Names.{names_in}
 
 -- names, each with the place of the last statement that reads it

@@ -9,7 +9,7 @@ use Rattle.vtl_scalar.specs.declared.error.ScalarErr.TheVariants as scalar
 use Rattle.vtl_syntax.specs.declared.word_groups.AssignKind.{AssignKind}
 use Rattle.vtl_tree.specs.Environment.{DataSet, Environment}
 use Rattle.vtl_tree.specs.Structure.{same_name}
-use Rattle.vtl_nodes.specs.Trees.{NodeTree}
+use Rattle.vtl_tree.specs.Trees.{NodeTree}
 use Rattle.vtl_meaning.specs.Made.{AreMadeStatements}
 use Rattle.vtl_meaning.specs.Meaning.{Outputs, Statement, is_built, known_in, node_value}
 use Rattle.vtl_rows.specs.Named.{NamedTables}

@@ -1,7 +1,7 @@
 // The operator of a node, on the data sets that its operands give.
 ghost use Rattle.std.specs.Prelude.{◌≡◌};
 ghost use Rattle.vtl_tree.specs.Environment.{Environment};
-ghost use Rattle.vtl_nodes.specs.View.{form_tree, node_tree};
+ghost use Rattle.vtl_tree.specs.NodeView.{form_tree, node_tree};
 ghost use Rattle.vtl_meaning.specs.Made.{IsMade};
 ghost use Rattle.vtl_meaning.specs.Meaning.{known_in};
 ghost use Rattle.vtl_interp.specs.Evaluated.{Evaluates, GivesOne, GivesTwo};
@@ -12,8 +12,8 @@ use crate::operators::{aggregate, analytic, calc, columns, filter, measures, pai
 use crate::value::Value;
 use std::alloc::Global;
 use vtl_decimal::Profile;
-use vtl_nodes::{Node, NodeForm};
 use vtl_scalar::ScalarErr;
+use vtl_tree::{Node, NodeForm};
 
 /// An operator or a clause on one data set, which the node's operand gives over some data sets: then it is what the node
 /// gives over them.

@@ -14,12 +14,11 @@ ghost use Rattle.vtl_interp.specs.Values.{value_view};
 use crate::value::Value;
 use std::alloc::{AllocError, Global};
 use vtl_join::Joined;
-use vtl_nodes::JoinOperand;
 use vtl_scalar::ScalarErr;
 use vtl_sets::DataSet;
 use vtl_syntax::{JoinKind, Retain};
 use vtl_text::Txt;
-use vtl_tree::{Structure, share_structure};
+use vtl_tree::{JoinOperand, Structure, share_structure};
 
 // The data sets, lent.
 fn lent<'v, 'a>(alloc: Global, values: &'v [Value<'a>]) -> Result<Vec<&'v DataSet>, AllocError>

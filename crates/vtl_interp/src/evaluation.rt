@@ -1,7 +1,7 @@
 // The evaluation of expressions on data sets.
 ghost use Rattle.std.specs.Prelude.{◌≡◌, map, true};
-ghost use Rattle.vtl_nodes.specs.Trees.{nodes_of, operands_of};
-ghost use Rattle.vtl_nodes.specs.View.{node_tree, operand_tree};
+ghost use Rattle.vtl_tree.specs.Trees.{nodes_of, operands_of};
+ghost use Rattle.vtl_tree.specs.NodeView.{node_tree, operand_tree};
 ghost use Rattle.vtl_scalar.specs.Answers.{AnswersBy};
 ghost use Rattle.vtl_meaning.specs.Made.{AreMade, AreMadeOperands, IsMade};
 ghost use Rattle.vtl_meaning.specs.Meaning.{are_nodes_built, are_operands_built, is_built, known_in, nodes_value, operands_value};
@@ -15,8 +15,8 @@ use crate::operators::choose;
 use crate::value::Value;
 use std::alloc::Global;
 use vtl_decimal::Profile;
-use vtl_nodes::{JoinOperand, Node, NodeForm};
 use vtl_scalar::ScalarErr;
+use vtl_tree::{JoinOperand, Node, NodeForm};
 
 /// The data set of an expression, or the fault of the first of its parts that has one: operands before operators, from
 /// left to right. It is made over the data sets that are held.

@@ -3,7 +3,7 @@ ghost use Rattle.std.specs.Prelude.{◌≡◌, ◌≤◌, ◌+◌, ◌∷◌, �
 ghost use Rattle.std.specs.Bool.{OnTrue, OnFalse};
 ghost use Rattle.std.specs.List.{AllByRecursion};
 ghost use Rattle.vtl_tree.specs.Environment.{data_of};
-ghost use Rattle.vtl_nodes.specs.View.{node_tree};
+ghost use Rattle.vtl_tree.specs.NodeView.{node_tree};
 ghost use Rattle.vtl_check.specs.Names.{names_in};
 ghost use Rattle.vtl_interp.specs.Reads.{AreRead, AreReadThere, IsGone, IsReadFrom, NotedAs};
 
@@ -12,8 +12,8 @@ use indexmap::IndexMap;
 use std::alloc::{AllocError, Global};
 use std::slice;
 use vtl_check::read_names;
-use vtl_nodes::Node;
 use vtl_text::Txt;
+use vtl_tree::Node;
 
 /// For each name that statements read, the place of the last one that reads it.
 pub type LastReads = IndexMap<Txt, usize>;

@@ -3,10 +3,10 @@ ghost use Rattle.std.specs.Prelude.{Ok, map};
 ghost use Rattle.vtl_scalar.specs.Answers.{AnswersBy};
 ghost use Rattle.vtl_tree.specs.Clauses.{filter_of};
 ghost use Rattle.vtl_tree.specs.View.{comp_exp_of};
-ghost use Rattle.vtl_nodes.specs.View.{agg_tree, analytic_tree, item_tree, measure_tree};
-ghost use Rattle.vtl_aggregates.specs.Aggregates.{aggregate_of};
-ghost use Rattle.vtl_aggregates.specs.Shapes.{IsAggregated};
-ghost use Rattle.vtl_windows.specs.Analytics.{analytic_of};
+ghost use Rattle.vtl_tree.specs.NodeView.{agg_tree, analytic_tree, item_tree, measure_tree};
+ghost use Rattle.vtl_meaning.specs.Aggregates.{aggregate_of};
+ghost use Rattle.vtl_meaning.specs.AggregateShapes.{IsAggregated};
+ghost use Rattle.vtl_meaning.specs.Analytics.{analytic_of};
 ghost use Rattle.vtl_sets.specs.DataSets.{data_set, with_structure};
 ghost use Rattle.vtl_meaning.specs.Made.{IsCalculated, IsChoice, IsFiltered, IsLeft, IsMeasured, IsPaired, IsRenamed, IsSub, IsWindowed};
 ghost use Rattle.vtl_meaning.specs.Operators.{calculated_of, choice_of, left_of, measured_of, pair_of, sub_of};
@@ -16,9 +16,10 @@ use crate::value::Value;
 use std::alloc::Global;
 use vtl_cell::ScalarOp;
 use vtl_decimal::Profile;
-use vtl_nodes::{AggSpec, AnalyticSpec, CalcItem, MeasureOp, SubItem};
 use vtl_scalar::ScalarErr;
-use vtl_tree::{CompExpr, Structure, share_structure};
+use vtl_tree::{
+    AggSpec, AnalyticSpec, CalcItem, CompExpr, MeasureOp, Structure, SubItem, share_structure,
+};
 
 /// An operator on each measure.
 pub fn measures<'a>(

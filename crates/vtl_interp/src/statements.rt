@@ -1,7 +1,7 @@
 // The statements, one after the other.
 ghost use Rattle.std.specs.Prelude.{◌≡◌, ◌∷◌, [], None, true, length, map, OnOk};
 ghost use Rattle.vtl_syntax.specs.View.{statement_tree};
-ghost use Rattle.vtl_nodes.specs.View.{node_tree};
+ghost use Rattle.vtl_tree.specs.NodeView.{node_tree};
 ghost use Rattle.vtl_meaning.specs.Made.{IsMade};
 ghost use Rattle.vtl_meaning.specs.Meaning.{is_built, known_in, meaning};
 ghost use Rattle.vtl_check.specs.Transformations.{transformations};
@@ -18,12 +18,12 @@ use crate::held::{Held, Known};
 use crate::last_reads::{LastReads, last_reads, let_go};
 use std::alloc::{AllocError, Global};
 use vtl_decimal::Profile;
-use vtl_nodes::Node;
 use vtl_rows::Outputs;
 use vtl_scalar::{RunErr, ScalarErr};
 use vtl_sets::DataSet;
 use vtl_syntax::{AssignKind, Statement};
 use vtl_text::Txt;
+use vtl_tree::Node;
 
 // The data set of an expression, owned.
 fn result_of(alloc: Global, known: &Known, node: &Node, p: &Profile) -> Result<DataSet, ScalarErr>

@@ -1,8 +1,10 @@
 // Whether expressions have windows that go along identifiers.
 
-use vtl_nodes::{AnalyticSpec, CalcItem, CalcValue, JoinOperand, Node, NodeForm, Window};
 use vtl_text::Txt;
-use vtl_tree::{Role, Structure, is_same_role};
+use vtl_tree::{
+    AnalyticSpec, CalcItem, CalcValue, JoinOperand, Node, NodeForm, Role, Structure, Window,
+    is_same_role,
+};
 
 // Whether a structure has an identifier of this name.
 fn is_identifier(structure: &Structure, name: &Txt) -> bool {

@@ -19,7 +19,7 @@ use Rattle.vtl_tree.specs.Structure.{IsStructure, columns_of}
 use Rattle.vtl_tree.specs.declared.structure.Component.{Component}
 use Rattle.vtl_tree.specs.declared.structure.Role.TheVariants as role
 use Rattle.vtl_tree.specs.declared.structure.Structure.{Structure}
-use Rattle.check_shapes.specs.Columns.{identifiers_of}
+use Rattle.vtl_tree.specs.Columns.{identifiers_of}
 use Rattle.vtl_meaning.specs.Joined.{inner_tuples, join_of, joined_of, left_tuples, reference_place, structures_of, tuple_point}
 use Rattle.vtl_meaning.specs.Made.{AreAmong, GoTogether, HasIdentifiers, IsJoined, component_kinds}
 use Rattle.vtl_meaning.proofs.JoinKept.{reference_is}

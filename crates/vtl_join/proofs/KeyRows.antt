@@ -17,7 +17,7 @@ use Rattle.vtl_tree.specs.declared.structure.Structure.{Structure}
 use Rattle.vtl_tuples.specs.Keys as tuples
 use Rattle.vtl_tuples.proofs.Lists.{map-flat_map, map-map, flat_map_each, map_each}
 use Rattle.vtl_meaning.specs.Agreement.{values_in}
-use Rattle.check_shapes.specs.Columns.{identifiers_of, places_in}
+use Rattle.vtl_tree.specs.Columns.{identifiers_of, places_in}
 use Rattle.vtl_meaning.specs.Joined.{all_keys, full_tuples, is_whole, keys_in, tuple_at, tuple_point}
 use Rattle.vtl_meaning.specs.LookUps.{value_named}
 use Rattle.vtl_meaning.proofs.LookUps.{named_cells}

@@ -20,7 +20,7 @@ use Rattle.vtl_tree.specs.Environment.{DataSet}
 use Rattle.vtl_tree.specs.Structure.{columns_of}
 use Rattle.vtl_tree.specs.declared.structure.Component.{Component}
 use Rattle.vtl_tree.specs.declared.structure.Structure.{Structure}
-use Rattle.check_shapes.specs.Columns.{identifiers_of, others_of, place_of, places_in}
+use Rattle.vtl_tree.specs.Columns.{identifiers_of, others_of, place_of, places_in}
 use Rattle.vtl_meaning.specs.Made.{AreAmong, IsColumnAt, component_kinds}
 use Rattle.vtl_meaning.proofs.Kept.{column_within, place_front}
 use Rattle.vtl_meaning.proofs.Places.{columns_split, each}

@@ -15,7 +15,7 @@ use Rattle.vtl_tree.specs.declared.structure.Component.{Component}
 use Rattle.vtl_tree.specs.declared.structure.Role.{Role}
 use Rattle.vtl_tree.specs.declared.structure.Role.TheVariants as role
 use Rattle.vtl_tree.specs.declared.structure.Structure.{Structure}
-use Rattle.check_shapes.specs.Columns.{places_in}
+use Rattle.vtl_tree.specs.Columns.{places_in}
 use Rattle.vtl_meaning.specs.Joined.{Part, attributes_in, measures_in, part_of, structures_of, values_or_nulls}
 use Rattle.vtl_meaning.proofs.LookUps.{named_cells}
 use Rattle.vtl_join.specs.Picks.{picks_at, picks_behind, picks_from, places_of, table_of}

@@ -21,7 +21,7 @@ use Rattle.vtl_tree.specs.declared.structure.Role.{Role}
 use Rattle.vtl_tree.specs.declared.structure.Role.TheVariants as role
 use Rattle.vtl_tree.specs.declared.structure.Structure.{Structure}
 use Rattle.vtl_tuples.proofs.Lists.{map-map}
-use Rattle.check_shapes.specs.Columns.{identifiers_of, measures_of}
+use Rattle.vtl_tree.specs.Columns.{identifiers_of, measures_of}
 use Rattle.vtl_meaning.specs.Joined.{structures_of}
 use Rattle.vtl_meaning.specs.Made.{attributes_of, component_kinds, kinds_of_all}
 use Rattle.vtl_meaning.proofs.JoinParts.{AreSets}

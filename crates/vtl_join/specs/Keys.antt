@@ -9,7 +9,7 @@ use Rattle.vtl_tree.specs.Environment.{DataSet}
 use Rattle.vtl_tree.specs.Structure.{columns_of}
 use Rattle.vtl_tree.specs.declared.structure.Component.{Component}
 use Rattle.vtl_tree.specs.declared.structure.Structure.{Structure}
-use Rattle.check_shapes.specs.Columns.{places_in}
+use Rattle.vtl_tree.specs.Columns.{places_in}
 
 -- the places of identifiers, and one behind all columns, whose cells are null
 abbrev pub key_places : List Component → Structure → List ℕ

@@ -5,7 +5,7 @@ ghost use Rattle.std.specs.Option.{IfSome};
 ghost use Rattle.vtl_sets.specs.DataSets.{data_set};
 ghost use Rattle.vtl_sets.specs.TableOf.{table_columns};
 ghost use Rattle.vtl_tree.specs.Structure.{columns_of};
-ghost use Rattle.check_shapes.specs.Columns.{identifiers_of};
+ghost use Rattle.vtl_tree.specs.Columns.{identifiers_of};
 ghost use Rattle.vtl_meaning.specs.Joined.{cross_tuples, full_tuples, inner_tuples, join_of, left_tuples, structures_of, tuple_point};
 ghost use Rattle.vtl_meaning.specs.Made.{AreAmong, HasIdentifiers, IsJoined};
 ghost use Rattle.vtl_join.specs.Finding.{wants_all};

@@ -2,9 +2,9 @@
 ghost use Rattle.std.specs.Prelude.{◌≡◌, ◌++◌, IfOk, filter};
 ghost use Rattle.vtl_tree.specs.Shown.{shown};
 ghost use Rattle.vtl_tree.specs.Structure.{names_of, of_role};
-ghost use Rattle.check_shapes.specs.Names.{is_among};
+ghost use Rattle.vtl_tree.specs.Names.{is_among};
 ghost use Rattle.vtl_meaning.specs.Agreement.{common_identifiers};
-ghost use Rattle.check_shapes.specs.Columns.{place_of, places_in};
+ghost use Rattle.vtl_tree.specs.Columns.{place_of, places_in};
 ghost use Rattle.vtl_join.specs.Picks.{places_of};
 
 use std::alloc::{AllocError, Global};

@@ -5,7 +5,7 @@ ghost use Rattle.vtl_rows.specs.Gathered.{picked_kind};
 ghost use Rattle.vtl_sets.specs.TableOf.{table_columns};
 ghost use Rattle.vtl_tree.specs.DataSet.{IsDataSet};
 ghost use Rattle.vtl_tree.specs.Structure.{IsStructure};
-ghost use Rattle.check_shapes.specs.Columns.{identifiers_of, measures_of};
+ghost use Rattle.vtl_tree.specs.Columns.{identifiers_of, measures_of};
 ghost use Rattle.vtl_meaning.specs.Joined.{structures_of};
 ghost use Rattle.vtl_meaning.specs.Made.{attributes_of, component_kinds, kinds_of_all};
 ghost use Rattle.vtl_join.specs.Joining.{sets_of};

@@ -4,8 +4,8 @@ ghost use Rattle.vtl_meaning.specs.Joined.{reference_place, structures_of};
 ghost use Rattle.vtl_join.specs.Joining.{sets_of};
 
 use crate::joined::Operand;
-use check_shapes::contains;
 use vtl_syntax::JoinKind;
+use vtl_tree::contains;
 
 // The place of the first operand whose identifiers contain those of every other one, of which there is one: an operand
 // that does not contain another gives way to it.

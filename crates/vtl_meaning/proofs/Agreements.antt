@@ -12,12 +12,12 @@ use Rattle.vtl_tree.specs.declared.structure.Component.{Component}
 use Rattle.vtl_tree.specs.declared.structure.Role.{Role}
 use Rattle.vtl_tree.specs.declared.structure.Role.TheVariants as role
 use Rattle.vtl_tree.specs.declared.structure.Structure.{Structure}
-use Rattle.check_shapes.specs.Names.{component_of, is_among}
-use Rattle.check_shapes.specs.Operands.{is_alike, is_there}
-use Rattle.check_shapes.specs.Pairs.{contains}
-use Rattle.check_shapes.specs.declared.operands.Compared.TheVariants as compared
+use Rattle.vtl_tree.specs.Names.{component_of, is_among}
+use Rattle.vtl_tree.specs.Operands.{is_alike, is_there}
+use Rattle.vtl_tree.specs.Pairs.{contains}
+use Rattle.vtl_tree.specs.declared.operands.Compared.TheVariants as compared
 use Rattle.vtl_meaning.specs.Agreement.{common_identifiers, first_agreeing, has_identifier, values_in}
-use Rattle.check_shapes.specs.Columns.{identifiers_of}
+use Rattle.vtl_tree.specs.Columns.{identifiers_of}
 use Rattle.vtl_meaning.specs.Points.{partner}
 use Rattle.vtl_meaning.proofs.LookUps.{named_cells}
 use Rattle.vtl_meaning.proofs.Places.{all_filtered, all_more, key_cells, key_within}

@@ -4,8 +4,8 @@ use Rattle.vtl_decimal.specs.Settings.{Settings}
 use Rattle.vtl_tree.specs.Structures.{Named, structure_of}
 use Rattle.vtl_tree.specs.declared.structure.Component.{Component}
 use Rattle.vtl_tree.specs.declared.structure.Structure.{Structure}
-use Rattle.vtl_nodes.specs.Trees as nodes
-use Rattle.vtl_nodes.specs.Trees.{FormTree}
+use Rattle.vtl_tree.specs.Trees as nodes
+use Rattle.vtl_tree.specs.Trees.{FormTree}
 use Rattle.vtl_meaning.specs.Made.{AreCombined, IsMadeForm, node_structures}
 use Rattle.vtl_meaning.specs.Meaning.{is_built_form}
 

@@ -13,9 +13,9 @@ use Rattle.vtl_tree.specs.CompExp.{column, const}
 use Rattle.vtl_tree.specs.declared.structure.Component.{Component}
 use Rattle.vtl_tree.specs.declared.structure.Role.TheVariants as role
 use Rattle.vtl_tree.specs.declared.structure.Structure.{Structure}
-use Rattle.vtl_nodes.specs.Trees as nodes
-use Rattle.vtl_nodes.specs.Trees.{ItemTree, MeasureTree}
-use Rattle.check_shapes.specs.Measures.{made}
+use Rattle.vtl_tree.specs.Trees as nodes
+use Rattle.vtl_tree.specs.Trees.{ItemTree, MeasureTree}
+use Rattle.vtl_tree.specs.Measures.{made}
 use Rattle.vtl_tree.specs.Environment.{DataSet, Environment}
 use Rattle.vtl_meaning.specs.Meaning.{Statement, meaning}
 use Rattle.vtl_meaning.specs.Operators.{calculated_of, choice_of, left_of, measured_of, pair_of, sub_of}

@@ -12,7 +12,7 @@ use Rattle.vtl_tree.specs.Environment.{DataSet}
 use Rattle.vtl_tree.specs.declared.structure.Component.{Component}
 use Rattle.vtl_tree.specs.declared.structure.Role.TheVariants as role
 use Rattle.vtl_tree.specs.declared.structure.Structure.{Structure}
-use Rattle.check_shapes.specs.Measures.{made}
+use Rattle.vtl_tree.specs.Measures.{made}
 use Rattle.vtl_meaning.specs.Agreement.{OperandPoint}
 use Rattle.vtl_meaning.specs.Joined.{agreeing, inner_tuples, joined_of, present}
 use Rattle.vtl_meaning.specs.Points.{with_points}

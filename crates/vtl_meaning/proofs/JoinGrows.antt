@@ -21,7 +21,7 @@ use Rattle.vtl_tuples.proofs.Folds.{combinations_more, matching_more}
 use Rattle.vtl_tuples.proofs.Lists.{filter-map, filter_each, flat_map_each, map-flat_map, map-map, map_each, map_same}
 use Rattle.vtl_tuples.proofs.Onces.{among_once, once_already, once_more}
 use Rattle.vtl_meaning.specs.Agreement.{OperandPoint, first_agreeing, key_of, operand_points, points_agree, values_in}
-use Rattle.check_shapes.specs.Columns.{identifiers_of}
+use Rattle.vtl_tree.specs.Columns.{identifiers_of}
 use Rattle.vtl_meaning.specs.JoinWords.{alone, and_crossed, and_part, beside_part, cross_with, full_with, is_there, left_with, point_with}
 use Rattle.vtl_meaning.specs.Joined.{Part, Tuple, agreeing, all_keys, cross_tuples, crossed, full_tuples, keys_in, left_tuples, part_of, present, tuple_at, tuple_beside}
 use Rattle.vtl_meaning.specs.Made.{AreAmong}

@@ -18,7 +18,7 @@ use Rattle.vtl_tuples.specs.Tuples.{led}
 use Rattle.vtl_tuples.proofs.Leads.{led_is}
 use Rattle.vtl_tuples.proofs.Lists.{filter-map, flat_map_each, map-flat_map, map-map, map_same}
 use Rattle.vtl_meaning.specs.Agreement.{OperandPoint, first_agreeing, key_of, operand_point, operand_points, points_agree}
-use Rattle.check_shapes.specs.Columns.{identifiers_of}
+use Rattle.vtl_tree.specs.Columns.{identifiers_of}
 use Rattle.vtl_meaning.specs.JoinWords.{IsWithin, agreed_tuple}
 use Rattle.vtl_meaning.specs.Joined.{Part, Tuple, agreeing, inner_tuples, is_whole, join_of, left_tuples, part_of, present, reference_place, structures_of, tuple_beside, tuple_point}
 use Rattle.vtl_meaning.specs.Made.{AreAmong, IsJoined}

@@ -23,7 +23,7 @@ use Rattle.vtl_tuples.specs.Tuples.{combinations}
 use Rattle.vtl_tuples.proofs.Lists.{map-flat_map, map-map}
 use Rattle.vtl_tuples.proofs.Onces.{once_apart}
 use Rattle.vtl_meaning.specs.Agreement.{OperandPoint, agree_in, key_of, operand_point, operand_points, values_in}
-use Rattle.check_shapes.specs.Columns.{identifiers_of, others_of, places_in}
+use Rattle.vtl_tree.specs.Columns.{identifiers_of, others_of, places_in}
 use Rattle.vtl_meaning.specs.JoinWords.{whole_point}
 use Rattle.vtl_meaning.specs.Joined.{all_keys, cross_tuples, crossed, full_tuples, inner_tuples, is_whole, join_of, joined_of, keys_in, left_tuples, present, reference_place, structures_of, tuple_at, tuple_beside, tuple_point}
 use Rattle.vtl_meaning.specs.Made.{AreAmong, GoTogether, HasIdentifiers, IsJoined, component_kinds, kinds_of_all}

@@ -17,7 +17,7 @@ use Rattle.vtl_tuples.specs.Tuples.{combinations}
 use Rattle.vtl_tuples.proofs.Lists.{map-map}
 use Rattle.vtl_tuples.proofs.Onces.{among_once}
 use Rattle.vtl_meaning.specs.Agreement.{OperandPoint, key_of, operand_point, operand_points, values_in}
-use Rattle.check_shapes.specs.Columns.{identifiers_of}
+use Rattle.vtl_tree.specs.Columns.{identifiers_of}
 use Rattle.vtl_meaning.specs.JoinWords.{looked_tuple, point_with, points_at, whole_point}
 use Rattle.vtl_meaning.specs.Joined.{all_keys, crossed, is_whole, join_of, keys_in, reference_of, reference_place, structures_of, tuple_at, tuple_beside, tuple_point}
 use Rattle.vtl_meaning.specs.Made.{AreAmong, GoTogether, IsJoined}

@@ -17,7 +17,7 @@ use Rattle.vtl_tuples.specs.Keys.{TellsApart, each_once}
 use Rattle.vtl_tuples.specs.Tuples.{combinations}
 use Rattle.vtl_tuples.proofs.Lists.{map_each}
 use Rattle.vtl_meaning.specs.Agreement.{OperandPoint, agree_in, key_of, operand_point, operand_points, values_in}
-use Rattle.check_shapes.specs.Columns.{identifiers_of}
+use Rattle.vtl_tree.specs.Columns.{identifiers_of}
 use Rattle.vtl_meaning.specs.Joined.{Part, all_keys, crossed, full_tuples, is_whole, join_of, joined_of, keys_in, left_tuples, part_of, reference_place, structures_of, tuple_at, tuple_beside, tuple_point, tuples_of}
 use Rattle.vtl_meaning.specs.Made.{AreAmong, GoTogether, IsJoined}
 use Rattle.vtl_meaning.specs.Orders.{SameOperands}

@@ -18,7 +18,7 @@ use Rattle.vtl_tree.specs.declared.structure.Component.{Component}
 use Rattle.vtl_tree.specs.declared.structure.Structure.{Structure}
 use Rattle.vtl_tuples.specs.Tuples.{combinations}
 use Rattle.vtl_meaning.specs.Agreement.{OperandPoint, agree_in, operand_point, operand_points, values_in}
-use Rattle.check_shapes.specs.Columns.{identifiers_of, measures_of, place_of}
+use Rattle.vtl_tree.specs.Columns.{identifiers_of, measures_of, place_of}
 use Rattle.vtl_meaning.specs.Joined.{Part, Tuple, all_keys, attributes_in, crossed, is_whole, join_of, joined_of, keys_in, left_tuples, measures_in, present, reference_of, reference_place, structures_of, tuple_at, tuple_beside, tuple_point, tuples_of, values_or_nulls}
 use Rattle.vtl_meaning.specs.LookUps.{values_named}
 use Rattle.vtl_meaning.specs.Made.{attributes_of}

@@ -29,11 +29,11 @@ use Rattle.vtl_tree.specs.declared.structure.Component.{Component}
 use Rattle.vtl_tree.specs.declared.structure.Role.{Role}
 use Rattle.vtl_tree.specs.declared.structure.Role.TheVariants as role
 use Rattle.vtl_tree.specs.declared.structure.Structure.{Structure}
-use Rattle.vtl_nodes.specs.Trees.{ItemTree, MeasureTree, NodeTree, structure_of}
-use Rattle.vtl_nodes.specs.declared.clauses.SubItem.{SubItem}
-use Rattle.check_shapes.specs.Pairs.{contains}
-use Rattle.check_values.specs.Kinds.{exp_kind}
-use Rattle.check_shapes.specs.Columns.{column_behind, column_named, columns_named, identifiers_of, measures_of, others_of, place_of, places_in}
+use Rattle.vtl_tree.specs.Trees.{ItemTree, MeasureTree, NodeTree, structure_of}
+use Rattle.vtl_tree.specs.declared.clauses.SubItem.{SubItem}
+use Rattle.vtl_tree.specs.Pairs.{contains}
+use Rattle.vtl_tree.specs.Kinds.{exp_kind}
+use Rattle.vtl_tree.specs.Columns.{column_behind, column_named, columns_named, identifiers_of, measures_of, others_of, place_of, places_in}
 use Rattle.vtl_meaning.specs.Made.{AreAmong, AreFor, HasIdentifiers, IsAlternative, IsCalculated, IsChoice, IsColumnAt, IsFiltered, IsLeft, IsMeasured, IsPaired, IsRenamed, IsSub}
 use Rattle.vtl_meaning.specs.Meaning.{with_operand}
 use Rattle.vtl_meaning.specs.Operators.{calculated_exp, calculated_exps, calculated_of, choice_of, for_measures, has_values, is_first_chosen, joined_point, left_of, measured_of, pair_of, sub_of, taken_at, taken_from, target_named, value_exp, with_measure, with_namesake}

@@ -1,8 +1,21 @@
+pub mod AggregateExamples
+pub mod AggregateShaped
 pub mod Agreements
+pub mod AnalyticColumns
+pub mod AnalyticLooks
+pub mod AnalyticOrders
+pub mod AnalyticPoints
+pub mod AnalyticShaped
+pub mod CallKinds
+pub mod CallProfiles
 mod Determined
 pub mod Drawn
 pub mod Examples
 pub mod Faults
+pub mod GroupKinds
+pub mod GroupLooks
+pub mod GroupOrders
+pub mod GroupPoints
 pub mod JoinAgreements
 pub mod JoinExamples
 pub mod JoinGrows
@@ -18,6 +31,7 @@ pub mod LookUps
 pub mod Looks
 pub mod Orders
 pub mod OwnColumns
+pub mod Partitions
 pub mod Places
 pub mod Profiles
 pub mod ScriptsKept
@@ -33,3 +47,5 @@ pub mod TurnedKept
 pub mod TurnedLooks
 pub mod TurnedOrders
 pub mod ValueKinds
+pub mod WindowExamples
+pub mod WindowPlaces

@@ -31,13 +31,13 @@ use Rattle.vtl_tree.specs.declared.structure.Role.{Role}
 use Rattle.vtl_tree.specs.declared.structure.Role.TheVariants as role
 use Rattle.vtl_tree.specs.declared.structure.Structure.{Structure}
 use Rattle.vtl_tree.proofs.LookUps.{look-filter}
-use Rattle.vtl_nodes.specs.Trees.{ItemTree, MeasureTree}
-use Rattle.vtl_nodes.specs.declared.clauses.SubItem.{SubItem}
-use Rattle.check_shapes.specs.Names.{component_of}
-use Rattle.check_shapes.specs.Operands.{is_alike, is_there}
-use Rattle.check_shapes.specs.Pairs.{contains}
-use Rattle.check_shapes.specs.declared.operands.Compared.TheVariants as compared
-use Rattle.check_shapes.specs.Columns.{column_behind, column_named, columns_named, identifiers_of, kind_named, measures_of, others_of, place_of, places_in}
+use Rattle.vtl_tree.specs.Trees.{ItemTree, MeasureTree}
+use Rattle.vtl_tree.specs.declared.clauses.SubItem.{SubItem}
+use Rattle.vtl_tree.specs.Names.{component_of}
+use Rattle.vtl_tree.specs.Operands.{is_alike, is_there}
+use Rattle.vtl_tree.specs.Pairs.{contains}
+use Rattle.vtl_tree.specs.declared.operands.Compared.TheVariants as compared
+use Rattle.vtl_tree.specs.Columns.{column_behind, column_named, columns_named, identifiers_of, kind_named, measures_of, others_of, place_of, places_in}
 use Rattle.vtl_meaning.specs.LookUps.{calculated_at, chosen_at, has_key_values, measured_at, of_both, paired_at, part_for, result_at, value_named, values_for, values_named}
 use Rattle.vtl_meaning.specs.Made.{AreAmong, AreFor, HasIdentifiers, IsAlternative, IsCalculated, IsChoice, IsColumnAt, IsFiltered, IsLeft, IsMeasured, IsPaired, IsRenamed, IsTyped}
 use Rattle.vtl_meaning.specs.Operators.{calculated_exp, calculated_of, choice_of, for_measures, has_values, is_first_chosen, joined_point, left_of, measured_of, pair_of, sub_of, taken_at, target_named, value_exp, with_measure, with_namesake}

@@ -21,9 +21,9 @@ use Rattle.vtl_tree.specs.declared.structure.Component.{Component}
 use Rattle.vtl_tree.specs.declared.structure.Structure.{Structure}
 use Rattle.vtl_tree.proofs.Faults.{Same_unless, faults_by-Perm}
 use Rattle.vtl_tree.proofs.LookUps.{look_respects}
-use Rattle.vtl_nodes.specs.declared.clauses.SubItem.{SubItem}
-use Rattle.check_shapes.specs.Pairs.{contains}
-use Rattle.check_shapes.specs.Columns.{identifiers_of, places_in}
+use Rattle.vtl_tree.specs.declared.clauses.SubItem.{SubItem}
+use Rattle.vtl_tree.specs.Pairs.{contains}
+use Rattle.vtl_tree.specs.Columns.{identifiers_of, places_in}
 use Rattle.vtl_meaning.specs.Operators.{choice_of, has_values, is_first_chosen, joined_point, pair_exps, pair_of, pairs_of, sub_of, taken_at}
 use Rattle.vtl_meaning.specs.Points.{beside, each_point, paired, partner, point_fault, point_of, shown, with_points}
 

@@ -29,8 +29,8 @@ use Rattle.vtl_tree.specs.Structure.{columns_of, key_width}
 use Rattle.vtl_tree.specs.Value.{called, value, values}
 use Rattle.vtl_tree.specs.declared.structure.Component.{Component}
 use Rattle.vtl_tree.specs.declared.structure.Structure.{Structure}
-use Rattle.check_shapes.specs.Pairs.{contains}
-use Rattle.check_shapes.specs.Columns.{identifiers_of, measures_of, places_in}
+use Rattle.vtl_tree.specs.Pairs.{contains}
+use Rattle.vtl_tree.specs.Columns.{identifiers_of, measures_of, places_in}
 use Rattle.vtl_meaning.specs.Made.{AreFor, AreTyped, IsTyped}
 use Rattle.vtl_meaning.specs.Operators.{is_first_chosen, joined_point}
 use Rattle.vtl_meaning.specs.Points.{cell_or_null, each_point, point_fault, point_of}

@@ -14,13 +14,13 @@ use Rattle.vtl_tree.specs.DataSet.{IsDataSet}
 use Rattle.vtl_tree.specs.Environment.{DataSet, Environment, data_of}
 use Rattle.vtl_tree.specs.Structure.{same_name}
 use Rattle.vtl_tree.specs.declared.structure.Structure.{Structure}
-use Rattle.vtl_nodes.specs.Trees as nodes
-use Rattle.vtl_nodes.specs.Trees.{FormTree, NodeTree, NodeTrees, OperandTrees, structure_of}
-use Rattle.check_joins.specs.Joins as joins
-use Rattle.vtl_aggregates.specs.Aggregates.{aggregate_of}
-use Rattle.vtl_windows.specs.Analytics.{analytic_of}
-use Rattle.vtl_windows.proofs.AnalyticPoints.{result_is as analytic_is}
-use Rattle.vtl_aggregates.proofs.GroupPoints.{result_is}
+use Rattle.vtl_tree.specs.Trees as nodes
+use Rattle.vtl_tree.specs.Trees.{FormTree, NodeTree, NodeTrees, OperandTrees, structure_of}
+use Rattle.vtl_tree.specs.Joins as joins
+use Rattle.vtl_meaning.specs.Aggregates.{aggregate_of}
+use Rattle.vtl_meaning.specs.Analytics.{analytic_of}
+use Rattle.vtl_meaning.proofs.AnalyticPoints.{result_is as analytic_is}
+use Rattle.vtl_meaning.proofs.GroupPoints.{result_is}
 use Rattle.vtl_meaning.specs.Joined.{join_of, structures_of}
 use Rattle.vtl_meaning.specs.Made.{AreCombined, AreMade, AreMadeOperands, AreMadeStatements, IsJoined, IsLeft, IsMade, IsMadeForm, node_structures, operands_in}
 use Rattle.vtl_meaning.specs.Meaning.{AreDataSets, Outputs, Statement, are_nodes_built, are_operands_built, form_value, is_built, is_built_form, known_in, meaning, node_value, nodes_value, operands_value, points_named, stated, with_first, with_operand, with_output}

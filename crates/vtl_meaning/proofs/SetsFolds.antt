@@ -19,8 +19,8 @@ use Rattle.vtl_tuples.specs.Keys.{each_once}
 use Rattle.vtl_tuples.proofs.Folds.{after_each}
 use Rattle.vtl_tuples.proofs.Lists.{filter_each}
 use Rattle.vtl_tuples.proofs.Onces.{among_once, once_already, once_apart, once_more}
-use Rattle.check_shapes.specs.Operands.{agreed, agreed_identifiers, is_coded_alike}
-use Rattle.check_shapes.specs.Columns.{identifiers_of, measures_of, places_in}
+use Rattle.vtl_tree.specs.Operands.{agreed, agreed_identifiers, is_coded_alike}
+use Rattle.vtl_tree.specs.Columns.{identifiers_of, measures_of, places_in}
 use Rattle.vtl_meaning.specs.Joined.{structures_of}
 use Rattle.vtl_meaning.specs.Made.{IsCombined}
 use Rattle.vtl_meaning.specs.Operators.{left_of}

@@ -14,7 +14,7 @@ use Rattle.vtl_tree.specs.Structure.{IsStructure, columns_of, key_width, same_na
 use Rattle.vtl_tree.specs.declared.structure.Structure.{Structure}
 use Rattle.vtl_tuples.proofs.Onces.{once_apart}
 use Rattle.vtl_meaning.specs.Agreement.{has_agreeing}
-use Rattle.check_shapes.specs.Columns.{identifiers_of, measures_of, others_of, place_of}
+use Rattle.vtl_tree.specs.Columns.{identifiers_of, measures_of, others_of, place_of}
 use Rattle.vtl_meaning.specs.Joined.{structures_of}
 use Rattle.vtl_meaning.specs.Made.{AreAmong, AreCombined, IsAlternative, IsColumnAt, IsCombined, IsExistence}
 use Rattle.vtl_meaning.specs.Operators.{left_of}

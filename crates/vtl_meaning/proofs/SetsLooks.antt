@@ -18,7 +18,7 @@ use Rattle.vtl_tree.specs.declared.structure.Structure.{Structure}
 use Rattle.vtl_tree.proofs.LookUps.{look-filter}
 use Rattle.vtl_tuples.specs.Keys.{each_once}
 use Rattle.vtl_meaning.specs.Agreement.{has_agreeing}
-use Rattle.check_shapes.specs.Columns.{identifiers_of, measures_of, others_of, place_of}
+use Rattle.vtl_tree.specs.Columns.{identifiers_of, measures_of, others_of, place_of}
 use Rattle.vtl_meaning.specs.LookUps.{part_for, value_named, values_named}
 use Rattle.vtl_meaning.specs.Made.{AreAmong, IsAlternative, IsColumnAt, IsExistence}
 use Rattle.vtl_meaning.specs.Operators.{left_of}

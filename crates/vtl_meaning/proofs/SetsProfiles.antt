@@ -17,7 +17,7 @@ use Rattle.vtl_tree.specs.declared.structure.Component.{Component}
 use Rattle.vtl_tree.specs.declared.structure.Structure.{Structure}
 use Rattle.vtl_tuples.specs.Keys.{each_once}
 use Rattle.vtl_meaning.specs.Agreement.{has_agreeing, values_in}
-use Rattle.check_shapes.specs.Columns.{measures_of, place_of, places_in}
+use Rattle.vtl_tree.specs.Columns.{measures_of, place_of, places_in}
 use Rattle.vtl_meaning.specs.LookUps.{value_named}
 use Rattle.vtl_meaning.specs.Operators.{left_of}
 use Rattle.vtl_meaning.specs.Sets.{all_left_of, difference_of, existence_of, has_point, intersection_of, is_retained, reduced, symmetric_difference_of, union_of, with_answer}

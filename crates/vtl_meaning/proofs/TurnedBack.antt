@@ -22,13 +22,13 @@ use Rattle.vtl_tree.specs.declared.structure.Role.TheVariants as role
 use Rattle.vtl_tree.specs.declared.structure.Structure.{Structure}
 use Rattle.vtl_tuples.specs.Keys.{each_once}
 use Rattle.vtl_tuples.proofs.Lists.{filter_each, flat_map_same, map-flat_map, map-map, map_same}
-use Rattle.check_shapes.specs.Choices.{is_chosen, is_identifier}
-use Rattle.check_shapes.specs.Clauses.{first_kind, names_column}
-use Rattle.check_shapes.specs.Measures.{made}
-use Rattle.check_shapes.specs.Names.{component_of, is_among}
-use Rattle.check_shapes.specs.declared.choices.Choice.TheVariants as choice
+use Rattle.vtl_tree.specs.Choices.{is_chosen, is_identifier}
+use Rattle.vtl_tree.specs.ClauseShapes.{first_kind, names_column}
+use Rattle.vtl_tree.specs.Measures.{made}
+use Rattle.vtl_tree.specs.Names.{component_of, is_among}
+use Rattle.vtl_tree.specs.declared.choices.Choice.TheVariants as choice
 use Rattle.vtl_meaning.specs.Agreement.{values_in}
-use Rattle.check_shapes.specs.Columns.{identifiers_of, measures_of, place_of, places_in}
+use Rattle.vtl_tree.specs.Columns.{identifiers_of, measures_of, place_of, places_in}
 use Rattle.vtl_meaning.specs.LookUps.{value_named, values_named}
 use Rattle.vtl_meaning.specs.Made.{IsColumnAt, IsUnpivoted}
 use Rattle.vtl_meaning.specs.Points.{with_points}

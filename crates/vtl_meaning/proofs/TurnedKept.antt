@@ -19,12 +19,12 @@ use Rattle.vtl_tree.specs.declared.structure.Role.TheVariants as role
 use Rattle.vtl_tree.specs.declared.structure.Structure.{Structure}
 use Rattle.vtl_tuples.specs.Keys.{each_once}
 use Rattle.vtl_tuples.proofs.Onces.{once_apart}
-use Rattle.check_shapes.specs.Choices.{is_chosen, is_identifier}
-use Rattle.check_shapes.specs.Clauses.{first_kind, names_column}
-use Rattle.check_shapes.specs.Names.{is_among}
-use Rattle.check_shapes.specs.declared.choices.Choice.TheVariants as choice
+use Rattle.vtl_tree.specs.Choices.{is_chosen, is_identifier}
+use Rattle.vtl_tree.specs.ClauseShapes.{first_kind, names_column}
+use Rattle.vtl_tree.specs.Names.{is_among}
+use Rattle.vtl_tree.specs.declared.choices.Choice.TheVariants as choice
 use Rattle.vtl_meaning.specs.Agreement.{key_of, values_in}
-use Rattle.check_shapes.specs.Columns.{identifiers_of, kind_named, measures_of, others_of, place_of}
+use Rattle.vtl_tree.specs.Columns.{identifiers_of, kind_named, measures_of, others_of, place_of}
 use Rattle.vtl_meaning.specs.LookUps.{value_named}
 use Rattle.vtl_meaning.specs.Made.{AreAmong, IsColumnAt, IsPivoted, IsUnpivoted}
 use Rattle.vtl_meaning.specs.Turned.{coded_value, codes_of, is_coded, named_point, other_identifiers, pivot_of, pivoted_point, unpivot_of, unpivoted_points}

@@ -16,9 +16,9 @@ use Rattle.vtl_tree.specs.declared.structure.Component.{Component}
 use Rattle.vtl_tree.specs.declared.structure.Structure.{Structure}
 use Rattle.vtl_tuples.specs.Keys.{each_once}
 use Rattle.vtl_tuples.proofs.Lists.{map_each}
-use Rattle.check_shapes.specs.Names.{is_among}
+use Rattle.vtl_tree.specs.Names.{is_among}
 use Rattle.vtl_meaning.specs.Agreement.{values_in}
-use Rattle.check_shapes.specs.Columns.{identifiers_of}
+use Rattle.vtl_tree.specs.Columns.{identifiers_of}
 use Rattle.vtl_meaning.specs.LookUps.{value_named, values_named}
 use Rattle.vtl_meaning.specs.Points.{with_points}
 use Rattle.vtl_meaning.specs.Turned.{coded_value, codes_of, is_coded, other_identifiers, pivot_of, pivoted_point, unpivot_of, unpivoted_points}

@@ -28,7 +28,7 @@ use Rattle.vtl_tree.specs.Structure.{same_role}
 use Rattle.vtl_tree.specs.Value.{called, value, values}
 use Rattle.vtl_tree.specs.declared.structure.Component.{Component}
 use Rattle.vtl_tree.specs.declared.structure.Role.TheVariants as role
-use Rattle.check_values.specs.Kinds.{exp_kind}
+use Rattle.vtl_tree.specs.Kinds.{exp_kind}
 use Rattle.vtl_meaning.specs.Made.{AreTyped, IsColumnAt, IsTyped, kinds_in}
 
 -- null, or of exactly this kind; and the same of a value that may have a fault

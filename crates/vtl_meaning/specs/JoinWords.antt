@@ -11,7 +11,7 @@ use Rattle.vtl_tree.specs.declared.structure.Component.{Component}
 use Rattle.vtl_tree.specs.declared.structure.Structure.{Structure}
 use Rattle.vtl_tuples.specs.Keys.{item_at}
 use Rattle.vtl_meaning.specs.Agreement.{OperandPoint, first_agreeing, key_of, operand_point, operand_points, values_in}
-use Rattle.check_shapes.specs.Columns.{identifiers_of}
+use Rattle.vtl_tree.specs.Columns.{identifiers_of}
 use Rattle.vtl_meaning.specs.Joined.{Part, Tuple, is_whole, part_of, present, tuple_point}
 use Rattle.vtl_meaning.specs.LookUps.{part_for}
 use Rattle.vtl_meaning.specs.Made.{AreAmong}

@@ -11,11 +11,11 @@ use Rattle.vtl_tree.specs.Structure.{of_role}
 use Rattle.vtl_tree.specs.declared.structure.Component.{Component}
 use Rattle.vtl_tree.specs.declared.structure.Role.TheVariants as role
 use Rattle.vtl_tree.specs.declared.structure.Structure.{Structure}
-use Rattle.check_shapes.specs.Pairs.{contains}
+use Rattle.vtl_tree.specs.Pairs.{contains}
 use Rattle.vtl_tuples.specs.Keys.{each_once, item_at}
 use Rattle.vtl_tuples.specs.Tuples.{combinations, matching}
 use Rattle.vtl_meaning.specs.Agreement.{OperandPoint, first_agreeing, key_of, operand_points, points_agree, values_in}
-use Rattle.check_shapes.specs.Columns.{identifiers_of, measures_of}
+use Rattle.vtl_tree.specs.Columns.{identifiers_of, measures_of}
 
 -- what a tuple has of one operand: a point of it, or nothing
 pub record Part : Type 0 where

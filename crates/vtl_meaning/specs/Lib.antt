@@ -1,5 +1,11 @@
+pub mod AggregateShapes
+pub mod Aggregates
 pub mod Agreement
+pub mod AnalyticShapes
+pub mod Analytics
 pub mod Faults
+pub mod GroupExpressions
+pub mod Groups
 pub mod JoinWords
 pub mod Joined
 pub mod Literals
@@ -14,3 +20,4 @@ pub mod Reaches
 pub mod Sets
 pub mod Shapes
 pub mod Turned
+pub mod Windows

@@ -22,28 +22,28 @@ use Rattle.vtl_tree.specs.declared.expression.AggCall.{AggCall}
 use Rattle.vtl_tree.specs.declared.structure.Component.{Component}
 use Rattle.vtl_tree.specs.declared.structure.Role.TheVariants as role
 use Rattle.vtl_tree.specs.declared.structure.Structure.{Structure}
-use Rattle.vtl_nodes.specs.Trees as nodes
-use Rattle.vtl_nodes.specs.Trees.{AggTree, AnalyticTree, FormTree, ItemTree, MaybeNode, MeasureTree, NodeTree, NodeTrees, OperandTrees, ValueTree, structure_of}
-use Rattle.vtl_nodes.specs.declared.calls.AnalyticOp.{AnalyticOp}
-use Rattle.vtl_nodes.specs.declared.calls.AnalyticOp.TheVariants as window
-use Rattle.vtl_nodes.specs.declared.calls.Window.{Window}
-use Rattle.vtl_nodes.specs.declared.clauses.SubItem.{SubItem}
-use Rattle.check_joins.specs.Joins as joins
-use Rattle.check_joins.specs.declared.joins.Operand.{Operand}
-use Rattle.check_shapes.specs.Choices.{chosen}
-use Rattle.check_shapes.specs.Clauses.{first_kind, names_column, pivot_components}
-use Rattle.check_shapes.specs.Measures.{bool_var, given_measures, is_miscounted, made}
-use Rattle.check_shapes.specs.Operands.{agree, agreed_identifiers}
-use Rattle.check_shapes.specs.Pairs.{contains, pair_identifiers}
-use Rattle.check_shapes.specs.declared.choices.Choice.TheVariants as choice
-use Rattle.check_shapes.specs.declared.names.Wanted.TheVariants as wanted
-use Rattle.check_shapes.specs.declared.operands.Compared.TheVariants as compared
-use Rattle.check_values.specs.Kinds.{exp_kind}
+use Rattle.vtl_tree.specs.Trees as nodes
+use Rattle.vtl_tree.specs.Trees.{AggTree, AnalyticTree, FormTree, ItemTree, MaybeNode, MeasureTree, NodeTree, NodeTrees, OperandTrees, ValueTree, structure_of}
+use Rattle.vtl_tree.specs.declared.calls.AnalyticOp.{AnalyticOp}
+use Rattle.vtl_tree.specs.declared.calls.AnalyticOp.TheVariants as window
+use Rattle.vtl_tree.specs.declared.calls.Window.{Window}
+use Rattle.vtl_tree.specs.declared.clauses.SubItem.{SubItem}
+use Rattle.vtl_tree.specs.Joins as joins
+use Rattle.vtl_tree.specs.declared.joins.Operand.{Operand}
+use Rattle.vtl_tree.specs.Choices.{chosen}
+use Rattle.vtl_tree.specs.ClauseShapes.{first_kind, names_column, pivot_components}
+use Rattle.vtl_tree.specs.Measures.{bool_var, given_measures, is_miscounted, made}
+use Rattle.vtl_tree.specs.Operands.{agree, agreed_identifiers}
+use Rattle.vtl_tree.specs.Pairs.{contains, pair_identifiers}
+use Rattle.vtl_tree.specs.declared.choices.Choice.TheVariants as choice
+use Rattle.vtl_tree.specs.declared.names.Wanted.TheVariants as wanted
+use Rattle.vtl_tree.specs.declared.operands.Compared.TheVariants as compared
+use Rattle.vtl_tree.specs.Kinds.{exp_kind}
 use Rattle.vtl_cell.specs.AggregateKinds.{aggregate_kind}
-use Rattle.vtl_aggregates.specs.Shapes.{IsAggregated}
-use Rattle.vtl_windows.specs.Shapes.{IsAnalyzed}
+use Rattle.vtl_meaning.specs.AggregateShapes.{IsAggregated}
+use Rattle.vtl_meaning.specs.AnalyticShapes.{IsAnalyzed}
 use Rattle.vtl_meaning.specs.Agreement.{common_identifiers}
-use Rattle.check_shapes.specs.Columns.{identifiers_of, kind_named, measures_of, others_of, place_of}
+use Rattle.vtl_tree.specs.Columns.{identifiers_of, kind_named, measures_of, others_of, place_of}
 use Rattle.vtl_meaning.specs.Joined.{reference_place}
 use Rattle.vtl_meaning.specs.Literals.{HasLiterals}
 use Rattle.vtl_meaning.specs.Meaning.{Statement}

@@ -17,11 +17,11 @@ use Rattle.vtl_tree.specs.Structure.{columns_of, key_width, same_name}
 use Rattle.vtl_tree.specs.View.{comp_exps_of}
 use Rattle.vtl_tree.specs.declared.structure.Component.{Component}
 use Rattle.vtl_tree.specs.declared.structure.Structure.{Structure}
-use Rattle.vtl_nodes.specs.Trees as nodes
-use Rattle.vtl_nodes.specs.Trees.{ItemTree, MeasureTree, ValueTree}
-use Rattle.vtl_nodes.specs.declared.clauses.SubItem.{SubItem}
-use Rattle.check_shapes.specs.Pairs.{contains}
-use Rattle.check_shapes.specs.Columns.{column_behind, column_named, columns_named, identifiers_of, measures_of, place_of, places_in}
+use Rattle.vtl_tree.specs.Trees as nodes
+use Rattle.vtl_tree.specs.Trees.{ItemTree, MeasureTree, ValueTree}
+use Rattle.vtl_tree.specs.declared.clauses.SubItem.{SubItem}
+use Rattle.vtl_tree.specs.Pairs.{contains}
+use Rattle.vtl_tree.specs.Columns.{column_behind, column_named, columns_named, identifiers_of, measures_of, place_of, places_in}
 use Rattle.vtl_meaning.specs.Points.{each_point, paired, partner, shown, with_points}
 
 -- an expression for each measure of an operand and the one of the result that it becomes

@@ -16,7 +16,7 @@ use Rattle.vtl_tree.specs.Structure.{columns_of, key_width}
 use Rattle.vtl_tree.specs.Value.{value}
 use Rattle.vtl_tree.specs.declared.structure.Component.{Component}
 use Rattle.vtl_tree.specs.declared.structure.Structure.{Structure}
-use Rattle.check_shapes.specs.Columns.{identifiers_of, places_in}
+use Rattle.vtl_tree.specs.Columns.{identifiers_of, places_in}
 
 -- the data set of these points
 abbrev pub with_points : Structure → List Row → DataSet

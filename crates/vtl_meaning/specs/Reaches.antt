@@ -4,14 +4,14 @@ use Rattle.std.specs.Int.RustNames.{int_le}
 use Rattle.std.specs.List.{AllByRecursion}
 use Rattle.std.specs.Option.{option_map_or}
 use Rattle.vtl_cell.specs.Literals.{longest_reach}
-use Rattle.vtl_nodes.specs.Trees as nodes
-use Rattle.vtl_nodes.specs.Trees.{AnalyticTree, ValueTree}
-use Rattle.vtl_nodes.specs.declared.calls.AnalyticOp.{AnalyticOp}
-use Rattle.vtl_nodes.specs.declared.calls.AnalyticOp.TheVariants as op
-use Rattle.vtl_nodes.specs.declared.calls.Bound.{Bound}
-use Rattle.vtl_nodes.specs.declared.calls.Bound.TheVariants as bound
-use Rattle.vtl_nodes.specs.declared.calls.Frame.{Frame}
-use Rattle.vtl_nodes.specs.declared.calls.Window.{Window}
+use Rattle.vtl_tree.specs.Trees as nodes
+use Rattle.vtl_tree.specs.Trees.{AnalyticTree, ValueTree}
+use Rattle.vtl_tree.specs.declared.calls.AnalyticOp.{AnalyticOp}
+use Rattle.vtl_tree.specs.declared.calls.AnalyticOp.TheVariants as op
+use Rattle.vtl_tree.specs.declared.calls.Bound.{Bound}
+use Rattle.vtl_tree.specs.declared.calls.Bound.TheVariants as bound
+use Rattle.vtl_tree.specs.declared.calls.Frame.{Frame}
+use Rattle.vtl_tree.specs.declared.calls.Window.{Window}
 
 -- so many points away is not too far
 abbrev pub is_near : ℕ → Bool

@@ -9,21 +9,21 @@ use Rattle.vtl_tree.specs.Structure.{IsStructure}
 use Rattle.vtl_tree.specs.Structures.{is_null_kind}
 use Rattle.vtl_tree.specs.declared.structure.Component.{Component}
 use Rattle.vtl_tree.specs.declared.structure.Structure.{Structure}
-use Rattle.vtl_nodes.specs.Trees.{ItemTree, MeasureTree}
+use Rattle.vtl_tree.specs.Trees.{ItemTree, MeasureTree}
 use Rattle.vtl_syntax.specs.declared.word_groups.JoinKind.{JoinKind}
-use Rattle.check_joins.specs.Joins.{held_names, joined_components}
-use Rattle.check_joins.specs.declared.joins.Operand.{Operand}
-use Rattle.check_shapes.specs.Choices.{chosen}
-use Rattle.check_shapes.specs.Clauses.{calculated, is_new, renamed, target_component}
-use Rattle.check_shapes.specs.Measures.{Gives}
-use Rattle.check_shapes.specs.Names.{component_of, serves}
-use Rattle.check_shapes.specs.declared.choices.Choice.{Choice}
-use Rattle.check_shapes.specs.declared.measures.Outcome.{Outcome}
-use Rattle.check_shapes.specs.declared.measures.Outcome.TheVariants as outcome
-use Rattle.check_shapes.specs.declared.names.Wanted.{Wanted}
-use Rattle.check_shapes.specs.declared.renaming.Renaming.{Renaming}
-use Rattle.check_shapes.specs.declared.targets.Target.{Target}
-use Rattle.check_values.specs.Kinds.{exp_kind}
+use Rattle.vtl_tree.specs.Joins.{held_names, joined_components}
+use Rattle.vtl_tree.specs.declared.joins.Operand.{Operand}
+use Rattle.vtl_tree.specs.Choices.{chosen}
+use Rattle.vtl_tree.specs.ClauseShapes.{calculated, is_new, renamed, target_component}
+use Rattle.vtl_tree.specs.Measures.{Gives}
+use Rattle.vtl_tree.specs.Names.{component_of, serves}
+use Rattle.vtl_tree.specs.declared.choices.Choice.{Choice}
+use Rattle.vtl_tree.specs.declared.measures.Outcome.{Outcome}
+use Rattle.vtl_tree.specs.declared.measures.Outcome.TheVariants as outcome
+use Rattle.vtl_tree.specs.declared.names.Wanted.{Wanted}
+use Rattle.vtl_tree.specs.declared.renaming.Renaming.{Renaming}
+use Rattle.vtl_tree.specs.declared.targets.Target.{Target}
+use Rattle.vtl_tree.specs.Kinds.{exp_kind}
 use Rattle.vtl_meaning.specs.Operators.{value_exp}
 
 -- a structure whose components all have kinds

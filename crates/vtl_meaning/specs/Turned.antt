@@ -12,11 +12,11 @@ use Rattle.vtl_tree.specs.Structure.{columns_of}
 use Rattle.vtl_tree.specs.declared.structure.Component.{Component}
 use Rattle.vtl_tree.specs.declared.structure.Structure.{Structure}
 use Rattle.vtl_tuples.specs.Keys.{each_once}
-use Rattle.check_shapes.specs.Choices.{chosen}
-use Rattle.check_shapes.specs.Names.{component_of}
-use Rattle.check_shapes.specs.declared.choices.Choice.TheVariants as choice
+use Rattle.vtl_tree.specs.Choices.{chosen}
+use Rattle.vtl_tree.specs.Names.{component_of}
+use Rattle.vtl_tree.specs.declared.choices.Choice.TheVariants as choice
 use Rattle.vtl_meaning.specs.Agreement.{key_of, values_in}
-use Rattle.check_shapes.specs.Columns.{measures_of}
+use Rattle.vtl_tree.specs.Columns.{measures_of}
 use Rattle.vtl_meaning.specs.LookUps.{value_named}
 
 -- ---- `pivot`: a point for each tuple of the other identifiers, with the measure's value at each code of the identifier

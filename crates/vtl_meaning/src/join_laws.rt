@@ -13,7 +13,7 @@ ghost use Rattle.vtl_tree.specs.Structure.{key_width};
 ghost use Rattle.vtl_tree.specs.declared.structure.Structure.{Structure};
 ghost use Rattle.vtl_tuples.specs.Tuples.{matched_with};
 ghost use Rattle.vtl_meaning.specs.Agreement.{key_of, operand_points, points_agree, values_in};
-ghost use Rattle.check_shapes.specs.Columns.{identifiers_of};
+ghost use Rattle.vtl_tree.specs.Columns.{identifiers_of};
 ghost use Rattle.vtl_meaning.specs.JoinWords.{IsWithin, agreed_tuple, cross_with, full_with, left_with, looked_tuple, point_with, points_at, whole_point};
 ghost use Rattle.vtl_meaning.specs.Joined.{agreeing, cross_tuples, crossed, full_tuples, inner_tuples, join_of, keys_in, left_tuples, present, reference_of, reference_place, structures_of, tuple_at, tuple_beside, tuple_point};
 ghost use Rattle.vtl_meaning.specs.Made.{IsJoined};

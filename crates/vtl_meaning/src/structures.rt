@@ -2,8 +2,8 @@
 ghost use Rattle.std.specs.Prelude.{◌≡◌, List, true};
 ghost use Rattle.vtl_decimal.specs.Settings.{Settings};
 ghost use Rattle.vtl_cell.specs.declared.operator.ScalarOp.{ScalarOp};
-ghost use Rattle.vtl_nodes.specs.Trees.{FormTree, ItemTree, MeasureTree};
-ghost use Rattle.vtl_nodes.specs.declared.clauses.SubItem.{SubItem};
+ghost use Rattle.vtl_tree.specs.Trees.{FormTree, ItemTree, MeasureTree};
+ghost use Rattle.vtl_tree.specs.declared.clauses.SubItem.{SubItem};
 ghost use Rattle.vtl_tree.specs.Structures.{Named};
 ghost use Rattle.vtl_tree.specs.declared.structure.Structure.{Structure};
 ghost use Rattle.vtl_meaning.specs.Made.{IsCalculated, IsChoice, IsMadeForm, IsMeasured, IsPaired, IsSub};

@@ -33,9 +33,9 @@ use Rattle.vtl_syntax.specs.declared.parts.RenamePart.{RenamePart}
 use Rattle.vtl_syntax.specs.declared.parts.SubPart.{SubPart}
 use Rattle.vtl_syntax.specs.declared.word_groups.WrittenRole.{WrittenRole}
 use Rattle.vtl_meaning.specs.Meaning.{is_built_form}
-use Rattle.vtl_nodes.specs.Trees as nodes
-use Rattle.vtl_nodes.specs.Trees.{FormTree, ItemTree, NodeTree, structure_of}
-use Rattle.vtl_nodes.specs.declared.clauses.SubItem.{SubItem}
+use Rattle.vtl_tree.specs.Trees as nodes
+use Rattle.vtl_tree.specs.Trees.{FormTree, ItemTree, NodeTree, structure_of}
+use Rattle.vtl_tree.specs.declared.clauses.SubItem.{SubItem}
 use Rattle.vtl_syntax.specs.Trees as tree
 use Rattle.vtl_syntax.specs.Written.{AreMoreCalcs, AreWrittenCalcs, AreWrittenTargets}
 use Rattle.check_values.specs.Groupings.{grouping_of, grouping_typed}
@@ -45,9 +45,10 @@ use Rattle.check_expressions.specs.Typing.{aggrs_typed, calc_value, calcs_typed,
 use Rattle.check_clauses.specs.declared.targets.Made.{Made}
 use Rattle.check_faults.specs.declared.rules.Rule.{Rule}
 use Rattle.check_shapes.specs.Clauses.{calc_form}
-use Rattle.check_shapes.specs.Names.{component_of, is_among, known, known_as, name_tests}
-use Rattle.check_shapes.specs.declared.names.Wanted.TheVariants as wanted
-use Rattle.check_shapes.specs.declared.renaming.Renaming.{Renaming}
+use Rattle.vtl_tree.specs.Names.{component_of, is_among}
+use Rattle.check_shapes.specs.Names.{known, known_as, name_tests}
+use Rattle.vtl_tree.specs.declared.names.Wanted.TheVariants as wanted
+use Rattle.vtl_tree.specs.declared.renaming.Renaming.{Renaming}
 use Rattle.check_values.specs.Columns.{name_of}
 use Rattle.check_values.specs.Literals.{kind_met, literal_cell, literal_kind, valued}
 use Rattle.check_clauses.specs.Clauses as clauses

@@ -16,28 +16,28 @@ use Rattle.vtl_tree.specs.declared.structure.Component.{Component}
 use Rattle.vtl_tree.specs.declared.structure.Role.{Role}
 use Rattle.vtl_tree.specs.declared.structure.Role.TheVariants as role
 use Rattle.vtl_tree.specs.declared.structure.Structure.{Structure}
-use Rattle.vtl_aggregates.specs.Shapes as aggregates
-use Rattle.vtl_aggregates.specs.Shapes.{made_components}
-use Rattle.vtl_windows.specs.Shapes.{analyzed_components, of_measure, target_of}
-use Rattle.check_shapes.specs.Columns.{identifiers_of, kind_named}
+use Rattle.vtl_meaning.specs.AggregateShapes as aggregates
+use Rattle.vtl_meaning.specs.AggregateShapes.{made_components}
+use Rattle.vtl_meaning.specs.AnalyticShapes.{analyzed_components, of_measure, target_of}
+use Rattle.vtl_tree.specs.Columns.{identifiers_of, kind_named}
 use Rattle.vtl_meaning.specs.Shapes.{calculated_components}
-use Rattle.vtl_nodes.specs.Trees as nodes
-use Rattle.vtl_nodes.specs.Trees.{AnalyticTree}
+use Rattle.vtl_tree.specs.Trees as nodes
+use Rattle.vtl_tree.specs.Trees.{AnalyticTree}
 use Rattle.vtl_meaning.specs.Turned.{codes_of}
-use Rattle.vtl_nodes.specs.declared.specifications.AggItems.{AggItems}
-use Rattle.vtl_nodes.specs.declared.specifications.AggItems.TheVariants as items
-use Rattle.check_shapes.specs.Choices.{chosen, is_chosen, is_identifier}
-use Rattle.check_shapes.specs.Clauses.{calculated, code_measure, first_kind, is_new, names_column, new_name, pivot_components, renamed, retargeted, target_component}
-use Rattle.check_shapes.specs.Clauses as clauses
-use Rattle.check_shapes.specs.Measures.{Gives, bool_var, given_measure, given_measures, int_var, is_measure, measures}
-use Rattle.check_shapes.specs.Operands.{agreed, agreed_identifiers, is_coded_alike}
-use Rattle.check_shapes.specs.Pairs.{contains, pair_identifiers}
-use Rattle.check_shapes.specs.declared.choices.Choice.{Choice}
-use Rattle.check_shapes.specs.declared.choices.Choice.TheVariants as choice
-use Rattle.check_shapes.specs.declared.measures.Outcome.{Outcome}
-use Rattle.check_shapes.specs.declared.measures.Outcome.TheVariants as outcome
-use Rattle.check_shapes.specs.declared.renaming.Renaming.{Renaming}
-use Rattle.check_shapes.specs.declared.targets.Target.{Target}
+use Rattle.vtl_tree.specs.declared.specifications.AggItems.{AggItems}
+use Rattle.vtl_tree.specs.declared.specifications.AggItems.TheVariants as items
+use Rattle.vtl_tree.specs.Choices.{chosen, is_chosen, is_identifier}
+use Rattle.vtl_tree.specs.ClauseShapes.{calculated, code_measure, first_kind, is_new, names_column, new_name, pivot_components, renamed, retargeted, target_component}
+use Rattle.vtl_tree.specs.ClauseShapes as clauses
+use Rattle.vtl_tree.specs.Measures.{Gives, bool_var, given_measure, given_measures, int_var, is_measure, measures}
+use Rattle.vtl_tree.specs.Operands.{agreed, agreed_identifiers, is_coded_alike}
+use Rattle.vtl_tree.specs.Pairs.{contains, pair_identifiers}
+use Rattle.vtl_tree.specs.declared.choices.Choice.{Choice}
+use Rattle.vtl_tree.specs.declared.choices.Choice.TheVariants as choice
+use Rattle.vtl_tree.specs.declared.measures.Outcome.{Outcome}
+use Rattle.vtl_tree.specs.declared.measures.Outcome.TheVariants as outcome
+use Rattle.vtl_tree.specs.declared.renaming.Renaming.{Renaming}
+use Rattle.vtl_tree.specs.declared.targets.Target.{Target}
 use Rattle.check_laws.proofs.Columns.{at-found, found-filter, kind-found, of-columns}
 use Rattle.check_laws.proofs.Lists as lists
 use Rattle.sql_tree.specs.Formed.{IsName}

@@ -17,14 +17,14 @@ use Rattle.vtl_syntax.specs.declared.parts.RenamePart.{RenamePart}
 use Rattle.vtl_syntax.specs.declared.word_groups.JoinKind.{JoinKind}
 use Rattle.vtl_meaning.specs.Made as made
 use Rattle.vtl_meaning.specs.Meaning.{are_operands_built, is_built}
-use Rattle.vtl_nodes.specs.Trees as nodes
-use Rattle.vtl_nodes.specs.Trees.{NodeTree, OperandTree, operands_of}
-use Rattle.check_joins.specs.Joins.{held_names, last_renamings}
+use Rattle.vtl_tree.specs.Trees as nodes
+use Rattle.vtl_tree.specs.Trees.{NodeTree, OperandTree, operands_of}
+use Rattle.vtl_tree.specs.Joins.{held_names, last_renamings}
 use Rattle.check_faults.specs.Rules.{ruled}
 use Rattle.check_faults.specs.declared.rules.Rule.{Rule}
 use Rattle.check_faults.specs.declared.rules.Rule.TheVariants as rule
-use Rattle.check_shapes.specs.Names.{is_among}
-use Rattle.check_shapes.specs.declared.renaming.Renaming.{Renaming}
+use Rattle.vtl_tree.specs.Names.{is_among}
+use Rattle.vtl_tree.specs.declared.renaming.Renaming.{Renaming}
 use Rattle.check_clauses.specs.Clauses.{filter_form}
 use Rattle.check_clauses.specs.JoinOperands.{PartTyped, alias_of, aliases_in, is_left, joined_node, joined_of, last_naming, left_names, new_alias, operand_in, operands_in, own_alias, shape_of, using_names, with_part}
 use Rattle.check_operators.specs.Places.{Env, at_points}

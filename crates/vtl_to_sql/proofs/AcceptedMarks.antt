@@ -13,13 +13,13 @@ use Rattle.vtl_syntax.specs.declared.word_groups.JoinKind.TheVariants as join
 use Rattle.vtl_tree.specs.Structure.{same_name}
 use Rattle.vtl_tree.specs.declared.structure.Component.{Component}
 use Rattle.vtl_meaning.proofs.Places.{same_name-is, same_name-refl}
-use Rattle.check_joins.specs.Joins.{all_own, contains_all, held_names, is_cross, is_held, is_marked, is_part, is_shared, joined, joined_components, joined_identifiers, joined_name, last_renamings, marked, own, own_renamings, reference, structures_of}
-use Rattle.check_joins.specs.Joins as joins
-use Rattle.check_joins.specs.declared.joins.Operand.{Operand}
-use Rattle.check_shapes.specs.Choices.{is_identifier}
-use Rattle.check_shapes.specs.Clauses.{new_name, renamed}
-use Rattle.check_shapes.specs.Names.{component_of}
-use Rattle.check_shapes.specs.declared.renaming.Renaming.{Renaming}
+use Rattle.vtl_tree.specs.Joins.{all_own, contains_all, held_names, is_cross, is_held, is_marked, is_part, is_shared, joined, joined_components, joined_identifiers, joined_name, last_renamings, marked, own, own_renamings, reference, structures_of}
+use Rattle.vtl_tree.specs.Joins as joins
+use Rattle.vtl_tree.specs.declared.joins.Operand.{Operand}
+use Rattle.vtl_tree.specs.Choices.{is_identifier}
+use Rattle.vtl_tree.specs.ClauseShapes.{new_name, renamed}
+use Rattle.vtl_tree.specs.Names.{component_of}
+use Rattle.vtl_tree.specs.declared.renaming.Renaming.{Renaming}
 use Rattle.check_clauses.specs.JoinOperands.{is_left}
 use Rattle.check_laws.proofs.Lists as lists
 use Rattle.sql_lexer.specs.Spelling as sql

@@ -8,21 +8,21 @@ use Rattle.vtl_tree.specs.Structures.{Named}
 use Rattle.vtl_tree.specs.declared.structure.Component.{Component}
 use Rattle.vtl_tree.specs.declared.structure.Role.TheVariants as role
 use Rattle.vtl_tree.specs.declared.structure.Structure.{Structure}
-use Rattle.vtl_aggregates.specs.Shapes.{made_components}
-use Rattle.check_shapes.specs.Columns.{kind_named, measures_of}
+use Rattle.vtl_meaning.specs.AggregateShapes.{made_components}
+use Rattle.vtl_tree.specs.Columns.{kind_named, measures_of}
 use Rattle.vtl_meaning.specs.Made.{AreCombined, AreMade, AreMadeOperands, IsCombined, IsMade, IsMadeForm, node_structures, operands_in}
 use Rattle.vtl_meaning.specs.Shapes.{given_between, given_of_two, outcome_of, target_of}
-use Rattle.vtl_nodes.specs.Trees as nodes
-use Rattle.vtl_nodes.specs.Trees.{FormTree, NodeTree, NodeTrees, OperandTrees, structure_of}
+use Rattle.vtl_tree.specs.Trees as nodes
+use Rattle.vtl_tree.specs.Trees.{FormTree, NodeTree, NodeTrees, OperandTrees, structure_of}
 use Rattle.vtl_meaning.specs.Meaning.{are_nodes_built, are_operands_built, is_built, is_built_form}
-use Rattle.check_joins.specs.Joins.{held_names}
-use Rattle.check_shapes.specs.Choices.{chosen}
-use Rattle.check_shapes.specs.Clauses.{first_kind, names_column, renamed}
-use Rattle.check_shapes.specs.Measures.{bool_var, given_measures, made}
-use Rattle.check_shapes.specs.Operands.{agreed_identifiers}
-use Rattle.check_shapes.specs.Pairs.{pair_identifiers}
-use Rattle.check_shapes.specs.declared.choices.Choice.TheVariants as choice
-use Rattle.check_shapes.specs.declared.renaming.Renaming.{Renaming}
+use Rattle.vtl_tree.specs.Joins.{held_names}
+use Rattle.vtl_tree.specs.Choices.{chosen}
+use Rattle.vtl_tree.specs.ClauseShapes.{first_kind, names_column, renamed}
+use Rattle.vtl_tree.specs.Measures.{bool_var, given_measures, made}
+use Rattle.vtl_tree.specs.Operands.{agreed_identifiers}
+use Rattle.vtl_tree.specs.Pairs.{pair_identifiers}
+use Rattle.vtl_tree.specs.declared.choices.Choice.TheVariants as choice
+use Rattle.vtl_tree.specs.declared.renaming.Renaming.{Renaming}
 use Rattle.check_laws.proofs.Lists as lists
 use Rattle.vtl_to_sql.proofs.AcceptedComponents.{AreKnownNamed, ArePlain, Fits, IsPlain, agreed_named, all_weaker, analyzed_named, bool_var_named, calculated_named, chosen_named, found_named, given_named, made_named, pair_named, pivot_named, plain, renamed_named, role_named}
 use Rattle.vtl_to_sql.proofs.AcceptedMarks.{IsOperandPlain, given_back_named, joined_named, last_named}

@@ -20,14 +20,14 @@ use Rattle.vtl_tree.specs.declared.structure.Component.{Component}
 use Rattle.vtl_tree.specs.declared.structure.Role.TheVariants as role
 use Rattle.vtl_tree.specs.declared.structure.Structure.{Structure}
 use Rattle.vtl_meaning.proofs.Places.{same_name-is, same_name-refl}
-use Rattle.check_shapes.specs.Columns.{identifiers_of, kind_named, place_of}
+use Rattle.vtl_tree.specs.Columns.{identifiers_of, kind_named, place_of}
 use Rattle.vtl_meaning.specs.Made.{AreMade, AreMadeOperands, IsColumnAt, IsMade, IsMadeForm, IsSub}
-use Rattle.vtl_nodes.specs.Nodes.{all_nodes, form_nodes, nodes_in, operand_nodes}
+use Rattle.vtl_tree.specs.Nodes.{all_nodes, form_nodes, nodes_in, operand_nodes}
 use Rattle.vtl_meaning.specs.Operators.{calculated_exps, measured_exps, pair_exps}
 use Rattle.vtl_meaning.specs.Shapes.{IsShaped}
-use Rattle.vtl_nodes.specs.Trees as nodes
-use Rattle.vtl_nodes.specs.Trees.{AnalyticTree, FormTree, ItemTree, NodeTree, NodeTrees, OperandTrees, ValueTree, structure_of}
-use Rattle.vtl_nodes.specs.declared.clauses.SubItem.{SubItem}
+use Rattle.vtl_tree.specs.Trees as nodes
+use Rattle.vtl_tree.specs.Trees.{AnalyticTree, FormTree, ItemTree, NodeTree, NodeTrees, OperandTrees, ValueTree, structure_of}
+use Rattle.vtl_tree.specs.declared.clauses.SubItem.{SubItem}
 use Rattle.check_laws.specs.Depths.{analytic_exps, exps_in, held_exps, item_exps, made_exps, value_exps}
 use Rattle.check_laws.proofs.DepthBounds.{AreNodesUpTo, AreUpTo, IsUpTo}
 use Rattle.check_laws.proofs.Inner.{made-shaped}

@@ -20,16 +20,16 @@ use Rattle.vtl_syntax.specs.declared.parts.GroupPart.{GroupPart}
 use Rattle.vtl_syntax.specs.declared.parts.Literal.{Literal}
 use Rattle.vtl_syntax.specs.declared.word_groups.AggregateName.{AggregateName}
 use Rattle.vtl_meaning.specs.Meaning.{is_built}
-use Rattle.vtl_nodes.specs.Trees as nodes
-use Rattle.vtl_nodes.specs.Trees.{FormTree, NodeTree}
-use Rattle.vtl_nodes.specs.declared.calls.Window.{Window}
+use Rattle.vtl_tree.specs.Trees as nodes
+use Rattle.vtl_tree.specs.Trees.{FormTree, NodeTree}
+use Rattle.vtl_tree.specs.declared.calls.Window.{Window}
 use Rattle.check_faults.specs.Rules.{ruled}
 use Rattle.check_faults.specs.declared.rules.Rule.{Rule}
 use Rattle.check_faults.specs.declared.rules.Rule.TheVariants as rule
-use Rattle.check_shapes.specs.Names.{is_among}
+use Rattle.vtl_tree.specs.Names.{is_among}
 use Rattle.check_values.specs.Columns.{column_typed, name_of}
 use Rattle.check_values.specs.Groupings.{grouping_typed}
-use Rattle.check_values.specs.Kinds.{exp_kind}
+use Rattle.vtl_tree.specs.Kinds.{exp_kind}
 use Rattle.check_groups.specs.Aggregates.{aggregate_kind, aggregate_node, aggregate_tree, aggregate_value, count_call, count_kind, group_call, group_call_by, is_misused, operand_name}
 use Rattle.check_operators.specs.Operators.{Operands, if_placed, on_choice, on_datasets, on_measures, on_operands, on_pair, operator_form, no_operands, parted, set_form, membership, with_operand, with_value}
 use Rattle.check_operators.specs.Places.{Env, Written, alone, at_groups, component_typed, known_by, member_inside, member_written, name_typed, written_typed}

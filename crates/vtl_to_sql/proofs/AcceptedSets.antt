@@ -20,17 +20,18 @@ use Rattle.vtl_syntax.specs.declared.word_groups.SetOpName.TheVariants as set
 use Rattle.vtl_tree.specs.declared.structure.Component.{Component}
 use Rattle.vtl_tree.specs.declared.structure.Structure.{Structure}
 use Rattle.vtl_meaning.specs.Meaning.{are_nodes_built, is_built}
-use Rattle.vtl_nodes.specs.Trees as nodes
-use Rattle.vtl_nodes.specs.Trees.{NodeTree, maybe_node, nodes_of, structure_of}
-use Rattle.vtl_nodes.specs.declared.specifications.CheckSpec.{CheckSpec}
+use Rattle.vtl_tree.specs.Trees as nodes
+use Rattle.vtl_tree.specs.Trees.{NodeTree, maybe_node, nodes_of, structure_of}
+use Rattle.vtl_tree.specs.declared.specifications.CheckSpec.{CheckSpec}
 use Rattle.check_faults.specs.Rules.{ruled}
 use Rattle.check_faults.specs.declared.rules.Rule.{Rule}
 use Rattle.check_faults.specs.declared.rules.Rule.TheVariants as rule
-use Rattle.check_shapes.specs.Clauses.{has_no_name, pivot_codes, pivot_components, pivot_form, unpivot_form}
+use Rattle.vtl_tree.specs.ClauseShapes.{pivot_components}
+use Rattle.check_shapes.specs.Clauses.{has_no_name, pivot_codes, pivot_form, unpivot_form}
 use Rattle.check_shapes.specs.Names.{known}
 use Rattle.check_shapes.specs.Pairs as pairs
 use Rattle.check_shapes.specs.Shape.{shaped}
-use Rattle.check_shapes.specs.declared.names.Wanted.TheVariants as wanted
+use Rattle.vtl_tree.specs.declared.names.Wanted.TheVariants as wanted
 use Rattle.check_values.specs.Columns.{name_of}
 use Rattle.check_clauses.specs.Clauses as clauses
 use Rattle.check_clauses.specs.Clauses.{pivot_names, pivot_of, unpivot_of}

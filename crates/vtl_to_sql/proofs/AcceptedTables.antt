@@ -5,9 +5,9 @@ use Rattle.vtl_tree.specs.declared.structure.Structure.{Structure}
 use Rattle.vtl_syntax.specs.declared.word_groups.JoinKind.{JoinKind}
 use Rattle.vtl_syntax.specs.declared.word_groups.JoinKind.TheVariants as join
 use Rattle.vtl_meaning.specs.Made.{operands_in}
-use Rattle.vtl_nodes.specs.Trees as nodes
-use Rattle.vtl_nodes.specs.Trees.{FormTree, NodeTree, NodeTrees, OperandTrees, structure_of}
-use Rattle.check_joins.specs.Joins.{structures_of}
+use Rattle.vtl_tree.specs.Trees as nodes
+use Rattle.vtl_tree.specs.Trees.{FormTree, NodeTree, NodeTrees, OperandTrees, structure_of}
+use Rattle.vtl_tree.specs.Joins.{structures_of}
 use Rattle.sql_tree.specs.Trees.{QueryTree, Text}
 use Rattle.vtl_to_sql.specs.Queries.{intersection_query, union_query}
 use Rattle.vtl_to_sql.specs.FullJoins.{key_structure, keys_query, once_query}

@@ -7,7 +7,7 @@ use Rattle.vtl_cell.specs.declared.operator.ScalarOp.TheVariants as op
 use Rattle.vtl_syntax.specs.Trees as tree
 use Rattle.vtl_syntax.specs.Trees.{ClauseTree, Exp, Exps, MaybeExp, Parts}
 use Rattle.vtl_syntax.specs.Written.{AreMoreExps, AreMoreParts, AreWrittenExps, AreWrittenParts, IsWrittenClause, IsWrittenExp, IsWrittenMaybe}
-use Rattle.vtl_nodes.specs.Trees.{NodeTree}
+use Rattle.vtl_tree.specs.Trees.{NodeTree}
 use Rattle.check_faults.specs.declared.rules.Rule.TheVariants as rule
 use Rattle.check_values.specs.Literals.{constant_typed, literals_fit}
 use Rattle.check_values.specs.Operators.{exps_length, of_binary, of_function, of_unary, takes}

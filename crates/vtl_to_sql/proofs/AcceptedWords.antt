@@ -18,15 +18,15 @@ use Rattle.vtl_syntax.specs.declared.parts.Comp.{Comp}
 use Rattle.vtl_syntax.specs.declared.parts.Comp.TheVariants as comp
 use Rattle.vtl_meaning.specs.Made.{operands_in}
 use Rattle.vtl_meaning.specs.Meaning.{is_built, is_built_form}
-use Rattle.vtl_nodes.specs.Trees as nodes
-use Rattle.vtl_nodes.specs.Trees.{AnalyticTree, FormTree, NodeTree, NodeTrees, OperandTrees, structure_of}
-use Rattle.vtl_nodes.specs.declared.clauses.SubItem.{SubItem}
-use Rattle.vtl_nodes.specs.declared.specifications.AggItems.{AggItems}
-use Rattle.vtl_nodes.specs.declared.specifications.AggItems.TheVariants as items
+use Rattle.vtl_tree.specs.Trees as nodes
+use Rattle.vtl_tree.specs.Trees.{AnalyticTree, FormTree, NodeTree, NodeTrees, OperandTrees, structure_of}
+use Rattle.vtl_tree.specs.declared.clauses.SubItem.{SubItem}
+use Rattle.vtl_tree.specs.declared.specifications.AggItems.{AggItems}
+use Rattle.vtl_tree.specs.declared.specifications.AggItems.TheVariants as items
 use Rattle.check_faults.specs.declared.rules.Rule.{Rule}
-use Rattle.check_joins.specs.Joins.{held_names, last_renamings}
-use Rattle.check_shapes.specs.declared.names.Wanted.TheVariants as wanted
-use Rattle.check_shapes.specs.declared.renaming.Renaming.{Renaming}
+use Rattle.vtl_tree.specs.Joins.{held_names, last_renamings}
+use Rattle.vtl_tree.specs.declared.names.Wanted.TheVariants as wanted
+use Rattle.vtl_tree.specs.declared.renaming.Renaming.{Renaming}
 use Rattle.check_values.specs.Columns.{name_of}
 use Rattle.check_clauses.specs.Clauses.{sub_names}
 use Rattle.check_clauses.specs.JoinOperands.{is_left}

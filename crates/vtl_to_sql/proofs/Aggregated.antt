@@ -26,19 +26,19 @@ use Rattle.vtl_tree.specs.declared.expression.AggCall.{AggCall}
 use Rattle.vtl_tree.specs.declared.structure.Component.{Component}
 use Rattle.vtl_tree.specs.declared.structure.Structure.{Structure}
 use Rattle.vtl_tuples.proofs.Lists.{map_same}
-use Rattle.check_shapes.specs.Names.{component_of}
+use Rattle.vtl_tree.specs.Names.{component_of}
 use Rattle.vtl_cell.specs.AggregateKinds.{aggregate_kind}
-use Rattle.vtl_aggregates.specs.Aggregates.{Condition, Made, aggregate_of, call_for, cell_or_null, condition_fault, condition_of, group_fault, group_point, is_kept, made_of}
-use Rattle.vtl_aggregates.specs.Shapes.{IsMadeColumn, given_kind, given_of}
-use Rattle.check_shapes.specs.Columns.{columns_named, identifiers_of, kind_named, others_of, place_of, places_in}
-use Rattle.vtl_aggregates.specs.Expressions.{aggregated}
-use Rattle.vtl_aggregates.specs.Groups.{keys_by, places_named}
+use Rattle.vtl_meaning.specs.Aggregates.{Condition, Made, aggregate_of, call_for, cell_or_null, condition_fault, condition_of, group_fault, group_point, is_kept, made_of}
+use Rattle.vtl_meaning.specs.AggregateShapes.{IsMadeColumn, given_kind, given_of}
+use Rattle.vtl_tree.specs.Columns.{columns_named, identifiers_of, kind_named, others_of, place_of, places_in}
+use Rattle.vtl_meaning.specs.GroupExpressions.{aggregated}
+use Rattle.vtl_meaning.specs.Groups.{keys_by, places_named}
 use Rattle.vtl_meaning.specs.Made.{Aggregates, IsColumnAt, IsGroupCondition, IsGrouped, IsTypedInGroups}
 use Rattle.vtl_meaning.specs.Points.{with_points}
-use Rattle.vtl_nodes.specs.Trees.{AggTree}
+use Rattle.vtl_tree.specs.Trees.{AggTree}
 use Rattle.check_laws.proofs.Columns.{at-place, kind-found}
-use Rattle.vtl_aggregates.proofs.GroupLooks.{all_points, one_key}
-use Rattle.vtl_aggregates.proofs.GroupPoints.{kept_are, point_is}
+use Rattle.vtl_meaning.proofs.GroupLooks.{all_points, one_key}
+use Rattle.vtl_meaning.proofs.GroupPoints.{kept_are, point_is}
 use Rattle.rules_to_sql.proofs.OverGroups.{group_fits, group_formed, group_kind, group_value_is}
 use Rattle.vtl_meaning.proofs.OwnColumns.{columns_apart, own_among}
 use Rattle.vtl_meaning.proofs.Places.{all_more, columns_split, identifiers_apart}

@@ -21,7 +21,7 @@ use Rattle.vtl_tree.specs.Value.{value}
 use Rattle.vtl_tree.specs.declared.structure.Component.{Component}
 use Rattle.vtl_tree.specs.declared.structure.Structure.{Structure}
 use Rattle.vtl_tuples.proofs.Lists.{filter_same, flat_map-flat_map, flat_map_each, flat_map_same}
-use Rattle.check_shapes.specs.Columns.{places_in}
+use Rattle.vtl_tree.specs.Columns.{places_in}
 use Rattle.vtl_meaning.specs.Joined.{structures_of}
 use Rattle.vtl_meaning.specs.Made.{IsTyped}
 use Rattle.vtl_meaning.proofs.JoinParts.{found_is}

@@ -26,7 +26,7 @@ use Rattle.vtl_tree.specs.Value.{called, value}
 use Rattle.vtl_tree.specs.declared.structure.Component.{Component}
 use Rattle.vtl_tree.specs.declared.structure.Role.TheVariants as role
 use Rattle.vtl_tree.specs.declared.structure.Structure.{Structure}
-use Rattle.check_shapes.specs.Columns.{column_behind, columns_named, identifiers_of, kind_named, measures_of, others_of, place_of, places_in}
+use Rattle.vtl_tree.specs.Columns.{column_behind, columns_named, identifiers_of, kind_named, measures_of, others_of, place_of, places_in}
 use Rattle.vtl_meaning.specs.Made.{AreAmong, AreFor, HasIdentifiers, IsAlternative, IsChoice, IsColumnAt}
 use Rattle.vtl_meaning.specs.Operators.{choice_of, is_first_chosen, joined_point, taken_at, taken_from}
 use Rattle.vtl_meaning.specs.Points.{beside, each_point, paired, partner, point_fault, point_of, with_points}

@@ -6,14 +6,14 @@ use Rattle.std.proofs.lemmas.Bool.{and_parts}
 use Rattle.std.proofs.lemmas.List.{drop_all, drop_more, length-drop, map-append, take_all, take_more}
 use Rattle.vtl_decimal.specs.Settings.{Settings}
 use Rattle.vtl_tree.specs.declared.structure.Structure.{Structure}
-use Rattle.check_shapes.specs.Columns.{identifiers_of}
-use Rattle.vtl_nodes.specs.Trees as nodes
-use Rattle.vtl_nodes.specs.Trees.{FormTree, NodeTree, nodes_of, structure_of}
-use Rattle.vtl_nodes.specs.View.{form_tree, node_tree}
-use Rattle.vtl_nodes.specs.declared.nodes.Node.{Node}
-use Rattle.vtl_nodes.specs.declared.nodes.NodeForm as forms
-use Rattle.vtl_nodes.specs.declared.nodes.NodeForm.{NodeForm}
-use Rattle.vtl_nodes.specs.declared.nodes.NodeForm.TheVariants as form
+use Rattle.vtl_tree.specs.Columns.{identifiers_of}
+use Rattle.vtl_tree.specs.Trees as nodes
+use Rattle.vtl_tree.specs.Trees.{FormTree, NodeTree, nodes_of, structure_of}
+use Rattle.vtl_tree.specs.NodeView.{form_tree, node_tree}
+use Rattle.vtl_tree.specs.declared.nodes.Node.{Node}
+use Rattle.vtl_tree.specs.declared.nodes.NodeForm as forms
+use Rattle.vtl_tree.specs.declared.nodes.NodeForm.{NodeForm}
+use Rattle.vtl_tree.specs.declared.nodes.NodeForm.TheVariants as form
 use Rattle.sql_tree.specs.Trees.{Exp, QueryTree, SelectTree, StatementTree, Text}
 use Rattle.vtl_to_sql.specs.Combined.{combined_made, combined_query, rest_made}
 use Rattle.vtl_to_sql.specs.Queries.{is_matched, left_query, matched_select, shown_query, shown_select}

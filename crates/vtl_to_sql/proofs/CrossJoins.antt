@@ -19,7 +19,7 @@ use Rattle.vtl_tuples.specs.Tuples.{and_item, combinations, crossed_with}
 use Rattle.vtl_tuples.proofs.Folds.{crossed_each}
 use Rattle.vtl_tuples.proofs.Lists.{flat_map_each, map-flat_map, map-map, map_each, map_same}
 use Rattle.vtl_meaning.specs.Agreement.{OperandPoint, key_of, operand_point, operand_points}
-use Rattle.check_shapes.specs.Columns.{identifiers_of, measures_of}
+use Rattle.vtl_tree.specs.Columns.{identifiers_of, measures_of}
 use Rattle.vtl_meaning.specs.Joined.{cross_tuples, crossed, present, structures_of, tuple_point, values_or_nulls}
 use Rattle.vtl_meaning.specs.Made.{AreFor, attributes_of, component_kinds, kinds_of_all}
 use Rattle.vtl_meaning.specs.Points.{each_point, point_of}

@@ -13,17 +13,17 @@ use Rattle.vtl_tree.specs.Structure.{IsStructure, key_width, same_name}
 use Rattle.vtl_tree.specs.Structures.{Named}
 use Rattle.vtl_tree.specs.declared.structure.Structure.{Structure}
 use Rattle.vtl_tuples.specs.Keys.{each_once}
-use Rattle.check_shapes.specs.Pairs.{contains}
-use Rattle.vtl_aggregates.specs.Aggregates.{aggregate_of}
-use Rattle.vtl_windows.specs.Analytics.{analytic_of}
+use Rattle.vtl_tree.specs.Pairs.{contains}
+use Rattle.vtl_meaning.specs.Aggregates.{aggregate_of}
+use Rattle.vtl_meaning.specs.Analytics.{analytic_of}
 use Rattle.vtl_meaning.specs.Joined.{join_of}
 use Rattle.vtl_meaning.specs.Meaning.{AreDataSets, operands_value, Outputs, Statement, form_value, kept_output, known_in, meaning, node_value, nodes_value, points_named, stated, with_first, with_operand}
 use Rattle.vtl_meaning.specs.Operators.{calculated_of, choice_of, left_of, measured_of, pair_exps, pair_of, sub_of}
 use Rattle.vtl_meaning.specs.Points.{each_point, with_points}
 use Rattle.vtl_meaning.specs.Sets.{all_left_of, difference_of, intersection_of, symmetric_difference_of, union_of, existence_of}
 use Rattle.vtl_meaning.specs.Turned.{pivot_of, unpivot_of}
-use Rattle.vtl_nodes.specs.Trees as nodes
-use Rattle.vtl_nodes.specs.Trees.{FormTree, NodeTree, NodeTrees, OperandTrees, structure_of}
+use Rattle.vtl_tree.specs.Trees as nodes
+use Rattle.vtl_tree.specs.Trees.{FormTree, NodeTree, NodeTrees, OperandTrees, structure_of}
 use Rattle.vtl_to_sql.specs.Conditions.{AreNodesTranslated, AreOperandsTranslated, IsFormTranslated, IsTranslated}
 use Rattle.vtl_to_sql.specs.Exports.{AreRead}
 use Rattle.vtl_to_sql.proofs.EmptyJoins.{empty_joined, joined_empty, none_joined}

@@ -16,16 +16,16 @@ use Rattle.vtl_tree.specs.declared.expression.AggCall.{AggCall}
 use Rattle.vtl_tree.specs.declared.structure.Component.{Component}
 use Rattle.vtl_tree.specs.declared.structure.Role.TheVariants as role
 use Rattle.vtl_tree.specs.declared.structure.Structure.{Structure}
-use Rattle.check_shapes.specs.Measures.{made}
+use Rattle.vtl_tree.specs.Measures.{made}
 use Rattle.vtl_syntax.specs.declared.word_groups.Retain.TheVariants as retain
-use Rattle.check_shapes.specs.Columns.{column_named}
+use Rattle.vtl_tree.specs.Columns.{column_named}
 use Rattle.vtl_meaning.specs.Meaning.{Statement}
-use Rattle.vtl_nodes.specs.Trees as nodes
-use Rattle.vtl_nodes.specs.Trees.{AggTree, AnalyticTree, NodeTree}
-use Rattle.vtl_nodes.specs.declared.calls.AnalyticOp.TheVariants as window
-use Rattle.vtl_nodes.specs.declared.calls.OrderKey.{OrderKey}
-use Rattle.vtl_nodes.specs.declared.calls.Window.{Window}
-use Rattle.vtl_nodes.specs.declared.specifications.AggItems.TheVariants as items
+use Rattle.vtl_tree.specs.Trees as nodes
+use Rattle.vtl_tree.specs.Trees.{AggTree, AnalyticTree, NodeTree}
+use Rattle.vtl_tree.specs.declared.calls.AnalyticOp.TheVariants as window
+use Rattle.vtl_tree.specs.declared.calls.OrderKey.{OrderKey}
+use Rattle.vtl_tree.specs.declared.calls.Window.{Window}
+use Rattle.vtl_tree.specs.declared.specifications.AggItems.TheVariants as items
 use Rattle.sql_lexer.specs.Spelling.{spelled}
 use Rattle.sql_tree.specs.Printing.{written_query, written_statement}
 use Rattle.sql_tree.specs.Trees.{QueryTree, StatementTree}

@@ -17,7 +17,7 @@ use Rattle.vtl_cell.specs.declared.operator.ScalarOp.TheVariants as op
 use Rattle.vtl_rows.specs.Tables.{cells_at}
 use Rattle.vtl_tree.specs.DataSet.{is_point}
 use Rattle.vtl_tree.specs.declared.structure.Component.{Component}
-use Rattle.check_shapes.specs.Columns.{place_of, places_in}
+use Rattle.vtl_tree.specs.Columns.{place_of, places_in}
 use Rattle.vtl_meaning.proofs.ValueKinds.{cell_is_of}
 use Rattle.sql_tree.specs.Formed.{IsEquality, IsExp, IsName}
 use Rattle.sql_tree.specs.Trees.{Text, exists}

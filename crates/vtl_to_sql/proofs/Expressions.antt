@@ -5,7 +5,7 @@ use Rattle.vtl_decimal.specs.Settings.{Settings}
 use Rattle.vtl_tree.specs.CompExp.{CompExp}
 use Rattle.vtl_tree.specs.Value as points
 use Rattle.vtl_tree.specs.declared.structure.Component.{Component}
-use Rattle.check_values.specs.Kinds.{exp_kind}
+use Rattle.vtl_tree.specs.Kinds.{exp_kind}
 use Rattle.vtl_meaning.specs.Made.{IsTyped}
 use Rattle.sql_tree.specs.Formed.{Formed, exp_depth}
 use Rattle.sql_check_laws.specs.Fits.{Fits}

@@ -7,10 +7,10 @@ use Rattle.vtl_tree.specs.Structure.{columns_of, of_role}
 use Rattle.vtl_tree.specs.declared.structure.Component.{Component}
 use Rattle.vtl_tree.specs.declared.structure.Role.TheVariants as role
 use Rattle.vtl_tree.specs.declared.structure.Structure.{Structure}
-use Rattle.check_shapes.specs.Columns.{column_named, columns_named, identifiers_of, measures_of}
+use Rattle.vtl_tree.specs.Columns.{column_named, columns_named, identifiers_of, measures_of}
 use Rattle.vtl_meaning.specs.Operators.{calculated_exp, for_measures, measured_exps, target_named, value_exp, with_measure}
-use Rattle.vtl_nodes.specs.Trees.{ItemTree as Target, MeasureTree}
-use Rattle.vtl_nodes.specs.declared.clauses.SubItem.{SubItem}
+use Rattle.vtl_tree.specs.Trees.{ItemTree as Target, MeasureTree}
+use Rattle.vtl_tree.specs.declared.clauses.SubItem.{SubItem}
 use Rattle.sql_tree.specs.Trees.{Exp, Text}
 use Rattle.rules_to_sql.specs.ToSql.{to_sql}
 use Rattle.vtl_to_sql.specs.Items.{all_of, calculated_item, first_column, for_each_two, from_one, from_table, items_for, measured_item, renamed_item, value_equality}

@@ -18,7 +18,7 @@ use Rattle.vtl_tree.specs.declared.structure.Structure.{Structure}
 use Rattle.vtl_tuples.specs.Keys.{each_once}
 use Rattle.vtl_tuples.proofs.Lists.{map-map}
 use Rattle.vtl_meaning.specs.Agreement.{values_in}
-use Rattle.check_shapes.specs.Columns.{identifiers_of, measures_of, places_in}
+use Rattle.vtl_tree.specs.Columns.{identifiers_of, measures_of, places_in}
 use Rattle.vtl_meaning.specs.Joined.{all_keys, join_of, keys_in, structures_of, tuple_at, tuple_point}
 use Rattle.vtl_meaning.specs.Made.{GoTogether, HasIdentifiers, IsJoined, attributes_of, kinds_of_all}
 use Rattle.vtl_meaning.specs.Orders.{SameOperands}

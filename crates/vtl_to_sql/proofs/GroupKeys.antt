@@ -15,7 +15,7 @@ use Rattle.vtl_tree.specs.CompExp.{column}
 use Rattle.vtl_tree.specs.DataSet.{is_point}
 use Rattle.vtl_tree.specs.Structure.{names_of, same_name}
 use Rattle.vtl_tree.specs.declared.structure.Component.{Component}
-use Rattle.check_shapes.specs.Columns.{columns_named, place_of, places_in}
+use Rattle.vtl_tree.specs.Columns.{columns_named, place_of, places_in}
 use Rattle.vtl_meaning.specs.Made.{IsColumnAt}
 use Rattle.vtl_meaning.proofs.OwnColumns.{column_any}
 use Rattle.vtl_meaning.proofs.Places.{each, same_name-sym}

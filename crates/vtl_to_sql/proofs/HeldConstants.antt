@@ -12,25 +12,25 @@ use Rattle.vtl_tree.specs.View.{comp_exp_of, comp_exps_of}
 use Rattle.vtl_tree.specs.declared.expression.CompExpr as exprs
 use Rattle.vtl_tree.specs.declared.expression.CompExpr.{CompExpr}
 use Rattle.vtl_tree.specs.declared.expression.CompExpr.TheVariants as expr
-use Rattle.vtl_nodes.specs.Trees as nodes
-use Rattle.vtl_nodes.specs.View.{form_tree, item_tree, measure_tree, node_tree, operand_tree, value_tree}
-use Rattle.vtl_nodes.specs.declared.clauses.CalcItem.{CalcItem}
+use Rattle.vtl_tree.specs.Trees as nodes
+use Rattle.vtl_tree.specs.NodeView.{form_tree, item_tree, measure_tree, node_tree, operand_tree, value_tree}
+use Rattle.vtl_tree.specs.declared.clauses.CalcItem.{CalcItem}
 use Rattle.vtl_meaning.specs.Made.{operands_in}
-use Rattle.vtl_nodes.specs.declared.specifications.JoinSpec.{JoinSpec}
-use Rattle.vtl_nodes.specs.declared.nodes.JoinOperand as operand
-use Rattle.vtl_nodes.specs.declared.nodes.JoinOperand.{JoinOperand}
-use Rattle.vtl_nodes.specs.declared.nodes.MeasureOp.{MeasureOp}
-use Rattle.vtl_nodes.specs.declared.nodes.Node as node
-use Rattle.vtl_nodes.specs.declared.nodes.Node.{Node}
-use Rattle.vtl_nodes.specs.declared.nodes.NodeForm as forms
-use Rattle.vtl_nodes.specs.declared.nodes.NodeForm.{NodeForm}
-use Rattle.vtl_nodes.specs.declared.nodes.NodeForm.TheVariants as form
+use Rattle.vtl_tree.specs.declared.specifications.JoinSpec.{JoinSpec}
+use Rattle.vtl_tree.specs.declared.nodes.JoinOperand as operand
+use Rattle.vtl_tree.specs.declared.nodes.JoinOperand.{JoinOperand}
+use Rattle.vtl_tree.specs.declared.nodes.MeasureOp.{MeasureOp}
+use Rattle.vtl_tree.specs.declared.nodes.Node as node
+use Rattle.vtl_tree.specs.declared.nodes.Node.{Node}
+use Rattle.vtl_tree.specs.declared.nodes.NodeForm as forms
+use Rattle.vtl_tree.specs.declared.nodes.NodeForm.{NodeForm}
+use Rattle.vtl_tree.specs.declared.nodes.NodeForm.TheVariants as form
 use Rattle.vtl_tree.specs.declared.structure.Component.{Component}
 use Rattle.vtl_tree.specs.declared.structure.Structure.{Structure}
-use Rattle.check_shapes.specs.Pairs.{contains}
-use Rattle.check_shapes.specs.Columns.{column_behind, column_named, columns_named, identifiers_of, measures_of}
+use Rattle.vtl_tree.specs.Pairs.{contains}
+use Rattle.vtl_tree.specs.Columns.{column_behind, column_named, columns_named, identifiers_of, measures_of}
 use Rattle.vtl_meaning.specs.Operators.{calculated_exp, calculated_exps, for_measures, measured_exps, pair_exps, value_exp, with_measure, with_namesake}
-use Rattle.vtl_nodes.specs.Trees.{FormTree, ItemTree, MeasureTree, NodeTree, OperandTree, nodes_of, operands_of, structure_of}
+use Rattle.vtl_tree.specs.Trees.{FormTree, ItemTree, MeasureTree, NodeTree, OperandTree, nodes_of, operands_of, structure_of}
 use Rattle.rules_to_sql.specs.Held.{AllHold, HoldsValues, IsMemberHeld, OperandsHold, asks_a_set}
 use Rattle.vtl_to_sql.specs.Accepted.{AllHoldValues, FormHoldsParts, HoldsParts, NodesHoldParts, OperandsHoldParts}
 

@@ -15,11 +15,11 @@ use Rattle.vtl_tree.specs.declared.structure.Component.{Component}
 use Rattle.vtl_tree.specs.declared.structure.Role.{Role}
 use Rattle.vtl_tree.specs.declared.structure.Role.TheVariants as role
 use Rattle.vtl_tree.specs.declared.structure.Structure.{Structure}
-use Rattle.check_shapes.specs.Names.{component_of}
-use Rattle.check_shapes.specs.Operands.{is_alike, is_there}
-use Rattle.check_shapes.specs.Pairs.{contains}
-use Rattle.check_shapes.specs.declared.operands.Compared.TheVariants as compared
-use Rattle.check_shapes.specs.Columns.{identifiers_of, kind_named, others_of, place_of}
+use Rattle.vtl_tree.specs.Names.{component_of}
+use Rattle.vtl_tree.specs.Operands.{is_alike, is_there}
+use Rattle.vtl_tree.specs.Pairs.{contains}
+use Rattle.vtl_tree.specs.declared.operands.Compared.TheVariants as compared
+use Rattle.vtl_tree.specs.Columns.{identifiers_of, kind_named, others_of, place_of}
 use Rattle.vtl_meaning.specs.Made.{AreAmong, IsColumnAt}
 use Rattle.vtl_meaning.proofs.Kept.{column_front, column_within, place_front}
 use Rattle.vtl_meaning.proofs.OwnColumns.{columns_apart, own_identifiers}

@@ -21,7 +21,7 @@ use Rattle.vtl_tree.specs.Structures.{are_codes, codes_fit, is_text_kind, is_str
 use Rattle.vtl_tree.specs.declared.structure.Component.{Component}
 use Rattle.vtl_tree.specs.declared.structure.Role.TheVariants as role
 use Rattle.vtl_tree.specs.declared.structure.Structure.{Structure}
-use Rattle.check_shapes.specs.Columns.{identifiers_of, others_of}
+use Rattle.vtl_tree.specs.Columns.{identifiers_of, others_of}
 use Rattle.vtl_meaning.proofs.Places.{IsIdentifier, IsOther, all_more, are_identifiers, are_others, columns_split}
 use Rattle.sql_meaning.specs.Inputs as asked
 use Rattle.sql_meaning.specs.Inputs.{IsInputData, has_whole_key}

@@ -9,15 +9,15 @@ use Rattle.vtl_syntax.specs.declared.word_groups.JoinKind.{JoinKind}
 use Rattle.vtl_syntax.specs.declared.word_groups.JoinKind.TheVariants as join
 use Rattle.vtl_tree.specs.Shown.{shown}
 use Rattle.vtl_tree.specs.declared.structure.Structure.{Structure}
-use Rattle.vtl_nodes.specs.Trees as nodes
-use Rattle.vtl_nodes.specs.Trees.{FormTree, OperandTrees}
-use Rattle.vtl_nodes.specs.View.{form_tree, operand_tree}
-use Rattle.vtl_nodes.specs.declared.specifications.JoinSpec.{JoinSpec}
-use Rattle.vtl_nodes.specs.declared.nodes.JoinOperand.{JoinOperand}
-use Rattle.vtl_nodes.specs.declared.nodes.NodeForm as forms
-use Rattle.vtl_nodes.specs.declared.nodes.NodeForm.{NodeForm}
-use Rattle.vtl_nodes.specs.declared.nodes.NodeForm.TheVariants as form
-use Rattle.check_joins.specs.Joins.{structures_of}
+use Rattle.vtl_tree.specs.Trees as nodes
+use Rattle.vtl_tree.specs.Trees.{FormTree, OperandTrees}
+use Rattle.vtl_tree.specs.NodeView.{form_tree, operand_tree}
+use Rattle.vtl_tree.specs.declared.specifications.JoinSpec.{JoinSpec}
+use Rattle.vtl_tree.specs.declared.nodes.JoinOperand.{JoinOperand}
+use Rattle.vtl_tree.specs.declared.nodes.NodeForm as forms
+use Rattle.vtl_tree.specs.declared.nodes.NodeForm.{NodeForm}
+use Rattle.vtl_tree.specs.declared.nodes.NodeForm.TheVariants as form
+use Rattle.vtl_tree.specs.Joins.{structures_of}
 use Rattle.vtl_meaning.specs.Made.{operands_in}
 use Rattle.sql_tree.specs.Trees.{QueryTree, StatementTree, Text}
 use Rattle.vtl_to_sql.specs.FullJoins.{full_query, key_structure, keys_query, once_query}

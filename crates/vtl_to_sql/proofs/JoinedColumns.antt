@@ -13,8 +13,8 @@ use Rattle.vtl_tree.specs.Structure.{IsStructure, columns_of}
 use Rattle.vtl_tree.specs.Value.{value}
 use Rattle.vtl_tree.specs.declared.structure.Component.{Component}
 use Rattle.vtl_tree.specs.declared.structure.Structure.{Structure}
-use Rattle.check_values.specs.Kinds.{exp_kind}
-use Rattle.check_shapes.specs.Columns.{column_behind, identifiers_of, kind_named, measures_of, place_of}
+use Rattle.vtl_tree.specs.Kinds.{exp_kind}
+use Rattle.vtl_tree.specs.Columns.{column_behind, identifiers_of, kind_named, measures_of, place_of}
 use Rattle.vtl_meaning.specs.Joined.{Part, values_or_nulls}
 use Rattle.vtl_meaning.specs.Made.{AreAmong, AreFor, IsColumnAt, IsTyped, attributes_of, component_kinds, kinds_of_all}
 use Rattle.vtl_meaning.specs.Points.{each_point, point_fault, point_of}

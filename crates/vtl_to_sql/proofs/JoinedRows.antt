@@ -11,7 +11,7 @@ use Rattle.vtl_tree.specs.Environment.{DataSet}
 use Rattle.vtl_tree.specs.Structure.{IsStructure, columns_of}
 use Rattle.vtl_tree.specs.declared.structure.Component.{Component}
 use Rattle.vtl_tree.specs.declared.structure.Structure.{Structure}
-use Rattle.check_shapes.specs.Columns.{identifiers_of, measures_of}
+use Rattle.vtl_tree.specs.Columns.{identifiers_of, measures_of}
 use Rattle.vtl_meaning.specs.Joined.{Part, Tuple, part_of, structures_of, tuple_point, values_or_nulls}
 use Rattle.vtl_meaning.specs.Made.{AreFor, attributes_of, component_kinds, kinds_of_all}
 use Rattle.vtl_meaning.specs.Points.{point_of}

@@ -12,7 +12,7 @@ use Rattle.vtl_tree.specs.declared.structure.Role.TheVariants as role
 use Rattle.vtl_tree.specs.declared.structure.Structure.{Structure}
 use Rattle.vtl_tuples.specs.Keys.{each_once}
 use Rattle.vtl_tuples.proofs.Lists.{filter_each, filter-map}
-use Rattle.check_shapes.specs.Columns.{identifiers_of, others_of, places_in}
+use Rattle.vtl_tree.specs.Columns.{identifiers_of, others_of, places_in}
 use Rattle.vtl_meaning.specs.Made.{HasIdentifiers}
 use Rattle.vtl_meaning.proofs.Places.{IsIdentifier, all_front, all_map, all_more, all_of_map, are_identifiers, columns_split, identifier_role, identifiers_apart}
 use Rattle.sql_lexer.specs.Spelling.{is_name}

@@ -14,7 +14,7 @@ use Rattle.vtl_tree.specs.declared.structure.Component.{Component}
 use Rattle.vtl_tree.specs.declared.structure.Structure.{Structure}
 use Rattle.vtl_tuples.proofs.Lists.{map-flat_map, map-map, map_each}
 use Rattle.vtl_meaning.specs.Agreement.{values_in}
-use Rattle.check_shapes.specs.Columns.{identifiers_of, others_of, places_in}
+use Rattle.vtl_tree.specs.Columns.{identifiers_of, others_of, places_in}
 use Rattle.vtl_meaning.specs.Joined.{keys_in, structures_of}
 use Rattle.vtl_meaning.specs.Made.{AreAmong, AreFor}
 use Rattle.vtl_meaning.specs.Points.{each_point}

@@ -21,12 +21,12 @@ use Rattle.vtl_tree.specs.Structures as structures
 use Rattle.vtl_tree.specs.Structures.{Named}
 use Rattle.vtl_tree.specs.declared.structure.Component.{Component}
 use Rattle.vtl_tree.specs.declared.structure.Structure.{Structure}
-use Rattle.check_shapes.specs.Columns.{identifiers_of, others_of}
+use Rattle.vtl_tree.specs.Columns.{identifiers_of, others_of}
 use Rattle.vtl_meaning.specs.Made.{IsMade}
 use Rattle.vtl_meaning.specs.Meaning.{Outputs, Statement, meaning}
 use Rattle.vtl_meaning.specs.Shapes.{IsShaped}
-use Rattle.vtl_nodes.specs.Trees as nodes
-use Rattle.vtl_nodes.specs.Trees.{NodeTree, structure_of}
+use Rattle.vtl_tree.specs.Trees as nodes
+use Rattle.vtl_tree.specs.Trees.{NodeTree, structure_of}
 use Rattle.vtl_meaning.proofs.Places.{all_front, each, all_more, columns_split, same_name-sym}
 use Rattle.sql_tree.specs.Formed.{IsInputColumn, IsName, IsStatement, PrintableScript, is_column_kind}
 use Rattle.sql_check_laws.specs.Statements.{AreTyped}

@@ -5,7 +5,7 @@ use Rattle.std.specs.Borrow.{Bor}
 use Rattle.vtl_decimal.specs.Settings.{Settings}
 use Rattle.vtl_tree.specs.Shown.{shown}
 use Rattle.vtl_tree.specs.declared.structure.Component.{Component}
-use Rattle.check_shapes.specs.Columns.{columns_named}
+use Rattle.vtl_tree.specs.Columns.{columns_named}
 use Rattle.sql_tree.specs.Trees.{Exp}
 use Rattle.sql_tree.specs.View.{item_tree}
 use Rattle.sql_tree.specs.declared.statements.Item.{Item}

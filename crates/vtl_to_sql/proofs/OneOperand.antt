@@ -19,11 +19,11 @@ use Rattle.vtl_tree.specs.Structure.{IsStructure, columns_of, names_of, same_nam
 use Rattle.vtl_tree.specs.Value.{value}
 use Rattle.vtl_tree.specs.declared.structure.Component.{Component}
 use Rattle.vtl_tree.specs.declared.structure.Structure.{Structure}
-use Rattle.check_shapes.specs.Columns.{columns_named, kind_named, place_of, places_in}
+use Rattle.vtl_tree.specs.Columns.{columns_named, kind_named, place_of, places_in}
 use Rattle.vtl_meaning.specs.Made.{AreAmong, AreFor, IsCalculated, IsColumnAt, IsFiltered, IsLeft, IsMeasured, IsRenamed}
 use Rattle.vtl_meaning.specs.Operators.{calculated_exps, calculated_of, left_of, measured_exps, measured_of}
 use Rattle.vtl_meaning.specs.Points.{each_point, point_fault, point_of, with_points}
-use Rattle.vtl_nodes.specs.Trees.{ItemTree as Target, MeasureTree}
+use Rattle.vtl_tree.specs.Trees.{ItemTree as Target, MeasureTree}
 use Rattle.vtl_meaning.proofs.Kept.{columns_point}
 use Rattle.vtl_meaning.proofs.OwnColumns.{columns_apart, own_columns}
 use Rattle.vtl_meaning.proofs.Places.{first_cells, point_length, same_name-refl, same_name-sym}

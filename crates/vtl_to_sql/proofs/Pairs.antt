@@ -25,7 +25,7 @@ use Rattle.vtl_tree.specs.Structure.{columns_of, key_width}
 use Rattle.vtl_tree.specs.Value.{called, value}
 use Rattle.vtl_tree.specs.declared.structure.Component.{Component}
 use Rattle.vtl_tree.specs.declared.structure.Structure.{Structure}
-use Rattle.check_shapes.specs.Columns.{identifiers_of, kind_named, place_of, places_in}
+use Rattle.vtl_tree.specs.Columns.{identifiers_of, kind_named, place_of, places_in}
 use Rattle.vtl_meaning.specs.Made.{AreFor, IsColumnAt, IsTyped}
 use Rattle.vtl_meaning.specs.Points.{beside, each_point, paired, with_points}
 use Rattle.vtl_meaning.proofs.Drawn.{drawn_all}

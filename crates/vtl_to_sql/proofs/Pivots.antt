@@ -28,14 +28,14 @@ use Rattle.vtl_tree.specs.declared.structure.Component.{Component}
 use Rattle.vtl_tree.specs.declared.structure.Structure.{Structure}
 use Rattle.vtl_tuples.specs.Keys.{each_once}
 use Rattle.vtl_tuples.proofs.Lists.{map_each, map_same}
-use Rattle.check_shapes.specs.Clauses.{code_measure}
+use Rattle.vtl_tree.specs.ClauseShapes.{code_measure}
 use Rattle.vtl_meaning.specs.Agreement.{values_in}
-use Rattle.check_shapes.specs.Columns.{columns_named, identifiers_of, kind_named, others_of, place_of, places_in}
+use Rattle.vtl_tree.specs.Columns.{columns_named, identifiers_of, kind_named, others_of, place_of, places_in}
 use Rattle.vtl_meaning.specs.LookUps.{value_named}
 use Rattle.vtl_meaning.specs.Made.{IsPivoted}
 use Rattle.vtl_meaning.specs.Points.{with_points}
 use Rattle.vtl_meaning.specs.Turned.{coded_value, codes_of, is_coded, other_identifiers, pivot_of, pivoted_point}
-use Rattle.vtl_aggregates.proofs.GroupLooks.{all_points, one_key}
+use Rattle.vtl_meaning.proofs.GroupLooks.{all_points, one_key}
 use Rattle.vtl_meaning.proofs.JoinParts.{found_is}
 use Rattle.vtl_meaning.proofs.OwnColumns.{columns_apart, own_among}
 use Rattle.vtl_meaning.proofs.Places.{all_more, columns_split, identifiers_apart}

@@ -13,7 +13,7 @@ use Rattle.vtl_tree.specs.Structure.{columns_of}
 use Rattle.vtl_tree.specs.Value.{value}
 use Rattle.vtl_tree.specs.declared.structure.Component.{Component}
 use Rattle.vtl_tree.specs.declared.structure.Structure.{Structure}
-use Rattle.check_values.specs.Kinds.{exp_kind}
+use Rattle.vtl_tree.specs.Kinds.{exp_kind}
 use Rattle.vtl_meaning.specs.Made.{AreFor, IsTyped}
 use Rattle.vtl_meaning.specs.Points.{cell_or_null, each_point, point_fault, point_of}
 use Rattle.vtl_meaning.proofs.ValueKinds.{value_is_of}

@@ -10,7 +10,7 @@ use Rattle.vtl_tree.specs.DataSet.{IsDataSet}
 use Rattle.vtl_tree.specs.Structure.{columns_of, key_width}
 use Rattle.vtl_tree.specs.declared.structure.Component.{Component}
 use Rattle.vtl_tree.specs.declared.structure.Structure.{Structure}
-use Rattle.check_shapes.specs.Columns.{columns_named, identifiers_of, measures_of, place_of, places_in}
+use Rattle.vtl_tree.specs.Columns.{columns_named, identifiers_of, measures_of, place_of, places_in}
 use Rattle.vtl_meaning.specs.Made.{AreAmong, IsAlternative, IsColumnAt}
 use Rattle.vtl_meaning.specs.Operators.{left_of}
 use Rattle.vtl_meaning.specs.Points.{each_point, with_points}

@@ -14,7 +14,7 @@ use Rattle.vtl_tree.proofs.LookUps.{look_respects}
 use Rattle.vtl_tuples.specs.Keys.{each_once}
 use Rattle.vtl_tuples.proofs.Lists.{filter_each}
 use Rattle.vtl_tuples.proofs.Onces.{once_already, once_more}
-use Rattle.check_shapes.specs.Columns.{identifiers_of}
+use Rattle.vtl_tree.specs.Columns.{identifiers_of}
 use Rattle.vtl_meaning.specs.Operators.{left_of}
 use Rattle.vtl_meaning.specs.Points.{with_points}
 use Rattle.vtl_meaning.specs.Sets.{all_left_of, either_only, has_point, intersected, intersection_of, reduced, union_of, united}

@@ -14,7 +14,7 @@ use Rattle.vtl_tree.specs.Structure.{same_name}
 use Rattle.vtl_meaning.specs.Made.{AreMadeStatements}
 use Rattle.vtl_meaning.specs.Meaning.{AreDataSets, Outputs, Statement, kept_output, known_in, meaning, node_value, stated}
 use Rattle.vtl_meaning.specs.Points.{with_points}
-use Rattle.vtl_nodes.specs.Trees.{structure_of}
+use Rattle.vtl_tree.specs.Trees.{structure_of}
 use Rattle.vtl_meaning.proofs.Places.{all_append, all_more, same_name-is, same_name-refl, same_name-sym}
 use Rattle.vtl_meaning.proofs.ScriptsKept.{node_kept}
 use Rattle.sql_tree.specs.Formed.{IsName}

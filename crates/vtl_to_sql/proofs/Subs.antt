@@ -19,11 +19,11 @@ use Rattle.vtl_tree.specs.Structure.{columns_of, most_components}
 use Rattle.vtl_tree.specs.Value.{value}
 use Rattle.vtl_tree.specs.declared.structure.Component.{Component}
 use Rattle.vtl_tree.specs.declared.structure.Structure.{Structure}
-use Rattle.check_shapes.specs.Columns.{columns_named, identifiers_of, kind_named, place_of}
+use Rattle.vtl_tree.specs.Columns.{columns_named, identifiers_of, kind_named, place_of}
 use Rattle.vtl_meaning.specs.Made.{IsColumnAt, IsSub}
 use Rattle.vtl_meaning.specs.Operators.{has_values, sub_of}
 use Rattle.vtl_meaning.specs.Points.{each_point, with_points}
-use Rattle.vtl_nodes.specs.declared.clauses.SubItem.{SubItem}
+use Rattle.vtl_tree.specs.declared.clauses.SubItem.{SubItem}
 use Rattle.vtl_meaning.proofs.OwnColumns.{columns_apart}
 use Rattle.vtl_meaning.proofs.Places.{all_more}
 use Rattle.vtl_meaning.proofs.ValueKinds.{cell_is_of, own_kind}

@@ -8,14 +8,14 @@ use Rattle.vtl_lists.proofs.Aparts.{apart_parts}
 use Rattle.vtl_tree.specs.Structure.{IsStructure, names_of, same_name}
 use Rattle.vtl_tree.specs.declared.structure.Component.{Component}
 use Rattle.vtl_tree.specs.declared.structure.Structure.{Structure}
-use Rattle.check_shapes.specs.Clauses as clauses
-use Rattle.check_shapes.specs.Clauses.{calculated, is_new, retargeted, target_component}
-use Rattle.check_shapes.specs.Names.{component_of}
-use Rattle.vtl_windows.specs.Analytics.{item_named}
-use Rattle.vtl_windows.specs.Shapes.{analyzed_components, target_of, tree_kind}
-use Rattle.vtl_nodes.specs.Trees as nodes
-use Rattle.vtl_nodes.specs.Trees.{ItemTree}
-use Rattle.check_shapes.specs.declared.targets.Target.{Target}
+use Rattle.vtl_tree.specs.ClauseShapes as clauses
+use Rattle.vtl_tree.specs.ClauseShapes.{calculated, is_new, retargeted, target_component}
+use Rattle.vtl_tree.specs.Names.{component_of}
+use Rattle.vtl_meaning.specs.Analytics.{item_named}
+use Rattle.vtl_meaning.specs.AnalyticShapes.{analyzed_components, target_of, tree_kind}
+use Rattle.vtl_tree.specs.Trees as nodes
+use Rattle.vtl_tree.specs.Trees.{ItemTree}
+use Rattle.vtl_tree.specs.declared.targets.Target.{Target}
 use Rattle.vtl_meaning.proofs.Places.{all_append, same_name-is, same_name-refl}
 
 module _ (xs : List Component) where

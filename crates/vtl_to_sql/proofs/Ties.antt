@@ -17,8 +17,8 @@ use Rattle.vtl_tree.specs.Structure.{columns_of, most_components}
 use Rattle.vtl_tree.specs.Value.{called, value}
 use Rattle.vtl_tree.specs.declared.structure.Component.{Component}
 use Rattle.vtl_tree.specs.declared.structure.Structure.{Structure}
-use Rattle.check_values.specs.Kinds.{exp_kind}
-use Rattle.check_shapes.specs.Columns.{kind_named, place_of, places_in}
+use Rattle.vtl_tree.specs.Kinds.{exp_kind}
+use Rattle.vtl_tree.specs.Columns.{kind_named, place_of, places_in}
 use Rattle.vtl_meaning.specs.Made.{IsColumnAt, IsTyped}
 use Rattle.vtl_meaning.proofs.Kept.{column_front, column_within}
 use Rattle.vtl_meaning.proofs.Places.{point_length}

@@ -9,7 +9,7 @@ use Rattle.vtl_tree.specs.Structure.{IsStructure, same_name}
 use Rattle.vtl_tree.specs.Structures.{Named, has_name}
 use Rattle.vtl_meaning.specs.Made.{AreMadeStatements}
 use Rattle.vtl_meaning.specs.Meaning.{AreDataSets, Statement, known_in, meaning}
-use Rattle.vtl_nodes.specs.Trees.{structure_of}
+use Rattle.vtl_tree.specs.Trees.{structure_of}
 use Rattle.vtl_meaning.proofs.Places.{all_more}
 use Rattle.sql_tree.specs.Trees.{Text}
 use Rattle.sql_meaning.specs.Scripts.{Data, Inputs, script_value}

@@ -4,7 +4,7 @@ use Rattle.vtl_decimal.specs.Settings.{Settings}
 use Rattle.vtl_tree.specs.Structure.{columns_of, names_of}
 use Rattle.vtl_tree.specs.declared.structure.Component.{Component}
 use Rattle.vtl_tree.specs.declared.structure.Structure.{Structure}
-use Rattle.check_shapes.specs.Columns.{identifiers_of, measures_of}
+use Rattle.vtl_tree.specs.Columns.{identifiers_of, measures_of}
 use Rattle.vtl_meaning.specs.Turned.{codes_of, other_identifiers}
 use Rattle.sql_tree.specs.Trees.{Exp, Text}
 use Rattle.rules_to_sql.specs.ToSql.{column_of, group_columns}

@@ -19,7 +19,7 @@ use Rattle.vtl_tree.specs.Structures.{AreStructures, Named, is_declarable, is_de
 use Rattle.vtl_tree.specs.declared.structure.Component.{Component}
 use Rattle.vtl_tree.specs.declared.structure.Role.TheVariants as role
 use Rattle.vtl_tree.specs.declared.structure.Structure.{Structure}
-use Rattle.check_shapes.specs.Columns.{identifiers_of, others_of}
+use Rattle.vtl_tree.specs.Columns.{identifiers_of, others_of}
 use Rattle.vtl_meaning.specs.Shapes.{IsShaped}
 use Rattle.vtl_meaning.proofs.OwnColumns.{columns_apart}
 use Rattle.vtl_meaning.proofs.Places.{IsOther, all_back, all_front, all_more, are_others, columns_split, identifiers_apart, same_name-refl, same_name-sym}

@@ -20,9 +20,9 @@ use Rattle.vtl_tree.specs.Structure.{columns_of}
 use Rattle.vtl_tree.specs.declared.structure.Component.{Component}
 use Rattle.vtl_tree.specs.declared.structure.Structure.{Structure}
 use Rattle.vtl_tuples.proofs.Lists.{flat_map_each, flat_map_turned, map_same}
-use Rattle.check_shapes.specs.Clauses.{first_kind, names_column}
+use Rattle.vtl_tree.specs.ClauseShapes.{first_kind, names_column}
 use Rattle.vtl_meaning.specs.Agreement.{key_of}
-use Rattle.check_shapes.specs.Columns.{columns_named, identifiers_of, measures_of, others_of, place_of}
+use Rattle.vtl_tree.specs.Columns.{columns_named, identifiers_of, measures_of, others_of, place_of}
 use Rattle.vtl_meaning.specs.LookUps.{value_named, values_named}
 use Rattle.vtl_meaning.specs.Made.{AreAmong, IsColumnAt, IsUnpivoted}
 use Rattle.vtl_meaning.specs.Points.{with_points}

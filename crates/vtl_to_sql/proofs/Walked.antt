@@ -10,19 +10,19 @@ use Rattle.vtl_text.specs.declared.shared_text.Txt.{Txt}
 use Rattle.vtl_tree.specs.View.{comp_exp_of}
 use Rattle.vtl_tree.specs.declared.expression.CompExpr.{CompExpr}
 use Rattle.vtl_tree.specs.declared.structure.Structure.{Structure}
-use Rattle.check_shapes.specs.declared.renaming.Renaming.{Renaming}
-use Rattle.vtl_nodes.specs.Trees as nodes
-use Rattle.vtl_nodes.specs.Trees.{FormTree, NodeTree}
-use Rattle.vtl_nodes.specs.View.{agg_tree, analytic_tree, form_tree, item_tree, measure_tree, node_tree}
-use Rattle.vtl_nodes.specs.declared.clauses.CalcItem.{CalcItem}
-use Rattle.vtl_nodes.specs.declared.clauses.SubItem.{SubItem}
-use Rattle.vtl_nodes.specs.declared.nodes.MeasureOp.{MeasureOp}
-use Rattle.vtl_nodes.specs.declared.nodes.Node.{Node}
-use Rattle.vtl_nodes.specs.declared.nodes.NodeForm as forms
-use Rattle.vtl_nodes.specs.declared.nodes.NodeForm.{NodeForm}
-use Rattle.vtl_nodes.specs.declared.nodes.NodeForm.TheVariants as form
-use Rattle.vtl_nodes.specs.declared.specifications.AggSpec.{AggSpec}
-use Rattle.vtl_nodes.specs.declared.specifications.AnalyticSpec.{AnalyticSpec}
+use Rattle.vtl_tree.specs.declared.renaming.Renaming.{Renaming}
+use Rattle.vtl_tree.specs.Trees as nodes
+use Rattle.vtl_tree.specs.Trees.{FormTree, NodeTree}
+use Rattle.vtl_tree.specs.NodeView.{agg_tree, analytic_tree, form_tree, item_tree, measure_tree, node_tree}
+use Rattle.vtl_tree.specs.declared.clauses.CalcItem.{CalcItem}
+use Rattle.vtl_tree.specs.declared.clauses.SubItem.{SubItem}
+use Rattle.vtl_tree.specs.declared.nodes.MeasureOp.{MeasureOp}
+use Rattle.vtl_tree.specs.declared.nodes.Node.{Node}
+use Rattle.vtl_tree.specs.declared.nodes.NodeForm as forms
+use Rattle.vtl_tree.specs.declared.nodes.NodeForm.{NodeForm}
+use Rattle.vtl_tree.specs.declared.nodes.NodeForm.TheVariants as form
+use Rattle.vtl_tree.specs.declared.specifications.AggSpec.{AggSpec}
+use Rattle.vtl_tree.specs.declared.specifications.AnalyticSpec.{AnalyticSpec}
 use Rattle.sql_tree.specs.Trees.{StatementTree, Text}
 use Rattle.vtl_to_sql.specs.Scripts.{create_for}
 use Rattle.vtl_to_sql.specs.FormQueries.{query_of_one, query_of_two}

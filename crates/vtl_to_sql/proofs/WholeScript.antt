@@ -19,11 +19,11 @@ use Rattle.vtl_tree.specs.Environment.{Environment}
 use Rattle.vtl_tree.specs.Structure.{columns_of, names_of}
 use Rattle.vtl_tree.specs.Structures.{Named}
 use Rattle.vtl_tree.specs.declared.structure.Structure.{Structure}
-use Rattle.check_shapes.specs.Columns.{identifiers_of}
+use Rattle.vtl_tree.specs.Columns.{identifiers_of}
 use Rattle.vtl_meaning.specs.Made.{AreMadeStatements}
 use Rattle.vtl_meaning.specs.Meaning.{AreDataSets, Outputs, Statement, kept_output, known_in, meaning, node_value, stated}
 use Rattle.vtl_meaning.specs.Points.{with_points}
-use Rattle.vtl_nodes.specs.Trees.{structure_of}
+use Rattle.vtl_tree.specs.Trees.{structure_of}
 use Rattle.sql_tree.specs.Trees.{StatementTree}
 use Rattle.sql_check_parts.specs.Statements.{scale_of, scale_written, settings_of}
 use Rattle.sql_meaning.specs.Scripts.{Data, Export, Inputs, NamedFault, base_of, export_of, fault_name, input_table, no_table, or_named, script_value, sort_key, statements_made}

@@ -33,15 +33,15 @@ use Rattle.vtl_tree.specs.DataSet.{IsDataSet, is_point}
 use Rattle.vtl_tree.specs.Structure.{columns_of}
 use Rattle.vtl_tree.specs.declared.structure.Component.{Component}
 use Rattle.vtl_tree.specs.declared.structure.Structure.{Structure}
-use Rattle.vtl_windows.specs.Shapes.{default_in, takes}
+use Rattle.vtl_meaning.specs.AnalyticShapes.{default_in, takes}
 use Rattle.sql_check_parts.specs.Windows.{argument, bound_fits, call_fits, call_kind, default_fits, frame_fits, frame_misplaced, is_row_count, order_misplaced, shift_kind}
-use Rattle.check_shapes.specs.Columns.{identifiers_of, kind_named, others_of, place_of, places_in}
+use Rattle.vtl_tree.specs.Columns.{identifiers_of, kind_named, others_of, place_of, places_in}
 use Rattle.sql_check_laws.specs.Fits.{IsSeen, IsWindowTyped}
-use Rattle.vtl_aggregates.specs.Groups.{places_named}
+use Rattle.vtl_meaning.specs.Groups.{places_named}
 use Rattle.vtl_meaning.specs.Made.{IsColumnAt, IsNamedColumn, IsWindowOver, is_ordered, is_suited, is_unframed}
 use Rattle.rules_to_sql.specs.Names.{Names}
-use Rattle.vtl_windows.specs.Windows as points
-use Rattle.vtl_windows.specs.Windows.{default_frame, frame_in, key_in, keys_in, op_value, stand_of}
+use Rattle.vtl_meaning.specs.Windows as points
+use Rattle.vtl_meaning.specs.Windows.{default_frame, frame_in, key_in, keys_in, op_value, stand_of}
 use Rattle.vtl_meaning.specs.Points.{with_points}
 use Rattle.vtl_meaning.specs.Reaches.{is_near, is_near_bound, is_near_frame, is_near_operator}
 use Rattle.sql_check_parts.specs.Scopes.{Scope, found, is_empty, or_null}
@@ -50,14 +50,14 @@ use Rattle.rules_to_sql.specs.ToSql.{group_columns}
 use Rattle.sql_meaning.specs.Values.{View, at_rows, place_in}
 use Rattle.sql_meaning.specs.Windows as sql
 use Rattle.sql_meaning.specs.Windows.{call_value, cells_of, count_of, default_cell, framed, is_falling, key_of, keys_of, partition_of, place_within, stand_in, window_value}
-use Rattle.vtl_nodes.specs.declared.calls.AnalyticOp.{AnalyticOp}
-use Rattle.vtl_nodes.specs.declared.calls.AnalyticOp.TheVariants as op
-use Rattle.vtl_nodes.specs.declared.calls.Bound as bounds
-use Rattle.vtl_nodes.specs.declared.calls.Bound.TheVariants as point
-use Rattle.vtl_nodes.specs.declared.calls.Frame as frames
-use Rattle.vtl_nodes.specs.declared.calls.OrderKey.{OrderKey}
-use Rattle.vtl_nodes.specs.declared.calls.Window as windows
-use Rattle.check_values.specs.Kinds.{given_kind}
+use Rattle.vtl_tree.specs.declared.calls.AnalyticOp.{AnalyticOp}
+use Rattle.vtl_tree.specs.declared.calls.AnalyticOp.TheVariants as op
+use Rattle.vtl_tree.specs.declared.calls.Bound as bounds
+use Rattle.vtl_tree.specs.declared.calls.Bound.TheVariants as point
+use Rattle.vtl_tree.specs.declared.calls.Frame as frames
+use Rattle.vtl_tree.specs.declared.calls.OrderKey.{OrderKey}
+use Rattle.vtl_tree.specs.declared.calls.Window as windows
+use Rattle.vtl_tree.specs.Kinds.{given_kind}
 use Rattle.sql_lexer.specs.Spelling.{IsDigits}
 use Rattle.sql_tree.specs.Formed.{IsBound, IsCall, IsColumn, IsDefault, IsMaybeFrame, IsWindow, IsWindowKey}
 use Rattle.sql_tree.specs.Trees.{Text}

@@ -25,12 +25,12 @@ use Rattle.vtl_tree.specs.DataSet.{is_point}
 use Rattle.vtl_tree.specs.Structure.{IsStructure, columns_of, key_width, same_name}
 use Rattle.vtl_tree.specs.declared.structure.Component.{Component}
 use Rattle.vtl_tree.specs.declared.structure.Structure.{Structure}
-use Rattle.check_shapes.specs.Names.{is_among}
-use Rattle.check_shapes.specs.Columns.{identifiers_of, place_of, places_in}
-use Rattle.vtl_aggregates.specs.Groups.{places_named}
-use Rattle.vtl_windows.specs.Windows.{identifier_places, key_in, keys_in, point_cmp}
-use Rattle.vtl_nodes.specs.declared.calls.OrderKey.{OrderKey}
-use Rattle.vtl_nodes.specs.declared.calls.Window.{Window}
+use Rattle.vtl_tree.specs.Names.{is_among}
+use Rattle.vtl_tree.specs.Columns.{identifiers_of, place_of, places_in}
+use Rattle.vtl_meaning.specs.Groups.{places_named}
+use Rattle.vtl_meaning.specs.Windows.{identifier_places, key_in, keys_in, point_cmp}
+use Rattle.vtl_tree.specs.declared.calls.OrderKey.{OrderKey}
+use Rattle.vtl_tree.specs.declared.calls.Window.{Window}
 use Rattle.sql_meaning.specs.Windows.{place_within, told_apart}
 use Rattle.check_laws.proofs.Lists as lists
 use Rattle.vtl_meaning.proofs.Places.{all_filtered, key_cells, key_within, same_name-is}

@@ -22,30 +22,30 @@ use Rattle.vtl_tree.specs.Structure.{IsStructure, columns_of, key_width, same_na
 use Rattle.vtl_tree.specs.Value.{value}
 use Rattle.vtl_tree.specs.declared.structure.Component.{Component}
 use Rattle.vtl_tree.specs.declared.structure.Structure.{Structure}
-use Rattle.check_shapes.specs.Measures.{is_measure}
-use Rattle.check_shapes.specs.Names.{component_of}
-use Rattle.vtl_windows.specs.Analytics.{analytic_of, item_named, made_of, measure_call, tree_value, value_for}
-use Rattle.vtl_windows.specs.Shapes.{IsMadeColumn, IsMadeOrStays, analyzed_components, default_in, given_of, taken, takes, tree_kind}
-use Rattle.check_shapes.specs.Columns.{identifiers_of, others_of, place_of}
+use Rattle.vtl_tree.specs.Measures.{is_measure}
+use Rattle.vtl_tree.specs.Names.{component_of}
+use Rattle.vtl_meaning.specs.Analytics.{analytic_of, item_named, made_of, measure_call, tree_value, value_for}
+use Rattle.vtl_meaning.specs.AnalyticShapes.{IsMadeColumn, IsMadeOrStays, analyzed_components, default_in, given_of, taken, takes, tree_kind}
+use Rattle.vtl_tree.specs.Columns.{identifiers_of, others_of, place_of}
 use Rattle.sql_check_parts.specs.Expressions.{site}
-use Rattle.check_values.specs.Kinds.{exp_kind, given_kind}
+use Rattle.vtl_tree.specs.Kinds.{exp_kind, given_kind}
 use Rattle.vtl_meaning.specs.Made.{AreValuesOver, IsTyped, IsValueOver, IsWindowOver, IsWindowed}
 use Rattle.rules_to_sql.specs.Names.{Names}
-use Rattle.vtl_windows.specs.Windows.{keys_in}
-use Rattle.vtl_windows.specs.Windows as points
+use Rattle.vtl_meaning.specs.Windows.{keys_in}
+use Rattle.vtl_meaning.specs.Windows as points
 use Rattle.vtl_meaning.specs.Points.{with_points}
 use Rattle.vtl_meaning.specs.Reaches.{AreNear, IsNear, IsNearValue, is_near_operator}
 use Rattle.sql_check_parts.specs.Scopes.{Scope, or_null}
 use Rattle.sql_meaning.specs.Scripts.{Data, base_of}
 use Rattle.sql_meaning.specs.Tables.{Base}
 use Rattle.rules_to_sql.specs.ToSql.{to_sql}
-use Rattle.vtl_nodes.specs.Trees as nodes
-use Rattle.vtl_nodes.specs.Trees.{AnalyticTree, ItemTree, ValueTree}
+use Rattle.vtl_tree.specs.Trees as nodes
+use Rattle.vtl_tree.specs.Trees.{AnalyticTree, ItemTree, ValueTree}
 use Rattle.sql_meaning.specs.Values.{at_rows}
 use Rattle.sql_meaning.specs.Windows.{keys_of, told_apart}
-use Rattle.vtl_nodes.specs.declared.calls.AnalyticCall.{AnalyticCall}
-use Rattle.vtl_nodes.specs.declared.calls.AnalyticOp.{AnalyticOp}
-use Rattle.vtl_nodes.specs.declared.calls.AnalyticOp.TheVariants as op
+use Rattle.vtl_tree.specs.declared.calls.AnalyticCall.{AnalyticCall}
+use Rattle.vtl_tree.specs.declared.calls.AnalyticOp.{AnalyticOp}
+use Rattle.vtl_tree.specs.declared.calls.AnalyticOp.TheVariants as op
 use Rattle.check_laws.proofs.Columns.{at-place, in-columns, of-columns}
 use Rattle.check_laws.proofs.Lists as lists
 use Rattle.vtl_meaning.proofs.OwnColumns.{columns_apart}

@@ -7,11 +7,11 @@ use Rattle.vtl_tree.specs.CompExp.{CompExp, aggregate, const}
 use Rattle.vtl_tree.specs.Structure.{columns_of}
 use Rattle.vtl_tree.specs.declared.structure.Component.{Component}
 use Rattle.vtl_tree.specs.declared.structure.Structure.{Structure}
-use Rattle.vtl_aggregates.specs.Aggregates.{call_for}
-use Rattle.check_shapes.specs.Columns.{columns_named, identifiers_of, others_of}
+use Rattle.vtl_meaning.specs.Aggregates.{call_for}
+use Rattle.vtl_tree.specs.Columns.{columns_named, identifiers_of, others_of}
 use Rattle.rules_to_sql.specs.ToSql.{group_columns, to_sql}
-use Rattle.vtl_nodes.specs.Trees.{AggTree}
-use Rattle.vtl_nodes.specs.declared.specifications.AggItems.{AggItems}
+use Rattle.vtl_tree.specs.Trees.{AggTree}
+use Rattle.vtl_tree.specs.declared.specifications.AggItems.{AggItems}
 use Rattle.sql_tree.specs.Trees.{Text, Exp, QueryTree, branch, case_when, constant, no_branches}
 use Rattle.sql_tree.specs.declared.parts.Constant.TheVariants as constants
 use Rattle.vtl_to_sql.specs.Queries.{all_to_sql, condition_for, first_alias, items_as, of_one, source_as}

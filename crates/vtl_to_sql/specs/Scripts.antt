@@ -6,9 +6,9 @@ use Rattle.vtl_tree.specs.Structure.{columns_of, names_of}
 use Rattle.vtl_tree.specs.Structures.{Named}
 use Rattle.vtl_tree.specs.declared.structure.Component.{Component}
 use Rattle.vtl_tree.specs.declared.structure.Structure.{Structure}
-use Rattle.check_shapes.specs.Columns.{identifiers_of}
+use Rattle.vtl_tree.specs.Columns.{identifiers_of}
 use Rattle.vtl_meaning.specs.Meaning.{Statement}
-use Rattle.vtl_nodes.specs.Trees.{structure_of}
+use Rattle.vtl_tree.specs.Trees.{structure_of}
 use Rattle.sql_tree.specs.Trees.{ScriptTree, StatementTree, create, export, input, setting}
 use Rattle.sql_tree.specs.declared.statements.InputColumn.{InputColumn}
 use Rattle.sql_tree.specs.declared.statements.SqlExport.{SqlExport}

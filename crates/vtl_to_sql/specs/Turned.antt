@@ -6,7 +6,7 @@ use Rattle.vtl_cell.specs.declared.operator.ScalarOp.TheVariants as op
 use Rattle.vtl_tree.specs.Structure.{columns_of, names_of}
 use Rattle.vtl_tree.specs.declared.structure.Component.{Component}
 use Rattle.vtl_tree.specs.declared.structure.Structure.{Structure}
-use Rattle.check_shapes.specs.Columns.{columns_named, identifiers_of, measures_of}
+use Rattle.vtl_tree.specs.Columns.{columns_named, identifiers_of, measures_of}
 use Rattle.vtl_meaning.specs.Turned.{codes_of, other_identifiers}
 use Rattle.sql_tree.specs.Trees.{Text, Exp, ItemTree, QueryTree, SelectTree, aggregate, binary, branch, case_when, column, constant, is_null, no_branches}
 use Rattle.sql_tree.specs.declared.parts.Column.{Column}

@@ -9,23 +9,23 @@ use Rattle.vtl_cell.specs.declared.operator.AggKind.TheVariants as agg
 use Rattle.vtl_tree.specs.Structure.{columns_of}
 use Rattle.vtl_tree.specs.declared.structure.Component.{Component}
 use Rattle.vtl_tree.specs.declared.structure.Structure.{Structure}
-use Rattle.check_shapes.specs.Names.{is_among}
-use Rattle.vtl_windows.specs.Analytics.{value_for}
-use Rattle.check_shapes.specs.Columns.{identifiers_of}
+use Rattle.vtl_tree.specs.Names.{is_among}
+use Rattle.vtl_meaning.specs.Analytics.{value_for}
+use Rattle.vtl_tree.specs.Columns.{identifiers_of}
 use Rattle.rules_to_sql.specs.Constants.{literal_to_sql}
 use Rattle.vtl_meaning.specs.Made.{is_ordered}
-use Rattle.vtl_windows.specs.Windows.{frame_in}
+use Rattle.vtl_meaning.specs.Windows.{frame_in}
 use Rattle.rules_to_sql.specs.ToSql.{column_of, group_columns, to_sql}
-use Rattle.vtl_nodes.specs.Trees as nodes
-use Rattle.vtl_nodes.specs.Trees.{AnalyticTree, ValueTree}
-use Rattle.vtl_nodes.specs.declared.calls.AnalyticCall.{AnalyticCall}
-use Rattle.vtl_nodes.specs.declared.calls.AnalyticOp.{AnalyticOp}
-use Rattle.vtl_nodes.specs.declared.calls.AnalyticOp.TheVariants as op
-use Rattle.vtl_nodes.specs.declared.calls.Bound as points
-use Rattle.vtl_nodes.specs.declared.calls.Bound.TheVariants as point
-use Rattle.vtl_nodes.specs.declared.calls.Frame as frames
-use Rattle.vtl_nodes.specs.declared.calls.OrderKey.{OrderKey}
-use Rattle.vtl_nodes.specs.declared.calls.Window as windows
+use Rattle.vtl_tree.specs.Trees as nodes
+use Rattle.vtl_tree.specs.Trees.{AnalyticTree, ValueTree}
+use Rattle.vtl_tree.specs.declared.calls.AnalyticCall.{AnalyticCall}
+use Rattle.vtl_tree.specs.declared.calls.AnalyticOp.{AnalyticOp}
+use Rattle.vtl_tree.specs.declared.calls.AnalyticOp.TheVariants as op
+use Rattle.vtl_tree.specs.declared.calls.Bound as points
+use Rattle.vtl_tree.specs.declared.calls.Bound.TheVariants as point
+use Rattle.vtl_tree.specs.declared.calls.Frame as frames
+use Rattle.vtl_tree.specs.declared.calls.OrderKey.{OrderKey}
+use Rattle.vtl_tree.specs.declared.calls.Window as windows
 use Rattle.sql_tree.specs.Trees.{Text, ItemTree, QueryTree, expression, window}
 use Rattle.sql_tree.specs.Trees as sql
 use Rattle.sql_tree.specs.declared.parts.Column.{Column}

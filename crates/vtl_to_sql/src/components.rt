@@ -3,7 +3,7 @@ ghost use Rattle.std.specs.Prelude.{◌≡◌, IfOk};
 ghost use Rattle.vtl_tree.specs.Shown.{shown};
 ghost use Rattle.vtl_tree.specs.Structure.{same_role};
 ghost use Rattle.vtl_tree.specs.declared.structure.Role.TheVariants as role;
-ghost use Rattle.check_shapes.specs.Columns.{measures_of};
+ghost use Rattle.vtl_tree.specs.Columns.{measures_of};
 
 use std::alloc::{AllocError, Global};
 use vtl_tree::{Component, Role, Structure};

@@ -4,20 +4,18 @@ ghost use Rattle.sql_tree.specs.Trees.{binary, branch, case_when, constant, no_b
 ghost use Rattle.sql_tree.specs.View.{expr_tree};
 ghost use Rattle.vtl_tree.specs.Shown.{shown};
 ghost use Rattle.vtl_tree.specs.Structure.{columns_of, key_width};
-ghost use Rattle.check_shapes.specs.Columns.{measures_of};
+ghost use Rattle.vtl_tree.specs.Columns.{measures_of};
 ghost use Rattle.vtl_to_sql.specs.Items.{all_of, value_equality};
 ghost use Rattle.vtl_to_sql.specs.PairItems.{agreement_on, chosen, not_chosen};
 ghost use Rattle.vtl_to_sql.specs.Queries.{name_of_first};
 
 use crate::components::measures;
 use crate::writer::Writer;
-use check_shapes::place_of;
 use sql_tree::{Branch, Constant, SqlExpr};
 use std::alloc::{AllocError, Global};
 use vtl_cell::ScalarOp;
-use vtl_nodes::SubItem;
 use vtl_text::Txt;
-use vtl_tree::{Component, Structure};
+use vtl_tree::{Component, Structure, SubItem, place_of};
 
 /// An operator between two operands. It fails only if memory runs out.
 pub(crate) fn between(

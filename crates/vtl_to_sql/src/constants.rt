@@ -5,7 +5,7 @@ ghost use Rattle.std.specs.Option.{IfSome, option_map};
 ghost use Rattle.std.specs.Prelude.{◌≡◌, map};
 ghost use Rattle.vtl_cell.specs.Held.{IsHeld};
 ghost use Rattle.vtl_tree.specs.View.{comp_exp_of};
-ghost use Rattle.vtl_nodes.specs.View.{analytic_tree, node_tree, value_tree};
+ghost use Rattle.vtl_tree.specs.NodeView.{analytic_tree, node_tree, value_tree};
 ghost use Rattle.vtl_meaning.specs.Operators.{value_exp};
 ghost use Rattle.vtl_check.specs.Checked.{nodes_of};
 ghost use Rattle.rules_to_sql.specs.Held.{HoldsValues};
@@ -15,10 +15,9 @@ use std::alloc::Global;
 use vtl_cell::{Cell, write_cell};
 use vtl_check::Checked;
 use vtl_decimal::Profile;
-use vtl_nodes::{
-    AnalyticOp, AnalyticSpec, CalcItem, CalcValue, JoinOperand, Node, NodeForm, SubItem,
+use vtl_tree::{
+    AnalyticOp, AnalyticSpec, CalcItem, CalcValue, CompExpr, JoinOperand, Node, NodeForm, SubItem,
 };
-use vtl_tree::CompExpr;
 
 // A value is one that a program holds, whether or not there is memory to write it.
 fn cell_is_held(alloc: Global, cell: &Cell, p: &Profile)

@@ -1,7 +1,7 @@
 // The query of each form of one operand, of two and of three, over the tables of its operands.
 ghost use Rattle.std.specs.Prelude.{◌≡◌, IfOk};
-ghost use Rattle.vtl_nodes.specs.Trees.{structure_of};
-ghost use Rattle.vtl_nodes.specs.View.{form_tree, node_tree};
+ghost use Rattle.vtl_tree.specs.Trees.{structure_of};
+ghost use Rattle.vtl_tree.specs.NodeView.{form_tree, node_tree};
 ghost use Rattle.sql_tree.specs.View.{query_tree};
 ghost use Rattle.vtl_to_sql.specs.FormQueries.{query_of_one, query_of_three, query_of_two};
 
@@ -19,9 +19,8 @@ use crate::windowed_queries::analytic_query;
 use crate::writer::Writer;
 use sql_tree::Query;
 use std::alloc::{AllocError, Global};
-use vtl_nodes::{Node, NodeForm};
 use vtl_text::Txt;
-use vtl_tree::Structure;
+use vtl_tree::{Node, NodeForm, Structure};
 
 // An operand with the table that stands for it.
 fn operand<'a>(node: &'a Node, table: &'a Txt) -> Operand<'a>

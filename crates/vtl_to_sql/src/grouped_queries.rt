@@ -4,8 +4,8 @@ ghost use Rattle.std.specs.Option.{option_copied, option_map};
 ghost use Rattle.vtl_tree.specs.Structure.{columns_of};
 ghost use Rattle.vtl_tree.specs.View.{comp_exp_of};
 ghost use Rattle.vtl_tree.specs.declared.structure.Structure.{Structure as StructureOf};
-ghost use Rattle.vtl_nodes.specs.View.{agg_tree};
-ghost use Rattle.vtl_aggregates.specs.Aggregates.{measure_call, target_named};
+ghost use Rattle.vtl_tree.specs.NodeView.{agg_tree};
+ghost use Rattle.vtl_meaning.specs.Aggregates.{measure_call, target_named};
 ghost use Rattle.rules_to_sql.specs.ToSql.{aggregate_to_sql};
 ghost use Rattle.sql_tree.specs.View.{expr_tree, item_tree, query_tree};
 ghost use Rattle.vtl_to_sql.specs.Grouped.{aggregate_query, kept_where, where_rows};
@@ -20,9 +20,8 @@ use crate::writer::Writer;
 use sql_tree::{Constant, Item, Query, SqlExpr};
 use std::alloc::{AllocError, Global};
 use vtl_cell::AggKind;
-use vtl_nodes::{AggItems, AggSpec, AggTarget};
 use vtl_text::Txt;
-use vtl_tree::{CompExpr, Component, Role, Structure, is_same_role};
+use vtl_tree::{AggItems, AggSpec, AggTarget, CompExpr, Component, Role, Structure, is_same_role};
 
 // An aggregate of a component, or how many rows there are.
 fn of_component(

@@ -4,9 +4,9 @@ ghost use Rattle.std.specs.Option.{option_map};
 ghost use Rattle.vtl_tree.specs.Shown.{shown};
 ghost use Rattle.vtl_tree.specs.Structure.{columns_of};
 ghost use Rattle.vtl_tree.specs.View.{comp_exp_of};
-ghost use Rattle.check_shapes.specs.Columns.{identifiers_of, measures_of};
+ghost use Rattle.vtl_tree.specs.Columns.{identifiers_of, measures_of};
 ghost use Rattle.vtl_meaning.specs.Operators.{target_named, value_exp, with_measure};
-ghost use Rattle.vtl_nodes.specs.View.{item_tree as target_tree, measure_tree, value_tree};
+ghost use Rattle.vtl_tree.specs.NodeView.{item_tree as target_tree, measure_tree, value_tree};
 ghost use Rattle.sql_tree.specs.View.{expr_tree, item_tree};
 ghost use Rattle.rules_to_sql.specs.ToSql.{to_sql};
 ghost use Rattle.vtl_to_sql.specs.Items.{calculated_item, for_each_two, measured_item, renamed_item};
@@ -15,12 +15,12 @@ ghost use Rattle.vtl_to_sql.specs.Queries.{item_as, of_one};
 
 use crate::components::measures;
 use crate::writer::Writer;
-use check_shapes::{copied, push_column};
 use sql_tree::{Constant, Item, ItemValue, SqlExpr};
 use std::alloc::{AllocError, Global};
-use vtl_nodes::{CalcItem, CalcValue, MeasureOp};
 use vtl_text::Txt;
-use vtl_tree::{CompExpr, Component, Structure};
+use vtl_tree::{
+    CalcItem, CalcValue, CompExpr, Component, MeasureOp, Structure, copied, push_column,
+};
 
 /// Adds an item. It fails only if memory runs out.
 pub(crate) fn push_item(items: &mut Vec<Item>, value: SqlExpr, name: &Txt) -> Result<(), AllocError>

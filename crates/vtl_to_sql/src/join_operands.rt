@@ -2,17 +2,16 @@
 ghost use Rattle.std.specs.Prelude.{◌≡◌, ◌<◌, IfOk, filter, length, map};
 ghost use Rattle.vtl_tree.specs.Shown.{shown};
 ghost use Rattle.vtl_tree.specs.Structure.{names_of, of_role};
-ghost use Rattle.check_shapes.specs.Names.{is_among};
+ghost use Rattle.vtl_tree.specs.Names.{is_among};
 ghost use Rattle.vtl_meaning.specs.Agreement.{common_identifiers};
 ghost use Rattle.vtl_meaning.specs.Joined.{contains_all, reference_place};
 ghost use Rattle.vtl_to_sql.specs.JoinItems.{aliased_around, aliased_of, number_around};
 
 use crate::writer::Writer;
-use check_shapes::contains;
 use std::alloc::{AllocError, Global};
 use vtl_syntax::JoinKind;
 use vtl_text::Txt;
-use vtl_tree::{Component, Role, Structure, is_same_role};
+use vtl_tree::{Component, Role, Structure, contains, is_same_role};
 
 /// An operand of a join.
 #[derive(Drop)]

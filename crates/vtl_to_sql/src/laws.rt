@@ -8,7 +8,7 @@ ghost use Rattle.vtl_syntax.specs.Written.{AreWritten};
 ghost use Rattle.vtl_tree.specs.Structures.{AreStructures, Named, is_declarable};
 ghost use Rattle.vtl_tree.specs.declared.structure.Structure.{Structure};
 ghost use Rattle.vtl_meaning.specs.Meaning.{AreDataSets, Statement, is_built, known_in, meaning};
-ghost use Rattle.vtl_nodes.specs.Trees.{NodeTree};
+ghost use Rattle.vtl_tree.specs.Trees.{NodeTree};
 ghost use Rattle.vtl_check.specs.Checked.{IsTyped, TypedScript, nodes_of, tree_of};
 ghost use Rattle.vtl_check.specs.Uses.{reads};
 ghost use Rattle.vtl_backend.specs.Statements.{statements_of};

@@ -4,7 +4,7 @@ ghost use Rattle.vtl_tree.specs.Shown.{shown};
 ghost use Rattle.vtl_tree.specs.CompExp.{column};
 ghost use Rattle.vtl_tree.specs.View.{comp_exp_of};
 ghost use Rattle.vtl_cell.specs.declared.kind.Kind.TheVariants as k;
-ghost use Rattle.check_shapes.specs.Columns.{identifiers_of, measures_of};
+ghost use Rattle.vtl_tree.specs.Columns.{identifiers_of, measures_of};
 ghost use Rattle.sql_tree.specs.View.{expr_tree, item_tree};
 ghost use Rattle.vtl_to_sql.specs.Items.{for_each_two};
 ghost use Rattle.vtl_to_sql.specs.PairItems.{between_places, lead_item, namesake, namesake_item, second_item};
@@ -12,12 +12,11 @@ ghost use Rattle.vtl_to_sql.specs.PairItems.{between_places, lead_item, namesake
 use crate::components::measures;
 use crate::items::push_item;
 use crate::writer::Writer;
-use check_shapes::place_of;
 use sql_tree::{Item, SqlExpr};
 use std::alloc::{AllocError, Global};
 use vtl_cell::{Kind, ScalarOp};
 use vtl_text::Txt;
-use vtl_tree::{CompExpr, Component, Structure};
+use vtl_tree::{CompExpr, Component, Structure, place_of};
 
 // A column at a place. What kind its values have does not show in SQL.
 fn column_at(place: usize, name: &Txt) -> Result<CompExpr, AllocError>

@@ -2,7 +2,7 @@
 ghost use Rattle.std.specs.Prelude.{◌≡◌, ◌∷◌, [], map, IfOk};
 ghost use Rattle.std.specs.Option.{option_map};
 ghost use Rattle.vtl_tree.specs.Shown.{shown};
-ghost use Rattle.check_shapes.specs.Columns.{identifiers_of};
+ghost use Rattle.vtl_tree.specs.Columns.{identifiers_of};
 ghost use Rattle.sql_tree.specs.View.{expr_tree, item_tree, join_tree, query_tree, select_tree};
 ghost use Rattle.sql_tree.specs.Trees.{on};
 ghost use Rattle.sql_tree.specs.declared.word_groups.JoinKind.TheVariants as joining;
@@ -14,12 +14,11 @@ use crate::conditions::{agreement, chosen, not_chosen};
 use crate::pair_items::{Namesakes, chosen_items, paired_items};
 use crate::queries::{one_select, two_selects};
 use crate::writer::Writer;
-use check_shapes::contains;
 use sql_tree::{Item, Join, JoinKind, Query, Select, SqlExpr};
 use std::alloc::{AllocError, Global};
 use vtl_cell::ScalarOp;
 use vtl_text::{List, Txt};
-use vtl_tree::{Component, Structure};
+use vtl_tree::{Component, Structure, contains};
 
 /// An operand: its structure, and the table that stands for it.
 #[derive(Drop)]

@@ -15,13 +15,12 @@ use crate::named_items::{push_next, push_own};
 use crate::queries::one_select;
 use crate::unpivot_queries::text_constant;
 use crate::writer::Writer;
-use check_shapes::{Choice, component_of, is_chosen};
 use sql_tree::{Constant, Item, Query, Select, SqlExpr};
 use std::alloc::{AllocError, Global};
 use std::slice;
 use vtl_cell::{AggKind, ScalarOp};
 use vtl_text::Txt;
-use vtl_tree::{Component, Structure};
+use vtl_tree::{Choice, Component, Structure, component_of, is_chosen};
 
 // The identifiers but one.
 fn other_identifiers<'a>(

@@ -3,7 +3,7 @@ ghost use Rattle.std.specs.Prelude.{◌≡◌, ◌∷◌, [], map, IfOk};
 ghost use Rattle.std.specs.Option.{option_map};
 ghost use Rattle.vtl_tree.specs.View.{comp_exp_of};
 ghost use Rattle.vtl_tree.specs.declared.structure.Structure.{Structure as StructureOf};
-ghost use Rattle.vtl_nodes.specs.View.{item_tree as target_tree, measure_tree};
+ghost use Rattle.vtl_tree.specs.NodeView.{item_tree as target_tree, measure_tree};
 ghost use Rattle.sql_tree.specs.View.{expr_tree, item_tree, query_tree, select_tree};
 ghost use Rattle.vtl_to_sql.specs.Items.{from_one, from_table};
 ghost use Rattle.vtl_to_sql.specs.Queries.{calc_query, filter_query, left_query, measures_query, rename_query, sub_query};
@@ -13,9 +13,8 @@ use crate::items::{calculated_items, measured_items, renamed_items};
 use crate::writer::Writer;
 use sql_tree::{Item, Query, Select, SqlExpr};
 use std::alloc::{AllocError, Global};
-use vtl_nodes::{CalcItem, MeasureOp, SubItem};
 use vtl_text::{List, Txt};
-use vtl_tree::{CompExpr, Structure};
+use vtl_tree::{CalcItem, CompExpr, MeasureOp, Structure, SubItem};
 
 /// A select from one table. It fails only if memory runs out.
 pub(crate) fn from_one(

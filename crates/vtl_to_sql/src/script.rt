@@ -2,7 +2,7 @@
 ghost use Rattle.std.specs.Fmt.{decimal};
 ghost use Rattle.std.specs.Prelude.{◌≡◌, ◌≤◌, ◌++◌, ◌∷◌, [], map, length, IfOk, OnOk, true};
 ghost use Rattle.vtl_syntax.specs.View.{statement_tree as vtl_statement_tree};
-ghost use Rattle.vtl_nodes.specs.View.{node_tree};
+ghost use Rattle.vtl_tree.specs.NodeView.{node_tree};
 ghost use Rattle.vtl_backend.specs.Inputs.{inputs_of};
 ghost use Rattle.vtl_check.specs.Checked.{nodes_of};
 ghost use Rattle.vtl_backend.specs.Statements.{is_script_built, statements_of, with_nodes};
@@ -23,10 +23,9 @@ use sql_tree::{SqlExport, SqlScript, Statement};
 use std::alloc::{AllocError, Global};
 use vtl_check::Checked;
 use vtl_decimal::Profile;
-use vtl_nodes::Node;
 use vtl_syntax::{AssignKind, Statement as Assigned};
 use vtl_text::{List, Txt};
-use vtl_tree::Structure;
+use vtl_tree::{Node, Structure};
 
 // Adds the tables of a statement, of which the last one has the name of its result.
 fn push_result(

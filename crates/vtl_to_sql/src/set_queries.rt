@@ -4,7 +4,7 @@ ghost use Rattle.std.specs.Option.{option_map};
 ghost use Rattle.vtl_tree.specs.Shown.{shown};
 ghost use Rattle.vtl_tree.specs.Structure.{names_of};
 ghost use Rattle.vtl_tree.specs.declared.structure.Structure.{Structure as StructureOf};
-ghost use Rattle.check_shapes.specs.Names.{is_among};
+ghost use Rattle.vtl_tree.specs.Names.{is_among};
 ghost use Rattle.vtl_meaning.specs.Agreement.{common_identifiers};
 ghost use Rattle.sql_tree.specs.View.{expr_tree, query_tree, select_tree};
 ghost use Rattle.vtl_to_sql.specs.Combined.{combined_query};

@@ -1,11 +1,11 @@
 // The tables of an expression on data sets.
 ghost use Rattle.std.specs.Prelude.{◌≡◌, ◌++◌, ◌∷◌, [], length, map, true, IfOk, OnOk};
-ghost use Rattle.vtl_nodes.specs.View.{form_tree, node_tree, operand_tree};
+ghost use Rattle.vtl_tree.specs.NodeView.{form_tree, node_tree, operand_tree};
 ghost use Rattle.sql_tree.specs.View.{query_tree, statement_tree};
 ghost use Rattle.vtl_to_sql.specs.Scripts.{create_for};
-ghost use Rattle.vtl_nodes.specs.Trees.{join, nodes_of, operands_of};
+ghost use Rattle.vtl_tree.specs.Trees.{join, nodes_of, operands_of};
 ghost use Rattle.vtl_tree.specs.Shown.{shown};
-ghost use Rattle.check_joins.specs.Joins.{structures_of};
+ghost use Rattle.vtl_tree.specs.Joins.{structures_of};
 ghost use Rattle.vtl_meaning.specs.Made.{operands_in};
 ghost use Rattle.vtl_to_sql.specs.Combined.{combined_made};
 ghost use Rattle.vtl_to_sql.specs.Tables.{made_of_form, operands_of as joined_sources, sources_of};
@@ -20,9 +20,8 @@ use crate::set_queries::set_query;
 use crate::writer::Writer;
 use sql_tree::Query;
 use std::alloc::{AllocError, Global};
-use vtl_nodes::{JoinOperand, JoinSpec, Node, NodeForm};
 use vtl_text::Txt;
-use vtl_tree::Structure;
+use vtl_tree::{JoinOperand, JoinSpec, Node, NodeForm, Structure};
 
 /// The name of a table that stands for an operand, for which tables are made first where it is more than a name.
 #[cycle(made)]

@@ -1,7 +1,7 @@
 // The query of analytic operators: a window for each call.
 ghost use Rattle.std.specs.Prelude.{◌≡◌, map, IfOk};
 ghost use Rattle.vtl_tree.specs.Structure.{columns_of};
-ghost use Rattle.vtl_nodes.specs.View.{analytic_tree, value_tree as made_tree};
+ghost use Rattle.vtl_tree.specs.NodeView.{analytic_tree, value_tree as made_tree};
 ghost use Rattle.sql_tree.specs.Trees.{column, expression, window};
 ghost use Rattle.sql_tree.specs.View.{item_tree, query_tree, value_tree};
 ghost use Rattle.rules_to_sql.specs.ToSql.{column_of};
@@ -15,9 +15,8 @@ use crate::windows::{argument, window};
 use crate::writer::Writer;
 use sql_tree::{Item, ItemValue, Query};
 use std::alloc::{AllocError, Global};
-use vtl_nodes::{AnalyticCall, AnalyticSpec, CalcValue};
 use vtl_text::Txt;
-use vtl_tree::{Component, Role, Structure, is_same_role};
+use vtl_tree::{AnalyticCall, AnalyticSpec, CalcValue, Component, Role, Structure, is_same_role};
 
 // The window of a call.
 fn call_window(

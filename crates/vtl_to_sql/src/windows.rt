@@ -2,8 +2,8 @@
 ghost use Rattle.std.specs.Fmt.{decimal};
 ghost use Rattle.std.specs.Prelude.{◌≡◌, ◌++◌, map, IfOk, OnOk};
 ghost use Rattle.vtl_tree.specs.Shown.{shown};
-ghost use Rattle.check_shapes.specs.Names.{is_among};
-ghost use Rattle.vtl_windows.specs.Windows.{default_frame, frame_in};
+ghost use Rattle.vtl_tree.specs.Names.{is_among};
+ghost use Rattle.vtl_meaning.specs.Windows.{default_frame, frame_in};
 ghost use Rattle.sql_tree.specs.declared.windows.Bound.TheVariants as bound;
 ghost use Rattle.sql_tree.specs.declared.windows.WindowCall.TheVariants as call;
 ghost use Rattle.vtl_to_sql.specs.Windowed.{argument_of, bound_to_sql, call_to_sql, default_to_sql, direction_of, frame_to_sql, framed_to_sql, is_listed, key_names, key_to_sql, order_to_sql, over_to_sql, rising_key, sees_order};
@@ -11,16 +11,17 @@ ghost use Rattle.vtl_to_sql.specs.WindowItems.{unlisted_keys, window_of};
 
 use crate::groups::group_columns;
 use crate::writer::Writer;
-use check_shapes::is_among;
 use sql_tree::{
     Bound, Column, Direction, Frame, Literal, Over, ShiftFunction, Side, ValueFunction, Window,
     WindowCall, WindowKey,
 };
 use std::alloc::{AllocError, Global};
 use vtl_cell::{AggKind, Cell};
-use vtl_nodes::{AnalyticOp, Bound as Place, Frame as Part, OrderKey, Window as Seen};
 use vtl_text::{List, Txt};
-use vtl_tree::{Component, Structure};
+use vtl_tree::{
+    AnalyticOp, Bound as Place, Component, Frame as Part, OrderKey, Structure, Window as Seen,
+    is_among,
+};
 
 // The digits of a count of rows.
 fn count_digits(alloc: Global, count: u32) -> Result<Txt, AllocError>

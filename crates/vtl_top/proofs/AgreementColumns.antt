@@ -13,7 +13,7 @@ use Rattle.vtl_tree.specs.declared.structure.Component.{Component}
 use Rattle.vtl_tree.specs.declared.structure.Role.{Role}
 use Rattle.vtl_tree.specs.declared.structure.Role.TheVariants as role
 use Rattle.vtl_tree.specs.declared.structure.Structure.{Structure}
-use Rattle.check_shapes.specs.Columns.{identifiers_of, others_of}
+use Rattle.vtl_tree.specs.Columns.{identifiers_of, others_of}
 use Rattle.vtl_meaning.proofs.OwnColumns.{columns_apart}
 use Rattle.vtl_meaning.proofs.Places.{IsIdentifier, IsOther, all_append, all_map, all_more, all_of_map, are_identifiers, are_others, columns_split}
 use Rattle.vtl_meaning.proofs.SetsFolds.{filter_once}

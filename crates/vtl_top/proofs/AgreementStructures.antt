@@ -19,7 +19,7 @@ use Rattle.check_operators.specs.declared.places.Place.TheVariants as place
 use Rattle.vtl_check.specs.Script.{assigned, is_too_much, script_typed, transformations_typed, value_typed, with_result}
 use Rattle.vtl_meaning.specs.Shapes.{IsShaped}
 use Rattle.vtl_check.specs.Transformations.{Transformation, transformations}
-use Rattle.vtl_nodes.specs.Trees.{NodeTree, structure_of}
+use Rattle.vtl_tree.specs.Trees.{NodeTree, structure_of}
 use Rattle.check_operators.specs.Typed.{dataset_in}
 use Rattle.check_expressions.specs.Typing.{typed}
 use Rattle.check_laws.specs.WellTyped.{AreShaped, IsWellTyped}

@@ -8,7 +8,7 @@ use Rattle.vtl_decimal.specs.Settings.{Settings}
 use Rattle.vtl_syntax.specs.Trees.{ScriptTree}
 use Rattle.vtl_tree.specs.Environment.{DataSet, Environment}
 use Rattle.vtl_tree.specs.Structures.{Named}
-use Rattle.vtl_nodes.specs.Trees.{NodeTree}
+use Rattle.vtl_tree.specs.Trees.{NodeTree}
 use Rattle.vtl_meaning.specs.Meaning.{Outputs, Statement, is_built, meaning}
 use Rattle.vtl_backend.specs.Statements.{with_nodes}
 use Rattle.vtl_check.specs.Transformations.{transformations}

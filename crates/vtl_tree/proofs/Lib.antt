@@ -1,3 +1,6 @@
+pub mod ColumnPlaces
+pub mod CountLemmas
 pub mod Faults
 pub mod LookUps
 pub mod StructuresLemmas
+pub mod Twins

@@ -1,5 +1,5 @@
 -- Structures, and the order of their columns.
-use Rattle.std.specs.Prelude.{ℕ, ◌≡◌, ◌≤◌, Bool, true, false, List, ◌++◌, map, length, filter, nat_eq}
+use Rattle.std.specs.Prelude.{ℕ, ◌≡◌, ◌≤◌, Bool, true, false, List, ◌++◌, map, length, filter}
 use Rattle.vtl_lists.specs.Apart.{all_apart}
 use Rattle.vtl_text.specs.Texts.{same_text}
 use Rattle.vtl_tree.specs.declared.structure.Role.{Role}

@@ -16,10 +16,10 @@ use Rattle.vtl_tree.specs.Shown.{shown}
 use Rattle.vtl_tree.specs.Structure.{columns_of}
 use Rattle.vtl_tree.specs.declared.structure.Component.{Component}
 use Rattle.vtl_tree.proofs.Faults.{faults_by-append, join_assoc, join_none}
-use Rattle.vtl_aggregates.specs.Aggregates.{Made, cell_or_null}
-use Rattle.vtl_windows.specs.Analytics.{made_of, point_of, tree_value, value_for}
-use Rattle.check_shapes.specs.Columns.{place_of}
-use Rattle.vtl_nodes.specs.Trees.{AnalyticTree, ValueTree}
+use Rattle.vtl_meaning.specs.Aggregates.{Made, cell_or_null}
+use Rattle.vtl_meaning.specs.Analytics.{made_of, point_of, tree_value, value_for}
+use Rattle.vtl_tree.specs.Columns.{place_of}
+use Rattle.vtl_tree.specs.Trees.{AnalyticTree, ValueTree}
 use Rattle.vtl_group.proofs.GroupWalks.{cells_more, seen_more}
 use Rattle.vtl_window.specs.Analyses.{cells_by, cells_in, faults_of, made_cells, made_faults}
 use Rattle.vtl_window.proofs.PartitionLemmas.{listed}

@@ -12,17 +12,17 @@ use Rattle.vtl_decimal.specs.Settings.{Settings}
 use Rattle.vtl_cell.specs.declared.cell.Cell.{Cell}
 use Rattle.vtl_cell.specs.declared.cell.Cell.TheVariants as c
 use Rattle.vtl_cell.specs.declared.Txt.{Txt}
-use Rattle.check_shapes.specs.Columns.{place_of}
+use Rattle.vtl_tree.specs.Columns.{place_of}
 use Rattle.vtl_frames.specs.Framed as frames
 use Rattle.vtl_frames.specs.Framed.{at_each}
 use Rattle.vtl_rows.specs.Places.{row_at}
 use Rattle.vtl_tree.specs.declared.structure.Component.{Component}
-use Rattle.vtl_nodes.specs.declared.calls.AnalyticCall.{AnalyticCall}
-use Rattle.vtl_nodes.specs.declared.calls.AnalyticOp.{AnalyticOp}
-use Rattle.vtl_nodes.specs.declared.calls.Bound.{Bound}
-use Rattle.vtl_nodes.specs.declared.calls.Bound.TheVariants as bound
-use Rattle.vtl_nodes.specs.declared.calls.Window.{Window}
-use Rattle.vtl_windows.specs.Windows.{argument, bound_of, frame_in, framed, op_value}
+use Rattle.vtl_tree.specs.declared.calls.AnalyticCall.{AnalyticCall}
+use Rattle.vtl_tree.specs.declared.calls.AnalyticOp.{AnalyticOp}
+use Rattle.vtl_tree.specs.declared.calls.Bound.{Bound}
+use Rattle.vtl_tree.specs.declared.calls.Bound.TheVariants as bound
+use Rattle.vtl_tree.specs.declared.calls.Window.{Window}
+use Rattle.vtl_meaning.specs.Windows.{argument, bound_of, frame_in, framed, op_value}
 use Rattle.vtl_window.specs.Frames.{bound_in, taken_frame}
 use Rattle.vtl_window.specs.Runs.{lane_cells, run_values, stand_at, value_at}
 

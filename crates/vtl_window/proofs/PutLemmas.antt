@@ -14,7 +14,7 @@ use Rattle.vtl_cell.specs.declared.cell.Cell.{Cell}
 use Rattle.vtl_cell.specs.declared.cell.Cell.TheVariants as c
 use Rattle.vtl_lists.proofs.Perms.{AllByRecursion-Perm, Perm-from_IsPermutation, Perm-sym, length-Perm}
 use Rattle.vtl_tree.proofs.Faults.{faults_by-Perm, join_assoc}
-use Rattle.vtl_aggregates.specs.Aggregates.{cell_or_null}
+use Rattle.vtl_meaning.specs.Aggregates.{cell_or_null}
 use Rattle.vtl_window.specs.Analyses.{cells_by, faults_of}
 
 pub all_get : {X : Type 0} (P : X → Type 0) (xs : List X) (k : ℕ) (d : X) → k < length xs → AllByRecursion P xs → P (get_or xs k d)

@@ -9,16 +9,16 @@ use Rattle.vtl_rows.specs.declared.column.SortKey.{SortKey}
 use Rattle.vtl_tree.specs.Structure.{columns_of, same_name}
 use Rattle.vtl_tree.specs.declared.structure.Component.{Component}
 use Rattle.vtl_tree.specs.declared.structure.Structure.{Structure}
-use Rattle.check_shapes.specs.Columns.{identifiers_of, others_of, place_of, places_in}
-use Rattle.vtl_aggregates.specs.Groups.{places_named}
+use Rattle.vtl_tree.specs.Columns.{identifiers_of, others_of, place_of, places_in}
+use Rattle.vtl_meaning.specs.Groups.{places_named}
 use Rattle.vtl_meaning.proofs.Kept.{column_within}
 use Rattle.vtl_meaning.proofs.Places.{all_append, all_front, columns_split, same_name-refl}
 use Rattle.vtl_meaning.specs.Made.{IsNamedColumn}
-use Rattle.vtl_windows.specs.Windows.{key_in, keys_in}
-use Rattle.vtl_nodes.specs.declared.calls.AnalyticOp.{AnalyticOp}
-use Rattle.vtl_nodes.specs.declared.calls.AnalyticOp.TheVariants as op
-use Rattle.vtl_nodes.specs.declared.calls.OrderKey.{OrderKey}
-use Rattle.vtl_nodes.specs.declared.calls.Window.{Window}
+use Rattle.vtl_meaning.specs.Windows.{key_in, keys_in}
+use Rattle.vtl_tree.specs.declared.calls.AnalyticOp.{AnalyticOp}
+use Rattle.vtl_tree.specs.declared.calls.AnalyticOp.TheVariants as op
+use Rattle.vtl_tree.specs.declared.calls.OrderKey.{OrderKey}
+use Rattle.vtl_tree.specs.declared.calls.Window.{Window}
 use Rattle.vtl_window.specs.Sorted.{identifier_keys, order_keys, ordering_key, partition_keys, rising_key, sort_keys, tie_breakers}
 
 -- ---- what they are

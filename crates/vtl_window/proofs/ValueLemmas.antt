@@ -27,12 +27,12 @@ use Rattle.vtl_tree.specs.DataSet.{IsDataSet, is_point}
 use Rattle.vtl_tree.specs.Environment.{DataSet}
 use Rattle.vtl_tree.specs.Structure.{columns_of, key_width}
 use Rattle.vtl_tree.specs.declared.structure.Component.{Component}
-use Rattle.check_shapes.specs.Columns.{identifiers_of}
-use Rattle.vtl_aggregates.specs.Groups.{places_named}
-use Rattle.vtl_windows.specs.Windows.{argument, call_value, identifier_places, keys_in, op_value, partition_of, stand_of}
-use Rattle.vtl_nodes.specs.declared.calls.AnalyticCall.{AnalyticCall}
-use Rattle.vtl_nodes.specs.declared.calls.AnalyticOp.{AnalyticOp}
-use Rattle.vtl_nodes.specs.declared.calls.AnalyticOp.TheVariants as op
+use Rattle.vtl_tree.specs.Columns.{identifiers_of}
+use Rattle.vtl_meaning.specs.Groups.{places_named}
+use Rattle.vtl_meaning.specs.Windows.{argument, call_value, identifier_places, keys_in, op_value, partition_of, stand_of}
+use Rattle.vtl_tree.specs.declared.calls.AnalyticCall.{AnalyticCall}
+use Rattle.vtl_tree.specs.declared.calls.AnalyticOp.{AnalyticOp}
+use Rattle.vtl_tree.specs.declared.calls.AnalyticOp.TheVariants as op
 use Rattle.vtl_meaning.proofs.Places.{key_cells, key_within}
 use Rattle.vtl_window.specs.Runs.{run_values, stand_at, value_at}
 use Rattle.vtl_window.specs.Sorted.{identifier_keys, order_keys, partition_keys, sort_keys, tie_breakers}

@@ -18,13 +18,13 @@ use Rattle.vtl_tree.specs.Structure.{columns_of, same_name, same_role}
 use Rattle.vtl_tree.specs.declared.structure.Component.{Component}
 use Rattle.vtl_tree.specs.declared.structure.Role.TheVariants as role
 use Rattle.vtl_tree.specs.declared.structure.Structure.{Structure}
-use Rattle.vtl_aggregates.specs.Aggregates.{Made, group_fault as point_fault}
-use Rattle.vtl_windows.specs.Analytics.{analytic_of, item_named, made_of, measure_call, point_of, value_for}
+use Rattle.vtl_meaning.specs.Aggregates.{Made, group_fault as point_fault}
+use Rattle.vtl_meaning.specs.Analytics.{analytic_of, item_named, made_of, measure_call, point_of, value_for}
 use Rattle.vtl_meaning.specs.Made.{AreValuesOver, IsValueOver, IsWindowed}
 use Rattle.vtl_sets.specs.TableOf.{table_columns}
-use Rattle.vtl_nodes.specs.Trees as nodes
-use Rattle.vtl_nodes.specs.Trees.{AnalyticTree, ItemTree, ValueTree}
-use Rattle.vtl_windows.proofs.AnalyticPoints.{result_is}
+use Rattle.vtl_tree.specs.Trees as nodes
+use Rattle.vtl_tree.specs.Trees.{AnalyticTree, ItemTree, ValueTree}
+use Rattle.vtl_meaning.proofs.AnalyticPoints.{result_is}
 use Rattle.vtl_meaning.proofs.Kept.{unless_ok}
 use Rattle.vtl_sets.proofs.TableLemmas.{point_fits}
 use Rattle.vtl_window.specs.Analyses.{made_cells, made_faults}

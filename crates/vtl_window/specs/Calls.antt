@@ -1,9 +1,9 @@
 -- Calls, and what makes columns, as they are lent.
 use Rattle.std.specs.Prelude.{option_map}
 use Rattle.vtl_tree.specs.View.{comp_exp_of}
-use Rattle.vtl_nodes.specs.declared.calls.AnalyticCall.{AnalyticCall}
-use Rattle.vtl_nodes.specs.Trees as tree
-use Rattle.vtl_nodes.specs.Trees.{ValueTree}
+use Rattle.vtl_tree.specs.declared.calls.AnalyticCall.{AnalyticCall}
+use Rattle.vtl_tree.specs.Trees as tree
+use Rattle.vtl_tree.specs.Trees.{ValueTree}
 use Rattle.vtl_window.specs.declared.call.Call.{Call}
 use Rattle.vtl_window.specs.declared.maker.Maker.{Maker}
 use Rattle.vtl_window.specs.declared.maker.Maker.TheVariants as maker

@@ -2,9 +2,9 @@
 use Rattle.vtl_frames.specs.declared.bounds.Bound as places
 use Rattle.vtl_frames.specs.declared.bounds.Bound.TheVariants as place
 use Rattle.vtl_frames.specs.declared.bounds.Frame as taken
-use Rattle.vtl_nodes.specs.declared.calls.Bound.{Bound}
-use Rattle.vtl_nodes.specs.declared.calls.Bound.TheVariants as bound
-use Rattle.vtl_nodes.specs.declared.calls.Frame.{Frame}
+use Rattle.vtl_tree.specs.declared.calls.Bound.{Bound}
+use Rattle.vtl_tree.specs.declared.calls.Bound.TheVariants as bound
+use Rattle.vtl_tree.specs.declared.calls.Frame.{Frame}
 
 abbrev pub bound_in : Bound → places.Bound
 bound_in bound.UnboundedPreceding = place.UnboundedPreceding

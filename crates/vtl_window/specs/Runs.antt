@@ -13,8 +13,8 @@ use Rattle.vtl_rows.specs.Keys.{key_of}
 use Rattle.vtl_rows.specs.Places.{row_at}
 use Rattle.vtl_rows.specs.declared.column.SortKey.{SortKey}
 use Rattle.vtl_tree.specs.declared.structure.Component.{Component}
-use Rattle.vtl_nodes.specs.declared.calls.AnalyticCall.{AnalyticCall}
-use Rattle.vtl_windows.specs.Windows.{Stand, argument, op_value}
+use Rattle.vtl_tree.specs.declared.calls.AnalyticCall.{AnalyticCall}
+use Rattle.vtl_meaning.specs.Windows.{Stand, argument, op_value}
 
 -- the cells of a column at these rows
 abbrev pub lane_cells : List Row → List ℕ → ℕ → List Cell

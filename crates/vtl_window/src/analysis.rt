@@ -1,21 +1,20 @@
 // Analytic operators on data sets.
 ghost use Rattle.std.specs.Prelude.{IfOk};
 ghost use Rattle.vtl_scalar.specs.Answers.{Answers, AnswersBy};
-ghost use Rattle.vtl_windows.specs.Analytics.{analytic_of};
+ghost use Rattle.vtl_meaning.specs.Analytics.{analytic_of};
 ghost use Rattle.vtl_sets.specs.DataSets.{with_structure};
 ghost use Rattle.vtl_meaning.specs.Made.{IsWindowed};
 ghost use Rattle.vtl_sets.specs.TableOf.{IsTableOf};
-ghost use Rattle.vtl_nodes.specs.View.{analytic_tree};
+ghost use Rattle.vtl_tree.specs.NodeView.{analytic_tree};
 
 use crate::column::push_across;
 use crate::columns::made_columns;
 use std::alloc::Global;
 use vtl_decimal::Profile;
-use vtl_nodes::AnalyticSpec;
 use vtl_rows::Table;
 use vtl_scalar::ScalarErr;
 use vtl_sets::{DataSet, new_table};
-use vtl_tree::Structure;
+use vtl_tree::{AnalyticSpec, Structure};
 
 fn analyzed_table(
     alloc: Global,

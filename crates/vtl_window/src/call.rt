@@ -1,6 +1,6 @@
 // A call over a window, lent.
-use vtl_nodes::{AnalyticOp, Window};
 use vtl_text::Txt;
+use vtl_tree::{AnalyticOp, Window};
 
 /// An operator, the component whose cells it sees (`rank` has none), and the window.
 #[derive(Clone, Copy)]

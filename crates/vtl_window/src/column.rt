@@ -3,8 +3,8 @@ ghost use Rattle.std.specs.Prelude.{◌≡◌, ◌++◌, ◌∷◌, List, IfOk, 
 ghost use Rattle.vtl_cell.specs.Row.{Row};
 ghost use Rattle.vtl_cell.specs.declared.cell.Cell as cell;
 ghost use Rattle.vtl_tree.specs.declared.structure.Component.{Component};
-ghost use Rattle.vtl_aggregates.specs.Aggregates.{Made};
-ghost use Rattle.vtl_windows.specs.Analytics.{point_of};
+ghost use Rattle.vtl_meaning.specs.Aggregates.{Made};
+ghost use Rattle.vtl_meaning.specs.Analytics.{point_of};
 ghost use Rattle.vtl_window.specs.Analyses.{cells_in, made_cells};
 
 use std::alloc::AllocError;

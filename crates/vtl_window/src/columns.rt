@@ -8,10 +8,10 @@ ghost use Rattle.vtl_tree.specs.Value.{value};
 ghost use Rattle.vtl_tree.specs.View.{comp_exp_of};
 ghost use Rattle.vtl_expr.specs.Prepared.{prepared_exp};
 ghost use Rattle.vtl_scalar.specs.Seen.{seen_of};
-ghost use Rattle.vtl_windows.specs.Analytics.{made_of, tree_value};
-ghost use Rattle.check_shapes.specs.Columns.{place_of};
+ghost use Rattle.vtl_meaning.specs.Analytics.{made_of, tree_value};
+ghost use Rattle.vtl_tree.specs.Columns.{place_of};
 ghost use Rattle.vtl_meaning.specs.Made.{AreValuesOver, IsValueOver};
-ghost use Rattle.vtl_nodes.specs.View.{analytic_tree};
+ghost use Rattle.vtl_tree.specs.NodeView.{analytic_tree};
 ghost use Rattle.vtl_window.specs.Analyses.{cells_by, cells_in, faults_of, made_cells, made_faults};
 ghost use Rattle.vtl_window.specs.Calls.{maker_tree};
 
@@ -19,17 +19,15 @@ use crate::column::Column;
 use crate::faults::noted;
 use crate::maker::{Maker, maker_of};
 use crate::values::call_cells;
-use check_shapes::place_of;
 use std::alloc::{AllocError, Global};
 use vtl_cell::{Cell, Kind};
 use vtl_decimal::Profile;
 use vtl_expr::{Prepared, prepare, value_at};
-use vtl_nodes::AnalyticSpec;
 use vtl_rows::Table;
 use vtl_scalar::{ScalarErr, Seen};
 use vtl_sets::DataSet;
 use vtl_text::Txt;
-use vtl_tree::{CompExpr, Component};
+use vtl_tree::{AnalyticSpec, CompExpr, Component, place_of};
 
 // The value of an expression at a point.
 fn value_of(alloc: Global, e: &Prepared, row: &[Cell], p: &Profile) -> Result<Cell, ScalarErr>

@@ -1,26 +1,26 @@
 // Frames along a partition.
 ghost use Rattle.std.specs.Prelude.{◌≡◌};
-ghost use Rattle.vtl_windows.specs.Windows.{default_frame, frame_in};
+ghost use Rattle.vtl_meaning.specs.Windows.{default_frame, frame_in};
 ghost use Rattle.vtl_window.specs.Frames.{bound_in, taken_frame};
 
 use vtl_frames::{Bound, Frame};
-use vtl_nodes::{OrderKey, Window};
+use vtl_tree::{OrderKey, Window};
 
 // A bound of a frame.
-fn bound_of(bound: vtl_nodes::Bound) -> Bound
+fn bound_of(bound: vtl_tree::Bound) -> Bound
     ensures { result ≡ bound_in bound }
 {
     match bound {
-        vtl_nodes::Bound::UnboundedPreceding => Bound::UnboundedPreceding,
-        vtl_nodes::Bound::Preceding(count) => Bound::Preceding(count as usize),
-        vtl_nodes::Bound::Current => Bound::Current,
-        vtl_nodes::Bound::Following(count) => Bound::Following(count as usize),
-        vtl_nodes::Bound::UnboundedFollowing => Bound::UnboundedFollowing,
+        vtl_tree::Bound::UnboundedPreceding => Bound::UnboundedPreceding,
+        vtl_tree::Bound::Preceding(count) => Bound::Preceding(count as usize),
+        vtl_tree::Bound::Current => Bound::Current,
+        vtl_tree::Bound::Following(count) => Bound::Following(count as usize),
+        vtl_tree::Bound::UnboundedFollowing => Bound::UnboundedFollowing,
     }
 }
 
 // A frame that is written.
-fn written(frame: vtl_nodes::Frame) -> Frame
+fn written(frame: vtl_tree::Frame) -> Frame
     ensures { result ≡ taken_frame frame }
 {
     Frame {

@@ -1,15 +1,13 @@
 // The keys by which the points of a data set are sorted for a call.
 ghost use Rattle.std.specs.Prelude.{◌≡◌, ◌++◌, IfOk, OnOk, map};
 ghost use Rattle.vtl_tree.specs.Shown.{shown};
-ghost use Rattle.check_shapes.specs.Columns.{identifiers_of, place_of};
+ghost use Rattle.vtl_tree.specs.Columns.{identifiers_of, place_of};
 ghost use Rattle.vtl_window.specs.Sorted.{identifier_keys, order_keys, ordering_key, partition_keys, rising_key, sort_keys, tie_breakers};
 
-use check_shapes::place_of;
 use std::alloc::{AllocError, Global};
-use vtl_nodes::{AnalyticOp, OrderKey, Window};
 use vtl_rows::SortKey;
 use vtl_text::Txt;
-use vtl_tree::{Component, Structure};
+use vtl_tree::{AnalyticOp, Component, OrderKey, Structure, Window, place_of};
 
 // A key that rises.
 fn rising(column: usize) -> SortKey

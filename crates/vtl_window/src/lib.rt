@@ -1,7 +1,7 @@
 //! Analytic operators on data sets: a value for each point from the points of its window.
 //!
 //! It decides how windows are gone over: the points are sorted once for a call, each partition is taken in turn, and
-//! each value is put back at its point. What windows, their values and their faults are is defined in `vtl_windows`; the
+//! each value is put back at its point. What windows, their values and their faults are is defined in `vtl_meaning`; the
 //! structure of a result is decided where scripts are checked, and passed in.
 //! It knows no script, no statement, no file and no text format. The calls of `vtl_group` and of the crates below it it
 //! passes on, so that the interpreter names one crate for all of them.

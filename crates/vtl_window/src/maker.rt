@@ -1,14 +1,15 @@
 // What makes a column of the result.
 ghost use Rattle.std.specs.Option.{option_map};
 ghost use Rattle.std.specs.Prelude.{◌≡◌, map};
-ghost use Rattle.vtl_windows.specs.Analytics.{item_named, value_for};
-ghost use Rattle.vtl_nodes.specs.View.{analytic_tree, item_tree, value_tree};
+ghost use Rattle.vtl_meaning.specs.Analytics.{item_named, value_for};
+ghost use Rattle.vtl_tree.specs.NodeView.{analytic_tree, item_tree, value_tree};
 ghost use Rattle.vtl_window.specs.Calls.{lent, maker_tree};
 
 use crate::call::Call;
-use vtl_nodes::{AnalyticCall, AnalyticSpec, CalcItem, CalcValue};
 use vtl_text::Txt;
-use vtl_tree::{CompExpr, Component, Role, is_same_role};
+use vtl_tree::{
+    AnalyticCall, AnalyticSpec, CalcItem, CalcValue, CompExpr, Component, Role, is_same_role,
+};
 
 /// What makes a column, lent.
 #[derive(Clone, Copy)]

@@ -6,7 +6,7 @@ ghost use Rattle.vtl_rows.specs.Keys.{key_of};
 ghost use Rattle.vtl_rows.specs.Places.{row_at};
 ghost use Rattle.vtl_rows.specs.Runs.{is_start, rank_at};
 ghost use Rattle.vtl_tree.specs.Structure.{columns_of};
-ghost use Rattle.vtl_windows.specs.Windows.{argument, keys_in};
+ghost use Rattle.vtl_meaning.specs.Windows.{argument, keys_in};
 ghost use Rattle.vtl_window.specs.Calls.{lent};
 ghost use Rattle.vtl_window.specs.Runs.{AreInOrder, count_in, run_values};
 
@@ -17,9 +17,9 @@ use std::alloc::{AllocError, Global};
 use vtl_cell::{AggKind, Cell};
 use vtl_decimal::{Fault, Profile, whole};
 use vtl_frames::{End, Shift, push_aggregates, push_ends, push_ratios, push_shifted};
-use vtl_nodes::AnalyticOp;
 use vtl_rows::{SortKey, Table, ranks};
 use vtl_sets::DataSet;
+use vtl_tree::AnalyticOp;
 
 /// The values so far, each an outcome.
 pub(crate) type Outcomes = Vec<Result<Cell, Fault>>;

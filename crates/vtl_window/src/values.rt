@@ -7,12 +7,12 @@ ghost use Rattle.vtl_cell.specs.Row.{column_of};
 ghost use Rattle.vtl_rows.specs.Places.{IsOrderOf, row_at};
 ghost use Rattle.vtl_tree.specs.Shown.{shown};
 ghost use Rattle.vtl_tree.specs.Structure.{columns_of};
-ghost use Rattle.check_shapes.specs.Columns.{identifiers_of, place_of};
+ghost use Rattle.vtl_tree.specs.Columns.{identifiers_of, place_of};
 ghost use Rattle.vtl_scalar.specs.Seen.{seen_of};
-ghost use Rattle.vtl_windows.specs.Analytics.{tree_value};
+ghost use Rattle.vtl_meaning.specs.Analytics.{tree_value};
 ghost use Rattle.vtl_meaning.specs.Made.{IsNamedColumn, IsWindowOver};
-ghost use Rattle.vtl_windows.specs.Windows.{argument, call_value};
-ghost use Rattle.vtl_nodes.specs.Trees.{analytic};
+ghost use Rattle.vtl_meaning.specs.Windows.{argument, call_value};
+ghost use Rattle.vtl_tree.specs.Trees.{analytic};
 ghost use Rattle.vtl_window.specs.Analyses.{cells_by, faults_of};
 ghost use Rattle.vtl_window.specs.Calls.{lent};
 ghost use Rattle.vtl_window.specs.Runs.{start_at};
@@ -22,7 +22,6 @@ use crate::call::Call;
 use crate::keys::{order_keys, partition_keys, sort_keys, tie_breakers};
 use crate::partition::{Outcomes, push_call};
 use crate::putting_back::put_back;
-use check_shapes::place_of;
 use std::alloc::{AllocError, Global};
 use vtl_cell::{Cell, Kind};
 use vtl_decimal::Profile;
@@ -30,7 +29,7 @@ use vtl_rows::SortKey;
 use vtl_scalar::{ScalarErr, Seen};
 use vtl_sets::DataSet;
 use vtl_text::Txt;
-use vtl_tree::Component;
+use vtl_tree::{Component, place_of};
 
 // The place of the component of a call; past the last column where it has none.
 fn argument_place(columns: &[&Component], component: Option<&Txt>) -> usize

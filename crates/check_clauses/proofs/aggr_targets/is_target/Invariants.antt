@@ -1,5 +1,5 @@
 use Rattle.std.proofs.Common.{◌≡◌, drop}
-use Rattle.check_shapes.specs.Names.{is_among}
+use Rattle.vtl_tree.specs.Names.{is_among}
 use Rattle.check_clauses.specs.Targets.{made_names}
 use Rattle.check_clauses.proofs.aggr_targets.is_target.Given as goal
 

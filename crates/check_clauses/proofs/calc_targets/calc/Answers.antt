@@ -1,7 +1,7 @@
 use Rattle.std.proofs.Common.{List, Result, Err, map, subst, sym}
 use Rattle.check_faults.specs.declared.rules.Rule.{Rule}
-use Rattle.vtl_nodes.specs.View.{item_tree}
-use Rattle.vtl_nodes.specs.declared.clauses.CalcItem.{CalcItem}
+use Rattle.vtl_tree.specs.NodeView.{item_tree}
+use Rattle.vtl_tree.specs.declared.clauses.CalcItem.{CalcItem}
 use Rattle.vtl_tree.specs.declared.structure.Component.{Component}
 use Rattle.vtl_tree.specs.declared.structure.Structure.{Structure}
 use Rattle.check_faults.specs.Answers.{Answers}

@@ -2,10 +2,10 @@ use Rattle.std.proofs.Common.{◌≡◌, ◌∙◌, List, subst}
 use Rattle.std.specs.Prelude.{map}
 use Rattle.vtl_tree.specs.declared.structure.Component.{Component}
 use Rattle.vtl_tree.specs.declared.structure.Structure.{Structure}
-use Rattle.vtl_nodes.specs.View.{item_tree}
+use Rattle.vtl_tree.specs.NodeView.{item_tree}
 use Rattle.check_faults.specs.Answers.{Answers}
 use Rattle.check_shapes.specs.Clauses.{calc_form}
-use Rattle.check_shapes.specs.declared.targets.Target.{Target}
+use Rattle.vtl_tree.specs.declared.targets.Target.{Target}
 use Rattle.check_clauses.specs.Targets.{target_of}
 use Rattle.check_clauses.proofs.calc_targets.calc_structure.Goals as goal
 

@@ -1,7 +1,7 @@
 use Rattle.std.proofs.Common.{◌≡◌, drop}
 use Rattle.std.specs.Prelude.{map}
-use Rattle.vtl_nodes.specs.View.{item_tree}
-use Rattle.check_shapes.specs.Names.{is_among}
+use Rattle.vtl_tree.specs.NodeView.{item_tree}
+use Rattle.vtl_tree.specs.Names.{is_among}
 use Rattle.check_clauses.specs.Targets.{item_names}
 use Rattle.check_clauses.proofs.calc_targets.is_target.Given as goal
 

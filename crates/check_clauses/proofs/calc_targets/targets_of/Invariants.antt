@@ -1,6 +1,6 @@
 use Rattle.std.proofs.Common.{◌≡◌, take}
 use Rattle.std.specs.Prelude.{map}
-use Rattle.vtl_nodes.specs.View.{item_tree}
+use Rattle.vtl_tree.specs.NodeView.{item_tree}
 use Rattle.check_clauses.specs.Targets.{target_of}
 use Rattle.check_clauses.proofs.calc_targets.targets_of.Given as goal
 

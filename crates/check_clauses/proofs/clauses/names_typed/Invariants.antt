@@ -1,5 +1,5 @@
 use Rattle.std.proofs.Common.{◌≡◌, [], drop}
-use Rattle.check_shapes.specs.declared.names.Wanted.TheVariants as wanted
+use Rattle.vtl_tree.specs.declared.names.Wanted.TheVariants as wanted
 use Rattle.check_clauses.specs.Clauses.{names_typed}
 use Rattle.check_clauses.proofs.clauses.names_typed.Given as goal
 

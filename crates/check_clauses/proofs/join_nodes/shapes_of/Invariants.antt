@@ -1,6 +1,6 @@
 use Rattle.std.proofs.Common.{◌≡◌, take}
 use Rattle.std.specs.Prelude.{map}
-use Rattle.vtl_nodes.specs.View.{operand_tree}
+use Rattle.vtl_tree.specs.NodeView.{operand_tree}
 use Rattle.check_clauses.specs.JoinOperands.{shape_of}
 use Rattle.check_clauses.proofs.join_nodes.shapes_of.Given as goal
 

@@ -1,6 +1,6 @@
 use Rattle.std.proofs.Common.{◌≡◌, drop}
 use Rattle.std.specs.Prelude.{map}
-use Rattle.check_shapes.specs.Names.{is_among}
+use Rattle.vtl_tree.specs.Names.{is_among}
 use Rattle.check_clauses.specs.JoinOperands.{aliases_in}
 use Rattle.check_clauses.specs.JoinView.{part_view}
 use Rattle.check_clauses.proofs.join_operands.is_alias.Given as goal

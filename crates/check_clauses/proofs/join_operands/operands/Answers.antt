@@ -1,7 +1,7 @@
 use Rattle.std.proofs.Common.{◌≡◌, ◌∷◌, ◌++◌, [], Ok, length, sym, ap, ◌∙◌, append-nil, arith}
 use Rattle.std.specs.Prelude.{map}
 use Rattle.std.specs.Vec.Iter.{into_iter_items}
-use Rattle.vtl_nodes.specs.View.{operand_tree}
+use Rattle.vtl_tree.specs.NodeView.{operand_tree}
 use Rattle.check_clauses.specs.JoinOperands.{operand_in, operands_in}
 use Rattle.check_clauses.specs.JoinView.{part_view}
 use Rattle.std.proofs.lemmas.List.{map-append}

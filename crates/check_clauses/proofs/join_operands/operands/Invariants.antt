@@ -1,7 +1,7 @@
 use Rattle.std.proofs.Common.{◌≡◌, length}
 use Rattle.std.specs.Prelude.{map}
 use Rattle.std.specs.Vec.Iter.{into_iter_items, into_iter_len}
-use Rattle.vtl_nodes.specs.View.{operand_tree}
+use Rattle.vtl_tree.specs.NodeView.{operand_tree}
 use Rattle.check_clauses.specs.JoinOperands.{operands_in}
 use Rattle.check_clauses.specs.JoinView.{part_view}
 use Rattle.check_clauses.proofs.OperandLemmas.{behind}

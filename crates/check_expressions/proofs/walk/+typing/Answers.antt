@@ -1,6 +1,6 @@
 use Rattle.std.proofs.Common.{◌≡◌, ◌∙◌, ap, sym, subst, Some, map}
 use Rattle.std.specs.Option.{option_map}
-use Rattle.vtl_nodes.specs.View.{operand_tree}
+use Rattle.vtl_tree.specs.NodeView.{operand_tree}
 use Rattle.check_faults.specs.Answers.{Answers}
 use Rattle.check_operators.specs.Places.{env_of}
 use Rattle.check_operators.specs.Typed.{boxed_tree, typed_tree}

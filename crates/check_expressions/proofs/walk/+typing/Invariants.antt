@@ -1,5 +1,5 @@
 use Rattle.std.proofs.Common.{◌≡◌, drop, map, []}
-use Rattle.vtl_nodes.specs.View.{node_tree}
+use Rattle.vtl_tree.specs.NodeView.{node_tree}
 use Rattle.vtl_syntax.specs.Trees.{calcs_of, exps_of, parts_of}
 use Rattle.vtl_syntax.specs.View.{calc_tree, expr_tree, part_tree}
 use Rattle.check_operators.specs.Places.{env_of}

@@ -1,5 +1,5 @@
 use Rattle.std.proofs.Common.{◌≡◌, take}
-use Rattle.check_joins.specs.Joins.{held_names}
+use Rattle.vtl_tree.specs.Joins.{held_names}
 use Rattle.check_joins.proofs.joined.held_names.Given as goal
 
 abbrev pub invariant-loop-operand : goal.invariant-loop-operand

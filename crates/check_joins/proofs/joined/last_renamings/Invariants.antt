@@ -1,5 +1,5 @@
 use Rattle.std.proofs.Common.{◌≡◌, take}
-use Rattle.check_joins.specs.Joins.{last_renamings}
+use Rattle.vtl_tree.specs.Joins.{last_renamings}
 use Rattle.check_joins.proofs.joined.last_renamings.Given as goal
 
 abbrev pub invariant-loop-operand : goal.invariant-loop-operand

@@ -1,5 +1,5 @@
 use Rattle.std.proofs.Common.{◌≡◌, drop}
-use Rattle.check_joins.specs.Joins.{operand_of}
+use Rattle.vtl_tree.specs.Joins.{operand_of}
 use Rattle.check_joins.proofs.joined.operand_of.Given as goal
 
 abbrev pub invariant-loop-operand : goal.invariant-loop-operand

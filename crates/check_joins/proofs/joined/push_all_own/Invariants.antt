@@ -1,5 +1,5 @@
 use Rattle.std.proofs.Common.{◌≡◌, ◌++◌, take}
-use Rattle.check_joins.specs.Joins.{all_own}
+use Rattle.vtl_tree.specs.Joins.{all_own}
 use Rattle.check_joins.proofs.joined.push_all_own.Given as goal
 
 abbrev pub invariant-loop-operand : goal.invariant-loop-operand

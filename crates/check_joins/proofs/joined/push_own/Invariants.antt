@@ -1,5 +1,5 @@
 use Rattle.std.proofs.Common.{◌≡◌, ◌++◌, take}
-use Rattle.check_joins.specs.Joins.{own}
+use Rattle.vtl_tree.specs.Joins.{own}
 use Rattle.check_joins.proofs.joined.push_own.Given as goal
 
 abbrev pub invariant-loop-component : goal.invariant-loop-component

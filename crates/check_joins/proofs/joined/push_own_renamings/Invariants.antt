@@ -1,5 +1,5 @@
 use Rattle.std.proofs.Common.{◌≡◌, ◌++◌, take}
-use Rattle.check_joins.specs.Joins.{own_renamings}
+use Rattle.vtl_tree.specs.Joins.{own_renamings}
 use Rattle.check_joins.proofs.joined.push_own_renamings.Given as goal
 
 abbrev pub invariant-loop-component : goal.invariant-loop-component

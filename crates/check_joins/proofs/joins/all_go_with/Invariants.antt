@@ -1,6 +1,6 @@
 use Rattle.std.proofs.Common.{◌≡◌, drop}
 use Rattle.std.specs.Option.{option_copied}
-use Rattle.check_joins.specs.Joins.{all_go_with}
+use Rattle.vtl_tree.specs.Joins.{all_go_with}
 use Rattle.check_joins.proofs.joins.all_go_with.Given as goal
 
 abbrev pub invariant-loop-operand : goal.invariant-loop-operand

@@ -1,6 +1,6 @@
 use Rattle.std.proofs.Common.{◌≡◌, drop}
 use Rattle.std.specs.List.{list_any}
-use Rattle.check_joins.specs.Joins.{clashes}
+use Rattle.vtl_tree.specs.Joins.{clashes}
 use Rattle.check_joins.proofs.joins.any_clashes.Given as goal
 
 abbrev pub invariant-loop-component : goal.invariant-loop-component

@@ -1,7 +1,7 @@
 use Rattle.std.proofs.Common.{◌≡◌, drop}
 use Rattle.std.specs.List.{list_any}
 use Rattle.std.specs.Prelude.{is_some}
-use Rattle.check_shapes.specs.Names.{component_of}
+use Rattle.vtl_tree.specs.Names.{component_of}
 use Rattle.check_joins.proofs.joins.any_has.Given as goal
 
 abbrev pub invariant-loop-operand : goal.invariant-loop-operand

@@ -1,6 +1,6 @@
 use Rattle.std.proofs.Common.{◌≡◌, drop}
 use Rattle.std.specs.List.{list_any}
-use Rattle.check_shapes.specs.Choices.{is_identifier_name}
+use Rattle.vtl_tree.specs.Choices.{is_identifier_name}
 use Rattle.check_joins.proofs.joins.any_identifies.Given as goal
 
 abbrev pub invariant-loop-operand : goal.invariant-loop-operand

@@ -1,6 +1,6 @@
 use Rattle.std.proofs.Common.{◌≡◌, drop}
 use Rattle.std.specs.List.{list_all}
-use Rattle.check_shapes.specs.Choices.{is_identifier_name}
+use Rattle.vtl_tree.specs.Choices.{is_identifier_name}
 use Rattle.check_joins.proofs.joins.are_identifiers.Given as goal
 
 abbrev pub invariant-loop-name : goal.invariant-loop-name

@@ -1,6 +1,6 @@
 use Rattle.std.proofs.Common.{sym, ap, ◌∙◌}
 use Rattle.std.specs.Borrow.{Bor}
-use Rattle.check_joins.specs.declared.joins.Operand.{Operand}
+use Rattle.vtl_tree.specs.declared.joins.Operand.{Operand}
 use Rattle.check_joins.proofs.Containing.{gives-way, stays}
 use Rattle.check_joins.proofs.joins.containing.Goals.{then-not-contains, else-not-contains}
 use Rattle.check_joins.proofs.joins.containing.Goals as goal

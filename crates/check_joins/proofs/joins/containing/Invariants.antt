@@ -1,6 +1,6 @@
 use Rattle.std.proofs.Common.{◌≡◌, ◌∷◌, drop}
 use Rattle.std.specs.Prelude.{find}
-use Rattle.check_joins.specs.Joins.{containing, contains_all}
+use Rattle.vtl_tree.specs.Joins.{containing, contains_all}
 use Rattle.check_joins.proofs.joins.containing.Given as goal
 
 abbrev pub invariant-loop-operand : goal.invariant-loop-operand

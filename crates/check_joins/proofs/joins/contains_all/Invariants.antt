@@ -1,5 +1,5 @@
 use Rattle.std.proofs.Common.{◌≡◌, drop}
-use Rattle.check_joins.specs.Joins.{contains_all}
+use Rattle.vtl_tree.specs.Joins.{contains_all}
 use Rattle.check_joins.proofs.joins.contains_all.Given as goal
 
 abbrev pub invariant-loop-other : goal.invariant-loop-other

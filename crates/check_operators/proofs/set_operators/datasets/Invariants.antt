@@ -1,7 +1,7 @@
 use Rattle.std.proofs.Common.{◌≡◌}
 use Rattle.std.specs.Prelude.{map}
 use Rattle.std.specs.Vec.Iter.{into_iter_items}
-use Rattle.vtl_nodes.specs.View.{node_tree}
+use Rattle.vtl_tree.specs.NodeView.{node_tree}
 use Rattle.check_operators.specs.Sets.{datasets_behind, datasets_in}
 use Rattle.check_operators.specs.Typed.{typed_tree, typed_trees}
 use Rattle.check_operators.proofs.set_operators.datasets.Given as goal

@@ -1,6 +1,6 @@
 use Rattle.std.proofs.Common.{◌≡◌, take}
 use Rattle.std.specs.Prelude.{map}
-use Rattle.vtl_nodes.specs.View.{node_tree}
+use Rattle.vtl_tree.specs.NodeView.{node_tree}
 use Rattle.vtl_tree.specs.Shown.{shown}
 use Rattle.check_operators.specs.Sets.{structures_in}
 use Rattle.check_operators.proofs.set_operators.structures_in.Given as goal

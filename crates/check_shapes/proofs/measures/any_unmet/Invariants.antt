@@ -1,6 +1,6 @@
 use Rattle.std.proofs.Common.{◌≡◌, drop}
 use Rattle.std.specs.Option.{option_copied}
-use Rattle.check_shapes.specs.Measures.{any_unmet}
+use Rattle.vtl_tree.specs.Measures.{any_unmet}
 use Rattle.check_shapes.proofs.measures.any_unmet.Given as goal
 
 abbrev pub invariant-loop-component : goal.invariant-loop-component

@@ -1,7 +1,7 @@
 use Rattle.std.proofs.Common.{◌≡◌, ◌++◌, take}
 use Rattle.std.specs.Prelude.{map}
 use Rattle.std.specs.Option.{option_copied}
-use Rattle.check_shapes.specs.Measures.{given_measure, measures}
+use Rattle.vtl_tree.specs.Measures.{given_measure, measures}
 use Rattle.check_shapes.proofs.measures.push_each.Given as goal
 
 abbrev pub invariant-loop-component : goal.invariant-loop-component

@@ -1,7 +1,7 @@
 use Rattle.std.proofs.Common.{◌≡◌, drop}
 use Rattle.std.specs.Prelude.{filter}
 use Rattle.std.specs.List.{list_any}
-use Rattle.check_shapes.specs.Choices.{is_identifier}
+use Rattle.vtl_tree.specs.Choices.{is_identifier}
 use Rattle.check_shapes.specs.Pairs.{is_at_odds}
 use Rattle.check_shapes.proofs.pairs.any_at_odds.Given as goal
 

@@ -1,8 +1,8 @@
 use Rattle.std.proofs.Common.{◌≡◌, drop}
 use Rattle.std.specs.Prelude.{filter}
 use Rattle.std.specs.List.{list_any}
-use Rattle.check_shapes.specs.Choices.{is_identifier}
-use Rattle.check_shapes.specs.Pairs.{is_common}
+use Rattle.vtl_tree.specs.Choices.{is_identifier}
+use Rattle.vtl_tree.specs.Pairs.{is_common}
 use Rattle.check_shapes.proofs.pairs.any_common.Given as goal
 
 abbrev pub invariant-loop-component : goal.invariant-loop-component

@@ -1,6 +1,6 @@
 use Rattle.std.proofs.Common.{◌≡◌, ◌++◌, take}
 use Rattle.std.specs.Prelude.{map}
-use Rattle.check_shapes.specs.Clauses.{code_measure}
+use Rattle.vtl_tree.specs.ClauseShapes.{code_measure}
 use Rattle.check_shapes.proofs.pivots.push_code_measures.Given as goal
 
 abbrev pub invariant-loop-text : goal.invariant-loop-text

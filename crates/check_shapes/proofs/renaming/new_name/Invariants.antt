@@ -1,5 +1,5 @@
 use Rattle.std.proofs.Common.{◌≡◌, drop}
-use Rattle.check_shapes.specs.Clauses.{new_name}
+use Rattle.vtl_tree.specs.ClauseShapes.{new_name}
 use Rattle.check_shapes.proofs.renaming.new_name.Given as goal
 
 abbrev pub invariant-loop-renaming : goal.invariant-loop-renaming

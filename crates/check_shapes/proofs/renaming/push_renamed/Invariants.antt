@@ -1,6 +1,6 @@
 use Rattle.std.proofs.Common.{◌≡◌, ◌++◌, take}
 use Rattle.std.specs.Prelude.{map}
-use Rattle.check_shapes.specs.Clauses.{renamed}
+use Rattle.vtl_tree.specs.ClauseShapes.{renamed}
 use Rattle.check_shapes.proofs.renaming.push_renamed.Given as goal
 
 abbrev pub invariant-loop-component : goal.invariant-loop-component

@@ -1,6 +1,6 @@
 use Rattle.std.proofs.Common.{◌≡◌, ◌++◌, take}
 use Rattle.std.specs.Prelude.{map}
-use Rattle.check_shapes.specs.Clauses.{calculated}
+use Rattle.vtl_tree.specs.ClauseShapes.{calculated}
 use Rattle.check_shapes.proofs.targets.push_calculated.Given as goal
 
 abbrev pub invariant-loop-component : goal.invariant-loop-component

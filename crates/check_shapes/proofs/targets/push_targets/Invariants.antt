@@ -1,6 +1,6 @@
 use Rattle.std.proofs.Common.{◌≡◌, ◌++◌, take}
 use Rattle.std.specs.Prelude.{map}
-use Rattle.check_shapes.specs.Clauses.{target_component}
+use Rattle.vtl_tree.specs.ClauseShapes.{target_component}
 use Rattle.check_shapes.proofs.targets.push_targets.Given as goal
 
 abbrev pub invariant-loop-target : goal.invariant-loop-target

@@ -1,5 +1,5 @@
 use Rattle.std.proofs.Common.{◌≡◌, drop}
-use Rattle.check_shapes.specs.Clauses.{target_of}
+use Rattle.vtl_tree.specs.ClauseShapes.{target_of}
 use Rattle.check_shapes.proofs.targets.target_of.Given as goal
 
 abbrev pub invariant-loop-target : goal.invariant-loop-target

@@ -1,7 +1,7 @@
 use Rattle.std.proofs.Common.{◌≡◌, take}
 use Rattle.std.specs.Prelude.{map}
 use Rattle.vtl_tree.specs.View.{comp_exp_of}
-use Rattle.check_values.specs.Kinds.{exp_kind}
+use Rattle.vtl_tree.specs.Kinds.{exp_kind}
 use Rattle.check_values.proofs.calls.kinds_in.Given as goal
 
 abbrev pub invariant-loop-arg : goal.invariant-loop-arg

@@ -1,5 +1,5 @@
 use Rattle.std.proofs.Common.{◌≡◌, take}
-use Rattle.check_shapes.specs.Choices.{chosen}
+use Rattle.vtl_tree.specs.Choices.{chosen}
 use Rattle.vtl_tree.specs.Structure.{names_of}
 use Rattle.check_values.proofs.groupings.chosen_names.Given as goal
 

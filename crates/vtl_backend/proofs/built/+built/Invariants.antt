@@ -1,6 +1,6 @@
 use Rattle.std.proofs.Common.{◌≡◌, drop, map}
-use Rattle.vtl_nodes.specs.Trees.{nodes_of, operands_of}
-use Rattle.vtl_nodes.specs.View.{node_tree, operand_tree}
+use Rattle.vtl_tree.specs.Trees.{nodes_of, operands_of}
+use Rattle.vtl_tree.specs.NodeView.{node_tree, operand_tree}
 use Rattle.vtl_meaning.specs.Meaning.{are_nodes_built, are_operands_built}
 use Rattle.vtl_backend.proofs.built.+built.Given as goal
 

@@ -1,5 +1,5 @@
 use Rattle.std.proofs.Common.{◌≡◌, ◌-◌, ◌+◌, sym, ◌∙◌, arith}
-use Rattle.vtl_nodes.specs.View.{node_tree}
+use Rattle.vtl_tree.specs.NodeView.{node_tree}
 use Rattle.vtl_check.specs.Count.{count}
 use Rattle.vtl_check.specs.Script.{most_nodes}
 use Rattle.vtl_check.proofs.CountLemmas.{spent-nothing, spent-some, sum-few, sum-many}

@@ -1,7 +1,7 @@
 use Rattle.std.proofs.Common.{◌≡◌, ◌++◌, drop, map}
-use Rattle.vtl_nodes.specs.Nodes.{all_nodes, operand_nodes}
-use Rattle.vtl_nodes.specs.Trees.{nodes_of, operands_of}
-use Rattle.vtl_nodes.specs.View.{node_tree, operand_tree}
+use Rattle.vtl_tree.specs.Nodes.{all_nodes, operand_nodes}
+use Rattle.vtl_tree.specs.Trees.{nodes_of, operands_of}
+use Rattle.vtl_tree.specs.NodeView.{node_tree, operand_tree}
 use Rattle.vtl_check.specs.Names.{names_at}
 use Rattle.vtl_check.proofs.names.+names.Given as goal
 

@@ -1,5 +1,5 @@
 use Rattle.std.proofs.Common.{◌≡◌, ◌++◌, drop, map}
-use Rattle.vtl_nodes.specs.View.{node_tree}
+use Rattle.vtl_tree.specs.NodeView.{node_tree}
 use Rattle.vtl_check.specs.Names.{names_of}
 use Rattle.vtl_check.proofs.names.read_names.Given as goal
 

@@ -1,5 +1,5 @@
 use Rattle.std.proofs.Common.{◌≡◌, ◌≤◌, map, []}
-use Rattle.vtl_nodes.specs.View.{node_tree}
+use Rattle.vtl_tree.specs.NodeView.{node_tree}
 use Rattle.check_operators.specs.Places.{env_of}
 use Rattle.vtl_check.specs.Script.{most_nodes, transformations_typed}
 use Rattle.vtl_check.proofs.LeftLemmas.{left}

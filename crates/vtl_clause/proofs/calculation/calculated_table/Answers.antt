@@ -6,7 +6,7 @@ use Rattle.vtl_tree.specs.Shown.{shown}
 use Rattle.vtl_tree.specs.Structure.{columns_of}
 use Rattle.vtl_tree.specs.View.{comp_exp_of}
 use Rattle.vtl_tree.specs.declared.structure.Structure.{Structure}
-use Rattle.vtl_nodes.specs.View.{item_tree}
+use Rattle.vtl_tree.specs.NodeView.{item_tree}
 use Rattle.vtl_sets.proofs.TableLemmas.{answered_is_table}
 use Rattle.vtl_meaning.specs.Made.{AreFor}
 use Rattle.vtl_meaning.specs.Operators.{calculated_exp, calculated_of}

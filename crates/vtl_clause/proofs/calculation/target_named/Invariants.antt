@@ -1,5 +1,5 @@
 use Rattle.std.proofs.Common.{◌≡◌, drop, map}
-use Rattle.vtl_nodes.specs.View.{item_tree}
+use Rattle.vtl_tree.specs.NodeView.{item_tree}
 use Rattle.vtl_meaning.specs.Operators.{target_named}
 use Rattle.vtl_clause.proofs.calculation.target_named.Given as goal
 

@@ -9,7 +9,7 @@ use Rattle.vtl_tree.specs.Structure.{columns_of}
 use Rattle.vtl_tree.specs.declared.structure.Component.{Component}
 use Rattle.vtl_tree.specs.declared.structure.Structure.{Structure}
 use Rattle.vtl_sets.specs.TableOf.{table_columns}
-use Rattle.check_shapes.specs.Columns.{places_in}
+use Rattle.vtl_tree.specs.Columns.{places_in}
 use Rattle.vtl_meaning.specs.Operators.{has_values}
 use Rattle.vtl_meaning.proofs.Kept.{sub_kept}
 use Rattle.vtl_clause.specs.Pins.{Wanted, are_met, wanted_by, wanted_in}

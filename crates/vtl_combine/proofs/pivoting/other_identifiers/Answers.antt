@@ -2,8 +2,8 @@ use Rattle.std.proofs.Common.{arith, ◌∷◌, [], ◌∙◌, ap}
 use Rattle.std.proofs.lemmas.Grind.{common_steps}
 use Rattle.std.specs.List.{filter}
 use Rattle.std.proofs.lemmas.List.{take_all}
-use Rattle.check_shapes.specs.Choices.{is_chosen}
-use Rattle.check_shapes.specs.declared.choices.Choice.TheVariants as choice
+use Rattle.vtl_tree.specs.Choices.{is_chosen}
+use Rattle.vtl_tree.specs.declared.choices.Choice.TheVariants as choice
 use Rattle.vtl_combine.proofs.pivoting.other_identifiers.Goals as goal
 
 pub loop-component-preserved : goal.loop-component-preserved

@@ -1,8 +1,8 @@
 use Rattle.std.proofs.Common.{◌≡◌, [], ◌∷◌, take}
 use Rattle.std.specs.List.{filter}
 use Rattle.vtl_tree.specs.Shown.{shown}
-use Rattle.check_shapes.specs.Choices.{is_chosen}
-use Rattle.check_shapes.specs.declared.choices.Choice.TheVariants as choice
+use Rattle.vtl_tree.specs.Choices.{is_chosen}
+use Rattle.vtl_tree.specs.declared.choices.Choice.TheVariants as choice
 use Rattle.vtl_combine.proofs.pivoting.other_identifiers.Given as goal
 
 abbrev pub invariant-loop-component : goal.invariant-loop-component

@@ -7,7 +7,7 @@ use Rattle.vtl_rows.specs.Tables.{Listed, cells_at, column_kinds}
 use Rattle.vtl_rows.specs.declared.gather.Pick.{Pick}
 use Rattle.vtl_sets.proofs.ColumnLemmas.{some_table_columns}
 use Rattle.vtl_tree.specs.Structure.{columns_of}
-use Rattle.check_shapes.specs.Columns.{places_in}
+use Rattle.vtl_tree.specs.Columns.{places_in}
 use Rattle.vtl_combine.specs.Operands.{left_at, pick_at}
 use Rattle.vtl_combine.proofs.OperandLemmas.{left_columns}
 use Rattle.vtl_combine.proofs.RowLemmas.{all_of_one, kinds_of_one, rows_of_one}

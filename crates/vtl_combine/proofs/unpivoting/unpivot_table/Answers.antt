@@ -8,7 +8,7 @@ use Rattle.vtl_tree.specs.DataSet.{IsDataSet}
 use Rattle.vtl_tree.specs.Structure.{columns_of, key_width}
 use Rattle.vtl_tree.specs.declared.structure.Structure.{Structure}
 use Rattle.vtl_sets.specs.TableOf.{table_columns}
-use Rattle.check_shapes.specs.Columns.{measures_of}
+use Rattle.vtl_tree.specs.Columns.{measures_of}
 use Rattle.vtl_meaning.proofs.TurnedKept.{unpivot_kept}
 use Rattle.vtl_combine.specs.Unpivots.{Named, measure_by, measure_in, unpivoted}
 use Rattle.vtl_combine.proofs.ChosenLemmas.{each_more}

@@ -2,7 +2,7 @@ use Rattle.std.proofs.Common.{◌≡◌, map, take}
 use Rattle.vtl_tree.specs.Shown.{shown}
 use Rattle.vtl_tree.specs.Structure.{columns_of}
 use Rattle.vtl_tree.specs.View.{comp_exp_of}
-use Rattle.check_shapes.specs.Columns.{columns_named}
+use Rattle.vtl_tree.specs.Columns.{columns_named}
 use Rattle.vtl_expr.proofs.expressions.columns_named.Given as goal
 
 abbrev pub invariant-loop-column : goal.invariant-loop-column

@@ -7,7 +7,7 @@ use Rattle.vtl_tree.specs.DataSet.{IsDataSet}
 use Rattle.vtl_tree.specs.Structure.{columns_of}
 use Rattle.vtl_sets.specs.TableOf.{column_for, table_columns}
 use Rattle.vtl_sets.proofs.TableLemmas.{made_is_table}
-use Rattle.check_shapes.specs.Columns.{places_in}
+use Rattle.vtl_tree.specs.Columns.{places_in}
 use Rattle.vtl_meaning.specs.Operators.{left_of}
 use Rattle.vtl_meaning.proofs.Kept.{left_kept}
 use Rattle.vtl_expr.proofs.ColumnPlaces.{all_within, chosen_columns, some_places}

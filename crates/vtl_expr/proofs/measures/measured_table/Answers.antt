@@ -5,7 +5,7 @@ use Rattle.vtl_tree.specs.CompExp.{CompExp}
 use Rattle.vtl_tree.specs.Structure.{columns_of}
 use Rattle.vtl_tree.specs.View.{comp_exp_of}
 use Rattle.vtl_tree.specs.declared.structure.Structure.{Structure}
-use Rattle.vtl_nodes.specs.View.{measure_tree}
+use Rattle.vtl_tree.specs.NodeView.{measure_tree}
 use Rattle.vtl_sets.proofs.TableLemmas.{answered_is_table}
 use Rattle.vtl_meaning.specs.Made.{AreFor}
 use Rattle.vtl_meaning.specs.Operators.{measured_exps, measured_of}

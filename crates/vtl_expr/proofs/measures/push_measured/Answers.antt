@@ -3,7 +3,7 @@ use Rattle.vtl_tree.specs.Shown.{shown}
 use Rattle.vtl_tree.specs.Structure.{columns_of}
 use Rattle.vtl_tree.specs.View.{comp_exp_of}
 use Rattle.vtl_tree.specs.declared.structure.Component.{Component}
-use Rattle.vtl_nodes.specs.View.{measure_tree}
+use Rattle.vtl_tree.specs.NodeView.{measure_tree}
 use Rattle.vtl_meaning.specs.Operators.{with_measure}
 use Rattle.vtl_expr.proofs.MeasureLemmas.{for_measures_all, pushed}
 use Rattle.vtl_expr.proofs.measures.push_measured.Goals as goal

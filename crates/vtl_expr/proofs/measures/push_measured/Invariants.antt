@@ -2,7 +2,7 @@ use Rattle.std.proofs.Common.{◌≡◌, ◌++◌, map, take}
 use Rattle.vtl_tree.specs.Shown.{shown}
 use Rattle.vtl_tree.specs.Structure.{columns_of}
 use Rattle.vtl_tree.specs.View.{comp_exp_of}
-use Rattle.vtl_nodes.specs.View.{measure_tree}
+use Rattle.vtl_tree.specs.NodeView.{measure_tree}
 use Rattle.vtl_meaning.specs.Operators.{for_measures, with_measure}
 use Rattle.vtl_expr.proofs.measures.push_measured.Given as goal
 

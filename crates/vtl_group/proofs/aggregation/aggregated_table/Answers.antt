@@ -9,16 +9,16 @@ use Rattle.vtl_rows.specs.Tables.{Listed, fits}
 use Rattle.vtl_tree.specs.DataSet.{IsDataSet, is_point}
 use Rattle.vtl_tree.specs.Structure.{columns_of}
 use Rattle.vtl_tree.specs.View.{comp_exp_of}
-use Rattle.vtl_nodes.specs.View.{agg_tree}
-use Rattle.check_shapes.specs.Columns.{identifiers_of, others_of}
+use Rattle.vtl_tree.specs.NodeView.{agg_tree}
+use Rattle.vtl_tree.specs.Columns.{identifiers_of, others_of}
 use Rattle.vtl_scalar.specs.Seen.{seen_of}
 use Rattle.vtl_sets.specs.TableOf.{table_columns}
 use Rattle.vtl_expr.proofs.PointLemmas.{answered_keeps, finished}
 use Rattle.vtl_sets.proofs.TableLemmas.{answered_is_table, point_fits}
 use Rattle.vtl_index.specs.Groups.{firsts}
-use Rattle.vtl_aggregates.specs.Aggregates.{aggregate_of, condition_fault, condition_of, group_fault, made_of}
-use Rattle.vtl_aggregates.proofs.GroupKinds.{all_at}
-use Rattle.vtl_aggregates.proofs.GroupPoints.{keys_are, point_is, result_is}
+use Rattle.vtl_meaning.specs.Aggregates.{aggregate_of, condition_fault, condition_of, group_fault, made_of}
+use Rattle.vtl_meaning.proofs.GroupKinds.{all_at}
+use Rattle.vtl_meaning.proofs.GroupPoints.{keys_are, point_is, result_is}
 use Rattle.vtl_group.proofs.Found.{Stands, fault_found, found_within, kept_found, many_groups, row_found, some_found, stands_by}
 use Rattle.vtl_group.proofs.GroupWalks.{faults_apart, faults_more, rows_more}
 use Rattle.vtl_group.proofs.Recipes.{fault_at, kept, keys, point}

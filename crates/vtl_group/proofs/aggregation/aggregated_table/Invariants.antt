@@ -1,8 +1,8 @@
 use Rattle.std.proofs.Common.{◌≡◌, filter, map, take}
 use Rattle.vtl_cell.specs.Outcome.{faults_by}
 use Rattle.vtl_tree.specs.Structure.{columns_of}
-use Rattle.vtl_nodes.specs.View.{agg_tree}
-use Rattle.check_shapes.specs.Columns.{others_of}
+use Rattle.vtl_tree.specs.NodeView.{agg_tree}
+use Rattle.vtl_tree.specs.Columns.{others_of}
 use Rattle.vtl_scalar.specs.Seen.{seen_of}
 use Rattle.vtl_sets.specs.TableOf.{table_columns}
 use Rattle.vtl_group.proofs.Recipes.{fault_at, kept, keys, point}

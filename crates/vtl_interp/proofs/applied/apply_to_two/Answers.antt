@@ -1,7 +1,7 @@
 use Rattle.std.proofs.Common.{[], ◌∷◌, Ok, refl}
-use Rattle.vtl_nodes.specs.Trees as nodes
-use Rattle.vtl_nodes.specs.View.{node_tree}
-use Rattle.vtl_nodes.specs.declared.nodes.NodeForm.TheVariants as form
+use Rattle.vtl_tree.specs.Trees as nodes
+use Rattle.vtl_tree.specs.NodeView.{node_tree}
+use Rattle.vtl_tree.specs.declared.nodes.NodeForm.TheVariants as form
 use Rattle.vtl_meaning.specs.Made.{IsCombined, IsExistence}
 use Rattle.vtl_meaning.specs.Operators.{pair_of}
 use Rattle.vtl_meaning.specs.Sets.{difference_of, existence_of, symmetric_difference_of}

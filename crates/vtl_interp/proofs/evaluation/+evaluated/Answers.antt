@@ -1,9 +1,9 @@
 use Rattle.std.proofs.Common.{◌≡◌, Ok, ap, length, map, subst, sym, ◌∙◌}
 use Rattle.std.proofs.lemmas.List.{length-map}
-use Rattle.vtl_nodes.specs.Trees as nodes
-use Rattle.vtl_nodes.specs.Trees.{nodes_of, operands_of}
-use Rattle.vtl_nodes.specs.View.{node_tree, operand_tree}
-use Rattle.vtl_nodes.specs.declared.nodes.NodeForm.TheVariants as form
+use Rattle.vtl_tree.specs.Trees as nodes
+use Rattle.vtl_tree.specs.Trees.{nodes_of, operands_of}
+use Rattle.vtl_tree.specs.NodeView.{node_tree, operand_tree}
+use Rattle.vtl_tree.specs.declared.nodes.NodeForm.TheVariants as form
 use Rattle.vtl_meaning.specs.Joined.{structures_of}
 use Rattle.vtl_meaning.specs.Made.{AreCombined, IsJoined}
 use Rattle.vtl_meaning.specs.Meaning.{nodes_value, operands_value}

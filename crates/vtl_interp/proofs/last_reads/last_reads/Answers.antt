@@ -1,7 +1,7 @@
 use Rattle.std.proofs.Common.{◌∙◌, ◌++◌, map, take, ap, subst, sym, arith, [], ◌∷◌}
 use Rattle.std.proofs.lemmas.List.{length-map, length-take-le, map-append, take_more}
-use Rattle.vtl_nodes.specs.View.{node_tree}
-use Rattle.vtl_nodes.specs.declared.nodes.Node.{Node}
+use Rattle.vtl_tree.specs.NodeView.{node_tree}
+use Rattle.vtl_tree.specs.declared.nodes.Node.{Node}
 use Rattle.vtl_interp.specs.Reads.{AreRead, AreReadThere}
 use Rattle.vtl_interp.proofs.PlacesRead.{read_there_more, reads_more}
 use Rattle.vtl_interp.proofs.last_reads.last_reads.Goals as goal

@@ -1,5 +1,5 @@
 use Rattle.std.proofs.Common.{map, take}
-use Rattle.vtl_nodes.specs.View.{node_tree}
+use Rattle.vtl_tree.specs.NodeView.{node_tree}
 use Rattle.vtl_interp.specs.Reads.{AreRead, AreReadThere}
 use Rattle.vtl_interp.proofs.last_reads.last_reads.Given as goal
 

@@ -1,7 +1,7 @@
 use Rattle.std.proofs.Common.{◌∙◌, ◌+◌, map, ap, subst}
 use Rattle.std.specs.List.{AllByRecursion}
 use Rattle.std.proofs.lemmas.List.{append-nil}
-use Rattle.vtl_nodes.specs.View.{node_tree}
+use Rattle.vtl_tree.specs.NodeView.{node_tree}
 use Rattle.vtl_check.specs.Names.{names_in, names_of}
 use Rattle.vtl_interp.specs.Reads.{IsGone}
 use Rattle.vtl_interp.proofs.last_reads.let_go.Goals as goal

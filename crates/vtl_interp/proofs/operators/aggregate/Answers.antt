@@ -1,7 +1,7 @@
 use Rattle.std.proofs.Common.{rules, ◌≡◌, Err, subst, sym, ◌∙◌}
-use Rattle.vtl_nodes.specs.View.{agg_tree}
-use Rattle.vtl_aggregates.specs.Aggregates.{aggregate_of}
-use Rattle.vtl_aggregates.specs.Shapes.{IsAggregated}
+use Rattle.vtl_tree.specs.NodeView.{agg_tree}
+use Rattle.vtl_meaning.specs.Aggregates.{aggregate_of}
+use Rattle.vtl_meaning.specs.AggregateShapes.{IsAggregated}
 use Rattle.vtl_sets.specs.DataSets.{with_structure}
 use Rattle.vtl_tree.specs.Environment.{DataSet}
 use Rattle.vtl_tree.specs.declared.structure.Structure.{Structure}

@@ -1,6 +1,6 @@
 use Rattle.std.proofs.Common.{rules, ◌≡◌, Err, subst, sym, ◌∙◌}
-use Rattle.vtl_nodes.specs.View.{analytic_tree}
-use Rattle.vtl_windows.specs.Analytics.{analytic_of}
+use Rattle.vtl_tree.specs.NodeView.{analytic_tree}
+use Rattle.vtl_meaning.specs.Analytics.{analytic_of}
 use Rattle.vtl_sets.specs.DataSets.{with_structure}
 use Rattle.vtl_meaning.specs.Made.{IsWindowed}
 use Rattle.vtl_tree.specs.Environment.{DataSet}

@@ -1,5 +1,5 @@
 use Rattle.std.proofs.Common.{rules, ◌≡◌, Err, sym, ◌∙◌, map}
-use Rattle.vtl_nodes.specs.View.{item_tree}
+use Rattle.vtl_tree.specs.NodeView.{item_tree}
 use Rattle.vtl_sets.specs.DataSets.{with_structure}
 use Rattle.vtl_meaning.specs.Operators.{calculated_of}
 use Rattle.vtl_interp.specs.Values.{value_view}

@@ -1,5 +1,5 @@
 use Rattle.std.proofs.Common.{rules, ◌≡◌, Err, subst, sym, ◌∙◌}
-use Rattle.vtl_nodes.specs.View.{measure_tree}
+use Rattle.vtl_tree.specs.NodeView.{measure_tree}
 use Rattle.vtl_sets.specs.DataSets.{with_structure}
 use Rattle.vtl_tree.specs.Environment.{DataSet}
 use Rattle.vtl_tree.specs.declared.structure.Structure.{Structure}

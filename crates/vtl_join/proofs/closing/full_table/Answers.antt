@@ -9,7 +9,7 @@ use Rattle.vtl_rows.specs.declared.gather.Pick.{Pick}
 use Rattle.vtl_index.specs.Seekers.{Sought}
 use Rattle.vtl_tree.specs.Shown.{shown}
 use Rattle.vtl_tree.specs.declared.structure.Component.{Component}
-use Rattle.check_shapes.specs.Columns.{identifiers_of}
+use Rattle.vtl_tree.specs.Columns.{identifiers_of}
 use Rattle.vtl_meaning.specs.Joined.{all_keys}
 use Rattle.vtl_join.specs.Crossing.{up_to}
 use Rattle.vtl_join.specs.Finding.{all_numbers, sought_at}

@@ -1,6 +1,6 @@
 use Rattle.std.proofs.Common.{◌≡◌, ◌+◌, drop}
 use Rattle.vtl_tree.specs.Shown.{shown}
-use Rattle.check_shapes.specs.Columns.{place_of}
+use Rattle.vtl_tree.specs.Columns.{place_of}
 use Rattle.vtl_join.proofs.columns.place_of.Given as goal
 
 abbrev pub invariant-loop-i : goal.invariant-loop-i

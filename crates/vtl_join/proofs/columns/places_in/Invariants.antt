@@ -1,6 +1,6 @@
 use Rattle.std.proofs.Common.{◌≡◌, take}
 use Rattle.vtl_tree.specs.Shown.{shown}
-use Rattle.check_shapes.specs.Columns.{places_in}
+use Rattle.vtl_tree.specs.Columns.{places_in}
 use Rattle.vtl_join.proofs.columns.places_in.Given as goal
 
 abbrev pub invariant-loop-column : goal.invariant-loop-column

@@ -1,6 +1,6 @@
 use Rattle.std.proofs.Common.{◌<◌, length, sym, ap, ◌∙◌, arith}
 use Rattle.std.specs.List.{position_or_len}
-use Rattle.check_shapes.specs.Pairs.{contains}
+use Rattle.vtl_tree.specs.Pairs.{contains}
 use Rattle.vtl_tree.specs.declared.structure.Structure.{Structure}
 use Rattle.vtl_meaning.specs.Joined.{contains_all, structures_of}
 use Rattle.vtl_join.specs.declared.joined.Operand.{Operand}

@@ -6,7 +6,7 @@ use Rattle.vtl_index.specs.Seekers.{Sought}
 use Rattle.vtl_tree.specs.Shown.{shown}
 use Rattle.vtl_tree.specs.Structure.{columns_of}
 use Rattle.vtl_tree.specs.declared.structure.Component.{Component}
-use Rattle.check_shapes.specs.Columns.{places_in}
+use Rattle.vtl_tree.specs.Columns.{places_in}
 use Rattle.vtl_join.specs.Crossing.{up_to}
 use Rattle.vtl_join.specs.Finding.{sought_at}
 use Rattle.vtl_join.proofs.Stepping.{sought_is}

@@ -1,4 +1,4 @@
-use Rattle.check_shapes.specs.Columns.{identifiers_of, kind_named, place_of}
+use Rattle.vtl_tree.specs.Columns.{identifiers_of, kind_named, place_of}
 use Rattle.vtl_meaning.proofs.Kept.{column_within}
 use Rattle.vtl_meaning.proofs.TurnedKept.{pivot_kept, unpivot_kept}
 use Rattle.vtl_meaning.proofs.TurnedLooks.{coded_look, pivot_look, unpivoted_look, unpivoted_only}

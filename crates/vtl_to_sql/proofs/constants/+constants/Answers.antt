@@ -1,7 +1,7 @@
 use Rattle.std.proofs.Common.{arith, subst}
 use Rattle.std.specs.List.{AllByRecursion}
 use Rattle.vtl_tree.specs.View.{comp_exp_of}
-use Rattle.vtl_nodes.specs.View.{node_tree, value_tree}
+use Rattle.vtl_tree.specs.NodeView.{node_tree, value_tree}
 use Rattle.vtl_meaning.specs.Operators.{value_exp}
 use Rattle.rules_to_sql.specs.Held.{HoldsValues}
 use Rattle.vtl_to_sql.specs.Accepted.{HoldsParts}

@@ -1,6 +1,6 @@
 use Rattle.std.proofs.Common.{drop}
 use Rattle.std.specs.List.{AllByRecursion}
-use Rattle.vtl_nodes.specs.View.{node_tree}
+use Rattle.vtl_tree.specs.NodeView.{node_tree}
 use Rattle.vtl_to_sql.specs.Accepted.{HoldsParts}
 use Rattle.vtl_to_sql.proofs.constants.+constants.Given as goal
 

@@ -1,7 +1,7 @@
 use Rattle.std.proofs.Common.{sym, subst}
 use Rattle.std.specs.List.{AllByRecursion}
-use Rattle.vtl_nodes.specs.View.{analytic_tree, item_tree, value_tree}
-use Rattle.vtl_nodes.specs.Trees.{ItemTree}
+use Rattle.vtl_tree.specs.NodeView.{analytic_tree, item_tree, value_tree}
+use Rattle.vtl_tree.specs.Trees.{ItemTree}
 use Rattle.vtl_to_sql.specs.Accepted.{AnalyticHoldsValues, MadeHoldsValues}
 use Rattle.vtl_to_sql.proofs.HeldConstants.{of_mapped}
 use Rattle.vtl_to_sql.proofs.constants.analytic_is_held.Goals as goal

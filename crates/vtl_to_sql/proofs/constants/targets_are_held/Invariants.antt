@@ -1,7 +1,7 @@
 use Rattle.std.proofs.Common.{drop}
 use Rattle.std.specs.List.{AllByRecursion}
-use Rattle.vtl_nodes.specs.View.{value_tree}
-use Rattle.vtl_nodes.specs.declared.clauses.CalcItem.{CalcItem}
+use Rattle.vtl_tree.specs.NodeView.{value_tree}
+use Rattle.vtl_tree.specs.declared.clauses.CalcItem.{CalcItem}
 use Rattle.vtl_meaning.specs.Operators.{value_exp}
 use Rattle.rules_to_sql.specs.Held.{HoldsValues}
 use Rattle.vtl_to_sql.specs.Accepted.{MadeHoldsValues}

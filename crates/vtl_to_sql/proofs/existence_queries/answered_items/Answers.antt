@@ -1,7 +1,7 @@
 use Rattle.std.proofs.Common.{[], ◌∷◌, List, ap, map, subst, ◌∙◌}
 use Rattle.vtl_tree.specs.Shown.{shown}
 use Rattle.vtl_tree.specs.declared.structure.Component.{Component}
-use Rattle.check_shapes.specs.Columns.{identifiers_of}
+use Rattle.vtl_tree.specs.Columns.{identifiers_of}
 use Rattle.sql_tree.specs.View.{expr_tree, item_tree}
 use Rattle.vtl_to_sql.specs.NamedItems.{AreNext, own_columns}
 use Rattle.vtl_to_sql.proofs.existence_queries.answered_items.Goals as goal

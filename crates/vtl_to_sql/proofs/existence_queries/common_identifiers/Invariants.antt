@@ -2,7 +2,7 @@ use Rattle.std.proofs.Common.{◌≡◌, take}
 use Rattle.std.specs.List.{filter}
 use Rattle.vtl_tree.specs.Shown.{shown}
 use Rattle.vtl_tree.specs.Structure.{names_of}
-use Rattle.check_shapes.specs.Names.{is_among}
+use Rattle.vtl_tree.specs.Names.{is_among}
 use Rattle.vtl_to_sql.proofs.existence_queries.common_identifiers.Given as goal
 
 abbrev pub invariant-loop-identifier : goal.invariant-loop-identifier

@@ -1,7 +1,7 @@
 use Rattle.std.proofs.Common.{sym, ap, ◌∙◌}
 use Rattle.std.proofs.lemmas.Result.{IfOk-weaker}
-use Rattle.vtl_nodes.specs.Trees.{FormTree, structure_of}
-use Rattle.vtl_nodes.specs.View.{node_tree}
+use Rattle.vtl_tree.specs.Trees.{FormTree, structure_of}
+use Rattle.vtl_tree.specs.NodeView.{node_tree}
 use Rattle.vtl_to_sql.specs.FormQueries.{query_of_two}
 use Rattle.vtl_to_sql.proofs.Walked.{tree_of_difference, tree_of_symmetric_difference}
 use Rattle.vtl_to_sql.proofs.form_queries.query_of_two.Goals as goal

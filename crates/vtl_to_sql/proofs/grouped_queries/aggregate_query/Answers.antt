@@ -2,7 +2,7 @@ use Rattle.std.proofs.Common.{[], ◌∷◌, ap, sym, ◌∙◌}
 use Rattle.std.specs.Option.{option_map}
 use Rattle.std.proofs.lemmas.Result.{IfOk-weaker}
 use Rattle.vtl_tree.specs.Structure.{columns_of}
-use Rattle.vtl_nodes.specs.View.{agg_tree}
+use Rattle.vtl_tree.specs.NodeView.{agg_tree}
 use Rattle.rules_to_sql.specs.ToSql.{group_columns}
 use Rattle.sql_tree.specs.View.{expr_tree}
 use Rattle.vtl_to_sql.specs.Grouped.{kept_where}

@@ -1,5 +1,5 @@
 use Rattle.std.proofs.Common.{◌≡◌, drop}
-use Rattle.vtl_aggregates.specs.Aggregates.{target_named}
+use Rattle.vtl_meaning.specs.Aggregates.{target_named}
 use Rattle.vtl_to_sql.proofs.grouped_queries.target_named.Given as goal
 
 abbrev pub invariant-loop-target : goal.invariant-loop-target

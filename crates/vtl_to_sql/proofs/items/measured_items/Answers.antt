@@ -2,8 +2,8 @@ use Rattle.std.proofs.Common.{◌++◌, List, ap, ◌∙◌}
 use Rattle.vtl_tree.specs.Shown.{shown}
 use Rattle.vtl_tree.specs.Structure.{columns_of}
 use Rattle.vtl_tree.specs.declared.structure.Component.{Component}
-use Rattle.check_shapes.specs.Columns.{identifiers_of, measures_of}
-use Rattle.vtl_nodes.specs.View.{measure_tree}
+use Rattle.vtl_tree.specs.Columns.{identifiers_of, measures_of}
+use Rattle.vtl_tree.specs.NodeView.{measure_tree}
 use Rattle.sql_tree.specs.Trees.{ItemTree}
 use Rattle.vtl_to_sql.specs.Items.{for_each_two, measured_item, renamed_item}
 use Rattle.vtl_to_sql.proofs.items.measured_items.Goals as goal

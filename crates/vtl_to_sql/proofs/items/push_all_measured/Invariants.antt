@@ -1,6 +1,6 @@
 use Rattle.std.proofs.Common.{◌≡◌, ◌++◌, map, take}
 use Rattle.vtl_tree.specs.Shown.{shown}
-use Rattle.vtl_nodes.specs.View.{measure_tree}
+use Rattle.vtl_tree.specs.NodeView.{measure_tree}
 use Rattle.sql_tree.specs.View.{item_tree}
 use Rattle.vtl_to_sql.specs.Items.{for_each_two, measured_item}
 use Rattle.vtl_to_sql.proofs.items.push_all_measured.Given as goal

@@ -1,5 +1,5 @@
 use Rattle.std.proofs.Common.{◌≡◌, drop, map}
-use Rattle.vtl_nodes.specs.View.{item_tree as target_tree}
+use Rattle.vtl_tree.specs.NodeView.{item_tree as target_tree}
 use Rattle.vtl_meaning.specs.Operators.{target_named}
 use Rattle.vtl_to_sql.proofs.items.target_named.Given as goal
 

@@ -1,7 +1,7 @@
 use Rattle.std.proofs.Common.{◌≡◌, drop}
 use Rattle.vtl_tree.specs.Shown.{shown}
 use Rattle.vtl_tree.specs.Structure.{names_of}
-use Rattle.check_shapes.specs.Names.{is_among}
+use Rattle.vtl_tree.specs.Names.{is_among}
 use Rattle.vtl_to_sql.proofs.join_operands.has_name.Given as goal
 
 abbrev pub invariant-loop-component : goal.invariant-loop-component

@@ -1,7 +1,7 @@
 use Rattle.std.proofs.Common.{[], ◌∷◌, ap, length, sym, ◌∙◌}
 use Rattle.std.proofs.lemmas.Result.{IfOk-weaker}
 use Rattle.vtl_tree.specs.Structure.{columns_of, key_width}
-use Rattle.check_shapes.specs.Columns.{measures_of}
+use Rattle.vtl_tree.specs.Columns.{measures_of}
 use Rattle.sql_tree.specs.View.{select_tree}
 use Rattle.vtl_to_sql.specs.PairItems.{chosen, chosen_from, not_chosen}
 use Rattle.vtl_to_sql.proofs.PairForms.{choose_written}

@@ -1,7 +1,7 @@
 use Rattle.std.proofs.Common.{ap, map, sym, None, ◌∙◌}
 use Rattle.std.proofs.lemmas.Result.{IfOk-weaker}
 use Rattle.vtl_to_sql.specs.Items.{from_table}
-use Rattle.vtl_nodes.specs.View.{item_tree as target_tree}
+use Rattle.vtl_tree.specs.NodeView.{item_tree as target_tree}
 use Rattle.vtl_to_sql.proofs.Forms.{calc_written}
 use Rattle.vtl_to_sql.proofs.queries.calc_query.Goals as goal
 

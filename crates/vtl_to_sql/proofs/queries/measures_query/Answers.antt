@@ -1,7 +1,7 @@
 use Rattle.std.proofs.Common.{ap, sym, None, ◌∙◌}
 use Rattle.std.proofs.lemmas.Result.{IfOk-weaker}
 use Rattle.vtl_to_sql.specs.Items.{from_table}
-use Rattle.vtl_nodes.specs.View.{measure_tree}
+use Rattle.vtl_tree.specs.NodeView.{measure_tree}
 use Rattle.vtl_to_sql.proofs.Forms.{measures_written}
 use Rattle.vtl_to_sql.proofs.queries.measures_query.Goals as goal
 

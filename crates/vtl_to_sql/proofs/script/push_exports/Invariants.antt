@@ -1,5 +1,5 @@
 use Rattle.std.proofs.Common.{◌≡◌, ◌+◌, ◌++◌, drop, length, map}
-use Rattle.vtl_nodes.specs.View.{node_tree}
+use Rattle.vtl_tree.specs.NodeView.{node_tree}
 use Rattle.vtl_backend.specs.Statements.{with_nodes}
 use Rattle.vtl_check.proofs.LeftLemmas.{left}
 use Rattle.sql_tree.specs.View.{statement_tree}

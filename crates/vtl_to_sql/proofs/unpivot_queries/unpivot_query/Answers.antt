@@ -2,7 +2,7 @@ use Rattle.std.proofs.Common.{List, ap, map, sym, ◌∙◌}
 use Rattle.std.proofs.lemmas.Result.{IfOk-weaker}
 use Rattle.vtl_tree.specs.Shown.{shown}
 use Rattle.vtl_tree.specs.declared.structure.Component.{Component}
-use Rattle.check_shapes.specs.Columns.{identifiers_of, measures_of}
+use Rattle.vtl_tree.specs.Columns.{identifiers_of, measures_of}
 use Rattle.vtl_to_sql.specs.TurnedItems.{measure_select}
 use Rattle.vtl_to_sql.proofs.TurnedForms.{unpivot_written}
 use Rattle.vtl_to_sql.proofs.unpivot_queries.unpivot_query.Goals as goal

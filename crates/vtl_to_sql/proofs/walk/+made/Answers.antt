@@ -1,9 +1,9 @@
 use Rattle.std.proofs.Common.{◌∷◌, [], ◌++◌, ℕ, ◌+◌, ◌-◌, length, take, drop, ap, map, refl, sym, ◌∙◌}
 use Rattle.std.proofs.lemmas.Result.{IfOk-weaker}
 use Rattle.vtl_tree.specs.Shown.{shown}
-use Rattle.vtl_nodes.specs.Trees.{FormTree, structure_of}
-use Rattle.vtl_nodes.specs.View.{form_tree, node_tree}
-use Rattle.vtl_nodes.specs.declared.nodes.Node.{Node}
+use Rattle.vtl_tree.specs.Trees.{FormTree, structure_of}
+use Rattle.vtl_tree.specs.NodeView.{form_tree, node_tree}
+use Rattle.vtl_tree.specs.declared.nodes.Node.{Node}
 use Rattle.sql_tree.specs.View.{query_tree, statement_tree}
 use Rattle.vtl_to_sql.specs.Combined.{combined_made}
 use Rattle.vtl_to_sql.specs.FormQueries.{query_of_one, query_of_two}

@@ -1,6 +1,6 @@
 use Rattle.std.proofs.Common.{◌≡◌, ◌∷◌, ◌++◌, [], true, drop, length, map}
-use Rattle.vtl_nodes.specs.Trees as nodes
-use Rattle.vtl_nodes.specs.View.{node_tree, operand_tree}
+use Rattle.vtl_tree.specs.Trees as nodes
+use Rattle.vtl_tree.specs.NodeView.{node_tree, operand_tree}
 use Rattle.sql_tree.specs.View.{statement_tree}
 use Rattle.vtl_to_sql.specs.Combined.{combined_made, rest_made}
 use Rattle.vtl_to_sql.specs.Scripts.{create_for}

@@ -1,8 +1,8 @@
 use Rattle.std.proofs.Common.{◌≡◌, ◌++◌, drop, length, map}
 use Rattle.vtl_tree.specs.Shown.{shown}
-use Rattle.check_joins.specs.Joins.{structures_of}
-use Rattle.vtl_nodes.specs.Trees.{operands_of}
-use Rattle.vtl_nodes.specs.View.{operand_tree}
+use Rattle.vtl_tree.specs.Joins.{structures_of}
+use Rattle.vtl_tree.specs.Trees.{operands_of}
+use Rattle.vtl_tree.specs.NodeView.{operand_tree}
 use Rattle.vtl_meaning.specs.Made.{operands_in}
 use Rattle.vtl_to_sql.proofs.walk.joined_structures.Given as goal
 

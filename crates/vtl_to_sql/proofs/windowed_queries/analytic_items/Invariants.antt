@@ -1,6 +1,6 @@
 use Rattle.std.proofs.Common.{◌≡◌, map, take}
 use Rattle.vtl_tree.specs.Shown.{shown}
-use Rattle.vtl_nodes.specs.View.{analytic_tree}
+use Rattle.vtl_tree.specs.NodeView.{analytic_tree}
 use Rattle.sql_tree.specs.View.{item_tree}
 use Rattle.vtl_to_sql.specs.WindowItems.{analytic_items}
 use Rattle.vtl_to_sql.proofs.windowed_queries.analytic_items.Given as goal

@@ -1,5 +1,5 @@
 use Rattle.std.proofs.Common.{◌≡◌, drop}
-use Rattle.check_shapes.specs.Names.{is_among}
+use Rattle.vtl_tree.specs.Names.{is_among}
 use Rattle.vtl_to_sql.specs.Windowed.{key_names}
 use Rattle.vtl_to_sql.proofs.windows.is_key.Given as goal
 

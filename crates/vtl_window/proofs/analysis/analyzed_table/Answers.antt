@@ -7,10 +7,10 @@ use Rattle.vtl_scalar.specs.Answers.{AnswersBy}
 use Rattle.vtl_tree.specs.DataSet.{IsDataSet}
 use Rattle.vtl_tree.specs.Shown.{shown}
 use Rattle.vtl_tree.specs.Structure.{columns_of}
-use Rattle.vtl_aggregates.specs.Aggregates.{group_fault as point_fault}
-use Rattle.vtl_windows.specs.Analytics.{analytic_of, made_of, point_of}
+use Rattle.vtl_meaning.specs.Aggregates.{group_fault as point_fault}
+use Rattle.vtl_meaning.specs.Analytics.{analytic_of, made_of, point_of}
 use Rattle.vtl_sets.specs.TableOf.{table_columns}
-use Rattle.vtl_nodes.specs.View.{analytic_tree}
+use Rattle.vtl_tree.specs.NodeView.{analytic_tree}
 use Rattle.vtl_window.specs.Analyses.{cells_in, made_cells, made_faults}
 use Rattle.vtl_window.specs.declared.column.Column.{Column}
 use Rattle.vtl_window.proofs.AnalysisLemmas.{faults_turned}

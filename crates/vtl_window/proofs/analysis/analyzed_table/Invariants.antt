@@ -1,8 +1,8 @@
 use Rattle.std.proofs.Common.{◌≡◌, [], drop, map, take}
 use Rattle.vtl_tree.specs.Structure.{columns_of}
-use Rattle.vtl_windows.specs.Analytics.{made_of, point_of}
+use Rattle.vtl_meaning.specs.Analytics.{made_of, point_of}
 use Rattle.vtl_sets.specs.TableOf.{table_columns}
-use Rattle.vtl_nodes.specs.View.{analytic_tree}
+use Rattle.vtl_tree.specs.NodeView.{analytic_tree}
 use Rattle.vtl_window.specs.Analyses.{cells_in, made_cells}
 use Rattle.vtl_window.proofs.analysis.analyzed_table.Given as goal
 

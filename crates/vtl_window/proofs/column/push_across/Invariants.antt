@@ -1,7 +1,7 @@
 use Rattle.std.proofs.Common.{◌≡◌, ◌∷◌, List, map}
 use Rattle.vtl_cell.specs.Row.{Row}
 use Rattle.vtl_tree.specs.declared.structure.Component.{Component}
-use Rattle.vtl_aggregates.specs.Aggregates.{Made}
+use Rattle.vtl_meaning.specs.Aggregates.{Made}
 use Rattle.vtl_window.specs.Analyses.{cells_in, made_cells}
 use Rattle.vtl_window.proofs.AnalysisLemmas.{IsAcross}
 use Rattle.vtl_window.proofs.column.push_across.Given as goal

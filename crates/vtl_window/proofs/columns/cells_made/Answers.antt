@@ -2,8 +2,8 @@ use Rattle.std.proofs.Common.{Vec, Global, sym, ap}
 use Rattle.vtl_cell.specs.Outcome.{join}
 use Rattle.vtl_cell.specs.declared.cell.Cell.{Cell}
 use Rattle.vtl_scalar.specs.Seen.{seen_of}
-use Rattle.vtl_windows.specs.Analytics.{tree_value}
-use Rattle.vtl_nodes.specs.Trees.{analytic}
+use Rattle.vtl_meaning.specs.Analytics.{tree_value}
+use Rattle.vtl_tree.specs.Trees.{analytic}
 use Rattle.vtl_window.specs.Analyses.{faults_of}
 use Rattle.vtl_window.specs.Calls.{lent, maker_tree}
 use Rattle.vtl_window.specs.declared.maker.Maker.{Maker}

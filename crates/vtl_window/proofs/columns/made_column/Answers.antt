@@ -5,9 +5,9 @@ use Rattle.vtl_cell.specs.Row.{Row, column_of}
 use Rattle.vtl_cell.specs.declared.cell.Cell.{Cell}
 use Rattle.vtl_tree.specs.Structure.{columns_of}
 use Rattle.vtl_scalar.specs.Seen.{seen_of}
-use Rattle.vtl_windows.specs.Analytics.{value_for}
-use Rattle.check_shapes.specs.Columns.{place_of}
-use Rattle.vtl_nodes.specs.View.{analytic_tree}
+use Rattle.vtl_meaning.specs.Analytics.{value_for}
+use Rattle.vtl_tree.specs.Columns.{place_of}
+use Rattle.vtl_tree.specs.NodeView.{analytic_tree}
 use Rattle.vtl_window.specs.Analyses.{cells_by, faults_of}
 use Rattle.vtl_window.specs.Calls.{maker_tree}
 use Rattle.vtl_window.proofs.AnalysisLemmas.{kept_as, made_as, stays}

@@ -2,8 +2,8 @@ use Rattle.std.proofs.Common.{[], ◌∷◌, map, take, ap, sym, ◌∙◌}
 use Rattle.std.proofs.lemmas.List.{map-append}
 use Rattle.vtl_cell.specs.Outcome.{join}
 use Rattle.vtl_tree.specs.Shown.{shown}
-use Rattle.vtl_windows.specs.Analytics.{made_of}
-use Rattle.vtl_nodes.specs.View.{analytic_tree}
+use Rattle.vtl_meaning.specs.Analytics.{made_of}
+use Rattle.vtl_tree.specs.NodeView.{analytic_tree}
 use Rattle.vtl_window.specs.Analyses.{cells_in, faults_of, made_cells, made_faults}
 use Rattle.vtl_window.proofs.AnalysisLemmas.{cells_more_columns, faults_more_columns, shown_next}
 use Rattle.vtl_window.proofs.columns.made_columns.Goals as goal

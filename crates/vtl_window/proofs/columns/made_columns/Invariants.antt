@@ -1,8 +1,8 @@
 use Rattle.std.proofs.Common.{◌≡◌, map, take}
 use Rattle.vtl_tree.specs.Shown.{shown}
 use Rattle.vtl_scalar.specs.Seen.{seen_of}
-use Rattle.vtl_windows.specs.Analytics.{made_of}
-use Rattle.vtl_nodes.specs.View.{analytic_tree}
+use Rattle.vtl_meaning.specs.Analytics.{made_of}
+use Rattle.vtl_tree.specs.NodeView.{analytic_tree}
 use Rattle.vtl_window.specs.Analyses.{cells_in, made_cells, made_faults}
 use Rattle.vtl_window.proofs.columns.made_columns.Given as goal
 

@@ -1,6 +1,6 @@
 use Rattle.std.proofs.Common.{◌≡◌, ◌++◌, map, take}
 use Rattle.vtl_tree.specs.Shown.{shown}
-use Rattle.check_shapes.specs.Columns.{place_of}
+use Rattle.vtl_tree.specs.Columns.{place_of}
 use Rattle.vtl_window.specs.Sorted.{rising_key}
 use Rattle.vtl_window.proofs.keys.push_names.Given as goal
 

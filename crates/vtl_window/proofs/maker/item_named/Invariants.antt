@@ -1,6 +1,6 @@
 use Rattle.std.proofs.Common.{◌≡◌, drop, map}
-use Rattle.vtl_windows.specs.Analytics.{item_named}
-use Rattle.vtl_nodes.specs.View.{item_tree}
+use Rattle.vtl_meaning.specs.Analytics.{item_named}
+use Rattle.vtl_tree.specs.NodeView.{item_tree}
 use Rattle.vtl_window.proofs.maker.item_named.Given as goal
 
 abbrev pub invariant-loop-item : goal.invariant-loop-item

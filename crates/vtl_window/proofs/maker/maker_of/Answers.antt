@@ -1,6 +1,6 @@
 use Rattle.std.proofs.Common.{Some, None, cond, ap, sym, ◌∙◌}
-use Rattle.vtl_windows.specs.Analytics.{measure_call, value_for}
-use Rattle.vtl_nodes.specs.View.{analytic_tree}
+use Rattle.vtl_meaning.specs.Analytics.{measure_call, value_for}
+use Rattle.vtl_tree.specs.NodeView.{analytic_tree}
 use Rattle.vtl_window.proofs.maker.maker_of.Goals as goal
 
 pub returns-then-is_same_role : goal.returns-then-is_same_role

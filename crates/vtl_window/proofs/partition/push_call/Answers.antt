@@ -9,8 +9,8 @@ use Rattle.vtl_cell.specs.declared.operator.AggKind.TheVariants as agg
 use Rattle.vtl_frames.specs.Framed as frames
 use Rattle.vtl_rows.specs.Runs.{is_start, rank_at}
 use Rattle.vtl_tree.specs.Structure.{columns_of}
-use Rattle.vtl_nodes.specs.declared.calls.AnalyticOp.TheVariants as op
-use Rattle.vtl_windows.specs.Windows.{argument, keys_in, op_value}
+use Rattle.vtl_tree.specs.declared.calls.AnalyticOp.TheVariants as op
+use Rattle.vtl_meaning.specs.Windows.{argument, keys_in, op_value}
 use Rattle.vtl_window.specs.Calls.{lent}
 use Rattle.vtl_window.specs.Lanes.{cells_in}
 use Rattle.vtl_window.specs.Runs.{count_in, lane_cells, stand_at}

@@ -9,12 +9,12 @@ use Rattle.vtl_rows.specs.Places.{row_at}
 use Rattle.vtl_tree.specs.DataSet.{IsDataSet}
 use Rattle.vtl_tree.specs.Shown.{shown}
 use Rattle.vtl_tree.specs.Structure.{columns_of}
-use Rattle.vtl_aggregates.specs.Aggregates.{cell_or_null}
-use Rattle.check_shapes.specs.Columns.{place_of}
+use Rattle.vtl_meaning.specs.Aggregates.{cell_or_null}
+use Rattle.vtl_tree.specs.Columns.{place_of}
 use Rattle.vtl_scalar.specs.Seen.{seen_of}
-use Rattle.vtl_windows.specs.Analytics.{tree_value}
-use Rattle.vtl_windows.specs.Windows.{call_value}
-use Rattle.vtl_nodes.specs.Trees.{analytic}
+use Rattle.vtl_meaning.specs.Analytics.{tree_value}
+use Rattle.vtl_meaning.specs.Windows.{call_value}
+use Rattle.vtl_tree.specs.Trees.{analytic}
 use Rattle.vtl_window.specs.Analyses.{cells_by, faults_of}
 use Rattle.vtl_window.specs.Calls.{lent}
 use Rattle.vtl_window.specs.Sorted.{order_keys, partition_keys}

@@ -3,7 +3,7 @@ use Rattle.std.proofs.lemmas.List.{length-map}
 use Rattle.vtl_rows.specs.Places.{IsOrderOf}
 use Rattle.vtl_tree.specs.Shown.{shown}
 use Rattle.vtl_tree.specs.Structure.{columns_of}
-use Rattle.check_shapes.specs.Columns.{identifiers_of}
+use Rattle.vtl_tree.specs.Columns.{identifiers_of}
 use Rattle.vtl_sets.specs.TableOf.{column_for}
 use Rattle.vtl_window.specs.Sorted.{sort_keys, tie_breakers}
 use Rattle.vtl_window.proofs.SortLemmas.{keys_within}

@@ -10,8 +10,8 @@ use Rattle.vtl_rows.specs.Places.{row_at}
 use Rattle.vtl_rows.specs.Runs.{is_start}
 use Rattle.vtl_tree.specs.DataSet.{IsDataSet}
 use Rattle.vtl_tree.specs.Structure.{columns_of}
-use Rattle.check_shapes.specs.Columns.{identifiers_of}
-use Rattle.vtl_windows.specs.Windows.{call_value}
+use Rattle.vtl_tree.specs.Columns.{identifiers_of}
+use Rattle.vtl_meaning.specs.Windows.{call_value}
 use Rattle.vtl_window.specs.Calls.{lent}
 use Rattle.vtl_window.specs.Runs.{AreInOrder, run_values, start_at}
 use Rattle.vtl_window.specs.Sorted.{identifier_keys, order_keys, partition_keys, tie_breakers}

@@ -1,6 +1,6 @@
 use Rattle.std.proofs.Common.{◌≡◌, length, map, take}
 use Rattle.vtl_rows.specs.Places.{row_at}
-use Rattle.vtl_windows.specs.Windows.{call_value}
+use Rattle.vtl_meaning.specs.Windows.{call_value}
 use Rattle.vtl_window.specs.Calls.{lent}
 use Rattle.vtl_window.specs.Runs.{start_at}
 use Rattle.vtl_window.proofs.values.sorted_values.Given as goal

@@ -4,7 +4,7 @@ use Rattle.vtl_index.specs.Seekers.{Sought}
 use Rattle.vtl_tree.specs.Shown.{shown}
 use Rattle.vtl_tree.specs.Structure.{columns_of}
 use Rattle.vtl_tree.specs.declared.structure.Structure.{Structure}
-use Rattle.check_shapes.specs.Columns.{identifiers_of, place_of, places_in}
+use Rattle.vtl_tree.specs.Columns.{identifiers_of, place_of, places_in}
 use Rattle.vtl_expr.proofs.FindingLemmas.{seeks_first}
 use Rattle.vtl_expr.proofs.partners.Partners.of.Goals as goal
 

@@ -1,6 +1,0 @@
-use Rattle.std.proofs.Common.{◌≡◌, ◌++◌, take}
-use Rattle.check_shapes.specs.Choices.{chosen}
-use Rattle.check_shapes.proofs.choices.push_chosen.Given as goal
-
-abbrev pub invariant-loop-component : goal.invariant-loop-component
-invariant-loop-component l = l.out.items ≡ l.fn.out.items ++ chosen l.choice l.names (take l.component-index l.components)

@@ -1,6 +1,0 @@
-use Rattle.std.proofs.Common.{◌≡◌, ◌++◌, take}
-use Rattle.check_shapes.specs.Measures.{measures}
-use Rattle.check_shapes.proofs.measures.push_measures.Given as goal
-
-abbrev pub invariant-loop-component : goal.invariant-loop-component
-invariant-loop-component l = l.out.items ≡ l.fn.out.items ++ measures (take l.component-index l.components)

@@ -1,5 +1,0 @@
-use Rattle.vtl_aggregates.proofs.GroupOrders.{aggregates_respect}
-use Rattle.vtl_aggregates.proofs.laws.aggregates_do_not_see_order.Goals as goal
-
-pub returns : goal.returns
-returns c = aggregates_respect

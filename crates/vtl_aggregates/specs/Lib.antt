@@ -1,4 +1,0 @@
-pub mod Aggregates
-pub mod Expressions
-pub mod Groups
-pub mod Shapes

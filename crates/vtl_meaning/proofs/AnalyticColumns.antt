@@ -1,0 +1,155 @@
+-- Where columns stand, and what stands in them.
+use Rattle.std.proofs.Common.{◌≡◌, ℕ, zero, suc, Bool, true, false, not, cond, ◌&&◌, List, [], ◌∷◌, ◌++◌, length, map, take, Option, Some, refl, sym, ap, ◌∙◌, arith, append_assoc}
+use Rattle.std.specs.List.{AllByRecursion, filter, find}
+use Rattle.std.proofs.lemmas.Cmp.{nat_list_eq_equiv}
+use Rattle.std.proofs.lemmas.Slice.Eq.{bytes_eq-Decides}
+use Rattle.vtl_lists.specs.Apart.{all_apart}
+use Rattle.vtl_cell.specs.Kinds.{is_null, is_of}
+use Rattle.vtl_lists.specs.Perm.{Perm, empty, keep, chain}
+use Rattle.vtl_cell.specs.Row.{Row, column_of}
+use Rattle.vtl_cell.specs.declared.cell.Cell.{Cell}
+use Rattle.vtl_lists.proofs.Aparts.{all_apart-Perm, apart_parts}
+use Rattle.vtl_lists.proofs.Perms.{Perm-append_back, Perm-map, Perm-middle}
+use Rattle.vtl_rows.specs.Tables.{cells_at}
+use Rattle.vtl_tree.specs.DataSet.{is_point}
+use Rattle.vtl_tree.specs.Structure.{IsStructure, columns_of, names_of, of_role, same_name, same_role}
+use Rattle.vtl_tree.specs.declared.structure.Component.{Component}
+use Rattle.vtl_tree.specs.declared.structure.Role.{Role}
+use Rattle.vtl_tree.specs.declared.structure.Role.TheVariants as role
+use Rattle.vtl_tree.specs.declared.structure.Structure.{Structure}
+use Rattle.vtl_tree.specs.Columns.{identifiers_of, others_of, place_of, places_in}
+use Rattle.vtl_tree.specs.Names.{component_of}
+use Rattle.vtl_meaning.proofs.GroupPoints.{HasCell, all_more}
+
+-- ---- names
+pub same-refl : (a : List ℕ) → same_name a a ≡ true
+same-refl a = (bytes_eq-Decides a a).1 refl
+
+pub same-is : (a b : List ℕ) → same_name a b ≡ true → a ≡ b
+same-is a b e = (bytes_eq-Decides a b).0 e
+
+same-sym : (a b : List ℕ) → same_name a b ≡ same_name b a
+same-sym a b = nat_list_eq_equiv.symm a b
+
+-- of items with distinct names each is found by its own
+module _ {X : Type 0} (name : X → List ℕ) where
+  abbrev by_name : List ℕ → List X → Option X
+  by_name n xs = find (λ x. same_name (name x) n) xs
+
+  later : (x : X) (xs ys : List X) → AllByRecursion (λ n. same_name (name x) n ≡ false) (map name ys) → AllByRecursion (λ y. by_name (name y) xs ≡ Some y) ys → AllByRecursion (λ y. by_name (name y) (x ∷ xs) ≡ Some y) ys
+  later x xs [] apart all = tt
+  later x xs (y ∷ ys) apart all = (ap (λ b. cond b (Some x) (by_name (name y) xs)) apart.0 ∙ all.0, later x xs ys apart.1 all.1)
+
+  pub own_found : (xs : List X) → all_apart same_name (map name xs) ≡ true → AllByRecursion (λ y. by_name (name y) xs ≡ Some y) xs
+  own_found [] e = tt
+  own_found (x ∷ xs) e =
+      let parts = apart_parts same_name (name x) (map name xs) e in
+      (ap (λ b. cond b (Some x) (by_name (name x) xs)) (same-refl (name x)), later x xs xs parts.0 (own_found xs parts.1))
+
+-- ---- columns are the components, ordered by their roles
+pub by_roles : (xs : List Component) → Perm (filter (λ x. same_role x.role role.Identifier) xs ++ filter (λ x. same_role x.role role.Measure) xs ++ filter (λ x. same_role x.role role.Attribute) xs) xs
+by_roles [] = empty
+by_roles (x ∷ xs) = go x.role (by_roles xs)
+  where
+    of : Role → List Component
+    of r = filter (λ y. same_role y.role r) xs
+
+    put : Role → Role → List Component
+    put r t = cond (same_role r t) (x ∷ of t) (of t)
+
+    go : (r : Role) → Perm (of role.Identifier ++ of role.Measure ++ of role.Attribute) xs → Perm (put r role.Identifier ++ put r role.Measure ++ put r role.Attribute) (x ∷ xs)
+    go role.Identifier ih = keep x ih
+    go role.Measure ih = chain (Perm-append_back (of role.Attribute) (Perm-middle (of role.Identifier) x (of role.Measure))) (keep x ih)
+    go role.Attribute ih = chain (Perm-middle (of role.Identifier ++ of role.Measure) x (of role.Attribute)) (keep x ih)
+
+columns_apart : (a : Structure) → IsStructure a → all_apart same_name (names_of (columns_of a)) ≡ true
+columns_apart a w = all_apart-Perm same_name same-sym (Perm-map (λ (x : Component). x.name) (by_roles a.components)) ∙ w.distinct
+
+-- each column is found by its name
+pub columns_found : (a : Structure) → IsStructure a → AllByRecursion (λ y. component_of y.name (columns_of a) ≡ Some y) (columns_of a)
+columns_found a w = own_found (λ (x : Component). x.name) (columns_of a) (columns_apart a w)
+
+pub columns_split : (a : Structure) → columns_of a ≡ identifiers_of a ++ others_of a
+columns_split a = append_assoc (of_role role.Identifier a) (of_role role.Measure a) (of_role role.Attribute a)
+
+pub all_front : {X : Type 0} (P : X → Type 0) (xs ys : List X) → AllByRecursion P (xs ++ ys) → AllByRecursion P xs
+all_front P [] ys all = tt
+all_front P (x ∷ xs) ys all = (all.0, all_front P xs ys all.1)
+
+pub all_append : {X : Type 0} (P : X → Type 0) (xs ys : List X) → AllByRecursion P xs → AllByRecursion P ys → AllByRecursion P (xs ++ ys)
+all_append P [] ys h i = i
+all_append P (x ∷ xs) ys h i = (h.0, all_append P xs ys h.1 i)
+
+-- ---- cells
+place_here : (name : List ℕ) (x : Component) (xs : List Component) → same_name x.name name ≡ true → place_of name (x ∷ xs) ≡ zero
+place_here name x xs e = rw e refl
+
+place_later : (name : List ℕ) (x : Component) (xs : List Component) → same_name x.name name ≡ false → place_of name (x ∷ xs) ≡ suc (place_of name xs)
+place_later name x xs e = rw e (omega arith)
+
+-- a column before all of these changes nothing
+cells_behind : (x : Component) (xs : List Component) (v : Cell) (r : Row) (ys : List Component) → AllByRecursion (λ n. same_name x.name n ≡ false) (names_of ys) → cells_at (places_in (x ∷ xs) ys) (v ∷ r) ≡ cells_at (places_in xs ys) r
+cells_behind x xs v r [] all = refl
+cells_behind x xs v r (y ∷ ys) all =
+    ap (λ i. column_of i (v ∷ r) ∷ cells_at (places_in (x ∷ xs) ys) (v ∷ r)) (place_later y.name x xs all.0)
+    ∙ ap (λ l. column_of (place_of y.name xs) r ∷ l) (cells_behind x xs v r ys all.1)
+
+last_of : (a b d : Bool) → (a && b && d) ≡ true → d ≡ true
+last_of true true d e = e
+last_of true false d e = cc
+last_of false b d e = cc
+
+-- the cells at the first columns are the first cells
+first_cells : (xs more : List Component) (r : Row) → all_apart same_name (names_of (xs ++ more)) ≡ true → is_point (xs ++ more) r ≡ true → cells_at (places_in (xs ++ more) xs) r ≡ take (length xs) r
+first_cells [] more r apart h = refl
+first_cells (x ∷ xs) more [] apart h = cc
+first_cells (x ∷ xs) more (v ∷ r) apart h =
+    let parts = apart_parts same_name x.name (names_of (xs ++ more)) apart in
+    ap (λ i. column_of i (v ∷ r) ∷ cells_at (places_in (x ∷ xs ++ more) xs) (v ∷ r)) (place_here x.name x (xs ++ more) (same-refl x.name))
+    ∙ ap (λ l. v ∷ l) (cells_behind x (xs ++ more) v r xs (names_front xs more parts.0) ∙ first_cells xs more r parts.1 (rest h))
+  where
+    names_front : (us vs : List Component) → AllByRecursion (λ n. same_name x.name n ≡ false) (names_of (us ++ vs)) → AllByRecursion (λ n. same_name x.name n ≡ false) (names_of us)
+    names_front [] vs all = tt
+    names_front (u ∷ us) vs all = (all.0, names_front us vs all.1)
+
+    rest : is_point (x ∷ xs ++ more) (v ∷ r) ≡ true → is_point (xs ++ more) r ≡ true
+    rest e = last_of (is_of x.kind v) (not (same_role x.role role.Identifier && is_null v)) (is_point (xs ++ more) r) e
+
+pub identifier_cells : (a : Structure) (r : Row) → IsStructure a → is_point (columns_of a) r ≡ true → cells_at (places_in (columns_of a) (identifiers_of a)) r ≡ take (length (identifiers_of a)) r
+identifier_cells a r w h =
+    let same = columns_split a in
+    ap (λ xs. cells_at (places_in xs (identifiers_of a)) r) same
+    ∙ first_cells (identifiers_of a) (others_of a) r (ap (λ xs. all_apart same_name (names_of xs)) (sym same) ∙ columns_apart a w) (ap (λ xs. is_point xs r) (sym same) ∙ h)
+
+-- cells of their kinds make a point
+pub cells_are : (f : Component → Cell) (ys : List Component) → AllByRecursion (λ y. HasCell y (f y)) ys → is_point ys (map f ys) ≡ true
+cells_are f [] all = refl
+cells_are f (y ∷ ys) all = λ i. all.0.0 i && all.0.1 i && cells_are f ys all.1 i
+
+-- ---- columns that are no identifiers
+abbrev pub IsOther : Component → Type 0
+IsOther x = same_role x.role role.Identifier ≡ false
+
+pub measure_role : (r : Role) → same_role r role.Measure ≡ true → same_role r role.Identifier ≡ false
+measure_role role.Identifier h = cc
+measure_role role.Measure h = refl
+measure_role role.Attribute h = refl
+
+pub attribute_role : (r : Role) → same_role r role.Attribute ≡ true → same_role r role.Identifier ≡ false
+attribute_role role.Identifier h = cc
+attribute_role role.Measure h = refl
+attribute_role role.Attribute h = refl
+
+pub all_filtered : {X : Type 0} (p : X → Bool) (xs : List X) → AllByRecursion (λ x. p x ≡ true) (filter p xs)
+all_filtered p [] = tt
+all_filtered p (x ∷ xs) = go (p x) refl (all_filtered p xs)
+  where
+    go : (b : Bool) → p x ≡ b → AllByRecursion (λ y. p y ≡ true) (filter p xs) → AllByRecursion (λ y. p y ≡ true) (cond b (x ∷ filter p xs) (filter p xs))
+    go true e ih = (e, ih)
+    go false e ih = ih
+
+pub are_others : (s : Structure) → AllByRecursion IsOther (others_of s)
+are_others s =
+    all_append IsOther (of_role role.Measure s) (of_role role.Attribute s)
+    (all_more (λ x. same_role x.role role.Measure ≡ true) IsOther (λ x. measure_role x.role) (of_role role.Measure s) (all_filtered (λ x. same_role x.role role.Measure) s.components))
+    (all_more (λ x. same_role x.role role.Attribute ≡ true) IsOther (λ x. attribute_role x.role) (of_role role.Attribute s) (all_filtered (λ x. same_role x.role role.Attribute) s.components))

@@ -1,5 +1,0 @@
-use Rattle.vtl_windows.proofs.AnalyticOrders.{analytics_respect}
-use Rattle.vtl_windows.proofs.laws.analytics_do_not_see_order.Goals as goal
-
-pub returns : goal.returns
-returns c = analytics_respect

@@ -1,3 +1,0 @@
-pub mod Analytics
-pub mod Shapes
-pub mod Windows
