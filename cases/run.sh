@@ -460,6 +460,13 @@ if wanted crates; then
     else
         pass
     fi
+    scripts/crates.sh breaches >"$made/said"
+    if [ -s "$made/said" ]; then
+        fail "crates name what their layer must not know:"
+        cat "$made/said"
+    else
+        pass
+    fi
     scripts/crates.sh chain >"$made/said"
     read -r count libraries <"$made/said"
     echo "the longest chain has $count libraries: $libraries"

@@ -6,6 +6,7 @@
 #                      it is proved, one after the other
 #   crates.sh relays   each line in which a crate hands on words of another one; the product's calls alone may be had from
 #                      vtl_top, below the comment that says so
+#   crates.sh breaches each crate that names one that its layer must not know, as docs/ARCHITECTURE.md says
 top=$(CDPATH='' cd -- "$(dirname -- "$0")/.." && pwd) || exit 1
 cd "$top/crates" || exit 1
 # The libraries of the kit that are in use; a further one is put here.
@@ -86,7 +87,46 @@ relays() {
         /^$/ { is_product = 0 }'
 }
 
+# What a layer must not name: other layers, or crates.
+breaches() {
+    awk '
+        function bar(layers, what,    names, count, i) {
+            count = split(layers, names, " ")
+            for (i = 1; i <= count; i++) barred[names[i]] = barred[names[i]] " " what " "
+        }
+        BEGIN {
+            vtl = "facts values tables read speak check files evaluate"
+            bar(vtl, "SQL translate programs")
+            bar("facts values tables read speak check files evaluate SQL translate", "vtl_files vtl_csv vtl_status")
+            bar("facts values tables read speak", "check files evaluate")
+            bar("check", "tables files evaluate")
+            bar("SQL", "read check files evaluate vtl_meaning vtl_aggregate_laws")
+            bar("translate", "vtl_expr vtl_clause vtl_join vtl_combine vtl_group vtl_window vtl_interp")
+        }
+        /^# [a-zA-Z]+: / { layer = substr($2, 1, length($2) - 1) }
+        match($0, /^[a-z0-9_]+:/) {
+            name = substr($0, 1, RLENGTH - 1)
+            layer_of[name] = layer
+            below[name] = substr($0, RLENGTH + 1)
+            names[++count] = name
+        }
+        END {
+            for (i = 1; i <= count; i++) {
+                name = names[i]
+                number = split(below[name], lower, " ")
+                for (j = 1; j <= number; j++) {
+                    other = lower[j]
+                    if (!(other in layer_of)) continue
+                    is_structure = other == "vtl_tree" || other == "vtl_sets"
+                    if (index(barred[layer_of[name]], " " other " ") ||
+                        layer_of[name] != layer_of[other] && index(barred[layer_of[name]], " " layer_of[other] " ") ||
+                        layer_of[name] == "SQL" && is_structure && name != "sql_engine") print name, "names", other
+                }
+            }
+        }' ../crates.txt
+}
+
 case ${1-listed} in
-    listed | chain | relays) "${1-listed}" ;;
-    *) sed -n '2,8s/^# //p' "$top/scripts/crates.sh"; exit 1 ;;
+    listed | chain | relays | breaches) "${1-listed}" ;;
+    *) sed -n '2,9s/^# //p' "$top/scripts/crates.sh"; exit 1 ;;
 esac
