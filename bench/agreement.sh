@@ -3,20 +3,12 @@
 # processor seconds of both, the least of three runs in turn, and how many times as long `sqlrun` takes, which is meant to be
 # at most 1.3; and tells where the two have not written the same. Nothing is asserted. The program is the one that ../vtl
 # builds; another may be given as the only word.
-top=$(dirname -- "$(readlink -f -- "$0")")/..
-. "$top/bench/program.sh"
 # Both commands are run in turn, three times, by this script itself.
 RUNS=1
-. "$top/bench/timing.sh"
+. "$(dirname -- "$(readlink -f -- "$0")")/lib.sh"
 
-cat >"$made/structures.csv" <<'END'
-dataset,component,role,type,codes
-readings,Station,identifier,string,
-readings,Number,identifier,integer,
-readings,Value,measure,integer,
-others,Station,identifier,string,
-others,Number,identifier,integer,
-others,Value,measure,integer,
+declared readings Value others Value >"$made/structures.csv"
+cat >>"$made/structures.csv" <<'END'
 wide,Station,identifier,string,
 wide,Number,identifier,integer,
 wide,A,measure,number,

@@ -4,9 +4,7 @@
 # their own way, so only their counts of rows and of accounts that balance are compared. The figures are printed, and nothing
 # is asserted of them: `sqlrun` is meant to take at most 1.3 times the time of `run`. The program is the one that ../vtl
 # builds; another may be given as the only word.
-top=$(dirname -- "$(readlink -f -- "$0")")/..
-. "$top/bench/program.sh"
-. "$top/bench/timing.sh"
+. "$(dirname -- "$(readlink -f -- "$0")")/lib.sh"
 
 for name in assets liabilities net_worth; do
     printf '%s,REF_AREA,identifier,string,\n%s,SECTOR,identifier,string,\n%s,TIME_PERIOD,identifier,time_period,\n%s,AMOUNT,measure,number,\n' "$name" "$name" "$name" "$name"
@@ -60,10 +58,7 @@ make_accounts net_worth 900007 '(key * 611953) % 100003 - int(((key * 611953) % 
 cp "$top/examples/balance/script.vtl" "$made/script.vtl"
 echo 'the script of examples/balance on 3,000,000 points'
 raced checked
-mkdir -p "$made/in_sql"
-timed sqlrun "$program" sqlrun "$made/script.vtl" "$made/structures.csv" "$made/in" "$made/in_sql" || cat "$made/said"
-paste -d' ' "$made/seconds.sqlrun" "$made/seconds.vtl" | awk '$2 > 0 { printf "    sqlrun takes %.2f times the time of run\n", $1 / $2 }'
-diff -q "$made/out/checked.csv" "$made/in_sql/checked.csv"
+in_sql checked
 for other in "$made"/out/*.accounts; do
     [ ! -e "$other" ] || for file in "$other" "$made/out/checked.csv"; do
         tr -d '\r"' <"$file" | awk -F, '$NF == "true" { count++ } END { print NR, count }'

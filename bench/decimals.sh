@@ -1,12 +1,8 @@
 #!/bin/sh
 # Times each operation on decimal numbers. The times are printed, and nothing is asserted of them.
 # The program is the one built in crates/vtl_probe; another may be given as the only word.
-top=$(dirname -- "$(readlink -f -- "$0")")/..
-program=${1:-$top/crates/vtl_probe/out/vtl_probe}
-if [ ! -x "$program" ]; then
-    echo "decimals.sh: there is no program at $program; scripts/build.sh vtl_probe builds it" >&2
-    exit 1
-fi
+built=vtl_probe
+. "$(dirname -- "$(readlink -f -- "$0")")/lib.sh"
 
 # Runs an operation a number of times, and prints how long it took.
 time_run() {

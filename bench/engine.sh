@@ -4,9 +4,7 @@
 # is asserted of them. Twice the rows are meant to take at most 2.3 times the time, those of a join too: one that tries
 # each row with each takes four times the time. The program is the one that ../vtl builds; another may be given as the
 # only word.
-top=$(dirname -- "$(readlink -f -- "$0")")/..
-. "$top/bench/program.sh"
-. "$top/bench/timing.sh"
+. "$(dirname -- "$(readlink -f -- "$0")")/lib.sh"
 
 # Rows in a mixed order, with a key, a text and a number that make 1,000 pairs, and a value.
 make_rows() {
@@ -54,7 +52,8 @@ job() {
     {
         tables "$2" "$3"
         order=$(seq -s , "$4")
-        printf '.mode csv\n.headers on\n.once %s\n%s\nORDER BY %s;\n' "$made/out/sqlite.csv" "$query" "$order"
+        written_by sqlite.csv "$query"
+        echo "ORDER BY $order;"
     } >"$made/job.sql"
     echo "$1"
     raced total

@@ -3,16 +3,9 @@
 # the sqlite3 shell and pandas on the same job, where they are installed. The figures are printed, and nothing is asserted of
 # them: `run` is meant to take at most a quarter of the time of the faster of the two, and `sqlrun` at most 1.3 times the time
 # of `run`. The program is the one that ../vtl builds; another may be given as the only word.
-top=$(dirname -- "$(readlink -f -- "$0")")/..
-. "$top/bench/program.sh"
-. "$top/bench/timing.sh"
+. "$(dirname -- "$(readlink -f -- "$0")")/lib.sh"
 
-cat >"$made/structures.csv" <<'END'
-dataset,component,role,type,codes
-readings,Station,identifier,string,
-readings,Number,identifier,integer,
-readings,Value,measure,integer,
-END
+declared readings Value >"$made/structures.csv"
 
 # Points in a mixed order, each with a number of its own and with one of so many stations.
 make_points() {
@@ -27,14 +20,10 @@ make_points() {
 
 # The total of each station, by the peers.
 peers() {
-    cat >"$made/job.sql" <<END
-CREATE TABLE readings (Station TEXT NOT NULL, Number INTEGER NOT NULL, Value INTEGER, PRIMARY KEY (Station, Number));
-.import --csv --skip 1 $made/in/readings.csv readings
-.mode csv
-.headers on
-.once $made/out/sqlite.csv
-SELECT Station, sum(Value) AS Value FROM readings GROUP BY Station ORDER BY Station;
-END
+    {
+        station_table readings Value
+        written_by sqlite.csv 'SELECT Station, sum(Value) AS Value FROM readings GROUP BY Station ORDER BY Station;'
+    } >"$made/job.sql"
     cat >"$made/job.py" <<END
 import pandas
 readings = pandas.read_csv('$made/in/readings.csv')
@@ -44,20 +33,11 @@ total.to_csv('$made/out/pandas.csv', index=False)
 END
 }
 
-# The same script by its text in SQL, beside the run that was timed last.
-in_sql() {
-    mkdir -p "$made/in_sql"
-    timed sqlrun "$program" sqlrun "$made/script.vtl" "$made/structures.csv" "$made/in" "$made/in_sql" || cat "$made/said"
-    [ -s "$made/seconds.sqlrun" ] && paste -d' ' "$made/seconds.sqlrun" "$made/seconds.vtl" |
-        awk '$2 > 0 { printf "    sqlrun takes %.2f times the time of run\n", $1 / $2 }'
-    diff -q "$made/out/total.csv" "$made/in_sql/total.csv"
-}
-
 echo 'total <- sum(readings group by Station);' >"$made/script.vtl"
 peers
 for groups in 10 1000 1000000; do
     make_points 1000000 "$groups"
     echo "sum by $groups groups of 1,000,000 points"
     raced total
-    in_sql
+    in_sql total
 done

@@ -3,21 +3,10 @@
 # installed. The figures are printed, and nothing is asserted of them: a job is meant to take at most a third of the time
 # of the faster of the two, twice the rows at most 2.3 times the time, and a join with five small operands at most twice
 # the time of the join with one. The program is the one that ../vtl builds; another may be given as the only word.
-top=$(dirname -- "$(readlink -f -- "$0")")/..
-. "$top/bench/program.sh"
-. "$top/bench/timing.sh"
+. "$(dirname -- "$(readlink -f -- "$0")")/lib.sh"
 
-cat >"$made/structures.csv" <<'END'
-dataset,component,role,type,codes
-left,Station,identifier,string,
-left,Number,identifier,integer,
-left,Code,measure,integer,
-right,Station,identifier,string,
-right,Number,identifier,integer,
-right,Value,measure,integer,
-other,Station,identifier,string,
-other,Number,identifier,integer,
-other,Code,measure,integer,
+declared left Code right Value other Code >"$made/structures.csv"
+cat >>"$made/structures.csv" <<'END'
 fact,Number,identifier,integer,
 fact,K1,identifier,integer,
 fact,K2,identifier,integer,
@@ -70,8 +59,8 @@ table() {
     case $1 in
         fact) columns='Number INTEGER NOT NULL, K1 INTEGER NOT NULL, K2 INTEGER NOT NULL, K3 INTEGER NOT NULL, K4 INTEGER NOT NULL, K5 INTEGER NOT NULL, Value INTEGER, PRIMARY KEY (Number, K1, K2, K3, K4, K5)' ;;
         code*) columns="K${1#code} INTEGER NOT NULL PRIMARY KEY, Text${1#code} TEXT" ;;
-        right) columns='Station TEXT NOT NULL, Number INTEGER NOT NULL, Value INTEGER, PRIMARY KEY (Station, Number)' ;;
-        *) columns='Station TEXT NOT NULL, Number INTEGER NOT NULL, Code INTEGER, PRIMARY KEY (Station, Number)' ;;
+        right) station_table right Value; return ;;
+        *) station_table "$1" Code; return ;;
     esac
     echo "CREATE TABLE $1 ($columns);"
     echo ".import --csv --skip 1 $made/in/$1.csv $1"
@@ -89,7 +78,7 @@ keys_of() {
 peers() {
     {
         for name in $1; do table "$name"; done
-        printf '.mode csv\n.headers on\n.once %s\n%s\n' "$made/out/sqlite.csv" "$2"
+        written_by sqlite.csv "$2"
     } >"$made/job.sql"
     {
         echo "import pandas"

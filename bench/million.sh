@@ -3,9 +3,7 @@
 # installed. The figures are printed, and nothing is asserted of them.
 # The job: read the rows, check their identifiers, filter, sort by the identifiers, write. The program is the one that
 # ../vtl builds; another may be given as the only word.
-top=$(dirname -- "$(readlink -f -- "$0")")/..
-. "$top/bench/program.sh"
-. "$top/bench/timing.sh"
+. "$(dirname -- "$(readlink -f -- "$0")")/lib.sh"
 
 printf 'large <- readings [filter Value > 500000];\n' >"$made/script.vtl"
 cat >"$made/structures.csv" <<'END'
@@ -15,14 +13,11 @@ readings,Number,identifier,string,
 readings,Value,measure,integer,
 END
 
-cat >"$made/job.sql" <<END
-CREATE TABLE readings (Station TEXT NOT NULL, Number TEXT NOT NULL, Value INTEGER, PRIMARY KEY (Station, Number));
-.import --csv --skip 1 $made/in/readings.csv readings
-.mode csv
-.headers on
-.once $made/out/sqlite.csv
-SELECT * FROM readings WHERE Value > 500000 ORDER BY Station, Number;
-END
+{
+    echo "CREATE TABLE readings (Station TEXT NOT NULL, Number TEXT NOT NULL, Value INTEGER, PRIMARY KEY (Station, Number));"
+    echo ".import --csv --skip 1 $made/in/readings.csv readings"
+    written_by sqlite.csv 'SELECT * FROM readings WHERE Value > 500000 ORDER BY Station, Number;'
+} >"$made/job.sql"
 
 cat >"$made/job.py" <<END
 import pandas

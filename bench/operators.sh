@@ -2,19 +2,9 @@
 # Times operators on whole data sets, clauses, and scripts of many statements. Pairing two data sets of 1,000,000 points
 # runs beside the sqlite3 shell and pandas on the same job, where they are installed. The figures are printed, and nothing
 # is asserted of them. The program is the one that ../vtl builds; another may be given as the only word.
-top=$(dirname -- "$(readlink -f -- "$0")")/..
-. "$top/bench/program.sh"
-. "$top/bench/timing.sh"
+. "$(dirname -- "$(readlink -f -- "$0")")/lib.sh"
 
-cat >"$made/structures.csv" <<'END'
-dataset,component,role,type,codes
-left,Station,identifier,string,
-left,Number,identifier,integer,
-left,Value,measure,integer,
-right,Station,identifier,string,
-right,Number,identifier,integer,
-right,Value,measure,integer,
-END
+declared left Value right Value >"$made/structures.csv"
 
 # Points in a mixed order: a data set, how many, and the steps by which its points and its values go round.
 make_points() {
@@ -35,16 +25,11 @@ job() {
     rm -f "$made/job.sql" "$made/job.py"
 }
 
-table() {
-    echo "CREATE TABLE $1 (Station TEXT NOT NULL, Number INTEGER NOT NULL, Value INTEGER, PRIMARY KEY (Station, Number));"
-    echo ".import --csv --skip 1 $made/in/$1.csv $1"
-}
-
 # The peers of a job: tables to read, the query of sqlite3, and the expression of pandas.
 peers() {
     {
-        for name in $1; do table "$name"; done
-        printf '.mode csv\n.headers on\n.once %s\n%s\n' "$made/out/sqlite.csv" "$2"
+        for name in $1; do station_table "$name" Value; done
+        written_by sqlite.csv "$2"
     } >"$made/job.sql"
     {
         echo "import pandas"

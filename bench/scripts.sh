@@ -2,11 +2,7 @@
 # Times the reading of scripts of the largest size, 65,536 bytes, in shapes that are hard for a reader.
 # The times are printed with the line that the program answers, and nothing is asserted of them.
 # The program is the one that ../vtl builds; another may be given as the only word.
-top=$(dirname -- "$(readlink -f -- "$0")")/..
-. "$top/bench/program.sh"
-
-made=$(mktemp -d) || exit 1
-trap 'rm -rf "$made"' EXIT
+. "$(dirname -- "$(readlink -f -- "$0")")/lib.sh"
 
 # A text of 65,536 bytes: a beginning, one piece again and again, and an end behind it.
 text() {

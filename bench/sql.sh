@@ -3,14 +3,8 @@
 # the typing of scripts that are typed, in shapes that are hard for a look-up.
 # The times are printed with what was read, and nothing is asserted of them.
 # The program is the one built in crates/vtl_probe; another may be given as the only word.
-top=$(dirname -- "$(readlink -f -- "$0")")/..
-program=${1:-$top/crates/vtl_probe/out/vtl_probe}
-if [ ! -x "$program" ]; then
-    echo "sql.sh: there is no program at $program; scripts/build.sh vtl_probe builds it" >&2
-    exit 1
-fi
-made=$(mktemp -d) || exit 1
-trap 'rm -rf "$made"' EXIT
+built=vtl_probe
+. "$(dirname -- "$(readlink -f -- "$0")")/lib.sh"
 
 table='CREATE TABLE "U" AS SELECT'
 source='AS "c" FROM "T" AS "t"'

@@ -2,21 +2,17 @@
 # Times the reading of structures files of the largest size, 1,048,576 bytes, in shapes that are hard for a reader.
 # The times are printed with the number of data sets that were read, and nothing is asserted of them.
 # The program is the one built in crates/vtl_probe; another may be given as the only word.
-top=$(dirname -- "$(readlink -f -- "$0")")/..
-program=${1:-$top/crates/vtl_probe/out/vtl_probe}
-if [ ! -x "$program" ]; then
-    echo "structures.sh: there is no program at $program; scripts/build.sh vtl_probe builds it" >&2
-    exit 1
-fi
+built=vtl_probe
+. "$(dirname -- "$(readlink -f -- "$0")")/lib.sh"
 
 # Reads a file of this filling a number of times, and prints how long one reading took. The making of the file is not counted.
 time_run() {
     start=$(date +%s%N)
     "$program" time "$1" 0 >/dev/null || exit
-    made=$(date +%s%N)
+    written=$(date +%s%N)
     read_sets=$("$program" time "$1" "$2") || exit
     end=$(date +%s%N)
-    awk -v filling="$1" -v count="$2" -v sets="$read_sets" -v nanoseconds=$((end - made - (made - start))) 'BEGIN {
+    awk -v filling="$1" -v count="$2" -v sets="$read_sets" -v nanoseconds=$((end - written - (written - start))) 'BEGIN {
         printf "%-10s %6d %10d %12.1f\n", filling, count, sets / count, nanoseconds / 1e6 / count
     }'
 }

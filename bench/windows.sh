@@ -5,16 +5,9 @@
 # nothing is asserted of them: `run` is meant to take at most a quarter of the time of the faster of the two, `sqlrun` at
 # most 1.3 times the time of `run`, and the wide frame at most twice the time of the narrow one. The program is the one that
 # ../vtl builds; another may be given as the only word.
-top=$(dirname -- "$(readlink -f -- "$0")")/..
-. "$top/bench/program.sh"
-. "$top/bench/timing.sh"
+. "$(dirname -- "$(readlink -f -- "$0")")/lib.sh"
 
-cat >"$made/structures.csv" <<'END'
-dataset,component,role,type,codes
-readings,Station,identifier,string,
-readings,Number,identifier,integer,
-readings,Value,measure,integer,
-END
+declared readings Value >"$made/structures.csv"
 
 # Points in a mixed order, a thousand of each station, with some values that are equal.
 make_points() {
@@ -30,14 +23,10 @@ make_points() {
 # A job of the peers: the item that sqlite3 selects, the statement by which pandas makes the columns of `result`, and where
 # each of them writes.
 peers() {
-    cat >"$made/job.sql" <<END
-CREATE TABLE readings (Station TEXT NOT NULL, Number INTEGER NOT NULL, Value INTEGER, PRIMARY KEY (Station, Number));
-.import --csv --skip 1 $made/in/readings.csv readings
-.mode csv
-.headers on
-.once $made/out/$3
-SELECT Station, Number, $1 FROM readings ORDER BY Station, Number;
-END
+    {
+        station_table readings Value
+        written_by "$3" "SELECT Station, Number, $1 FROM readings ORDER BY Station, Number;"
+    } >"$made/job.sql"
     cat >"$made/job.py" <<END
 import pandas
 readings = pandas.read_csv('$made/in/readings.csv').sort_values(['Station', 'Number'], ignore_index=True)
@@ -46,15 +35,6 @@ result = readings[['Station', 'Number']].copy()
 $2
 result.to_csv('$made/out/$4', index=False)
 END
-}
-
-# The same script by its text in SQL, beside the run that was timed last.
-in_sql() {
-    mkdir -p "$made/in_sql"
-    timed sqlrun "$program" sqlrun "$made/script.vtl" "$made/structures.csv" "$made/in" "$made/in_sql" || cat "$made/said"
-    [ -s "$made/seconds.sqlrun" ] && paste -d' ' "$made/seconds.sqlrun" "$made/seconds.vtl" |
-        awk '$2 > 0 { printf "    sqlrun takes %.2f times the time of run\n", $1 / $2 }'
-    diff -q "$made/out/$1.csv" "$made/in_sql/$1.csv"
 }
 
 # Tells where a peer's averages, which it spells in its own way, are not those of the program.

@@ -1,5 +1,17 @@
-# Read by the scripts beside it that race the program against its peers, after program.sh: makes a folder `made` for what
-# they write, which is removed at the end, and says how a command is timed.
+# Read by the scripts beside it, each of which times a program:
+#   built      what is timed, the program `vtl` if a script sets nothing before, or another crate's
+#   top        the top of the repository
+#   program    the program that is timed: the one that ../vtl or scripts/build.sh builds, or the one that is given as the only
+#              word of the script
+#   made       a folder for what a script writes, with the folders `in` and `out`, which is removed at the end
+# and functions that time a command, race the program against its peers, and write what several scripts read.
+top=$(dirname -- "$(readlink -f -- "$0")")/..
+built=${built:-vtl}
+program=${1:-$top/crates/$built/out/$built}
+if [ ! -x "$program" ]; then
+    echo "$(basename -- "$0"): there is no program at $program; scripts/build.sh $built builds it" >&2
+    exit 1
+fi
 made=$(mktemp -d) || exit 1
 trap 'rm -rf "$made"' EXIT
 mkdir "$made/in" "$made/out" || exit 1
@@ -70,3 +82,30 @@ raced() {
     fi
     compared "$result"
 }
+
+# The script of the run that was timed last by its text in SQL, beside that run; the two have written the same result.
+in_sql() {
+    mkdir -p "$made/in_sql"
+    timed sqlrun "$program" sqlrun "$made/script.vtl" "$made/structures.csv" "$made/in" "$made/in_sql" || cat "$made/said"
+    [ -s "$made/seconds.sqlrun" ] && paste -d' ' "$made/seconds.sqlrun" "$made/seconds.vtl" |
+        awk '$2 > 0 { printf "    sqlrun takes %.2f times the time of run\n", $1 / $2 }'
+    diff -q "$made/out/$1.csv" "$made/in_sql/$1.csv"
+}
+
+# A structures file of data sets of stations and numbers, each with a measure of integers: NAME MEASURE ..
+declared() {
+    echo 'dataset,component,role,type,codes'
+    while [ $# -ge 2 ]; do
+        printf '%s,Station,identifier,string,\n%s,Number,identifier,integer,\n%s,%s,measure,integer,\n' "$1" "$1" "$1" "$2"
+        shift 2
+    done
+}
+
+# Such a data set as a table of sqlite3, read from its file: NAME MEASURE.
+station_table() {
+    echo "CREATE TABLE $1 (Station TEXT NOT NULL, Number INTEGER NOT NULL, $2 INTEGER, PRIMARY KEY (Station, Number));"
+    echo ".import --csv --skip 1 $made/in/$1.csv $1"
+}
+
+# The query of sqlite3 whose rows are written to a file of this name, behind the tables that it reads.
+written_by() { printf '.mode csv\n.headers on\n.once %s\n%s\n' "$made/out/$1" "$2"; }
