@@ -1,4 +1,7 @@
 /// A method of `Files`.
+//
+// A plan of calls is a meaning with a default that tells none, as `held` is told or not: so files and a sink in memory
+// say in the clauses of the trait what `chunk` and `fail` do, and no clause is written twice.
 #[derive(Clone, Copy, Debug, PartialEq, Eq)]
 pub enum Method {
     Open,

@@ -8,6 +8,11 @@
 //! only what they promise.
 //! Who brings an engine or a back end finds the words for it here: the traits, and the tables that they are handed.
 //! Begin with specs/Expected.antt and specs/Answered.antt, then src/top.rt.
+//!
+//! A step is two relations, what it gives over held bytes and which paths it reads, and one operation puts a step after
+//! another: a relation, since the tokens of a text are one; the paths beside it, since a fault of reading is told also
+//! of a file whose bytes would have been read as nothing. The run is one chain of steps (`run_step`), and `prepare` is
+//! that chain.
 #![tactic(auto)]
 
 mod agreement;
