@@ -48,8 +48,8 @@ function write_definitions(where, page,    list, count, i, item, name, path, oth
 # The files of a crate, the definitions that they hold, and what each is about.
 function write_index(page,    l, list, count, i, j, crate, path, parts, k) {
     print "# Index" > page
-    print "\nPrinted by `scripts/index.sh`: each crate with the files of its definitions. The page of a layer has each definition and each" > page
-    print "public call, with its sentence and its line. Which files a promise rests on, [RESTS](RESTS.md) has.\n" > page
+    print "\nPrinted by `scripts/index.sh`: each crate with the files of its definitions; the number is how many a file has. The page of a layer" > page
+    print "has each definition with its line, and each public call, with their sentences. [RESTS](RESTS.md) has which files a promise rests on.\n" > page
     print item_count " definitions in " file_count " files." > page
     for (l = 1; l <= layer_count; l++) {
         print "\n## [" layers[l] "](index/" layers[l] ".md): " holds[l] > page
