@@ -57,7 +57,7 @@ fn calls_for(
 ) -> Result<Vec<Call>, AllocError>
     ensures { IfOk result (λ v. v.items ≡ map (λ y. placed_for columns.now items.now y.name) (others_of made.now)) }
 {
-    let identifiers = made.identifiers(alloc)?.len();
+    let identifiers = made.key_width();
     let all = made.columns(alloc)?;
     calls_of(alloc, columns, items, &all[identifiers..])
 }

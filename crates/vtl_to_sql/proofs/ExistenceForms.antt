@@ -4,7 +4,7 @@ use Rattle.vtl_decimal.specs.Settings.{Settings}
 use Rattle.vtl_syntax.specs.declared.word_groups.Retain.{Retain}
 use Rattle.vtl_tree.specs.Structure.{columns_of}
 use Rattle.vtl_tree.specs.declared.structure.Structure.{Structure}
-use Rattle.vtl_meaning.specs.Agreement.{common_identifiers}
+use Rattle.vtl_tree.specs.Columns.{common_identifiers}
 use Rattle.vtl_tree.specs.Columns.{identifiers_of}
 use Rattle.sql_tree.specs.Trees.{Text}
 use Rattle.vtl_to_sql.specs.Existences.{retained_matches, shown_matches}

@@ -17,7 +17,8 @@ use Rattle.vtl_tree.specs.DataSet.{IsDataSet, is_point}
 use Rattle.vtl_tree.specs.Structure.{columns_of, names_of}
 use Rattle.vtl_tree.specs.declared.structure.Component.{Component}
 use Rattle.vtl_tree.specs.declared.structure.Structure.{Structure}
-use Rattle.vtl_meaning.specs.Agreement.{agree_in, common_identifiers, has_agreeing, has_identifier, key_of}
+use Rattle.vtl_tree.specs.Columns.{common_identifiers, has_identifier}
+use Rattle.vtl_meaning.specs.Agreement.{agree_in, has_agreeing, key_of}
 use Rattle.vtl_tree.specs.Columns.{columns_named, identifiers_of, others_of, place_of, places_in}
 use Rattle.vtl_meaning.specs.LookUps.{values_named}
 use Rattle.vtl_meaning.specs.Made.{AreAmong, IsColumnAt, IsExistence}

@@ -18,7 +18,8 @@ use Rattle.vtl_tree.specs.declared.structure.Component.{Component}
 use Rattle.vtl_tree.specs.declared.structure.Structure.{Structure}
 use Rattle.vtl_tuples.specs.Keys.{item_at}
 use Rattle.vtl_tuples.proofs.Lists.{filter_each, flat_map_same, map-flat_map, map-map, map_each, map_same}
-use Rattle.vtl_meaning.specs.Agreement.{common_identifiers, has_identifier, values_in}
+use Rattle.vtl_tree.specs.Columns.{common_identifiers, has_identifier}
+use Rattle.vtl_meaning.specs.Agreement.{values_in}
 use Rattle.vtl_tree.specs.Columns.{identifiers_of, measures_of, places_in}
 use Rattle.vtl_meaning.specs.Joined.{Tuple, part_of, structures_of, tuple_at, tuple_point}
 use Rattle.vtl_meaning.specs.Made.{AreAmong, AreFor, HasIdentifiers, attributes_of, component_kinds, kinds_of_all}

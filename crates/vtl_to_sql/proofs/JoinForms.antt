@@ -10,7 +10,7 @@ use Rattle.vtl_tree.specs.Structure.{columns_of, names_of, same_name}
 use Rattle.vtl_tree.specs.declared.structure.Component.{Component}
 use Rattle.vtl_tree.specs.declared.structure.Structure.{Structure}
 use Rattle.vtl_tree.specs.Names.{is_among}
-use Rattle.vtl_meaning.specs.Agreement.{common_identifiers, has_identifier}
+use Rattle.vtl_tree.specs.Columns.{common_identifiers, has_identifier}
 use Rattle.vtl_tree.specs.Columns.{column_behind, identifiers_of, measures_of, place_of}
 use Rattle.vtl_meaning.specs.Made.{attributes_of}
 use Rattle.vtl_meaning.proofs.Places.{same_name-refl}

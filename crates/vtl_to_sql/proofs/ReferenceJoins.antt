@@ -17,7 +17,8 @@ use Rattle.vtl_tree.specs.Structure.{IsStructure, columns_of}
 use Rattle.vtl_tree.specs.declared.structure.Component.{Component}
 use Rattle.vtl_tree.specs.declared.structure.Structure.{Structure}
 use Rattle.vtl_tuples.proofs.Lists.{filter_each, flat_map_same, map-flat_map, map-map, map_each}
-use Rattle.vtl_meaning.specs.Agreement.{agree_in, common_identifiers, first_agreeing, has_identifier, values_in}
+use Rattle.vtl_tree.specs.Columns.{common_identifiers, has_identifier}
+use Rattle.vtl_meaning.specs.Agreement.{agree_in, first_agreeing, values_in}
 use Rattle.vtl_tree.specs.Columns.{identifiers_of, measures_of, place_of, places_in}
 use Rattle.vtl_meaning.specs.Joined.{Tuple, inner_tuples, is_whole, left_tuples, part_of, structures_of, tuple_beside, tuple_point}
 use Rattle.vtl_meaning.specs.Made.{AreAmong, AreFor, HasIdentifiers, IsColumnAt, attributes_of, component_kinds, kinds_of_all}

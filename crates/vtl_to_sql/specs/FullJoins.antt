@@ -8,7 +8,7 @@ use Rattle.vtl_tree.specs.Structure.{columns_of, names_of}
 use Rattle.vtl_tree.specs.declared.structure.Component.{Component}
 use Rattle.vtl_tree.specs.declared.structure.Role.TheVariants as role
 use Rattle.vtl_tree.specs.declared.structure.Structure.{Structure}
-use Rattle.vtl_meaning.specs.Agreement.{common_identifiers}
+use Rattle.vtl_tree.specs.Columns.{common_identifiers}
 use Rattle.vtl_tree.specs.Columns.{columns_named, identifiers_of}
 use Rattle.sql_tree.specs.Trees.{QueryTree, SelectTree, Text}
 use Rattle.sql_tree.specs.declared.word_groups.JoinKind.TheVariants as joining

@@ -5,7 +5,7 @@ use Rattle.vtl_cell.specs.declared.operator.ScalarOp.TheVariants as op
 use Rattle.vtl_tree.specs.Structure.{columns_of}
 use Rattle.vtl_tree.specs.declared.structure.Component.{Component}
 use Rattle.vtl_tree.specs.declared.structure.Structure.{Structure}
-use Rattle.vtl_meaning.specs.Agreement.{common_identifiers}
+use Rattle.vtl_tree.specs.Columns.{common_identifiers}
 use Rattle.vtl_tree.specs.Columns.{identifiers_of, measures_of}
 use Rattle.vtl_meaning.specs.Made.{attributes_of}
 use Rattle.sql_tree.specs.Trees as tree

@@ -4,7 +4,7 @@ ghost use Rattle.std.specs.Option.{option_map};
 ghost use Rattle.vtl_tree.specs.Shown.{shown};
 ghost use Rattle.vtl_tree.specs.Structure.{columns_of, names_of};
 ghost use Rattle.vtl_tree.specs.Names.{is_among};
-ghost use Rattle.vtl_meaning.specs.Agreement.{common_identifiers};
+ghost use Rattle.vtl_tree.specs.Columns.{common_identifiers};
 ghost use Rattle.vtl_tree.specs.Columns.{identifiers_of};
 ghost use Rattle.sql_tree.specs.View.{expr_tree, item_tree, query_tree};
 ghost use Rattle.vtl_to_sql.specs.Existences.{retained_matches, shown_matches};

@@ -3,7 +3,7 @@ ghost use Rattle.std.specs.Prelude.{◌≡◌, ◌<◌, IfOk, filter, length, ma
 ghost use Rattle.vtl_tree.specs.Shown.{shown};
 ghost use Rattle.vtl_tree.specs.Structure.{names_of, of_role};
 ghost use Rattle.vtl_tree.specs.Names.{is_among};
-ghost use Rattle.vtl_meaning.specs.Agreement.{common_identifiers};
+ghost use Rattle.vtl_tree.specs.Columns.{common_identifiers};
 ghost use Rattle.vtl_meaning.specs.Joined.{contains_all, reference_place};
 ghost use Rattle.vtl_to_sql.specs.JoinItems.{aliased_around, aliased_of, number_around};
 

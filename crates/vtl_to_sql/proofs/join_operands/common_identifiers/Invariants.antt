@@ -1,7 +1,7 @@
 use Rattle.std.proofs.Common.{◌≡◌, take}
 use Rattle.std.specs.List.{filter}
 use Rattle.vtl_tree.specs.Shown.{shown}
-use Rattle.vtl_meaning.specs.Agreement.{has_identifier}
+use Rattle.vtl_tree.specs.Columns.{has_identifier}
 use Rattle.vtl_to_sql.proofs.join_operands.common_identifiers.Given as goal
 
 abbrev pub invariant-loop-identifier : goal.invariant-loop-identifier
