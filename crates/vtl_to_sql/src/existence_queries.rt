@@ -8,14 +8,12 @@ ghost use Rattle.vtl_meaning.specs.Agreement.{common_identifiers};
 ghost use Rattle.vtl_tree.specs.Columns.{identifiers_of};
 ghost use Rattle.sql_tree.specs.View.{expr_tree, item_tree, query_tree};
 ghost use Rattle.vtl_to_sql.specs.Existences.{retained_matches, shown_matches};
-ghost use Rattle.vtl_to_sql.specs.NamedItems.{own_columns};
-ghost use Rattle.vtl_to_sql.specs.Queries.{existence_query, items_as};
+ghost use Rattle.selects_to_sql.specs.NamedItems.{own_columns};
+ghost use Rattle.vtl_to_sql.specs.Sets.{existence_query};
+ghost use Rattle.selects_to_sql.specs.Queries.{items_as};
 
-use crate::named_items::{push_next, push_own};
-use crate::pair_queries::Operand;
-use crate::queries::{from_one, one_select};
 use crate::set_queries::is_matched;
-use crate::writer::Writer;
+use selects_to_sql::{Operand, Writer, from_one, one_select, push_next, push_own};
 use sql_tree::{Constant, Item, Query, SqlExpr};
 use std::alloc::{AllocError, Global};
 use vtl_syntax::Retain;
