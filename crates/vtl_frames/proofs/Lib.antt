@@ -2,5 +2,4 @@ pub mod BestLemmas
 pub mod KeptLemmas
 pub mod PickLemmas
 pub mod PlaceLemmas
-pub mod QuotientLemmas
 pub mod TotalLemmas

@@ -14,7 +14,6 @@ mod best;
 mod bounds;
 mod kept;
 mod medians;
-mod numbers;
 mod partition;
 mod picks;
 mod ratios;
