@@ -152,7 +152,7 @@ module _ (keys : List SortKey) (rows : List Row) (places : List ℕ) where
   at_place = cut_place places starts
 
   -- each is one
-  pub one_of : (i : ℕ) → i < length all → IsOne keys rows places (get_or all i [])
+  one_of : (i : ℕ) → i < length all → IsOne keys rows places (get_or all i [])
   one_of i h =
       let inside : i < length starts = omega (arith, h, many) in
       record { start = first_of i; end = first_of (i + 1); is = at_place i inside; cut = is_stretch i inside }
@@ -172,6 +172,10 @@ module _ (keys : List SortKey) (rows : List Row) (places : List ℕ) where
   joined =
       ap concat (sym (take_all (length all) all (omega arith))) ∙ ap (λ n. concat (take n all)) many ∙ joined_to (length starts) (omega arith)
       ∙ ap (λ n. take n places) (get_or_past starts (length starts) (length places) (omega arith)) ∙ take_all (length places) places (omega arith)
+
+-- one of the stretches that were found
+pub one_found : (keys : List SortKey) (rows : List Row) (places : List ℕ) (found : List (List ℕ)) (i : ℕ) → found ≡ stretches_of keys rows places → i < length found → IsOne keys rows places (get_or found i [])
+one_found keys rows places found i same h = subst (λ l. IsOne keys rows places (get_or l i [])) (sym same) (one_of keys rows places i (subst (λ l. i < length l) same h))
 
 -- ---- values put behind others, stretch by stretch
 pub one_more : {Y : Type 0} (f : ℕ → Y) (xss : List (List ℕ)) (i : ℕ) (old now then : List Y) → i < length xss

@@ -15,7 +15,6 @@ mod columns;
 mod faults;
 mod frames;
 mod keys;
-mod lane;
 mod maker;
 mod partition;
 mod putting_back;
