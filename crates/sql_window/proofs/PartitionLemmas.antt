@@ -10,7 +10,7 @@ use Rattle.vtl_lists.proofs.Perms.{Perm-sym}
 use Rattle.vtl_cell.proofs.Rows.{same_row-is, same_row-refl}
 use Rattle.vtl_lists.proofs.Sorts.{Rises-map, sorted_is}
 use Rattle.vtl_rows.specs.Places.{row_at}
-use Rattle.sql_tree.specs.declared.windows.Window.{Window}
+use Rattle.sql_tree.specs.declared.windows.Over.{Over}
 use Rattle.sql_meaning.specs.Values.{View}
 use Rattle.sql_meaning.specs.Windows.{keys_of, partition_of, partition_places, place_within, stand_in}
 use Rattle.vtl_frames.proofs.ListLemmas.{all_get, all_more}
@@ -54,22 +54,22 @@ module _ (rows : List Row) {le : Row → Row → Bool} (o : IsOrder le) where
       count_cons (λ k. le (row_at rows k) (row_at rows (get_or run i 0))) j run ∙ ap (λ b. cond b 1 0 + count_by (λ k. le (row_at rows k) (row_at rows (get_or run i 0))) run) before
       ∙ omega (arith, rest)
 
--- ---- values
-module _ (v : View) (w : Window) (rows : List Row) (run : List ℕ) (h : IsPartition v w.over rows run) where
+-- ---- stands
+module _ (v : View) (o : Over) (rows : List Row) (run : List ℕ) (h : IsPartition v o rows run) where
   abbrev part : ℕ → List Row
-  part i = partition_of (partition_places v w.over) rows (row_at rows (get_or run i 0))
+  part i = partition_of (partition_places v o) rows (row_at rows (get_or run i 0))
 
-  ordered_is : (i : ℕ) → i < length run → map (row_at rows) run ≡ in_order (keys_of v w.over) [] (part i)
+  ordered_is : (i : ℕ) → i < length run → map (row_at rows) run ≡ in_order (keys_of v o) [] (part i)
   ordered_is i l =
-      sorted_is (window_order (keys_of v w.over) []) (part i) (map (row_at rows) run) (Perm-sym (h.members i l)) (Rises-map (row_at rows) (le_by (window_cmp (keys_of v w.over) [])) run h.rises)
+      sorted_is (window_order (keys_of v o) []) (part i) (map (row_at rows) run) (Perm-sym (h.members i l)) (Rises-map (row_at rows) (le_by (window_cmp (keys_of v o) [])) run h.rises)
 
-  place_is : (i : ℕ) → i < length run → i ≡ place_within (keys_of v w.over) (part i) (row_at rows (get_or run i 0), behind rows (get_or run i 0))
+  place_is : (i : ℕ) → i < length run → i ≡ place_within (keys_of v o) (part i) (row_at rows (get_or run i 0), behind rows (get_or run i 0))
   place_is i l =
       let r = row_at rows (get_or run i 0) in
-      let le = le_by (window_cmp (keys_of v w.over) []) in
-      let all = sym (count_by-Perm (λ q. le q r) (h.members i l)) ∙ count_map (λ q. le q r) (row_at rows) run ∙ counted rows (window_order (keys_of v w.over) []) run h.rises h.told i l in
+      let le = le_by (window_cmp (keys_of v o) []) in
+      let all = sym (count_by-Perm (λ q. le q r) (h.members i l)) ∙ count_map (λ q. le q r) (row_at rows) run ∙ counted rows (window_order (keys_of v o) []) run h.rises h.told i l in
       omega (arith, all)
 
   -- at each place a stand is that of the meaning
-  pub stand_is : (i : ℕ) → i < length run → stand_at rows run i ≡ stand_in (keys_of v w.over) (part i) (row_at rows (get_or run i 0), behind rows (get_or run i 0))
+  pub stand_is : (i : ℕ) → i < length run → stand_at rows run i ≡ stand_in (keys_of v o) (part i) (row_at rows (get_or run i 0), behind rows (get_or run i 0))
   stand_is i l = λ n. record { row = row_at rows (get_or run i 0); place = place_is i l n; ordered = ordered_is i l n }

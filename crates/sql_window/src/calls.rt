@@ -17,7 +17,9 @@ use sql_tree::{Column, Frame, Literal, Over, ShiftFunction, ValueFunction, Windo
 use std::alloc::{AllocError, Global};
 use vtl_cell::{AggKind, Cell};
 use vtl_decimal::{Fault, Profile};
-use vtl_frames::{End, Lane, Shift, push_aggregates, push_ends, push_ranks, push_ratios, push_shifted};
+use vtl_frames::{
+    End, Lane, Shift, push_aggregates, push_ends, push_ranks, push_ratios, push_shifted,
+};
 use vtl_rows::{SortKey, Table};
 use vtl_text::Txt;
 

@@ -37,7 +37,8 @@ fn push_partitions(
     ensures { OnOk result (out.new.items ≡ out.old.items ++ map (window_at (sight_of p.now sources.now) window.now table.now.rows) (concat partitions.now)) }
 {
     for i in 0..partitions.len() {
-        push_call(alloc, out, sources, table, partitions.stretch(i), window, order, p)?;
+        let run = partitions.stretch(i);
+        push_call(alloc, out, sources, table, run, window, order, p)?;
     }
     Ok(())
 }
@@ -95,6 +96,15 @@ pub fn window_values(
     let places = table.places_by_columns(alloc, &keys)?;
     let partitions = Stretches::of(alloc, table, &places, &partition)?;
     let mut values = Vec::with_capacity(alloc, places.len())?;
-    push_partitions(alloc, &mut values, sources, table, &partitions, window, &order, p)?;
+    push_partitions(
+        alloc,
+        &mut values,
+        sources,
+        table,
+        &partitions,
+        window,
+        &order,
+        p,
+    )?;
     put_back(alloc, &places, values)
 }

@@ -14,7 +14,9 @@ use crate::frames::frame_of;
 use std::alloc::{AllocError, Global};
 use vtl_cell::{AggKind, Cell};
 use vtl_decimal::{Fault, Profile};
-use vtl_frames::{End, Lane, Shift, push_aggregates, push_ends, push_ranks, push_ratios, push_shifted};
+use vtl_frames::{
+    End, Lane, Shift, push_aggregates, push_ends, push_ranks, push_ratios, push_shifted,
+};
 use vtl_nodes::AnalyticOp;
 use vtl_rows::SortKey;
 use vtl_sets::DataSet;

@@ -81,7 +81,8 @@ fn sorted_values(
     let partitions = Stretches::of(alloc, a.table(), places, partition)?;
     let mut out = Vec::with_capacity(alloc, places.len())?;
     for i in 0..partitions.len() {
-        push_call(alloc, &mut out, a, partitions.stretch(i), call, column, order, p)?;
+        let run = partitions.stretch(i);
+        push_call(alloc, &mut out, a, run, call, column, order, p)?;
     }
     Ok(out)
 }

@@ -19,7 +19,7 @@ push_call-requires-clause-order c =
     let found = c.args.partitions.now in
     let i = c.loop-i.i in
     let one = one_found cut.partition rows cut.numbers found i cut.are (omega (arith, c.len-i-end.ensures, c.loop-i-test.true)) in
-    subst (AreInOrder c.args.order.now rows) (sym c.stretch.ensures) (stretch_order v c.args.window.now cut.partition c.args.order.now rows (length c.args.table.now.columns) cut.numbers (get_or found i []) cut.sorted one)
+    subst (AreInOrder c.args.order.now rows) (sym c.stretch-run.ensures) (stretch_order v c.args.window.now cut.partition c.args.order.now rows (length c.args.table.now.columns) cut.numbers (get_or found i []) cut.sorted one)
 
 pub loop-i-preserved : goal.loop-i-preserved
 loop-i-preserved c =
@@ -33,7 +33,7 @@ loop-i-preserved c =
     let one = one_found cut.partition rows cut.numbers found i cut.are inside in
     let before = c.loop-i.out.items in
     one_more (window_at v w rows) found i c.args.out.now.items before c.in_ok-push_call.new.out.items inside c.loop-i.invariant
-    (c.in_ok-push_call.ensures ∙ ap (λ r. before ++ run_values v w.call w.over rows r) c.stretch.ensures
+    (c.in_ok-push_call.ensures ∙ ap (λ r. before ++ run_values v w.call w.over rows r) c.stretch-run.ensures
     ∙ ap (λ l. before ++ l) (stretch_values v w cut.partition c.args.order.now rows (length c.args.table.now.columns) cut.numbers (get_or found i []) cut.sorted one))
 
 pub returns : goal.returns

@@ -36,8 +36,8 @@ push_call-requires-clause-order c =
     let same : found ≡ stretches_of keys rows places = c.in_ok-partitions.ensures ∙ (λ j. stretches_of (c.requires.partition j) (c.table.ensures.points j) places) in
     let one = one_found keys rows places found i same (omega (arith, c.len-i-end.ensures, c.loop-i-test.true)) in
     let last = identifier_keys (columns_of d.structure) (tie_breakers call.op (identifiers_of d.structure)) in
-    subst (λ ks. AreInOrder ks rows c.stretch.result.now) (sym c.requires.order)
-    (subst (AreInOrder (order_keys (columns_of d.structure) call.window) rows) (sym (c.stretch.ensures ∙ one.is))
+    subst (λ ks. AreInOrder ks rows c.stretch-run.result.now) (sym c.requires.order)
+    (subst (AreInOrder (order_keys (columns_of d.structure) call.window) rows) (sym (c.stretch-run.ensures ∙ one.is))
     (by_order d call.window last places c.requires.sorted one.start one.end one.cut))
 
 pub loop-i-preserved : goal.loop-i-preserved
@@ -56,7 +56,7 @@ loop-i-preserved c =
     let f : ℕ → Outcome Cell = λ k. call_value p d call (row_at rows k) in
     let before = c.loop-i.out.items in
     one_more f found i [] before c.in_ok-push_call.new.out.items (omega (arith, c.len-i-end.ensures, c.loop-i-test.true)) c.loop-i.invariant
-    (c.in_ok-push_call.ensures ∙ ap (λ r. before ++ run_values p (columns_of d.structure) call rows r) (c.stretch.ensures ∙ one.is)
+    (c.in_ok-push_call.ensures ∙ ap (λ r. before ++ run_values p (columns_of d.structure) call rows r) (c.stretch-run.ensures ∙ one.is)
     ∙ ap (λ l. before ++ l) (partition_values d own call places one.start one.end one.cut p c.requires.sorted)
     ∙ ap (λ r. before ++ map f r) (sym one.is))
 
