@@ -14,7 +14,6 @@ mod columns;
 mod faults;
 mod frames;
 mod keys;
-mod lane;
 mod maker;
 mod partition;
 mod putting_back;

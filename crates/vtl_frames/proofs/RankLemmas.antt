@@ -2,25 +2,27 @@
 use Rattle.std.proofs.Common.{◌≡◌, ℕ, zero, suc, ◌+◌, ◌-◌, ◌<◌, ◌≤◌, ◌⊎◌, inl, inr, List, [], ◌∷◌, length, get_or, map, Bool, true, false, not, cond, max, fold, refl, sym, ap, ◌∙◌, arith, true≢false, subst}
 use Rattle.std.specs.Prelude.{count_by, filter, nat_le, ◌||◌, ◌==◌}
 use Rattle.std.specs.Cmp.{IsTotalOrder}
-use Rattle.std.specs.List.{AllByRecursion, range_with_len}
+use Rattle.std.specs.List.{range_with_len}
 use Rattle.std.specs.Ordering.{is_eq, is_gt, is_lt, ordering_reverse}
 use Rattle.std.specs.declared.cmp.Ordering.{Ordering}
 use Rattle.std.specs.declared.cmp.Ordering.TheVariants.{Less, Equal, Greater}
 use Rattle.std.proofs.lemmas.Cmp.{upto}
 use Rattle.std.proofs.lemmas.List.Sums.{length-filter, sum_by-cons}
 use Rattle.vtl_lists.specs.Perm.{Perm}
+use Rattle.vtl_cell.specs.Outcome.{Outcome}
 use Rattle.vtl_cell.specs.Row.{Row}
+use Rattle.vtl_cell.specs.declared.cell.Cell.{Cell}
 use Rattle.vtl_decimal.specs.Settings.{Settings}
 use Rattle.vtl_cell.specs.Sorted.{Key, by_keys, row_rank}
-use Rattle.vtl_lists.specs.Sorting.{Rises, le_by}
+use Rattle.vtl_lists.specs.Sorting.{le_by}
 use Rattle.vtl_cell.proofs.Keys.{by_keys_total}
 use Rattle.vtl_lists.proofs.Perms.{Perm-filter, length-Perm}
 use Rattle.vtl_rows.specs.Keys.{key_of}
 use Rattle.vtl_rows.specs.Places.{row_at}
 use Rattle.vtl_rows.specs.Runs.{is_start, last_start, rank_at}
 use Rattle.vtl_rows.specs.declared.column.SortKey.{SortKey}
-use Rattle.vtl_window.specs.Runs.{AreInOrder, count_in}
-use Rattle.vtl_window.proofs.CallLemmas.{map_same}
+use Rattle.vtl_frames.specs.Ranked.{AreInOrder, count_in, ranks_in}
+use Rattle.vtl_frames.proofs.ListLemmas.{listed, map_same, rises_get}
 
 -- ---- orders
 module _ {X : Type 0} {R : X → X → Ordering} (o : IsTotalOrder R) where
@@ -55,19 +57,6 @@ module _ {X : Type 0} {R : X → X → Ordering} (o : IsTotalOrder R) where
 
   pub tie_le : (x y : X) → is_eq (R x y) ≡ true → le_by R y x ≡ true
   tie_le x y e = tied_back (R x y) e
-
--- items of a rising list
-all_get : {X : Type 0} (P : X → Type 0) (xs : List X) (k : ℕ) (d : X) → k < length xs → AllByRecursion P xs → P (get_or xs k d)
-all_get P [] k d h all = absurd (omega (arith, h))
-all_get P (x ∷ xs) zero d h all = all.0
-all_get P (x ∷ xs) (suc k) d h all = all_get P xs k d (omega (arith, h)) all.1
-
-pub rises_get : {X : Type 0} (le : X → X → Bool) (xs : List X) (j k : ℕ) (d : X) → j < k → k < length xs → Rises le xs → le (get_or xs j d) (get_or xs k d) ≡ true
-rises_get le [] j k d h l r = absurd (omega (arith, l))
-rises_get le (x ∷ xs) zero zero d h l r = absurd (omega (arith, h))
-rises_get le (x ∷ xs) zero (suc k) d h l r = all_get (λ y. le x y ≡ true) xs k d (omega (arith, l)) r.0
-rises_get le (x ∷ xs) (suc j) zero d h l r = absurd (omega (arith, h))
-rises_get le (x ∷ xs) (suc j) (suc k) d h l r = rises_get le xs j k d (omega (arith, h)) (omega (arith, l)) r.1
 
 pub below_or_not : (a b : ℕ) → (a < b) ⊎ (b ≤ a)
 below_or_not a b = search arith
@@ -265,11 +254,11 @@ counts_at : (p : Settings) (f : ℕ → ℕ) (is : List ℕ) → map (count_in p
 counts_at p f [] = refl
 counts_at p f (i ∷ is) = ap (λ l. count_in p (f i) ∷ l) (counts_at p f is)
 
-pub rank_values : (p : Settings) (keys : List SortKey) (own : List Key) (rows : List Row) (run : List ℕ) → AreInOrder keys rows run → map key_of keys ≡ own
-    → map (count_in p) (map (rank_at (0 ∷ []) (filter (is_start keys rows run) (range_with_len 0 (length run)))) (range_with_len 0 (length run))) ≡ map (λ i. row_rank p own (row_at rows (get_or run i 0)) (map (row_at rows) run)) (range_with_len 0 (length run))
-rank_values p keys own rows run order same =
+pub rank_values : (p : Settings) (keys : List SortKey) (rows : List Row) (run : List ℕ) → AreInOrder keys rows run
+    → map (count_in p) (map (rank_at (0 ∷ []) (filter (is_start keys rows run) (range_with_len 0 (length run)))) (range_with_len 0 (length run))) ≡ ranks_in p keys rows run
+rank_values p keys rows run order =
+    let rank : ℕ → Outcome Cell = λ k. row_rank p (map key_of keys) (row_at rows k) (map (row_at rows) run) in
     counts_at p (rank_at (0 ∷ []) (filter (is_start keys rows run) (range_with_len 0 (length run)))) (range_with_len 0 (length run))
-    ∙ map_same (λ i. count_in p (rank_at (0 ∷ []) (filter (is_start keys rows run) (range_with_len 0 (length run))) i))
-    (λ i. row_rank p own (row_at rows (get_or run i 0)) (map (row_at rows) run)) (length run) (length run) refl
-    (λ i h. ap (count_in p) (rank_is keys rows run order i h)
-    ∙ ap (λ ks. count_in p (count_by (λ q. is_lt (by_keys ks q (row_at rows (get_or run i 0)))) (map (row_at rows) run) + 1)) same)
+    ∙ map_same (λ i. count_in p (rank_at (0 ∷ []) (filter (is_start keys rows run) (range_with_len 0 (length run))) i)) (λ i. rank (get_or run i 0)) (length run) (length run) refl
+    (λ i h. ap (count_in p) (rank_is keys rows run order i h))
+    ∙ listed rank run 0

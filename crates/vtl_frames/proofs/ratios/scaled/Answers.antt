@@ -3,7 +3,7 @@ use Rattle.std.specs.Int.{w128}
 use Rattle.std.specs.Int.RustNames.{FitsSigned}
 use Rattle.std.specs.Prelude.{◌*ℤ◌}
 use Rattle.std.proofs.lemmas.Int.{fits_signed_mul, to_z-of_z}
-use Rattle.vtl_frames.proofs.numbers.scaled.Goals as goal
+use Rattle.vtl_frames.proofs.ratios.scaled.Goals as goal
 
 pub returns : goal.returns
 returns c =

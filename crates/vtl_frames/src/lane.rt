@@ -1,18 +1,19 @@
 // The cells of a column at the rows of a partition.
-ghost use Rattle.std.specs.Prelude.{◌≡◌, ◌<◌, ◌^◌, length, map};
+ghost use Rattle.std.specs.Prelude.{◌≡◌};
 ghost use Rattle.vtl_cell.specs.Row.{column_of};
 ghost use Rattle.vtl_cell.specs.declared.cell.Cell.TheVariants.{Null};
 ghost use Rattle.vtl_rows.specs.Places.{row_at};
-ghost use Rattle.sql_window.specs.Runs.{lane_cells};
+ghost use Rattle.vtl_frames.specs.Lanes.{lane_cells};
 
+use crate::Partition;
 use vtl_cell::Cell;
-use vtl_frames::Partition;
 use vtl_rows::Table;
 
-/// A column of a table at these rows, whose cells are lent; a null is lent where there is no such row or column.
-pub(crate) struct Lane<'a> {
+/// A column of a table at the rows with these numbers, whose cells are lent; a null is lent where there is no such row or
+/// column.
+pub struct Lane<'a> {
     table: &'a Table,
-    places: &'a [usize],
+    numbers: &'a [usize],
     column: usize,
     null: &'a Cell,
     ghost is_null: { null.now ≡ Null },
@@ -23,7 +24,7 @@ impl Drop for Lane<'_> {
     fn drop(self) {
         let Lane {
             table: _,
-            places: _,
+            numbers: _,
             column: _,
             null: _,
         } = self;
@@ -31,21 +32,16 @@ impl Drop for Lane<'_> {
 }
 
 impl<'a> Lane<'a> {
-    ghost use Rattle.sql_window.specs.Lanes.{cells_in};
+    ghost use Rattle.vtl_frames.specs.Lent.{cells_in};
 
-    /// The column at these rows.
-    pub(crate) fn of(
-        table: &'a Table,
-        places: &'a [usize],
-        column: usize,
-        null: &'a Cell,
-    ) -> Lane<'a>
+    /// The column at these rows, and the null that is lent.
+    pub fn of(table: &'a Table, numbers: &'a [usize], column: usize, null: &'a Cell) -> Lane<'a>
         requires { null.now ≡ Null }
-        ensures { cells_in result ≡ lane_cells table.now.rows places.now column }
+        ensures { cells_in result ≡ lane_cells table.now.rows numbers.now column }
     {
         Lane {
             table,
-            places,
+            numbers,
             column,
             null,
         }
@@ -68,13 +64,13 @@ fn cell_of<'r>(table: &'r Table, number: usize, column: usize, null: &'r Cell) -
 }
 
 impl<'a> Partition for Lane<'a> {
-    ghost cells = { λ l. lane_cells l.table.now.rows l.places.now l.column };
+    ghost cells = { λ l. lane_cells l.table.now.rows l.numbers.now l.column };
 
     fn len(&self) -> usize {
-        self.places.len()
+        self.numbers.len()
     }
 
     fn cell(&self, place: usize) -> &Cell {
-        cell_of(self.table, self.places[place], self.column, self.null)
+        cell_of(self.table, self.numbers[place], self.column, self.null)
     }
 }

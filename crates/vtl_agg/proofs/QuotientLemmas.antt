@@ -6,7 +6,7 @@ use Rattle.std.proofs.lemmas.Int.{ints}
 use Rattle.vtl_agg.specs.Added.{with_sign}
 use Rattle.vtl_decimal.specs.Rounding.{rounded_quotient, rounded_size}
 use Rattle.vtl_decimal.specs.declared.settings.Rounding.{Rounding}
-use Rattle.vtl_frames.specs.Quotients.{has_minus}
+use Rattle.vtl_agg.specs.Quotients.{has_minus}
 
 above : (a : ℕ) → int_lt (pos a) (pos 0) ≡ false
 above a = grind (arith, ints)

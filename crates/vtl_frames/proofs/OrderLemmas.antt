@@ -15,20 +15,8 @@ use Rattle.vtl_rows.specs.Places.{IsOrderOf, row_at}
 use Rattle.vtl_rows.specs.declared.column.SortKey.{SortKey}
 use Rattle.vtl_rows.proofs.AllColumns.{keys_append}
 use Rattle.vtl_rows.proofs.Stable.{first_not_less, placed_total}
-use Rattle.vtl_window.specs.Runs.{AreInOrder}
-
--- what rises rises by another order that holds where the first does, between such items
-pub rises_with : {X : Type 0} (A : X → Type 0) (le other : X → X → Bool) → ((x y : X) → A x → A y → le x y ≡ true → other x y ≡ true) → (xs : List X) → AllByRecursion A xs → Rises le xs → Rises other xs
-rises_with A le other f [] all r = tt
-rises_with {X = X} A le other f (x ∷ xs) all r = (go xs all.1 r.0, rises_with A le other f xs all.1 r.1)
-  where
-    go : (ys : List X) → AllByRecursion A ys → AllByRecursion (λ y. le x y ≡ true) ys → AllByRecursion (λ y. other x y ≡ true) ys
-    go [] a b = tt
-    go (y ∷ ys) a b = (f x y all.0 a.0 b.0, go ys a.1 b.1)
-
-all_true : {X : Type 0} (xs : List X) → AllByRecursion (λ x. Unit {0}) xs
-all_true [] = tt
-all_true (x ∷ xs) = (tt, all_true xs)
+use Rattle.vtl_frames.specs.Ranked.{AreInOrder}
+use Rattle.vtl_frames.proofs.ListLemmas.{all_true, rises_with}
 
 -- what is at most by two orders one after the other is so by the first
 first_le : (o q : Ordering) → not (is_lt (ordering_then o q)) ≡ true → not (is_lt o) ≡ true

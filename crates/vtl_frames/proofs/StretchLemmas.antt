@@ -1,13 +1,9 @@
 -- A stretch of rows that tie by the columns of a partition is a partition.
 use Rattle.std.proofs.Common.{◌≡◌, ℕ, zero, suc, ◌+◌, ◌-◌, ◌<◌, ◌≤◌, List, [], ◌∷◌, length, drop, take, get_or, map, Bool, true, false, cond, refl, sym, ap, ◌∙◌, arith, true≢false, subst}
-use Rattle.std.specs.Prelude.{count_by, filter}
-use Rattle.std.specs.List.{AllByRecursion}
+use Rattle.std.specs.Prelude.{filter}
 use Rattle.std.specs.Ordering.{is_eq}
-use Rattle.std.proofs.lemmas.List.{take-append-drop}
-use Rattle.std.proofs.lemmas.List.Sums.{sum_by-append}
 use Rattle.vtl_cell.specs.Row.{Row, same_row}
 use Rattle.vtl_cell.specs.Sorted.{by_keys, rising}
-use Rattle.vtl_lists.specs.Sorting.{Rises}
 use Rattle.vtl_cell.proofs.Rows.{same_row-is, same_row-refl}
 use Rattle.vtl_rows.specs.Keys.{agree, key_of}
 use Rattle.vtl_rows.specs.Places.{row_at}
@@ -15,11 +11,11 @@ use Rattle.vtl_rows.specs.Runs.{is_start}
 use Rattle.vtl_rows.specs.Tables.{cells_at}
 use Rattle.vtl_rows.specs.declared.column.SortKey.{SortKey}
 use Rattle.vtl_rows.proofs.Ties.{ties_agree, ties_between}
-use Rattle.sql_window.specs.Runs.{AreInOrder, IsTold}
-use Rattle.sql_window.proofs.RankLemmas.{count_cons, le_at, starts_apart, tied_with_last, total}
+use Rattle.vtl_frames.specs.Ranked.{AreInOrder}
+use Rattle.vtl_frames.proofs.RankLemmas.{le_at, starts_apart, tied_with_last, total}
 
 -- ---- cuts
-pub filter_cut : {X : Type 0} (q : X → Bool) (xs : List X) (s e : ℕ) (d : X) → s ≤ e → e ≤ length xs → ((k : ℕ) → k < s → q (get_or xs k d) ≡ false) → ((k : ℕ) → s ≤ k → k < e → q (get_or xs k d) ≡ true) → ((k : ℕ) → e ≤ k → k < length xs → q (get_or xs k d) ≡ false)
+filter_cut : {X : Type 0} (q : X → Bool) (xs : List X) (s e : ℕ) (d : X) → s ≤ e → e ≤ length xs → ((k : ℕ) → k < s → q (get_or xs k d) ≡ false) → ((k : ℕ) → s ≤ k → k < e → q (get_or xs k d) ≡ true) → ((k : ℕ) → e ≤ k → k < length xs → q (get_or xs k d) ≡ false)
     → filter q xs ≡ take (e - s) (drop s xs)
 filter_cut q [] zero zero d h l before inside behind' = refl
 filter_cut q [] zero (suc e) d h l before inside behind' = absurd (omega (arith, l))
@@ -38,61 +34,6 @@ filter_cut q (x ∷ xs) (suc s) (suc e) d h l before inside behind' =
     ap (λ b. cond b (x ∷ filter q xs) (filter q xs)) (before 0 (omega arith))
     ∙ filter_cut q xs s e d (omega (arith, h)) (omega (arith, l)) (λ k m. before (suc k) (omega (arith, m))) (λ k m n. inside (suc k) (omega (arith, m)) (omega (arith, n))) (λ k m n. behind' (suc k) (omega (arith, m)) (omega (arith, n)))
     ∙ ap (λ n. take n (drop s xs)) same
-
-pub all_from_get : {X : Type 0} (P : X → Type 0) (xs : List X) (d : X) → ((k : ℕ) → k < length xs → P (get_or xs k d)) → AllByRecursion P xs
-all_from_get P [] d h = tt
-all_from_get P (x ∷ xs) d h = (h 0 (omega arith), all_from_get P xs d (λ k l. h (suc k) (omega (arith, l))))
-
-pub rises_drop : {X : Type 0} (le : X → X → Bool) (s : ℕ) (xs : List X) → Rises le xs → Rises le (drop s xs)
-rises_drop le zero xs r = r
-rises_drop le (suc s) [] r = r
-rises_drop le (suc s) (x ∷ xs) r = rises_drop le s xs r.1
-
-all_take : {X : Type 0} (P : X → Type 0) (m : ℕ) (xs : List X) → AllByRecursion P xs → AllByRecursion P (take m xs)
-all_take P zero xs all = tt
-all_take P (suc m) [] all = tt
-all_take P (suc m) (x ∷ xs) all = (all.0, all_take P m xs all.1)
-
-pub rises_take : {X : Type 0} (le : X → X → Bool) (m : ℕ) (xs : List X) → Rises le xs → Rises le (take m xs)
-rises_take le zero xs r = tt
-rises_take le (suc m) [] r = tt
-rises_take le (suc m) (x ∷ xs) r = (all_take (λ y. le x y ≡ true) m xs r.0, rises_take le m xs r.1)
-
--- what rises rises by another order that holds where the first does, between such items
-pub rises_with : {X : Type 0} (A : X → Type 0) (le other : X → X → Bool) → ((x y : X) → A x → A y → le x y ≡ true → other x y ≡ true) → (xs : List X) → AllByRecursion A xs → Rises le xs → Rises other xs
-rises_with A le other f [] all r = tt
-rises_with {X = X} A le other f (x ∷ xs) all r = (go xs all.1 r.0, rises_with A le other f xs all.1 r.1)
-  where
-    go : (ys : List X) → AllByRecursion A ys → AllByRecursion (λ y. le x y ≡ true) ys → AllByRecursion (λ y. other x y ≡ true) ys
-    go [] a b = tt
-    go (y ∷ ys) a b = (f x y all.0 a.0 b.0, go ys a.1 b.1)
-
--- ---- rows that are the same stand in one stretch
-module _ (rows : List Row) (A : Row → Bool) where
-  none_same : (j : ℕ) (ks : List ℕ) → A (row_at rows j) ≡ true → AllByRecursion (λ k. A (row_at rows k) ≡ false) ks → count_by (λ k. same_row (row_at rows j) (row_at rows k)) ks ≡ 0
-  none_same j [] e all = refl
-  none_same j (k ∷ ks) e all =
-      count_cons (λ k. same_row (row_at rows j) (row_at rows k)) k ks ∙ ap (λ b. cond b 1 0 + count_by (λ k. same_row (row_at rows j) (row_at rows k)) ks) (other (same_row (row_at rows j) (row_at rows k)) refl)
-      ∙ ap (λ n. 0 + n) (none_same j ks e all.1)
-    where
-      other : (b : Bool) → same_row (row_at rows j) (row_at rows k) ≡ b → b ≡ false
-      other true h = absurd (true≢false (sym e ∙ ap A (same_row-is (row_at rows j) (row_at rows k) h) ∙ all.0))
-      other false h = refl
-
-  pub told_drop : (s : ℕ) (ks : List ℕ) → IsTold rows ks → IsTold rows (drop s ks)
-  told_drop zero ks told = told
-  told_drop (suc s) [] told = told
-  told_drop (suc s) (k ∷ ks) told = told_drop s ks told.1
-
-  pub told_take : (m : ℕ) (ks : List ℕ) → AllByRecursion (λ k. A (row_at rows k) ≡ true) (take m ks) → AllByRecursion (λ k. A (row_at rows k) ≡ false) (drop m ks) → IsTold rows ks → IsTold rows (take m ks)
-  told_take zero ks all none told = tt
-  told_take (suc m) [] all none told = tt
-  told_take (suc m) (j ∷ ks) all none told =
-      let same : ℕ → Bool = λ k. same_row (row_at rows j) (row_at rows k) in
-      let whole = ap (count_by same) (sym (take-append-drop m ks)) ∙ sum_by-append (λ k. cond (same k) 1 0) (take m ks) (drop m ks) in
-      let rest = none_same j (drop m ks) all.0 none in
-      let first : count_by same (take m ks) ≡ count_by same ks = omega (arith, whole, rest) in
-      (first ∙ told.0, told_take m ks all.1 none told.1)
 
 -- ---- stretches
 pub record IsStretch (keys : List SortKey) (rows : List Row) (places : List ℕ) (s e : ℕ) : Type 0 where

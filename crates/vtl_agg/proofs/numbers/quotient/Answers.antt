@@ -4,9 +4,9 @@ use Rattle.std.proofs.lemmas.Int.{to_z-of_z}
 use Rattle.vtl_agg.specs.Added.{with_sign}
 use Rattle.vtl_decimal.specs.Range.{fit_number}
 use Rattle.vtl_decimal.specs.Rounding.{rounded_size}
-use Rattle.vtl_frames.specs.Quotients.{has_minus}
-use Rattle.vtl_frames.proofs.QuotientLemmas.{minus_is}
-use Rattle.vtl_frames.proofs.numbers.rounded.Goals as goal
+use Rattle.vtl_agg.specs.Quotients.{has_minus}
+use Rattle.vtl_agg.proofs.QuotientLemmas.{minus_is}
+use Rattle.vtl_agg.proofs.numbers.quotient.Goals as goal
 
 pub returns : goal.returns
 returns c =
