@@ -1,6 +1,6 @@
 // The words of the command line.
-use crate::syntax::Language;
 use crate::tables::Table;
+use crate::texts::View;
 use crate::times::{Order, order_of};
 
 // What is asked for.
@@ -9,9 +9,8 @@ pub(crate) enum Command<'a> {
         table: Table,
         path: &'a str,
     },
-    Prefixes {
-        language: Language,
-        script: &'a str,
+    Text {
+        view: View,
         path: &'a str,
     },
     Types {
@@ -23,10 +22,6 @@ pub(crate) enum Command<'a> {
         structures: &'a str,
         scale: &'a str,
     },
-    Tokens(&'a str),
-    Tree(&'a str),
-    Sql(&'a str),
-    Print(&'a str),
     Time(Order),
 }
 
@@ -43,12 +38,9 @@ pub(crate) fn command_of(words: &[String]) -> Option<Command> {
 }
 
 fn with_one<'a>(name: &str, path: &'a str) -> Option<Command<'a>> {
-    match name {
-        "tokens" => Some(Command::Tokens(path)),
-        "tree" => Some(Command::Tree(path)),
-        "sql" => Some(Command::Sql(path)),
-        "print" => Some(Command::Print(path)),
-        _ => Some(Command::Table {
+    match View::named(name) {
+        Some(view) => Some(Command::Text { view, path }),
+        None => Some(Command::Table {
             table: Table::named(name)?,
             path,
         }),
@@ -57,16 +49,6 @@ fn with_one<'a>(name: &str, path: &'a str) -> Option<Command<'a>> {
 
 fn with_two<'a>(name: &str, first: &'a str, second: &'a str) -> Option<Command<'a>> {
     match name {
-        "prefixes" => Some(Command::Prefixes {
-            language: Language::Vtl,
-            script: first,
-            path: second,
-        }),
-        "sql_prefixes" => Some(Command::Prefixes {
-            language: Language::Sql,
-            script: first,
-            path: second,
-        }),
         "types" => Some(Command::Types {
             structures: first,
             path: second,
