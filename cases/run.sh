@@ -284,9 +284,9 @@ written() {
     fi
 }
 
-# A script that is refused before any data is read: `check` says so in the words of `vtl`, with its code.
+# A script that is refused before any data is read: `check` says so in the same words, with the same code.
 refused() {
-    "$probe" check "$1/script.vtl" "$1/structures.csv" >"$made/said" 2>"$made/told"
+    (cd "$1" && VTL_EXPLAIN=0 "$top/vtl" check script.vtl structures.csv) >"$made/said" 2>"$made/told"
     code=$?
     if [ "$code" = "$(cat "$1/code")" ] && [ ! -s "$made/told" ] && cmp -s "$1/line" "$made/said"; then
         pass
@@ -426,7 +426,7 @@ if wanted sentences; then
     shown docs/SQL.md sql examples/population/text.sql
     shown docs/SQL.md sql cases/translated/filter_and_sum/script.sql
 fi
-if wanted check && [ -x "$probe" ]; then
+if wanted check && [ -x "$vtl" ]; then
     for case in cases/run/*/; do
         if [ -e "$case/words" ] || [ -e "$case/setup" ]; then continue; fi
         case $(cat "$case/line" 2>/dev/null) in

@@ -76,26 +76,5 @@ fn carried_out<'a, F: Files>(
             let text = files::text(alloc, files, path)?;
             tables::verdict(alloc, tables::Table::Types, &structures, &text)
         }
-        Command::Check {
-            script,
-            structures,
-            scale,
-        } => {
-            let script = files::text(alloc, files, script)?;
-            let structures = files::text(alloc, files, structures)?;
-            checked(alloc, &script, &structures, scale)
-        }
-    }
-}
-
-fn checked<'a>(
-    alloc: Global,
-    script: &str,
-    structures: &str,
-    scale: &str,
-) -> Result<Report, Trouble<'a>> {
-    match types::printed(alloc, script, structures, scale) {
-        Ok(report) => Ok(report),
-        Err(error) => Err(Trouble::Words(error.why())),
     }
 }

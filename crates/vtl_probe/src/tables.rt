@@ -101,7 +101,7 @@ pub(crate) fn verdict<'a>(
     Ok(tally.report()?)
 }
 
-// Counts each case of a table.
+// Counts each case of a table. An empty file has an empty header.
 fn judge_all<'a>(
     alloc: Global,
     table: Table,
@@ -114,22 +114,25 @@ fn judge_all<'a>(
         .flexible(true)
         .from_reader(alloc, text.as_bytes());
     let mut fields = StringRecord::new(alloc);
-    let mut width = 0;
-    for case in 0..=text.len() {
-        // An empty file has an empty header.
-        if !is_read(&mut reader, &mut fields)? && case > 0 {
+    is_read(&mut reader, &mut fields)?;
+    check_header(alloc, table, &Row { fields: &fields })?;
+    let width = fields.len();
+    for case in 1..=text.len() {
+        if !is_read(&mut reader, &mut fields)? {
             break;
         }
-        let row = Row { fields: &fields };
-        if case == 0 {
-            check_header(alloc, table, &row)?;
-            width = fields.len();
-        } else if fields.len() == width {
-            judge(alloc, table, declared, &row, case, tally)?;
-        } else {
+        if fields.len() != width {
             let why = "not as many fields as the header has";
             return Err(Trouble::Case { case, why });
         }
+        judge(
+            alloc,
+            table,
+            declared,
+            &Row { fields: &fields },
+            case,
+            tally,
+        )?;
     }
     Ok(())
 }

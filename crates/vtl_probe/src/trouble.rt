@@ -5,7 +5,6 @@ const USAGE: &str = "the words are one of
   order|periods|names|lexed|syntax|structures|datasets TABLE
   sql_syntax|sql_again|sql_groups|sql_types TABLE
   types STRUCTURES TABLE
-  check SCRIPT STRUCTURES [--scale D]
   tokens FILE
   tree FILE
   sql FILE
@@ -18,7 +17,6 @@ pub(crate) enum Trouble<'a> {
     File { path: &'a str, why: &'static str },
     Header(&'static str),
     Case { case: usize, why: &'static str },
-    Words(&'static str),
     Memory,
 }
 
@@ -30,7 +28,6 @@ impl<'a> Trouble<'a> {
             Trouble::File { path, why } => format!(in alloc; "{why}: {path}"),
             Trouble::Header(header) => format!(in alloc; "the header is not {header}"),
             Trouble::Case { case, why } => format!(in alloc; "case {case}: {why}"),
-            Trouble::Words(why) => String::from_str(alloc, why),
             Trouble::Memory => String::from_str(alloc, "no memory"),
         }
     }

@@ -89,19 +89,3 @@ pub(crate) fn outcome(alloc: Global, structures: &str, row: &Row) -> Result<Stri
     let profile = profile(row.field(0), "half_up")?;
     Ok(answered(alloc, row.field(1), structures, &profile)?.text)
 }
-
-// `typed`, or the line that `vtl` would answer.
-pub(crate) fn printed(
-    alloc: Global,
-    text: &str,
-    structures: &str,
-    scale: &str,
-) -> Result<Report, CaseErr> {
-    let profile = profile(scale, "half_up")?;
-    let answer = answered(alloc, text, structures, &profile)?;
-    if answer.code == 0 {
-        Ok(refusals::nothing(alloc)?.line()?)
-    } else {
-        Ok(answer.line()?)
-    }
-}

@@ -5,23 +5,9 @@ use crate::times::{Order, order_of};
 
 // What is asked for.
 pub(crate) enum Command<'a> {
-    Table {
-        table: Table,
-        path: &'a str,
-    },
-    Text {
-        view: View,
-        path: &'a str,
-    },
-    Types {
-        structures: &'a str,
-        path: &'a str,
-    },
-    Check {
-        script: &'a str,
-        structures: &'a str,
-        scale: &'a str,
-    },
+    Table { table: Table, path: &'a str },
+    Text { view: View, path: &'a str },
+    Types { structures: &'a str, path: &'a str },
     Time(Order),
 }
 
@@ -32,7 +18,6 @@ pub(crate) fn command_of(words: &[String]) -> Option<Command> {
     match words.len() {
         2 => with_one(name, first),
         3 => with_two(name, first, words.get(2)?.as_str()),
-        5 => scaled(words),
         _ => None,
     }
 }
@@ -53,24 +38,7 @@ fn with_two<'a>(name: &str, first: &'a str, second: &'a str) -> Option<Command<'
             structures: first,
             path: second,
         }),
-        "check" => Some(Command::Check {
-            script: first,
-            structures: second,
-            scale: "6",
-        }),
         "time" => Some(Command::Time(order_of(first, second)?)),
-        _ => None,
-    }
-}
-
-// `check SCRIPT STRUCTURES --scale D`
-fn scaled(words: &[String]) -> Option<Command> {
-    match (words.first()?.as_str(), words.get(3)?.as_str()) {
-        ("check", "--scale") => Some(Command::Check {
-            script: words.get(1)?.as_str(),
-            structures: words.get(2)?.as_str(),
-            scale: words.get(4)?.as_str(),
-        }),
         _ => None,
     }
 }
