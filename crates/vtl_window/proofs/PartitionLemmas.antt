@@ -12,9 +12,9 @@ use Rattle.vtl_tree.specs.DataSet.{IsDataSet, is_point}
 use Rattle.vtl_tree.specs.Environment.{DataSet}
 use Rattle.vtl_tree.specs.Structure.{columns_of}
 use Rattle.vtl_tree.specs.declared.structure.Component.{Component}
-use Rattle.vtl_aggregates.specs.Groups.{places_named}
-use Rattle.vtl_windows.specs.Windows.{partition_of}
-use Rattle.vtl_nodes.specs.declared.calls.Window.{Window}
+use Rattle.vtl_meaning.specs.Groups.{places_named}
+use Rattle.vtl_meaning.specs.Windows.{partition_of}
+use Rattle.vtl_tree.specs.declared.calls.Window.{Window}
 use Rattle.vtl_meaning.proofs.Places.{all_more, point_length}
 use Rattle.vtl_window.specs.Sorted.{order_keys, partition_keys}
 use Rattle.vtl_window.proofs.SortLemmas.{partition_is}
