@@ -16,7 +16,7 @@ ghost use Rattle.vtl_scalar.specs.Seen.{seen_of};
 use std::alloc::Global;
 use vtl_cell::Cell;
 use vtl_decimal::Profile;
-use vtl_expr::{Prepared, prepare, value_at};
+use vtl_expr::{Point, Prepared, prepare};
 use vtl_rows::Table;
 use vtl_scalar::{ScalarErr, Seen};
 use vtl_sets::{DataSet, new_table};
@@ -44,7 +44,7 @@ fn keep(
     ensures seen { IfOk result (λ s. seen_of s ≡ join (seen_of seen) (fault_in (value p.now (prepared_exp condition.now) row.now))) }
     ensures err { IfErr result (λ e. e ≡ ScalarErr.OutOfMemory) }
 {
-    match value_at(alloc, condition, row, &[], p) {
+    match Point::of(row).value(alloc, condition, p) {
         Ok(value) => {
             if is_true(value.cell()) {
                 kept.push_copy(row)?;

@@ -21,8 +21,10 @@ ghost use Rattle.vtl_expr.specs.Sides.{left_column, right_column, side_column};
 
 use crate::namesakes::{Side, namesake_exps};
 use crate::partners::Partners;
-use crate::points::Points;
+use crate::point::Point;
+use crate::points::{Points, push_values};
 use crate::prepared::{Prepared, prepare_all};
+use vtl_tree::{CompExpr, Structure, contains};
 use std::alloc::{AllocError, Global};
 use std::marker::Brand;
 use std::sync::ledger::{Blank, Ledger};
@@ -32,7 +34,6 @@ use vtl_index::Steps;
 use vtl_rows::Table;
 use vtl_scalar::ScalarErr;
 use vtl_sets::DataSet;
-use vtl_tree::{CompExpr, Structure, contains};
 
 // Adds the point of a row and its partner, where it has one.
 fn push_pair<L: Ledger>(
@@ -51,7 +52,7 @@ fn push_pair<L: Ledger>(
     ensures err { IfErr result (λ e. e ≡ ScalarErr.OutOfMemory) }
 {
     match partners.find(row, steps) {
-        Some(partner) => points.push(alloc, exps, row, partner, p),
+        Some(partner) => push_values(alloc, points, exps, &Point::beside(row, partner), p),
         None => Ok(()),
     }
 }
