@@ -42,12 +42,7 @@ pub fn value_at<'v, R: Cells>(
             is_in,
             operand,
             members,
-        } => asked(
-            *is_in,
-            value_at(alloc, operand, at, p),
-            members,
-            p,
-        ),
+        } => asked(*is_in, value_at(alloc, operand, at, p), members, p),
     }
 }
 

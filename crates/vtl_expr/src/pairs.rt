@@ -24,7 +24,6 @@ use crate::partners::Partners;
 use crate::point::Point;
 use crate::points::{Points, push_values};
 use crate::prepared::{Prepared, prepare_all};
-use vtl_tree::{CompExpr, Structure, contains};
 use std::alloc::{AllocError, Global};
 use std::marker::Brand;
 use std::sync::ledger::{Blank, Ledger};
@@ -34,6 +33,7 @@ use vtl_index::Steps;
 use vtl_rows::Table;
 use vtl_scalar::ScalarErr;
 use vtl_sets::DataSet;
+use vtl_tree::{CompExpr, Structure, contains};
 
 // Adds the point of a row and its partner, where it has one.
 fn push_pair<L: Ledger>(

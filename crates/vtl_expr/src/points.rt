@@ -1,5 +1,5 @@
 // Points that are made one after the other.
-ghost use Rattle.std.specs.Prelude.{◌≡◌, true, ◌++◌, ◌∷◌, [], map, Err, IfOk, IfErr, OnOk, None};
+ghost use Rattle.std.specs.Prelude.{◌≡◌, true, ◌++◌, ◌∷◌, [], map, IfOk, IfErr, OnOk, None};
 ghost use Rattle.vtl_cell.specs.Outcome.{Outcome, fault_in, join, unless};
 ghost use Rattle.vtl_cell.specs.declared.cell.Cell.{Cell};
 ghost use Rattle.vtl_rows.specs.Tables.{cells_at, fits};
@@ -25,9 +25,12 @@ use vtl_tree::{CompExpr, Structure};
 
 /// A table of the points so far, the cells of the next one, and the fault of the values that were put there.
 pub struct Points {
-    table: Table,
-    cells: Vec<Cell>,
-    seen: Seen,
+    /// The table of the points so far.
+    pub table: Table,
+    /// The cells of the next point.
+    pub cells: Vec<Cell>,
+    /// The fault of the values so far.
+    pub seen: Seen,
 }
 
 // Written out, so that each owner sees one call and not the drop of each part.
@@ -66,23 +69,6 @@ impl Points {
     {
         self.cells.clear();
         push_cells(&mut self.cells, row, places)
-    }
-
-    /// The cells of the next point.
-    pub fn cells(&self) -> &[Cell]
-        ensures { result.now ≡ self.now.cells.items }
-    {
-        &self.cells
-    }
-
-    /// Notes a fault. It fails only if memory ran out.
-    pub fn note(&mut self, error: ScalarErr) -> Result<(), ScalarErr>
-        ensures table { self.new.table ≡ self.old.table }
-        ensures seen { OnOk result ((m : Outcome Cell) → Answers (Err error) m → seen_of self.new.seen ≡ join (seen_of self.old.seen) (fault_in m)) }
-        ensures err { IfErr result (λ e. e ≡ ScalarErr.OutOfMemory) }
-    {
-        self.seen = self.seen.and(error)?;
-        Ok(())
     }
 
     /// Puts a value behind the cells of the next point, or null where it has a fault, which is noted. It fails only if

@@ -19,7 +19,6 @@ use crate::column::Column;
 use crate::faults::noted;
 use crate::maker::{Maker, maker_of};
 use crate::values::call_cells;
-use vtl_tree::{AnalyticSpec, CompExpr, Component, place_of};
 use std::alloc::{AllocError, Global};
 use vtl_cell::{Cell, Kind};
 use vtl_decimal::Profile;
@@ -28,6 +27,7 @@ use vtl_rows::Table;
 use vtl_scalar::{ScalarErr, Seen};
 use vtl_sets::DataSet;
 use vtl_text::Txt;
+use vtl_tree::{AnalyticSpec, CompExpr, Component, place_of};
 
 // The values of an expression at the rows of a table; a null stands for a value with a fault, which is noted.
 fn computed_cells(
