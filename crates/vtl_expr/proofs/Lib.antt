@@ -6,5 +6,6 @@ pub mod PairLemmas
 pub mod PointLemmas
 pub mod PointValues
 pub mod PreparedLemmas
+pub mod ValueWalks
 pub mod Values
 pub mod Walks

@@ -4,7 +4,7 @@ use Rattle.vtl_group.specs.Calls.{call_value, rows_at}
 use Rattle.vtl_group.specs.declared.calls.Call.{Call}
 use Rattle.vtl_cell.specs.Outcome.{Outcome}
 use Rattle.vtl_cell.specs.declared.cell.Cell.{Cell}
-use Rattle.vtl_group.proofs.GroupWalks.{cells_more, seen_more}
+use Rattle.vtl_expr.proofs.ValueWalks.{cells_more, seen_more}
 use Rattle.vtl_group.proofs.recipe.put_values.Goals as goal
 
 pub loop-call-preserved : goal.loop-call-preserved
