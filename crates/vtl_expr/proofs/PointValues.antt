@@ -9,24 +9,23 @@ use Rattle.vtl_tree.specs.View.{comp_exps_of}
 use Rattle.vtl_meaning.specs.GroupExpressions.{value_over, values_over}
 use Rattle.vtl_expr.specs.Prepared.{SameValue, SameValues, no_aggregate}
 
-module _ (p : Settings) (row : Row) where
-  abbrev cells : ℕ → List ℕ → Cell
-  cells place name = column_of place row
+abbrev cells : Row → ℕ → List ℕ → Cell
+cells row place name = column_of place row
 
-  mutual
-    pub at_point : (e : CompExp) → value_over p cells no_aggregate e ≡ value p e row
-    at_point (column place name kind) = refl
-    at_point (const v) = refl
-    at_point (call o kind args) = ap (λ ms. called p kind ms o) (all_at_point args)
-    at_point (aggregate a kind) = refl
+mutual
+  pub at_point : (p : Settings) (row : Row) (e : CompExp) → value_over p (cells row) no_aggregate e ≡ value p e row
+  at_point p row (column place name kind) = refl
+  at_point p row (const v) = refl
+  at_point p row (call o kind args) = ap (λ ms. called p kind ms o) (all_at_point p row args)
+  at_point p row (aggregate a kind) = refl
 
-    all_at_point : (es : CompExps) → values_over p cells no_aggregate es ≡ values p es row
-    all_at_point no_comp_exps = refl
-    all_at_point (comp_exp e es) = λ n. at_point e n ∷ all_at_point es n
+  all_at_point : (p : Settings) (row : Row) (es : CompExps) → values_over p (cells row) no_aggregate es ≡ values p es row
+  all_at_point p row no_comp_exps = refl
+  all_at_point p row (comp_exp e es) = λ n. at_point p row e n ∷ all_at_point p row es n
 
 -- an expression has the same value at each point, and so have several
 pub same_at : (e f : CompExp) → SameValue e f → (p : Settings) (row : Row) → value p e row ≡ value p f row
-same_at e f same p row = sym (at_point p row e) ∙ same p (cells p row) no_aggregate ∙ at_point p row f
+same_at e f same p row = sym (at_point p row e) ∙ same p (cells row) no_aggregate ∙ at_point p row f
 
 pub all_same_at : (es fs : List CompExp) → SameValues es fs → (p : Settings) (row : Row) → values p (comp_exps_of es) row ≡ values p (comp_exps_of fs) row
-all_same_at es fs same p row = sym (all_at_point p row (comp_exps_of es)) ∙ same p (cells p row) no_aggregate ∙ all_at_point p row (comp_exps_of fs)
+all_same_at es fs same p row = sym (all_at_point p row (comp_exps_of es)) ∙ same p (cells row) no_aggregate ∙ all_at_point p row (comp_exps_of fs)

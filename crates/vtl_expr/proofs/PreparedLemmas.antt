@@ -61,11 +61,11 @@ module _ (p : Settings) (columns : ℕ → List ℕ → Cell) (aggregates : AggC
 
 pub membership_value : (p : Settings) (columns : ℕ → List ℕ → Cell) (aggregates : AggCall → Outcome Cell) (e : Prepared) (b : Bool) (operand : Box Prepared Global) (members : List Cell) → e ≡ Membership b operand members → (x : Prepared) → x ≡ operand.value → value_over p columns aggregates (prepared_exp e) ≡ after (value_over p columns aggregates (prepared_exp x)) (answer p columns aggregates b members)
 membership_value p columns aggregates e b operand members is x at =
-    let of = value_over p columns aggregates in
-    ap (λ f. of (prepared_exp f)) is
-    ∙ ap of (prepared-Membership b operand members)
+    let outcome = value_over p columns aggregates in
+    ap (λ f. outcome (prepared_exp f)) is
+    ∙ ap outcome (prepared-Membership b operand members)
     ∙ set_value p columns aggregates b k.Bool (prepared_exp operand.value) members
-    ∙ ap (λ y. after (of (prepared_exp y)) (answer p columns aggregates b members)) (sym at)
+    ∙ ap (λ y. after (outcome (prepared_exp y)) (answer p columns aggregates b members)) (sym at)
 
 pub boxed_first : (operand : Box Prepared Global) (x : Prepared) (args : List Prepared) → operand.value ≡ x → x ≡ get_or args 0 x → operand.value ≡ get_or args 0 operand.value
 boxed_first operand x args same at = same ∙ at ∙ ap (get_or args 0) (sym same)
@@ -74,35 +74,35 @@ pub same_set : (b : Bool) (operand : Box Prepared Global) (args : List Prepared)
 same_set b operand [] listed members some at are perm kind p columns aggregates = absurd (omega (arith, some))
 same_set b operand (x ∷ xs) listed members some at are perm kind p columns aggregates =
     let e = prepared_exp operand.value in
-    let of = value_over p columns aggregates in
-    ap of (prepared-Membership b operand members)
+    let outcome = value_over p columns aggregates in
+    ap outcome (prepared-Membership b operand members)
     ∙ set_value p columns aggregates b k.Bool e members
-    ∙ same_answer p columns aggregates b members listed perm (of e)
+    ∙ same_answer p columns aggregates b members listed perm (outcome e)
     ∙ sym (set_value p columns aggregates b kind e listed)
-    ∙ ap (λ es. of (call (membership_op b) kind (comp_exp e (comp_exps_of es)))) (sym are)
-    ∙ ap (λ f. of (call (membership_op b) kind (comp_exp (prepared_exp f) (comp_exps_of (map prepared_exp xs))))) at
+    ∙ ap (λ es. outcome (call (membership_op b) kind (comp_exp e (comp_exps_of es)))) (sym are)
+    ∙ ap (λ f. outcome (call (membership_op b) kind (comp_exp (prepared_exp f) (comp_exps_of (map prepared_exp xs))))) at
 
 -- ---- the expressions of a list, one by one
 module _ (p : Settings) (columns : ℕ → List ℕ → Cell) (aggregates : AggCall → Outcome Cell) where
-  abbrev of : CompExp → Outcome Cell
-  of = value_over p columns aggregates
+  abbrev outcome : CompExp → Outcome Cell
+  outcome = value_over p columns aggregates
 
   abbrev all : List CompExp → List (Outcome Cell)
   all es = values_over p columns aggregates (comp_exps_of es)
 
   values_append : (es fs : List CompExp) → all (es ++ fs) ≡ all es ++ all fs
   values_append [] fs = refl
-  values_append (e ∷ es) fs = ap (λ l. of e ∷ l) (values_append es fs)
+  values_append (e ∷ es) fs = ap (λ l. outcome e ∷ l) (values_append es fs)
 
-  values_more : (done : List Prepared) (x : Prepared) (es : List CompExpr) (i : ℕ) (e : CompExpr) → i < length es → e ≡ get_or es i e → all (map prepared_exp done) ≡ all (map comp_exp_of (take i es)) → of (prepared_exp x) ≡ of (comp_exp_of e)
+  values_more : (done : List Prepared) (x : Prepared) (es : List CompExpr) (i : ℕ) (e : CompExpr) → i < length es → e ≡ get_or es i e → all (map prepared_exp done) ≡ all (map comp_exp_of (take i es)) → outcome (prepared_exp x) ≡ outcome (comp_exp_of e)
       → all (map prepared_exp (done ++ x ∷ [])) ≡ all (map comp_exp_of (take (i + 1) es))
   values_more done x es i e h at before one =
       let more = map comp_exp_of (take i es) in
       ap all (map-append prepared_exp done (x ∷ []))
       ∙ values_append (map prepared_exp done) (prepared_exp x ∷ [])
-      ∙ ap (λ l. l ++ of (prepared_exp x) ∷ []) before
+      ∙ ap (λ l. l ++ outcome (prepared_exp x) ∷ []) before
       ∙ ap (λ v. all more ++ v ∷ []) one
-      ∙ ap (λ y. all more ++ of (comp_exp_of y) ∷ []) at
+      ∙ ap (λ y. all more ++ outcome (comp_exp_of y) ∷ []) at
       ∙ sym (values_append more (comp_exp_of (get_or es i e) ∷ []))
       ∙ sym (ap all (map_more comp_exp_of es i e h))
 

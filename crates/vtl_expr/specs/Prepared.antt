@@ -34,7 +34,7 @@ asked false found = not_of found
 abbrev pub constants : List Cell → CompExps
 constants vs = comp_exps_of (map const vs)
 
--- at a point no aggregate has a value
+-- at a point an aggregate is null
 abbrev pub no_aggregate : AggCall → Outcome Cell
 no_aggregate a = Ok c.Null
 
