@@ -83,12 +83,12 @@ pub fn filter(
     alloc: Global,
     a: &DataSet,
     condition: &CompExpr,
-    made: Structure,
+    made: &Structure,
     p: &Profile,
 ) -> Result<DataSet, ScalarErr>
-    requires { IsFiltered p.now (comp_exp_of condition.now) a.now.structure made }
-    ensures { Answers result (with_structure made (filter_of p.now (comp_exp_of condition.now) a.now.points)) }
+    requires { IsFiltered p.now (comp_exp_of condition.now) a.now.structure made.now }
+    ensures { Answers result (with_structure made.now (filter_of p.now (comp_exp_of condition.now) a.now.points)) }
 {
-    let table = kept_table(alloc, a, condition, &made, p);
+    let table = kept_table(alloc, a, condition, made, p);
     DataSet::answered(alloc, made, table)
 }

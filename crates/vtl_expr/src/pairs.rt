@@ -189,12 +189,12 @@ pub fn pair_measures(
     op: ScalarOp,
     a: &DataSet,
     b: &DataSet,
-    made: Structure,
+    made: &Structure,
     p: &Profile,
 ) -> Result<DataSet, ScalarErr>
-    requires { IsPaired p.now op a.now.structure b.now.structure made }
-    ensures { Answers result (with_structure made (pair_of p.now op a.now b.now made)) }
+    requires { IsPaired p.now op a.now.structure b.now.structure made.now }
+    ensures { Answers result (with_structure made.now (pair_of p.now op a.now b.now made.now)) }
 {
-    let table = pair_table(alloc, op, a, b, &made, p);
+    let table = pair_table(alloc, op, a, b, made, p);
     DataSet::answered(alloc, made, table)
 }

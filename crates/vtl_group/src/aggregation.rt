@@ -135,12 +135,12 @@ pub fn aggregate(
     alloc: Global,
     a: &DataSet,
     spec: &AggSpec,
-    made: Structure,
+    made: &Structure,
     p: &Profile,
 ) -> Result<DataSet, ScalarErr>
-    requires { IsAggregated (agg_tree spec.now) a.now.structure made }
-    ensures { Answers result (with_structure made (aggregate_of p.now (agg_tree spec.now) a.now made)) }
+    requires { IsAggregated (agg_tree spec.now) a.now.structure made.now }
+    ensures { Answers result (with_structure made.now (aggregate_of p.now (agg_tree spec.now) a.now made.now)) }
 {
-    let table = aggregated_table(alloc, a, spec, &made, p);
+    let table = aggregated_table(alloc, a, spec, made, p);
     DataSet::answered(alloc, made, table)
 }
