@@ -1,5 +1,5 @@
 -- Rows in order by several keys are in order by the first of these, and, where all tie by the first, by the others.
-use Rattle.std.proofs.Common.{◌≡◌, ℕ, Bool, true, false, not, List, [], ◌∷◌, ◌++◌, map, refl, sym, ap, ◌∙◌}
+use Rattle.std.proofs.Common.{◌≡◌, ℕ, Bool, true, false, not, List, ◌++◌, map, refl, sym, ap, ◌∙◌}
 use Rattle.std.specs.Cmp.{Equal-is}
 use Rattle.std.specs.List.{AllByRecursion}
 use Rattle.std.specs.Ordering.{is_lt, nat_cmp, on, ordering_then, then_cmp}
@@ -7,7 +7,7 @@ use Rattle.std.specs.declared.cmp.Ordering.{Ordering}
 use Rattle.std.proofs.lemmas.List.{map-append}
 use Rattle.vtl_cell.specs.Row.{Row}
 use Rattle.vtl_cell.specs.Sorted.{by_keys}
-use Rattle.vtl_lists.specs.Sorting.{Rises, le_by}
+use Rattle.vtl_lists.specs.Sorting.{le_by}
 use Rattle.vtl_cell.proofs.Keys.{by_keys_total}
 use Rattle.vtl_lists.proofs.Sorts.{Rises-from_IsSorted}
 use Rattle.vtl_rows.specs.Keys.{key_of, tie_by}
