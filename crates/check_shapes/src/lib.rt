@@ -17,9 +17,9 @@ mod targets;
 
 pub use choices::{choose, choose_known};
 pub use measures::{Operator, any_unmet, measured};
-pub use names::{check_names, check_new_name, known};
+pub use names::{check_names, known};
 pub use pairs::{check, choose_by, exists_in, pair, set_operator};
 pub use pivots::{pivot, unpivot};
 pub use renaming::rename;
 pub use shape::{results_are_structures, shaped};
-pub use targets::{aggr, calc, check_target};
+pub use targets::{aggr, calc};

@@ -1,21 +1,10 @@
 // Names of components, as an operator asks for them.
-ghost use Rattle.std.specs.Prelude.{[], ◌∷◌};
 ghost use Rattle.check_faults.specs.Answers.{Answers};
-ghost use Rattle.check_faults.specs.Rules.{ruled};
-ghost use Rattle.vtl_tree.specs.Names.{component_of, is_among, serves};
 ghost use Rattle.check_shapes.specs.Names.{all_known, known};
 
 use check_faults::{Rule, TypeErr, broken};
 use vtl_text::Txt;
 use vtl_tree::{Component, Wanted, component_of, is_among, serves};
-
-/// A new name after other names, such as that of a target of `aggr` or an alias. It breaks `RepeatedName` where it
-/// stands there already.
-pub fn check_new_name(before: &[Txt], name: &Txt) -> Result<(), TypeErr>
-    ensures { Answers (λ done. done) result (ruled ((Rule.RepeatedName, is_among name.now before.now) ∷ []) tt) }
-{
-    broken(Rule::RepeatedName, is_among(name, before))
-}
 
 /// The component that a name stands for after other names. The name breaks `UnknownComponent` where there is no such
 /// component, `RepeatedName` where it stands there already, and `WrongRole` where the component's role is not the

@@ -3,30 +3,16 @@ ghost use Rattle.std.specs.Option.{option_copied};
 ghost use Rattle.std.specs.Prelude.{◌≡◌, ◌++◌, IfOk, OnOk, map, filter};
 ghost use Rattle.check_faults.specs.Answers.{Answers};
 ghost use Rattle.vtl_tree.specs.ClauseShapes.{calculated, is_new, target_component, target_of};
-ghost use Rattle.check_shapes.specs.Clauses.{aggr_form, calc_form, target_tests};
-ghost use Rattle.check_faults.specs.Rules.{ruled};
+ghost use Rattle.check_shapes.specs.Clauses.{aggr_form, calc_form};
 
 use crate::measures::made;
 use crate::shaped;
-use check_faults::{Rule, TypeErr, broken};
+use check_faults::TypeErr;
 use std::alloc::{AllocError, Global};
 use vtl_text::Txt;
 use vtl_tree::{
-    Choice, Component, Role, Structure, Target, component_of, is_among, is_identifier_name,
-    push_chosen, share_component,
+    Choice, Component, Role, Structure, Target, component_of, push_chosen, share_component,
 };
-
-/// The name of a target of `calc`, after the names of other targets. It breaks `RepeatedName` where it stands there
-/// already, and `WrongRole` where it is that of an identifier.
-pub fn check_target(structure: &Structure, before: &[Txt], name: &Txt) -> Result<(), TypeErr>
-    ensures { Answers (λ done. done) result (ruled (target_tests structure.now.components before.now name.now) tt) }
-{
-    broken(Rule::RepeatedName, is_among(name, before))?;
-    broken(
-        Rule::WrongRole,
-        is_identifier_name(structure.components.as_slice(), name),
-    )
-}
 
 fn target_of<'a>(name: &Txt, targets: &'a [Target]) -> Option<&'a Target>
     ensures { option_copied result ≡ target_of name.now targets.now }
@@ -99,7 +85,7 @@ fn push_targets(out: &mut Vec<Component>, targets: &[Target]) -> Result<(), Allo
     Ok(())
 }
 
-/// What `calc` gives with targets that `check_target` passed: a target that exists already keeps its place, and its
+/// What `calc` gives with targets whose names are apart: a target that exists already keeps its place, and its
 /// role where none is written; a new one goes last.
 pub fn calc(alloc: Global, structure: &Structure, targets: &[Target]) -> Result<Structure, TypeErr>
     ensures { Answers (λ s. s) result (calc_form targets.now structure.now.components) }

@@ -1,4 +1,4 @@
-//! Component expressions of VTL as expressions of the SQL dialect, with the law that they mean the same.
+//! Rules and all other component expressions of VTL as expressions of the SQL dialect, with the law that they mean the same.
 //!
 //! An expression of a point, or of a group, is written with one operator for each of its own, so that its SQL stays
 //! readable; over any columns that name the components it has the kind and the value that it has in VTL, faults

@@ -14,7 +14,8 @@ use Rattle.vtl_tree.specs.declared.structure.Structure.{Structure}
 use Rattle.vtl_tuples.proofs.Lists.{flat_map_same}
 use Rattle.vtl_sets.specs.TableOf.{table_columns}
 use Rattle.vtl_sets.proofs.TableLemmas.{point_fits}
-use Rattle.vtl_meaning.specs.Agreement.{agree_in, common_identifiers, has_agreeing, key_of}
+use Rattle.vtl_tree.specs.Columns.{common_identifiers}
+use Rattle.vtl_meaning.specs.Agreement.{agree_in, has_agreeing, key_of}
 use Rattle.vtl_meaning.specs.Made.{IsExistence}
 use Rattle.vtl_meaning.specs.Points.{with_points}
 use Rattle.vtl_meaning.specs.Sets.{existence_of, is_retained, with_answer}

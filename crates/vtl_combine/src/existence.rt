@@ -1,12 +1,9 @@
 // `exists_in`
 ghost use Rattle.std.specs.Prelude.{◌≡◌, ◌<◌, true, ◌++◌, ◌∷◌, [], IfOk, OnOk};
 ghost use Rattle.vtl_rows.specs.Tables.{cells_at, fits};
-ghost use Rattle.vtl_tree.specs.Shown.{shown};
-ghost use Rattle.vtl_tree.specs.Structure.{names_of};
 ghost use Rattle.vtl_sets.specs.DataSets.{data_set};
 ghost use Rattle.vtl_sets.specs.TableOf.{IsTableOf};
-ghost use Rattle.vtl_tree.specs.Names.{is_among};
-ghost use Rattle.vtl_meaning.specs.Agreement.{common_identifiers};
+ghost use Rattle.vtl_tree.specs.Columns.{common_identifiers};
 ghost use Rattle.vtl_meaning.specs.Made.{IsExistence};
 ghost use Rattle.vtl_meaning.specs.Sets.{existence_of, is_retained};
 ghost use Rattle.vtl_combine.specs.Existence.{answered, sought_common};
@@ -22,39 +19,7 @@ use vtl_index::{Seeker, Steps};
 use vtl_rows::Table;
 use vtl_sets::{DataSet, new_table};
 use vtl_syntax::Retain;
-use vtl_text::Txt;
-use vtl_tree::{Component, Structure};
-
-// Whether a column has this name.
-fn is_named(name: &Txt, columns: &[&Component]) -> bool
-    ensures { result ≡ is_among name.now (names_of (shown columns.now)) }
-{
-    for column in columns {
-        if column.name == *name {
-            return true;
-        }
-    }
-    false
-}
-
-// The identifiers of the second structure that the first one has too.
-fn common_identifiers<'b>(
-    alloc: Global,
-    a: &Structure,
-    b: &'b Structure,
-) -> Result<Vec<&'b Component>, AllocError>
-    ensures { IfOk result (λ v. shown v.items ≡ common_identifiers a.now b.now) }
-{
-    let own = a.identifiers(alloc)?;
-    let theirs = b.identifiers(alloc)?;
-    let mut common = Vec::new(alloc);
-    for identifier in theirs.as_slice() {
-        if is_named(&identifier.name, &own) {
-            common.push(*identifier)?;
-        }
-    }
-    Ok(common)
-}
+use vtl_tree::{Structure, common_identifiers};
 
 // The points of a data set, as points of a structure ask for those that agree with them.
 fn sought<'b, L: Ledger>(
@@ -133,11 +98,11 @@ pub fn exists_in(
     a: &DataSet,
     b: &DataSet,
     retain: Retain,
-    made: Structure,
+    made: &Structure,
 ) -> Result<DataSet, AllocError>
-    requires { IsExistence a.now.structure b.now.structure made }
-    ensures { IfOk result (λ d. d ≡ data_set made (existence_of a.now b.now retain)) }
+    requires { IsExistence a.now.structure b.now.structure made.now }
+    ensures { IfOk result (λ d. d ≡ data_set made.now (existence_of a.now b.now retain)) }
 {
-    let table = existence_table::<Brand>(alloc, a, b, retain, &made, Blank::new(1))?;
+    let table = existence_table::<Brand>(alloc, a, b, retain, made, Blank::new(1))?;
     DataSet::of(alloc, made, table)
 }

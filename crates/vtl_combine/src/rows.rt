@@ -31,7 +31,7 @@ pub(crate) fn numbers(alloc: Global, count: usize) -> Result<Vec<usize>, AllocEr
 pub(crate) fn key_width(alloc: Global, structure: &Structure) -> Result<usize, AllocError>
     ensures { IfOk result (λ n. n ≡ key_width structure.now) }
 {
-    Ok(structure.identifiers(alloc)?.len())
+    Ok(structure.key_width())
 }
 
 // The places of a structure's identifiers in its points, where they stand first.

@@ -184,8 +184,7 @@ fn key_places<'a>(
     requires { key_width structure.now ≤ length places.now }
     ensures { IfOk result (λ keys. keys.now ≡ take (key_width structure.now) places.now) }
 {
-    let count = structure.identifiers(alloc)?.len();
-    Ok(&places[..count])
+    Ok(&places[..structure.key_width()])
 }
 
 // The data set whose records are left after a header with this layout, about so many.

@@ -75,7 +75,7 @@ pub fn write_rows(alloc: Global, table: &Table, profile: &Profile) -> Result<Vec
 fn number_of_identifiers(alloc: Global, structure: &Structure) -> Result<usize, AllocError>
     ensures { IfOk result (λ count. count ≡ key_width structure.now) }
 {
-    Ok(structure.identifiers(alloc)?.len())
+    Ok(structure.key_width())
 }
 
 // Keys that rise by listed columns, and then by the first ones.

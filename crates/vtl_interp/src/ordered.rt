@@ -71,7 +71,7 @@ fn in_order(alloc: Global, script: &Checked, inputs: &Inputs) -> Result<Inputs, 
 // How many identifiers the data set of a name has; none where the script knows no such data set.
 fn number_of_identifiers(alloc: Global, script: &Checked, name: &Txt) -> Result<usize, AllocError> {
     match script.structure(name) {
-        Some(structure) => Ok(structure.identifiers(alloc)?.len()),
+        Some(structure) => Ok(structure.key_width()),
         None => Ok(0),
     }
 }

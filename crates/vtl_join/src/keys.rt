@@ -1,5 +1,5 @@
 // The tuples of identifiers that the operands of a full join have, each once.
-ghost use Rattle.std.specs.Prelude.{◌≡◌, ◌++◌, ◌∷◌, [], ◌<◌, length, map, All, IfOk, slice_index};
+ghost use Rattle.std.specs.Prelude.{◌≡◌, ◌<◌, map, IfOk};
 ghost use Rattle.std.specs.List.{AllByRecursion};
 ghost use Rattle.vtl_index.specs.Groups.{AreLeads, firsts};
 ghost use Rattle.vtl_rows.specs.Tables.{column_kinds};
@@ -10,7 +10,6 @@ ghost use Rattle.vtl_meaning.specs.Made.{AreAmong};
 ghost use Rattle.vtl_join.specs.Joining.{sets_of};
 ghost use Rattle.vtl_join.specs.Keys.{all_key_rows, key_cells, key_kinds, key_places, key_rows};
 
-use crate::columns::places_in;
 use crate::gathering::push_picks;
 use crate::joined::Operand;
 use crate::tuples::up_to;
@@ -20,7 +19,7 @@ use vtl_index::Groups;
 use vtl_rows::{Column, Table, gather_beside};
 use vtl_sets::{DataSet, table_column};
 use vtl_text::Txt;
-use vtl_tree::{Component, Structure};
+use vtl_tree::{Component, Structure, places_in};
 
 // The columns of keys: those of identifiers, and a spare one, so that there is one where there are no identifiers.
 fn key_columns(alloc: Global, identifiers: &[&Component]) -> Result<Vec<Column>, AllocError>

@@ -4,14 +4,13 @@ ghost use Rattle.vtl_tree.specs.Shown.{shown};
 ghost use Rattle.vtl_join.specs.Finding.{sought_at, sought_beside, sources_around};
 ghost use Rattle.vtl_join.specs.Joining.{sets_of};
 
-use crate::columns::{common_identifiers, places_in};
 use crate::joined::Operand;
 use crate::tuples::up_to;
 use std::alloc::{AllocError, Global};
 use std::sync::ledger::Ledger;
 use vtl_index::{Seeker, Steps};
 use vtl_sets::DataSet;
-use vtl_tree::{Component, Structure};
+use vtl_tree::{Component, Structure, common_identifiers, places_in};
 
 // The points of an operand, by the identifiers that it has in common with the structure of the rows that ask.
 fn seek_beside<'a, L: Ledger>(

@@ -1,21 +1,13 @@
 -- Points of several operands that agree: they have the same values of the identifiers that both operands have.
-use Rattle.std.specs.Prelude.{ℕ, Bool, List, filter, map, Option, is_some, take}
+use Rattle.std.specs.Prelude.{Bool, List, map, Option, is_some, take}
 use Rattle.std.specs.List.{find}
 use Rattle.vtl_cell.specs.Row.{Row, same_row}
 use Rattle.vtl_tree.specs.Environment.{DataSet}
-use Rattle.vtl_tree.specs.Structure.{columns_of, key_width, names_of}
+use Rattle.vtl_tree.specs.Structure.{columns_of, key_width}
 use Rattle.vtl_tree.specs.declared.structure.Component.{Component}
 use Rattle.vtl_tree.specs.declared.structure.Structure.{Structure}
-use Rattle.vtl_tree.specs.Names.{is_among}
-use Rattle.vtl_tree.specs.Columns.{identifiers_of}
+use Rattle.vtl_tree.specs.Columns.{common_identifiers}
 use Rattle.vtl_meaning.specs.LookUps.{values_named}
-
-abbrev pub has_identifier : Structure → List ℕ → Bool
-has_identifier a name = is_among name (names_of (identifiers_of a))
-
--- the identifiers of the second operand that the first one has too
-abbrev pub common_identifiers : Structure → Structure → List Component
-common_identifiers a b = filter (λ i. has_identifier a i.name) (identifiers_of b)
 
 -- the values of a point of this structure in columns of these names
 abbrev pub values_in : Structure → List Component → Row → Row

@@ -1,15 +1,15 @@
 -- Columns by their names, and the expressions that they are.
-use Rattle.std.specs.Prelude.{ℕ, ◌+◌, ◌++◌, List, map}
+use Rattle.std.specs.Prelude.{ℕ, ◌+◌, ◌++◌, Bool, List, filter, map}
 use Rattle.std.specs.List.{position_or_len}
 use Rattle.std.specs.Option.{option_map_or}
 use Rattle.vtl_cell.specs.declared.kind.Kind.{Kind}
 use Rattle.vtl_cell.specs.declared.kind.Kind.TheVariants as k
 use Rattle.vtl_tree.specs.CompExp.{CompExp, column}
-use Rattle.vtl_tree.specs.Structure.{of_role, same_name}
+use Rattle.vtl_tree.specs.Structure.{names_of, of_role, same_name}
 use Rattle.vtl_tree.specs.declared.structure.Component.{Component}
 use Rattle.vtl_tree.specs.declared.structure.Role.TheVariants as role
 use Rattle.vtl_tree.specs.declared.structure.Structure.{Structure}
-use Rattle.vtl_tree.specs.Names.{component_of}
+use Rattle.vtl_tree.specs.Names.{component_of, is_among}
 
 abbrev pub identifiers_of : Structure → List Component
 identifiers_of s = of_role role.Identifier s
@@ -43,3 +43,10 @@ column_behind n xs name = column (n + place_of name xs) name (kind_named name xs
 -- the columns of the names of other columns
 abbrev pub columns_named : List Component → List Component → List CompExp
 columns_named xs ys = map (λ y. column_named xs y.name) ys
+
+abbrev pub has_identifier : Structure → List ℕ → Bool
+has_identifier a name = is_among name (names_of (identifiers_of a))
+
+-- the identifiers of the second operand that the first one has too
+abbrev pub common_identifiers : Structure → Structure → List Component
+common_identifiers a b = filter (λ i. has_identifier a i.name) (identifiers_of b)

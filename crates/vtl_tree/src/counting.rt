@@ -13,7 +13,7 @@ fn one_if(counted: bool) -> usize
 
 /// How many components have a role.
 #[tactic(auto, using(crate::proofs::CountLemmas::one_more))]
-fn count_role(components: &[Component], role: Role) -> usize
+pub(crate) fn count_role(components: &[Component], role: Role) -> usize
     ensures { result ≡ length (filter (λ x. same_role x.role role) components.now) }
 {
     let mut count = 0;

@@ -37,7 +37,7 @@ mod targets;
 pub use calls::{AnalyticCall, AnalyticOp, Bound, Frame, OrderKey, Window};
 pub use choices::{Choice, is_chosen, is_identifier, is_identifier_name, push_chosen};
 pub use clauses::{CalcItem, CalcValue, SubItem};
-pub use columns::{kind_named, place_of};
+pub use columns::{common_identifiers, kind_named, place_of, places_in};
 pub use copies::{share_codes, share_component, share_structure};
 pub use counting::count_measures;
 pub use declarable::is_declarable;

@@ -1,9 +1,10 @@
 // Structures of data sets.
 
 ghost use Rattle.std.specs.Prelude.{◌≡◌, ◌++◌, filter, map, IfOk, OnOk};
-ghost use Rattle.vtl_tree.specs.Structure.{columns_of, of_role, same_role};
+ghost use Rattle.vtl_tree.specs.Structure.{columns_of, key_width, of_role, same_role};
 ghost use Rattle.vtl_tree.specs.Shown.{shown};
 
+use crate::counting::count_role;
 use std::alloc::{AllocError, Global};
 use vtl_cell::Kind;
 use vtl_text::{List, Shared, Txt};
@@ -83,13 +84,27 @@ impl Structure {
         Ok(columns)
     }
 
+    /// The components of a role, in the order in which they were declared.
+    pub fn of_role(&self, alloc: Global, role: Role) -> Result<Vec<&Component>, AllocError>
+        ensures { IfOk result (λ v. shown v.items ≡ of_role role self.now) }
+    {
+        let mut columns = Vec::new(alloc);
+        push_role(&mut columns, self.components.as_slice(), role)?;
+        Ok(columns)
+    }
+
     /// The identifiers, in the order in which they were declared.
     pub fn identifiers(&self, alloc: Global) -> Result<Vec<&Component>, AllocError>
         ensures { IfOk result (λ v. shown v.items ≡ of_role Role.Identifier self.now) }
     {
-        let mut columns = Vec::new(alloc);
-        push_role(&mut columns, self.components.as_slice(), Role::Identifier)?;
-        Ok(columns)
+        self.of_role(alloc, Role::Identifier)
+    }
+
+    /// How many identifiers there are.
+    pub fn key_width(&self) -> usize
+        ensures { result ≡ key_width self.now }
+    {
+        count_role(self.components.as_slice(), Role::Identifier)
     }
 }
 

@@ -1,11 +1,11 @@
-use Rattle.std.proofs.Common.{Err, ap, sym, subst, ◌∙◌}
+use Rattle.std.proofs.Common.{ap, sym, subst, ◌∙◌}
 use Rattle.sql_tree.specs.View.{script_tree}
 use Rattle.sql_engine.specs.InputTables.{AreInputsInRange, HaveInputTables, rows_given}
-use Rattle.sql_engine.specs.Runs.{FaultIs, ShowsMeaning}
+use Rattle.sql_engine.specs.Runs.{Tells}
+use Rattle.sql_engine.specs.declared.orders.RowOrder.TheVariants as by
 use Rattle.sql_meaning.specs.Scripts.{script_value}
 use Rattle.sql_check_parts.specs.Statements.{IsTypedScript, script_settings}
-use Rattle.sql_back.specs.TextRuns.{TellsText}
-use Rattle.sql_back.proofs.EngineRuns.{fault_told}
+use Rattle.sql_back.proofs.EngineRuns.{run_told}
 use Rattle.sql_back.proofs.text_runs.run_text.Goals as goal
 
 pub of-checked-requires-clause-typed : goal.of-checked-requires-clause-typed
@@ -24,15 +24,9 @@ run_uncounted-requires-clause-in_range c =
     (subst (AreInputsInRange (script_settings c.requires.script) c.args.inputs.now) (sym same) c.requires.in_range)
 
 -- whatever script the text spells, it is the one that was read
-pub returns-in-Ok : goal.returns-in-Ok
-returns-in-Ok c script spelled =
-    let same = ap script_tree c.of-checked.ensures.script ∙ c.in_ok-script.ensures.script script spelled in
-    let rows = rows_given c.args.inputs.now in
-    subst (λ s. ShowsMeaning (script_value s rows) c.run_uncounted.new.out) same c.in-Ok.ensures
-
 pub returns : goal.returns
 returns c script spelled =
     let same = ap script_tree c.of-checked.ensures.script ∙ c.in_ok-script.ensures.script script spelled in
-    let meant = script_value script (rows_given c.args.inputs.now) in
-    let told = subst (λ s. FaultIs (script_value s (rows_given c.args.inputs.now)) c.in-Err.error) same c.in-Err.ensures.0 in
-    subst (λ e. TellsText meant c.args.out.now c.run_uncounted.new.out (Err e)) (sym c.told.ensures) (fault_told meant c.args.out.now c.run_uncounted.new.out c.in-Err.error told c.in-Err.ensures.1)
+    let rows = rows_given c.args.inputs.now in
+    let told = subst (λ s. Tells by.AsMade (script_value s rows) c.args.out.now c.run_uncounted.new.out c.run_uncounted.result) same c.run_uncounted.ensures in
+    run_told (script_value script rows) c.args.out.now c.run_uncounted.new.out c.run_uncounted.result told

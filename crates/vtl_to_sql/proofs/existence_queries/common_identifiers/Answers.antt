@@ -6,7 +6,7 @@ use Rattle.vtl_tree.specs.Shown.{shown}
 use Rattle.vtl_tree.specs.Structure.{names_of}
 use Rattle.vtl_tree.specs.declared.structure.Component.{Component}
 use Rattle.vtl_tree.specs.Names.{is_among}
-use Rattle.vtl_meaning.specs.Agreement.{has_identifier}
+use Rattle.vtl_tree.specs.Columns.{has_identifier}
 use Rattle.vtl_to_sql.proofs.existence_queries.common_identifiers.Goals as goal
 
 pub loop-identifier-preserved : goal.loop-identifier-preserved
