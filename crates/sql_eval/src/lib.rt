@@ -5,7 +5,8 @@
 //! rows the tables have; `value_at` gives that value or its fault. How a row is kept, how EXISTS is answered and how an
 //! aggregate is taken over a group's rows is left to what implements [`Cells`], and where the cells of columns stand to
 //! what implements [`Names`].
-//! It knows no select and no script, and nothing of VTL's structures.
+//! It knows no select and no script, and nothing of VTL's structures. What the crates above name of SQL's typing and
+//! meaning it passes on.
 //! Begin with specs/Placed.antt and Resolves.antt, then `resolved.rt`, `cells.rt`, `evaluation.rt` and `resolving.rt`.
 #![tactic(auto)]
 

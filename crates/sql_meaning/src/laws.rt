@@ -1,7 +1,4 @@
 // Laws of the definitions.
-//
-// Which fault counts is said twice: by `join` along the definition, and as the worst of a list of all that is evaluated
-// (`Faults`); a law says that both agree. The list is what a reader wants to see, `join` what a proof follows.
 ghost use Rattle.std.specs.Prelude.{◌≡◌, ◌⊎◌, ◌<◌, ◌≤◌, ◌+◌, ◌++◌, ◌∷◌, ℕ, List, None, Ok, Option, [], IfOk, count_by, drop, false, fold, length, map, slice_index_or, true};
 ghost use Rattle.std.specs.List.{AllByRecursion};
 ghost use Rattle.vtl_cell.specs.Kinds.{is_null};

@@ -6,26 +6,6 @@
 //! It knows trees and their typing, cells and their operators: nothing of VTL's structures, no file, no program but the
 //! entries of plans.
 //! Begin with specs/Values.antt, then From.antt, Selects.antt, Scripts.antt and src/laws.rt.
-//!
-//! A column is found by its place (`place_in`), by the one look-up of typing (`found`, `placed`); at a group by its
-//! place in GROUP BY. What expressions see is a record of sources and places (`View`), so rows and groups have one
-//! value function.
-//!
-//! What a query rests on is a record (`Base`), with rows as a function of names: two bases that differ in rows alone
-//! have the same typing by definition.
-//!
-//! Operators and CASE make their value one of the expression's kind, and an item one of the kind that the selects
-//! share: a list of values that an aggregate or an order sees is of one kind, and UNION ALL only appends.
-//!
-//! Joins are one function over any three types (`joined_by`): rows here, numbers of rows in an engine.
-//!
-//! ON is tried on every pair, also where a faulty one was found before: what is evaluated does not depend on an order.
-//!
-//! A constant or a literal without a value, a column or a table that is not there count as null or nothing: no typed
-//! script has one, and a total definition needs no proof of typing inside.
-//!
-//! A script makes tables and exports, statement by statement (`statements_made`): cutting it in two is then an
-//! equation.
 #![tactic(auto)]
 
 mod laws;
