@@ -1,27 +1,51 @@
 #!/bin/sh
-# Times the reading of structures files of the largest size, 1,048,576 bytes, in shapes that are hard for a reader.
-# The times are printed with the number of data sets that were read, and nothing is asserted of them.
-# The program is the one built in crates/vtl_probe; another may be given as the only word.
+# Times the reading of structures files of the largest size, 1,048,576 bytes, in shapes that are hard for a reader, by runs
+# of a script without statements. The times are printed with the number of data sets that the file declares, and nothing is
+# asserted of them. The program is the one built in crates/vtl; another may be given as the only word.
 top=$(dirname -- "$(readlink -f -- "$0")")/..
-program=${1:-$top/crates/vtl_probe/out/vtl_probe}
+program=${1:-$top/crates/vtl/out/vtl}
 if [ ! -x "$program" ]; then
-    echo "structures.sh: there is no program at $program; scripts/build.sh vtl_probe builds it" >&2
+    echo "structures.sh: there is no program at $program; scripts/build.sh vtl builds it" >&2
     exit 1
 fi
+made=$(mktemp -d) || exit 1
+trap 'rm -rf "$made"' EXIT
+mkdir "$made/in" "$made/out"
+: >"$made/script.vtl"
 
-# Reads a file of this filling a number of times, and prints how long one reading took. The making of the file is not counted.
+# A file of this filling.
+filled() {
+    awk -v filling="$1" '
+        function part(i) {
+            if (filling == "codes") return "|" i
+            if (filling == "data_sets") return "d" i ",c,identifier,date,\n"
+            return "d" int(i / 64) ",c" i % 64 "," (i % 64 ? "measure" : "identifier") ",date,\n"
+        }
+        BEGIN {
+            text = "dataset,component,role,type,codes\n" (filling == "codes" ? "d,c,identifier,string,code" : "")
+            for (bytes = 0; bytes < 1048576 - 64; text = part(i++)) {
+                printf "%s", text
+                bytes += length(text)
+            }
+            print ""
+        }' >"$made/structures.csv"
+}
+
+# Reads a file of this filling a number of times, and prints how long one run took.
 time_run() {
+    filled "$1"
+    sets=$(sed -n '2,$s/,.*//p' "$made/structures.csv" | sort -u | wc -l)
     start=$(date +%s%N)
-    "$program" time "$1" 0 >/dev/null || exit
-    made=$(date +%s%N)
-    read_sets=$("$program" time "$1" "$2") || exit
+    for _ in $(seq "$2"); do
+        "$program" run "$made/script.vtl" "$made/structures.csv" "$made/in" "$made/out" || exit
+    done
     end=$(date +%s%N)
-    awk -v filling="$1" -v count="$2" -v sets="$read_sets" -v nanoseconds=$((end - made - (made - start))) 'BEGIN {
-        printf "%-10s %6d %10d %12.1f\n", filling, count, sets / count, nanoseconds / 1e6 / count
+    awk -v filling="$1" -v count="$2" -v sets="$sets" -v nanoseconds=$((end - start)) 'BEGIN {
+        printf "%-10s %6d %10d %12.1f\n", filling, count, sets, nanoseconds / 1e6 / count
     }'
 }
 
-printf '%-10s %6s %10s %12s\n' filling count data-sets ms-a-reading
+printf '%-10s %6s %10s %12s\n' filling count data-sets ms-a-run
 time_run records 20
 time_run data_sets 20
 time_run codes 20

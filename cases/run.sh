@@ -39,11 +39,23 @@ table() {
     esac
 }
 
-# A file beside what the probe prints of it.
+# Nests, as a table of texts: the word for these, the table, what a nest at the most levels comes out as, and a deeper one.
+nests() {
+    awk -v whole="$3" -v broken="$4" -f cases/nests.awk "$2" >"$made/nests.csv"
+    table "$1" "$made/nests.csv"
+}
+
+# The fronts of a script, as a table of texts: the word for these, the script, the table.
+fronts() {
+    LC_ALL=C awk -f cases/fronts.awk "$2" "$3" >"$made/fronts.csv"
+    table "$1" "$made/fronts.csv"
+}
+
+# A file beside what the probe prints of it. The code says whether the file is a script.
 printed() {
     "$probe" "$1" "$2" >"$made/said" 2>"$made/told"
     code=$?
-    if [ "$code" -le 1 ] && [ ! -s "$made/told" ] && cmp -s "$3" "$made/said"; then
+    if [ "$code" -le 3 ] && [ ! -s "$made/told" ] && cmp -s "$3" "$made/said"; then
         pass
     else
         fail "$2: exit code $code"
@@ -272,9 +284,9 @@ written() {
     fi
 }
 
-# A script that is refused before any data is read: `check` says so in the words of `vtl`, with its code.
+# A script that is refused before any data is read: `check` says so in the same words, with the same code.
 refused() {
-    "$probe" check "$1/script.vtl" "$1/structures.csv" >"$made/said" 2>"$made/told"
+    (cd "$1" && VTL_EXPLAIN=0 "$top/vtl" check script.vtl structures.csv) >"$made/said" 2>"$made/told"
     code=$?
     if [ "$code" = "$(cat "$1/code")" ] && [ ! -s "$made/told" ] && cmp -s "$1/line" "$made/said"; then
         pass
@@ -359,10 +371,10 @@ for folder in cases/*/; do
                 table sql_again "$file"
             done
             for file in cases/sql/limits/*.csv; do table sql_syntax "$file"; done
-            for file in cases/sql/depth/*.csv; do table sql_depth "$file"; done
+            for file in cases/sql/depth/*.csv; do nests sql_syntax "$file" 2, 1,30; done
             for file in cases/sql/groups/*.csv; do table sql_groups "$file"; done
             for file in cases/sql/types/*.csv; do table sql_types "$file"; done
-            for file in cases/sql/prefix/*.csv; do table sql_prefixes "${file%.*}.sql" "$file"; done
+            for file in cases/sql/prefix/*.csv; do fronts sql_syntax "${file%.*}.sql" "$file"; done
             for file in cases/sql/print/*.printed; do printed print "${file%.*}.sql" "$file"; done
             ;;
         tokens | tree)
@@ -373,7 +385,8 @@ for folder in cases/*/; do
             done
             ;;
         types) for file in cases/types/*.csv; do table types cases/types/structures.txt "$file"; done ;;
-        prefix) for file in cases/prefix/*.csv; do table prefixes "${file%.*}.vtl" "$file"; done ;;
+        depth) for file in cases/depth/*.csv; do nests syntax "$file" 1, 0,0; done ;;
+        prefix) for file in cases/prefix/*.csv; do fronts syntax "${file%.*}.vtl" "$file"; done ;;
         *) for file in "cases/$word"/*.csv; do table "$word" "$file"; done ;;
     esac
 done
@@ -413,7 +426,7 @@ if wanted sentences; then
     shown docs/SQL.md sql examples/population/text.sql
     shown docs/SQL.md sql cases/translated/filter_and_sum/script.sql
 fi
-if wanted check && [ -x "$probe" ]; then
+if wanted check && [ -x "$vtl" ]; then
     for case in cases/run/*/; do
         if [ -e "$case/words" ] || [ -e "$case/setup" ]; then continue; fi
         case $(cat "$case/line" 2>/dev/null) in

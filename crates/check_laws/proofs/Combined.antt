@@ -17,8 +17,7 @@ use Rattle.check_shapes.specs.Pairs.{exists_form, exists_tests, is_at_odds, set_
 use Rattle.check_shapes.specs.Shape.{shaped}
 use Rattle.vtl_tree.specs.declared.operands.Compared.TheVariants as compared
 use Rattle.vtl_tree.proofs.Twins.{HasTwin, there-twin}
-use Rattle.vtl_tree.specs.Columns.{common_identifiers, has_identifier}
-use Rattle.vtl_tree.specs.Columns.{identifiers_of, measures_of, place_of}
+use Rattle.vtl_tree.specs.Columns.{common_identifiers, has_identifier, identifiers_of, measures_of, place_of}
 use Rattle.vtl_meaning.specs.Made.{AreAmong, IsAlternative, IsColumnAt, IsCombined, IsExistence, component_kinds}
 use Rattle.vtl_meaning.specs.Shapes.{IsShaped}
 use Rattle.check_laws.specs.Gives.{ArePassed, Gives}

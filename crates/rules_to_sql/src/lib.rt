@@ -1,10 +1,9 @@
-//! Component expressions of VTL as expressions of the SQL dialect, with the law that they mean the same.
+//! Rules and all other component expressions of VTL as expressions of the SQL dialect, with the law that they mean the same.
 //!
 //! An expression of a point, or of a group, is written with one operator for each of its own, so that its SQL stays
 //! readable; over any columns that name the components it has the kind and the value that it has in VTL, faults
 //! included, fits where it stands, and can be printed. Which select it stands in is for others to decide.
 //! It knows no data sets, no nodes and no scripts of either language.
-//! It passes on the words of both meanings and the trait `Backend`, so that crates above name it alone.
 //! Begin with specs/ToSql.antt and Constants.antt, then `laws.rt`.
 #![tactic(auto)]
 

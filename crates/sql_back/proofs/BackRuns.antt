@@ -30,9 +30,9 @@ use Rattle.vtl_scalar.specs.declared.run_error.RunErr.{RunErr}
 use Rattle.vtl_scalar.specs.declared.run_error.RunErr.TheVariants as err
 use Rattle.vtl_to_sql.specs.Conditions.{IsScript}
 use Rattle.vtl_to_sql.specs.Exports.{exported, exported_as}
-use Rattle.vtl_to_sql.specs.Runs.{entries}
+use Rattle.selects_to_sql.specs.Runs.{entries}
 use Rattle.vtl_to_sql.specs.Scripts.{script_for}
-use Rattle.vtl_to_sql.proofs.Exact.{set_turned}
+use Rattle.selects_to_sql.proofs.Exact.{set_turned}
 use Rattle.vtl_to_sql.proofs.TranslatedScripts.{all_made, script_means}
 use Rattle.vtl_meaning.proofs.ScriptsKept.{meaning_kept}
 use Rattle.sql_engine.specs.Runs.{ShowsAs}

@@ -29,7 +29,7 @@ use Rattle.vtl_meaning.specs.Profiles.{AllAreOfProfile}
 use Rattle.vtl_sets.specs.TableOf.{column_for}
 use Rattle.vtl_sets.proofs.TableLemmas.{point_fits}
 use Rattle.vtl_to_sql.specs.Exports.{AreRead}
-use Rattle.vtl_to_sql.specs.Runs.{entries}
+use Rattle.selects_to_sql.specs.Runs.{entries}
 use Rattle.vtl_to_sql.specs.Scripts.{input_of}
 use Rattle.vtl_to_sql.proofs.ReadTables.{columns_read}
 use Rattle.sql_back.specs.Texts.{inputs_in}

@@ -8,8 +8,9 @@ use Rattle.sql_tree.specs.Formed.{PrintableScript}
 use Rattle.sql_tree.specs.Texts.{IsScript as IsSpelled}
 use Rattle.sql_tree.specs.Trees.{ScriptTree, StatementTree}
 use Rattle.vtl_to_sql.specs.Conditions.{IsScript}
-use Rattle.vtl_to_sql.specs.Scripts.{create_for, export_for, input_for, input_of, script_for, written_of}
-use Rattle.vtl_to_sql.specs.Tables.{Table, script_tables}
+use Rattle.selects_to_sql.specs.Tables.{create_for, Table}
+use Rattle.vtl_to_sql.specs.Scripts.{export_for, input_for, input_of, script_for, written_of}
+use Rattle.vtl_to_sql.specs.Tables.{script_tables}
 use Rattle.vtl_to_sql.proofs.InputSets.{inputs_mean}
 use Rattle.vtl_to_sql.proofs.LawfulScripts.{script_is_printable, script_is_typed}
 use Rattle.vtl_to_sql.proofs.WholeScript.{set_is}

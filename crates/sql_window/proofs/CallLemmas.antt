@@ -1,6 +1,5 @@
 -- The values over a column's cells are those of a call over a partition.
-use Rattle.std.proofs.Common.{◌≡◌, ℕ, zero, suc, ◌+◌, ◌<◌, ◌≤◌, List, [], ◌∷◌, length, get_or, map, Ok, refl, ap, ◌∙◌, arith}
-use Rattle.std.specs.List.{range_with_len}
+use Rattle.std.proofs.Common.{◌≡◌, ℕ, ◌<◌, List, [], ◌∷◌, length, get_or, map, Ok, refl, ap, ◌∙◌}
 use Rattle.std.proofs.lemmas.List.{get_or-map, length-map}
 use Rattle.vtl_cell.specs.Groups.{group_value}
 use Rattle.vtl_cell.specs.Row.{Row, column_of}
@@ -26,17 +25,9 @@ use Rattle.sql_tree.specs.declared.word_groups.ShiftFunction.{ShiftFunction}
 use Rattle.sql_tree.specs.declared.word_groups.ShiftFunction.TheVariants as shift
 use Rattle.sql_meaning.specs.Values.{View, cell_at}
 use Rattle.sql_meaning.specs.Windows.{cells_of, count_of, default_cell, framed, shifted, value_in}
-use Rattle.sql_window.specs.Runs.{lane_cells, run_values, shift_in}
-
--- ---- values at each place
-map_from : {X : Type 0} (f g : ℕ → X) (a n : ℕ) → ((i : ℕ) → a ≤ i → i < a + n → f i ≡ g i) → map f (range_with_len a n) ≡ map g (range_with_len a n)
-map_from f g a zero same = refl
-map_from f g a (suc n) same =
-    ap (λ x. x ∷ map f (range_with_len (a + 1) n)) (same a (omega arith) (omega arith))
-    ∙ ap (λ l. g a ∷ l) (map_from f g (a + 1) n (λ i h k. same i (omega (arith, h)) (omega (arith, k))))
-
-pub map_same : {X : Type 0} (f g : ℕ → X) (n m : ℕ) → n ≡ m → ((i : ℕ) → i < m → f i ≡ g i) → map f (range_with_len 0 n) ≡ map g (range_with_len 0 m)
-map_same f g n m e same = ap (λ k. map f (range_with_len 0 k)) e ∙ map_from f g 0 m (λ i h k. same i (omega (arith, k)))
+use Rattle.vtl_frames.specs.Lanes.{lane_cells}
+use Rattle.vtl_frames.proofs.ListLemmas.{map_same}
+use Rattle.sql_window.specs.Runs.{run_values, shift_in}
 
 -- ---- a column's cells
 lane_is : (v : View) (x : Column) (rows : List Row) (run : List ℕ) → lane_cells rows run (v.place x) ≡ cells_of v x (map (row_at rows) run)

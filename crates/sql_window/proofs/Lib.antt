@@ -3,6 +3,4 @@ pub mod FrameLemmas
 pub mod OrderLemmas
 pub mod PartitionLemmas
 pub mod PutLemmas
-pub mod RankLemmas
 pub mod StandLemmas
-pub mod StretchLemmas

@@ -1,207 +1,171 @@
 -- Row numbers in the order of a window, cut where partitions begin, are its partitions.
-use Rattle.std.proofs.Common.{◌≡◌, ℕ, ◌+◌, ◌-◌, ◌<◌, List, [], ◌∷◌, ◌++◌, length, drop, take, get_or, map, Bool, true, false, not, cond, refl, sym, ap, ◌∙◌, arith, subst, append-nil}
-use Rattle.std.specs.Prelude.{filter}
-use Rattle.std.specs.Cmp.{IsTotalOrder, Equal-is}
+use Rattle.std.proofs.Common.{◌≡◌, ℕ, ◌+◌, ◌-◌, ◌<◌, List, [], ◌∷◌, ◌++◌, length, drop, take, get_or, map, Bool, true, false, not, cond, refl, sym, ap, ◌∙◌, arith, true≢false, subst, append-nil, All}
+use Rattle.std.specs.Prelude.{count_by, filter}
+use Rattle.std.specs.Cmp.{IsTotalOrder}
 use Rattle.std.specs.FinMap.{nat_cmp-IsAntisymmetric}
 use Rattle.std.specs.List.{AllByRecursion, range_with_len}
-use Rattle.std.specs.Ordering.{is_eq, is_lt, nat_cmp, on, ordering_then, then_cmp}
+use Rattle.std.specs.Ordering.{is_lt, nat_cmp, on, ordering_then, then_cmp}
 use Rattle.std.specs.declared.cmp.Ordering.{Ordering}
 use Rattle.std.specs.declared.cmp.Ordering.TheVariants.{Less, Equal, Greater}
-use Rattle.std.proofs.lemmas.List.{get_or-drop, get_or-take, length-drop, length-take-le, map-append}
-use Rattle.vtl_lists.specs.Perm.{Perm}
+use Rattle.std.proofs.lemmas.List.{map-append}
+use Rattle.vtl_lists.specs.Perm.{chain}
 use Rattle.vtl_cell.specs.Row.{Row, row_cmp, same_row}
 use Rattle.vtl_cell.specs.Sorted.{by_keys, rising, window_cmp}
 use Rattle.vtl_lists.specs.Sorting.{Rises, le_by, sorted_by}
-use Rattle.vtl_cell.proofs.Keys.{by_keys_total}
-use Rattle.vtl_lists.proofs.Perms.{Perm-filter, Perm-from_IsPermutation, Perm-map, Perm-sym}
-use Rattle.vtl_cell.proofs.Rows.{same_row-is, same_row-refl}
-use Rattle.vtl_lists.proofs.Sorts.{Rises-from_IsSorted, sorted_by-from_sort}
+use Rattle.vtl_cell.proofs.Keys.{by_keys_total, window_order}
+use Rattle.vtl_lists.proofs.Perms.{Perm-sym}
+use Rattle.vtl_cell.proofs.Rows.{same_row-is}
+use Rattle.vtl_lists.proofs.Sorts.{Perm-sorted_by, sorted_by-from_sort}
 use Rattle.vtl_rows.specs.Keys.{agree, key_of}
-use Rattle.vtl_rows.specs.Places.{row_at}
+use Rattle.vtl_rows.specs.Places.{IsOrderOf, row_at}
 use Rattle.vtl_rows.specs.Tables.{cells_at}
 use Rattle.vtl_rows.specs.declared.column.SortKey.{SortKey}
 use Rattle.vtl_rows.proofs.AllColumns.{all_keys, keys_append}
-use Rattle.vtl_rows.proofs.Placed.{all_places, order_within}
-use Rattle.vtl_rows.proofs.Stable.{first_not_less, placed_total}
-use Rattle.vtl_rows.proofs.Ties.{ties_agree}
+use Rattle.vtl_rows.proofs.Stable.{placed_total}
+use Rattle.vtl_frames.specs.Ranked.{AreInOrder}
+use Rattle.vtl_frames.proofs.ListLemmas.{all_more, listed, map_same, rises_with}
+use Rattle.vtl_frames.proofs.OrderLemmas.{at_most}
+use Rattle.vtl_frames.proofs.PartitionLemmas as partitions
+use Rattle.vtl_frames.proofs.RankLemmas.{count_cons, row_rank-Perm}
+use Rattle.vtl_frames.proofs.RunLemmas.{IsOne}
+use Rattle.vtl_frames.proofs.StretchLemmas.{IsStretch}
+use Rattle.sql_tree.specs.declared.windows.Over.{Over}
 use Rattle.sql_tree.specs.declared.windows.Window.{Window}
+use Rattle.sql_tree.specs.declared.windows.WindowCall.{WindowCall}
+use Rattle.sql_tree.specs.declared.windows.WindowCall.TheVariants as call
 use Rattle.sql_meaning.specs.Values.{View}
-use Rattle.sql_meaning.specs.Windows.{keys_of, partition_of, partition_places}
-use Rattle.sql_window.specs.Keys.{AreSorted, rising_key}
-use Rattle.sql_window.specs.Runs.{AreInOrder, IsPartition, IsTold, run_values, window_at}
-use Rattle.sql_window.proofs.PartitionLemmas.{partition_values}
+use Rattle.sql_meaning.specs.Windows.{call_value, keys_of, partition_of, partition_places, stand_in}
+use Rattle.sql_window.specs.Keys.{AreSorted, rising_key, tie_breakers}
+use Rattle.sql_window.specs.Runs.{IsPartition, IsTold, behind, run_values, stand_at, window_at}
+use Rattle.sql_window.proofs.PartitionLemmas.{stand_is}
 use Rattle.sql_window.proofs.StandLemmas.{numbered, told_sorted}
-use Rattle.sql_window.proofs.StretchLemmas.{IsStretch, all_from_get, filter_cut, inside, rises_drop, rises_take, rises_with, stretch_is, told_drop, told_take, x}
-use Rattle.sql_window.proofs.StretchLemmas as stretches
 
 no_tie : (r s : Ordering) → ordering_then r s ≡ Equal → s ≡ Equal
 no_tie Less s e = cc
 no_tie Equal s e = e
 no_tie Greater s e = cc
 
-not_so : (b : Bool) → not b ≡ true → b ≡ false
-not_so true e = sym e
-not_so false e = refl
-
-filter_rows : (t : Row → Bool) (f : ℕ → Row) (ks : List ℕ) → map f (filter (λ k. t (f k)) ks) ≡ filter t (map f ks)
-filter_rows t f [] = refl
-filter_rows t f (k ∷ ks) = go (t (f k)) (filter_rows t f ks)
-  where
-    go : (b : Bool) → map f (filter (λ k. t (f k)) ks) ≡ filter t (map f ks) → map f (cond b (k ∷ filter (λ k. t (f k)) ks) (filter (λ k. t (f k)) ks)) ≡ cond b (f k ∷ filter t (map f ks)) (filter t (map f ks))
-    go true ih = ap (λ l. f k ∷ l) ih
-    go false ih = ih
-
 rising_keys : (ks : List ℕ) → map key_of (map rising_key ks) ≡ map rising ks
 rising_keys [] = refl
 rising_keys (k ∷ ks) = ap (λ l. rising k ∷ l) (rising_keys ks)
 
-module _ (v : View) (w : Window) (partition order : List SortKey) (rows : List Row) (width : ℕ) (places : List ℕ) (h : AreSorted v w.over partition order rows width places) where
-  abbrev pl : List ℕ
-  pl = partition_places v w.over
+-- ---- rows that are the same pass a test together
+module _ (rows : List Row) (A : Row → Bool) where
+  abbrev same_at : ℕ → ℕ → Bool
+  same_at j k = same_row (row_at rows j) (row_at rows k)
 
-  abbrev all : List SortKey
-  all = (partition ++ order) ++ map rising_key (range_with_len 0 width)
+  other : (j k : ℕ) → A (row_at rows j) ≡ true → A (row_at rows k) ≡ false → (b : Bool) → same_at j k ≡ b → b ≡ false
+  other j k e h true same = absurd (true≢false (sym e ∙ ap A (same_row-is (row_at rows j) (row_at rows k) same) ∙ h))
+  other j k e h false same = refl
 
-  abbrev R : Row → Row → Ordering
-  R = by_keys (map key_of all)
-
-  total : IsTotalOrder (by_keys (map key_of all))
-  total = by_keys_total (map key_of all)
-
-  R_is : (q r : Row) → R q r ≡ ordering_then (ordering_then (by_keys (map key_of partition) q r) (by_keys (map key_of order) q r)) (by_keys (map rising (range_with_len 0 width)) q r)
-  R_is q r =
-      ap (λ ks. by_keys ks q r) (map-append key_of (partition ++ order) (map rising_key (range_with_len 0 width)))
-      ∙ keys_append (map key_of (partition ++ order)) (map key_of (map rising_key (range_with_len 0 width))) q r
-      ∙ ap (λ ks. ordering_then (by_keys ks q r) (by_keys (map key_of (map rising_key (range_with_len 0 width))) q r)) (map-append key_of partition order)
-      ∙ ap (λ o. ordering_then o (by_keys (map key_of (map rising_key (range_with_len 0 width))) q r)) (keys_append (map key_of partition) (map key_of order) q r)
-      ∙ ap (λ ks. ordering_then (ordering_then (by_keys (map key_of partition) q r) (by_keys (map key_of order) q r)) (by_keys ks q r)) (rising_keys (range_with_len 0 width))
-
-  ties : (i j : ℕ) → then_cmp (on (row_at rows) (by_keys (map key_of all))) nat_cmp i j ≡ Equal → i ≡ j
-  ties i j e = nat_cmp-IsAntisymmetric i j (no_tie (R (row_at rows i) (row_at rows j)) (nat_cmp i j) e)
-
-  sorted_places : places ≡ sorted_by (numbered rows (by_keys (map key_of all)) total) (range_with_len 0 (length rows))
-  sorted_places = sorted_by-from_sort (placed_total (row_at rows) total) ties (range_with_len 0 (length rows)) places h.placed.all h.placed.placed
-
-  all_rise : Rises (numbered rows (by_keys (map key_of all)) total) places
-  all_rise = Rises-from_IsSorted (placed_total (row_at rows) total) places h.placed.placed
-
-  all_told : IsTold rows places
-  all_told = subst (IsTold rows) (sym sorted_places) (told_sorted rows (by_keys (map key_of all)) total 0 (length rows) (omega arith))
-
-  -- by the first keys
-  by_partition : (j k : ℕ) → numbered rows (by_keys (map key_of all)) total j k ≡ true → le_by (by_keys (map key_of partition)) (row_at rows j) (row_at rows k) ≡ true
-  by_partition j k e =
-      let q = row_at rows j in
-      let r = row_at rows k in
-      let less = first_not_less (R r q) (nat_cmp k j) (not_so (is_lt (ordering_then (R r q) (nat_cmp k j))) e) in
-      let split = sym (ap is_lt (R_is r q)) ∙ less in
-      ap not (first_not_less (by_keys (map key_of partition) r q) (by_keys (map key_of order) r q) (first_not_less (ordering_then (by_keys (map key_of partition) r q) (by_keys (map key_of order) r q)) (by_keys (map rising (range_with_len 0 width)) r q) split))
-
-  pub partitions_rise : AreInOrder partition rows places
-  partitions_rise = rises_with (λ k. Unit {0}) (numbered rows (by_keys (map key_of all)) total) (λ j k. le_by (by_keys (map key_of partition)) (row_at rows j) (row_at rows k)) (λ j k a b e. by_partition j k e) places (trivial places) all_rise
+  count_passed : (j : ℕ) (ks : List ℕ) → A (row_at rows j) ≡ true → count_by (same_at j) (filter (λ k. A (row_at rows k)) ks) ≡ count_by (same_at j) ks
+  count_passed j [] e = refl
+  count_passed j (k ∷ ks) e = go (A (row_at rows k)) refl (count_passed j ks e)
     where
-      trivial : (ks : List ℕ) → AllByRecursion (λ k. Unit {0}) ks
-      trivial [] = tt
-      trivial (k ∷ ks) = (tt, trivial ks)
+      passed : List ℕ
+      passed = filter (λ i. A (row_at rows i)) ks
 
-  module _ (s e : ℕ) (cut : IsStretch partition rows places s e) where
-    abbrev run : List ℕ
-    run = take (e - s) (drop s places)
+      go : (b : Bool) → A (row_at rows k) ≡ b → count_by (same_at j) passed ≡ count_by (same_at j) ks → count_by (same_at j) (cond b (k ∷ passed) passed) ≡ count_by (same_at j) (k ∷ ks)
+      go true h ih = count_cons (same_at j) k passed ∙ ap (λ n. cond (same_at j k) 1 0 + n) ih ∙ sym (count_cons (same_at j) k ks)
+      go false h ih =
+          let none : count_by (same_at j) ks ≡ 0 + count_by (same_at j) ks = omega arith in
+          ih ∙ none ∙ ap (λ b. cond b 1 0 + count_by (same_at j) ks) (sym (other j k e h (same_at j k) refl)) ∙ sym (count_cons (same_at j) k ks)
 
-    long : length run ≡ e - s
-    long = length-take-le (e - s) (drop s places) (omega (arith, length-drop s places, cut.within))
+  told_passed : (ks : List ℕ) → IsTold rows ks → IsTold rows (filter (λ k. A (row_at rows k)) ks)
+  told_passed [] told = tt
+  told_passed (k ∷ ks) told = go (A (row_at rows k)) refl (told_passed ks told.1)
+    where
+      passed : List ℕ
+      passed = filter (λ i. A (row_at rows i)) ks
 
-    run_at : (i : ℕ) → i < e - s → get_or run i 0 ≡ get_or places (s + i) 0
-    run_at i l = get_or-take (e - s) (drop s places) i 0 l ∙ get_or-drop s places i 0
+      go : (b : Bool) → A (row_at rows k) ≡ b → IsTold rows passed → IsTold rows (cond b (k ∷ passed) passed)
+      go true h ih = (count_passed k ks h ∙ told.0, ih)
+      go false h ih = ih
 
-    abbrev head : Row
-    head = row_at rows (get_or places s 0)
+-- ---- a sort by any keys tells rows that are the same apart by their numbers
+all_told : (keys : List SortKey) (rows : List Row) (places : List ℕ) → IsOrderOf keys rows places → IsTold rows places
+all_told keys rows places order = subst (IsTold rows) (sym sorted_places) (told_sorted rows R total 0 (length rows) (omega arith))
+  where
+    R : Row → Row → Ordering
+    R = by_keys (map key_of keys)
 
-    cells_at_run : (i : ℕ) → i < e - s → cells_at pl (row_at rows (get_or run i 0)) ≡ cells_at pl head
-    cells_at_run i l = ap (λ k. cells_at pl (row_at rows k)) (run_at i l) ∙ inside pl partition h.partition_is rows places partitions_rise s e cut (s + i) (omega arith) (omega (arith, l))
+    total : IsTotalOrder (by_keys (map key_of keys))
+    total = by_keys_total (map key_of keys)
 
-    stretch : (r : Row) → cells_at pl r ≡ cells_at pl head → filter (λ k. agree pl (row_at rows k) r) places ≡ run
-    stretch r one = stretch_is pl partition h.partition_is rows places partitions_rise s e cut r one
+    ties : (i j : ℕ) → then_cmp (on (row_at rows) (by_keys (map key_of keys))) nat_cmp i j ≡ Equal → i ≡ j
+    ties i j e = nat_cmp-IsAntisymmetric i j (no_tie (by_keys (map key_of keys) (row_at rows i) (row_at rows j)) (nat_cmp i j) e)
 
-    members : (i : ℕ) → i < length run → Perm (map (row_at rows) run) (partition_of pl rows (row_at rows (get_or run i 0)))
-    members i l =
-        let r = row_at rows (get_or run i 0) in
-        let one = cells_at_run i (omega (arith, l, long)) in
-        let same = filter_rows (λ q. agree pl q r) (row_at rows) (range_with_len 0 (length rows)) ∙ ap (filter (λ q. agree pl q r)) (all_places rows) in
-        subst (λ l. Perm (map (row_at rows) run) l) same
-        (subst (λ l. Perm (map (row_at rows) l) (map (row_at rows) (filter (λ k. agree pl (row_at rows k) r) (range_with_len 0 (length rows))))) (stretch r one)
-        (Perm-sym (Perm-map (row_at rows) (Perm-filter (λ k. agree pl (row_at rows k) r) (Perm-from_IsPermutation (range_with_len 0 (length rows)) places h.placed.all)))))
+    sorted_places : places ≡ sorted_by (numbered rows (by_keys (map key_of keys)) total) (range_with_len 0 (length rows))
+    sorted_places = sorted_by-from_sort (placed_total (row_at rows) total) ties (range_with_len 0 (length rows)) places order.all order.placed
 
-    -- a row of the partition, as wide as the table
-    record IsMember (k : ℕ) : Type 0 where
-      cells : cells_at pl (row_at rows k) ≡ cells_at pl head
-      wide : length (row_at rows k) ≡ width
+-- ---- partitions
+module _ (v : View) (o : Over) (partition order : List SortKey) (rows : List Row) (width : ℕ) (places : List ℕ) (partition_is : map key_of partition ≡ map rising (partition_places v o)) (order_is : map key_of order ≡ keys_of v o)
+    (wide : All (λ r. length r ≡ width) rows) (s e : ℕ) (cut : IsStretch partition rows places s e) where
+  abbrev pl : List ℕ
+  pl = partition_places v o
 
-    member_at : (i : ℕ) → i < length run → IsMember (get_or run i 0)
-    member_at i l =
-        let there : s + i < length places = omega (arith, l, long, cut.within) in
-        record {
-          cells = cells_at_run i (omega (arith, l, long));
-          wide = ap (λ k. length (row_at rows k)) (run_at i (omega (arith, l, long))) ∙ h.wide (get_or places (s + i) 0) [] (order_within all rows places h.placed (s + i) 0 there);
-        }
+  abbrev run : List ℕ
+  run = take (e - s) (drop s places)
 
-    tie_of : (q r : Row) → cells_at pl q ≡ cells_at pl head → cells_at pl r ≡ cells_at pl head → by_keys (map key_of partition) r q ≡ Equal
-    tie_of q r a b =
-        (Equal-is (by_keys (map key_of partition) r q)).0 (ap (λ ks. is_eq (by_keys ks r q)) h.partition_is ∙ ties_agree pl r q ∙ ap (same_row (cells_at pl r)) (a ∙ sym b) ∙ same_row-refl (cells_at pl r))
+  abbrev at : ℕ → Row
+  at i = row_at rows (get_or run i 0)
 
-    by_window : (j k : ℕ) → IsMember j → IsMember k → numbered rows (by_keys (map key_of all)) total j k ≡ true → le_by (window_cmp (keys_of v w.over) []) (row_at rows j) (row_at rows k) ≡ true
-    by_window j k a b e' =
-        let q = row_at rows j in
-        let r = row_at rows k in
-        let less = first_not_less (R r q) (nat_cmp k j) (not_so (is_lt (ordering_then (R r q) (nat_cmp k j))) e') in
-        let same : R r q ≡ window_cmp (keys_of v w.over) [] r q =
-        R_is r q ∙ ap (λ o. ordering_then (ordering_then o (by_keys (map key_of order) r q)) (by_keys (map rising (range_with_len 0 width)) r q)) (tie_of q r a.cells b.cells)
-        ∙ ap (ordering_then (by_keys (map key_of order) r q)) (all_keys width r q b.wide a.wide)
-        ∙ ap (λ ks. ordering_then (by_keys ks r q) (row_cmp r q)) (h.order_is ∙ sym (append-nil (keys_of v w.over))) in
-        ap (λ o. not (is_lt o)) (sym same) ∙ ap not less
+  abbrev columns : List SortKey
+  columns = map rising_key (range_with_len 0 width)
 
-    rises : Rises (λ j k. le_by (window_cmp (keys_of v w.over) []) (row_at rows j) (row_at rows k)) run
+  -- by all columns last
+  module _ (placed : IsOrderOf ((partition ++ order) ++ map rising_key (range_with_len 0 width)) rows places) where
+    abbrev start : Row
+    start = row_at rows (get_or places s 0)
+
+    run_wide : AllByRecursion (λ k. length (row_at rows k) ≡ width) run
+    run_wide =
+        all_more (λ k. k < length rows) (λ k. length (row_at rows k) ≡ width) (λ k l. wide k [] l) run
+        (partitions.within pl partition partition_is order columns rows places placed s e cut)
+
+    -- the listed keys and all columns are the order of the meaning
+    window_is : (q r : Row) → length q ≡ width → length r ≡ width → by_keys (map key_of (order ++ map rising_key (range_with_len 0 width))) q r ≡ window_cmp (keys_of v o) [] q r
+    window_is q r a b =
+        ap (λ ks. by_keys ks q r) (map-append key_of order columns) ∙ keys_append (map key_of order) (map key_of columns) q r
+        ∙ ap (λ ks. ordering_then (by_keys (map key_of order) q r) (by_keys ks q r)) (rising_keys (range_with_len 0 width))
+        ∙ ap (ordering_then (by_keys (map key_of order) q r)) (all_keys width q r a b)
+        ∙ ap (λ ks. ordering_then (by_keys ks q r) (row_cmp q r)) (order_is ∙ sym (append-nil (keys_of v o)))
+
+    rises : Rises (λ j k. le_by (window_cmp (keys_of v o) []) (row_at rows j) (row_at rows k)) run
     rises =
-        rises_with IsMember (numbered rows (by_keys (map key_of all)) total) (λ j k. le_by (window_cmp (keys_of v w.over) []) (row_at rows j) (row_at rows k)) by_window run (all_from_get IsMember run 0 member_at)
-        (rises_take (numbered rows (by_keys (map key_of all)) total) (e - s) (drop s places) (rises_drop (numbered rows (by_keys (map key_of all)) total) s places all_rise))
-
-    agrees : (r : Row) → cells_at pl r ≡ cells_at pl head → agree pl r head ≡ true
-    agrees r one = ap (same_row (cells_at pl r)) (sym one) ∙ same_row-refl (cells_at pl r)
-
-    run_agrees : AllByRecursion (λ k. agree pl (row_at rows k) head ≡ true) run
-    run_agrees = all_from_get (λ k. agree pl (row_at rows k) head ≡ true) run 0 (λ i l. agrees (row_at rows (get_or run i 0)) (cells_at_run i (omega (arith, l, long))))
-
-    rest_at : (i : ℕ) → get_or (drop (e - s) (drop s places)) i 0 ≡ get_or places (e + i) 0
-    rest_at i =
-        let far : s + ((e - s) + i) ≡ e + i = omega (arith, cut.some) in
-        get_or-drop (e - s) (drop s places) i 0 ∙ get_or-drop s places ((e - s) + i) 0 ∙ ap (λ k. get_or places k 0) far
-
-    rest_differs : AllByRecursion (λ k. agree pl (row_at rows k) head ≡ false) (drop (e - s) (drop s places))
-    rest_differs =
-        all_from_get (λ k. agree pl (row_at rows k) head ≡ false) (drop (e - s) (drop s places)) 0
-        (λ i l. ap (λ k. agree pl (row_at rows k) head) (rest_at i)
-        ∙ stretches.no_tie pl partition h.partition_is rows places partitions_rise s e cut (row_at rows (get_or places (e + i) 0)) head
-        (λ t. stretches.behind_at pl partition h.partition_is rows places partitions_rise s e cut e (e + i) refl (omega arith) (omega (arith, l, length-drop (e - s) (drop s places), length-drop s places, cut.some)) (same_row-is (cells_at pl (row_at rows (get_or places (e + i) 0))) (cells_at pl head) t)))
+        rises_with (λ k. length (row_at rows k) ≡ width) (at_most rows (order ++ columns)) (λ j k. le_by (window_cmp (keys_of v o) []) (row_at rows j) (row_at rows k))
+        (λ j k a b t. ap (λ c. not (is_lt c)) (sym (window_is (row_at rows k) (row_at rows j) b a)) ∙ t) run run_wide
+        (partitions.run_order pl partition partition_is order columns rows places placed s e cut)
 
     told : IsTold rows run
-    told = told_take rows (λ r. agree pl r head) (e - s) (drop s places) run_agrees rest_differs (told_drop rows (λ r. agree pl r head) s places all_told)
+    told =
+        subst (IsTold rows) (partitions.run_is pl partition partition_is order columns rows places placed s e cut start refl)
+        (told_passed rows (λ r. agree pl r start) places (all_told ((partition ++ order) ++ columns) rows places placed))
 
-    is_partition : IsPartition v w.over rows run
-    is_partition = record { members = members; rises = rises; told = told }
+    is_partition : IsPartition v o rows run
+    is_partition = record { members = λ i l. Perm-sym (partitions.perm_at pl partition partition_is order columns rows places placed s e cut i l); rises = rises; told = told }
 
-    pub stretch_values : run_values v w.call w.over rows run ≡ map (window_at v w rows) run
-    stretch_values = partition_values v w rows run is_partition
+  -- ---- values
+  -- a rank is one in any order of the partition
+  value_is : (c : WindowCall) → IsOrderOf ((partition ++ order) ++ tie_breakers c width) rows places → (i : ℕ) → i < length run
+      → call_value v c o (stand_at rows run i) ≡ call_value v c o (stand_in (keys_of v o) (partition_of pl rows (at i)) (at i, behind rows (get_or run i 0)))
+  value_is call.Rank placed i l =
+      row_rank-Perm v.base.settings (keys_of v o) (at i)
+      (Perm-sym (chain (Perm-sorted_by (window_order (keys_of v o) []) (partition_of pl rows (at i))) (partitions.perm_at pl partition partition_is order [] rows places placed s e cut i l)))
+  value_is c placed i l = ap (call_value v c o) (stand_is v o rows run (is_partition placed) i l)
 
-    by_order : (j k : ℕ) → le_by (window_cmp (keys_of v w.over) []) (row_at rows j) (row_at rows k) ≡ true → le_by (by_keys (map key_of order)) (row_at rows j) (row_at rows k) ≡ true
-    by_order j k e' =
-        let q = row_at rows j in
-        let r = row_at rows k in
-        let less = first_not_less (by_keys (keys_of v w.over ++ []) r q) (row_cmp r q) (not_so (is_lt (window_cmp (keys_of v w.over) [] r q)) e') in
-        ap (λ ks. not (is_lt (by_keys ks r q))) (h.order_is ∙ sym (append-nil (keys_of v w.over))) ∙ ap not less
+-- the values of a window over one of its partitions, which stands in the listed order
+module _ (v : View) (w : Window) (partition order : List SortKey) (rows : List Row) (width : ℕ) (places run : List ℕ) (h : AreSorted v w partition order rows width places) (one : IsOne partition rows places run) where
+  pub stretch_values : run_values v w.call w.over rows run ≡ map (window_at v w rows) run
+  stretch_values =
+      ap (run_values v w.call w.over rows) one.is
+      ∙ map_same (λ i. call_value v w.call w.over (stand_at rows cut_run i)) (λ i. window_at v w rows (get_or cut_run i 0)) (length cut_run) (length cut_run) refl
+      (value_is v w.over partition order rows width places h.partition_is h.order_is h.wide one.start one.end one.cut w.call h.placed)
+      ∙ listed (window_at v w rows) cut_run 0 ∙ ap (map (window_at v w rows)) (sym one.is)
+    where
+      cut_run : List ℕ
+      cut_run = take (one.end - one.start) (drop one.start places)
 
-    all_units : (ks : List ℕ) → AllByRecursion (λ k. Unit {0}) ks
-    all_units [] = tt
-    all_units (k ∷ ks) = (tt, all_units ks)
-
-    pub stretch_order : AreInOrder order rows run
-    stretch_order = rises_with (λ k. Unit {0}) (λ j k. le_by (window_cmp (keys_of v w.over) []) (row_at rows j) (row_at rows k)) (λ j k. le_by (by_keys (map key_of order)) (row_at rows j) (row_at rows k)) (λ j k a b e'. by_order j k e') run (all_units run) rises
+  pub stretch_order : AreInOrder order rows run
+  stretch_order =
+      subst (AreInOrder order rows) (sym one.is) (partitions.by_order (partition_places v w.over) partition h.partition_is order (tie_breakers w.call width) rows places h.placed one.start one.end one.cut)

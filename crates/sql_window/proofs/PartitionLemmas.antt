@@ -1,51 +1,26 @@
--- Over a partition in order a call has at each place the value of the window at the row there.
+-- Over a partition in order the row at each place stands where the meaning has it.
 use Rattle.std.proofs.Common.{◌≡◌, ℕ, zero, suc, ◌+◌, ◌<◌, inl, inr, List, [], ◌∷◌, length, get_or, map, Bool, true, false, cond, refl, sym, ap, ◌∙◌, arith, true≢false}
 use Rattle.std.specs.Prelude.{count_by}
-use Rattle.std.specs.List.{AllByRecursion, range_with_len}
-use Rattle.std.proofs.lemmas.List.{get_or-map, length-map}
-use Rattle.std.proofs.lemmas.List.FromFn.{fill_by_all}
-use Rattle.vtl_cell.specs.Outcome.{Outcome}
-use Rattle.vtl_lists.specs.Perm.{Perm, empty, keep, cross, chain}
+use Rattle.std.specs.List.{AllByRecursion}
 use Rattle.vtl_cell.specs.Row.{Row, same_row}
 use Rattle.vtl_cell.specs.Sorted.{in_order, window_cmp}
 use Rattle.vtl_lists.specs.Sorting.{IsOrder, Rises, le_by}
-use Rattle.vtl_cell.specs.declared.cell.Cell.{Cell}
 use Rattle.vtl_cell.proofs.Keys.{window_order}
 use Rattle.vtl_lists.proofs.Perms.{Perm-sym}
 use Rattle.vtl_cell.proofs.Rows.{same_row-is, same_row-refl}
 use Rattle.vtl_lists.proofs.Sorts.{Rises-map, sorted_is}
 use Rattle.vtl_rows.specs.Places.{row_at}
-use Rattle.sql_tree.specs.declared.windows.Window.{Window}
+use Rattle.sql_tree.specs.declared.windows.Over.{Over}
 use Rattle.sql_meaning.specs.Values.{View}
-use Rattle.sql_meaning.specs.Windows.{call_value, keys_of, partition_of, partition_places, place_within, stand_in}
-use Rattle.sql_window.specs.Runs.{IsPartition, IsTold, behind, run_values, stand_at, window_at}
-use Rattle.sql_window.proofs.CallLemmas.{map_same}
-use Rattle.sql_window.proofs.RankLemmas.{count_cons, count_map}
+use Rattle.sql_meaning.specs.Windows.{keys_of, partition_of, partition_places, place_within, stand_in}
+use Rattle.vtl_frames.proofs.ListLemmas.{all_get, all_more}
+use Rattle.vtl_frames.proofs.RankLemmas.{count_by-Perm, count_cons, count_map}
+use Rattle.sql_window.specs.Runs.{IsPartition, IsTold, behind, stand_at}
 
 -- ---- counts
-swapped : (a b n : ℕ) → a + (b + n) ≡ b + (a + n)
-swapped a b n = omega arith
-
-count_Perm : {X : Type 0} (p : X → Bool) {xs ys : List X} → Perm xs ys → count_by p xs ≡ count_by p ys
-count_Perm p empty = refl
-count_Perm p (keep x {xs} {ys} q) = count_cons p x xs ∙ ap (λ n. cond (p x) 1 0 + n) (count_Perm p q) ∙ sym (count_cons p x ys)
-count_Perm p (cross x y xs) =
-    count_cons p x (y ∷ xs) ∙ ap (λ n. cond (p x) 1 0 + n) (count_cons p y xs) ∙ swapped (cond (p x) 1 0) (cond (p y) 1 0) (count_by p xs)
-    ∙ ap (λ n. cond (p y) 1 0 + n) (sym (count_cons p x xs)) ∙ sym (count_cons p y (x ∷ xs))
-count_Perm p (chain q r) = count_Perm p q ∙ count_Perm p r
-
 count_same : {X : Type 0} (p q : X → Bool) (xs : List X) → AllByRecursion (λ x. p x ≡ q x) xs → count_by p xs ≡ count_by q xs
 count_same p q [] all = refl
 count_same p q (x ∷ xs) all = count_cons p x xs ∙ ap (λ b. cond b 1 0 + count_by p xs) all.0 ∙ ap (λ n. cond (q x) 1 0 + n) (count_same p q xs all.1) ∙ sym (count_cons q x xs)
-
-all_get : {X : Type 0} (P : X → Type 0) (xs : List X) (k : ℕ) (d : X) → k < length xs → AllByRecursion P xs → P (get_or xs k d)
-all_get P [] k d h all = absurd (omega (arith, h))
-all_get P (x ∷ xs) zero d h all = all.0
-all_get P (x ∷ xs) (suc k) d h all = all_get P xs k d (omega (arith, h)) all.1
-
-all_more : {X : Type 0} (P Q : X → Type 0) → ((x : X) → P x → Q x) → (xs : List X) → AllByRecursion P xs → AllByRecursion Q xs
-all_more P Q f [] all = tt
-all_more P Q f (x ∷ xs) all = (f x all.0, all_more P Q f xs all.1)
 
 -- ---- places
 module _ (rows : List Row) {le : Row → Row → Bool} (o : IsOrder le) where
@@ -79,29 +54,22 @@ module _ (rows : List Row) {le : Row → Row → Bool} (o : IsOrder le) where
       count_cons (λ k. le (row_at rows k) (row_at rows (get_or run i 0))) j run ∙ ap (λ b. cond b 1 0 + count_by (λ k. le (row_at rows k) (row_at rows (get_or run i 0))) run) before
       ∙ omega (arith, rest)
 
--- ---- values
-module _ (v : View) (w : Window) (rows : List Row) (run : List ℕ) (h : IsPartition v w.over rows run) where
+-- ---- stands
+module _ (v : View) (o : Over) (rows : List Row) (run : List ℕ) (h : IsPartition v o rows run) where
   abbrev part : ℕ → List Row
-  part i = partition_of (partition_places v w.over) rows (row_at rows (get_or run i 0))
+  part i = partition_of (partition_places v o) rows (row_at rows (get_or run i 0))
 
-  ordered_is : (i : ℕ) → i < length run → map (row_at rows) run ≡ in_order (keys_of v w.over) [] (part i)
+  ordered_is : (i : ℕ) → i < length run → map (row_at rows) run ≡ in_order (keys_of v o) [] (part i)
   ordered_is i l =
-      sorted_is (window_order (keys_of v w.over) []) (part i) (map (row_at rows) run) (Perm-sym (h.members i l)) (Rises-map (row_at rows) (le_by (window_cmp (keys_of v w.over) [])) run h.rises)
+      sorted_is (window_order (keys_of v o) []) (part i) (map (row_at rows) run) (Perm-sym (h.members i l)) (Rises-map (row_at rows) (le_by (window_cmp (keys_of v o) [])) run h.rises)
 
-  place_is : (i : ℕ) → i < length run → i ≡ place_within (keys_of v w.over) (part i) (row_at rows (get_or run i 0), behind rows (get_or run i 0))
+  place_is : (i : ℕ) → i < length run → i ≡ place_within (keys_of v o) (part i) (row_at rows (get_or run i 0), behind rows (get_or run i 0))
   place_is i l =
       let r = row_at rows (get_or run i 0) in
-      let le = le_by (window_cmp (keys_of v w.over) []) in
-      let all = sym (count_Perm (λ q. le q r) (h.members i l)) ∙ count_map (λ q. le q r) (row_at rows) run ∙ counted rows (window_order (keys_of v w.over) []) run h.rises h.told i l in
+      let le = le_by (window_cmp (keys_of v o) []) in
+      let all = sym (count_by-Perm (λ q. le q r) (h.members i l)) ∙ count_map (λ q. le q r) (row_at rows) run ∙ counted rows (window_order (keys_of v o) []) run h.rises h.told i l in
       omega (arith, all)
 
-  stand_is : (i : ℕ) → i < length run → stand_at rows run i ≡ stand_in (keys_of v w.over) (part i) (row_at rows (get_or run i 0), behind rows (get_or run i 0))
+  -- at each place a stand is that of the meaning
+  pub stand_is : (i : ℕ) → i < length run → stand_at rows run i ≡ stand_in (keys_of v o) (part i) (row_at rows (get_or run i 0), behind rows (get_or run i 0))
   stand_is i l = λ n. record { row = row_at rows (get_or run i 0); place = place_is i l n; ordered = ordered_is i l n }
-
-  listed : (f : ℕ → Outcome Cell) (ks : List ℕ) → map (λ i. f (get_or ks i 0)) (range_with_len 0 (length ks)) ≡ map f ks
-  listed f ks = sym (fill_by_all (λ i. f (get_or ks i 0)) (map f ks) (length ks) (f 0) (length-map ks f) (λ k l. get_or-map f ks k 0 (f 0) l))
-
-  pub partition_values : run_values v w.call w.over rows run ≡ map (window_at v w rows) run
-  partition_values =
-      map_same (λ i. call_value v w.call w.over (stand_at rows run i)) (λ i. window_at v w rows (get_or run i 0)) (length run) (length run) refl
-      (λ i l. ap (call_value v w.call w.over) (stand_is i l)) ∙ listed (window_at v w rows) run

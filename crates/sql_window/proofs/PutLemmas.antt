@@ -1,4 +1,4 @@
--- Where partitions begin, and values that are put back at their rows.
+-- The keys of a window, and values that are put back at their rows.
 use Rattle.std.proofs.Common.{All, ◌≡◌, ◌≢◌, ⊎_elim, Some, set, ℕ, zero, suc, ◌+◌, ◌-◌, ◌<◌, ◌≤◌, ◌⊎◌, inl, inr, List, [], ◌∷◌, ◌++◌, length, drop, take, get_or, map, Bool, true, false, cond, refl, sym, ap, ◌∙◌, arith, true≢false, subst, append_assoc, Ok}
 use Rattle.std.specs.Prelude.{filter, IsPermutation, Option}
 use Rattle.std.specs.List.{AllByRecursion, range_with_len}
@@ -21,105 +21,23 @@ use Rattle.sql_meaning.specs.Tables.{Base}
 use Rattle.sql_meaning.specs.Values.{at_rows, place_in, View}
 use Rattle.sql_meaning.specs.Windows.{is_falling, key_of as window_key, told_apart, window_value}
 use Rattle.sql_from.specs.Columns.{columns_below, line_feed, source_columns}
-use Rattle.std.proofs.Math.Seq.{take-nil}
 use Rattle.vtl_cell.specs.Outcome.{Outcome}
 use Rattle.vtl_cell.specs.Row.{Row}
 use Rattle.vtl_cell.specs.declared.cell.Cell.{Cell}
 use Rattle.vtl_rows.specs.Places.{row_at}
-use Rattle.vtl_rows.specs.Runs.{is_start}
 use Rattle.vtl_rows.specs.declared.column.SortKey.{SortKey}
 use Rattle.sql_tree.specs.declared.windows.Window.{Window}
-use Rattle.sql_window.specs.Keys.{falls, order_key, partition_key, rising_key}
+use Rattle.sql_tree.specs.declared.windows.WindowCall.{WindowCall}
+use Rattle.sql_tree.specs.declared.windows.WindowCall.TheVariants as call
+use Rattle.sql_window.specs.Keys.{falls, order_key, partition_key, rising_key, tie_breakers}
 use Rattle.sql_window.specs.Runs.{behind, window_at}
-use Rattle.sql_window.proofs.RankLemmas.{below_or_not}
-use Rattle.sql_window.proofs.StretchLemmas.{IsStretch}
+use Rattle.vtl_frames.proofs.RankLemmas.{below_or_not}
 
 -- ---- keys
 pub columns_more : (old now : List SortKey) (i : ℕ) → now ≡ old ++ map rising_key (range_with_len 0 i) → now ++ rising_key i ∷ [] ≡ old ++ map rising_key (range_with_len 0 (i + 1))
 columns_more old now i e =
     let same : 0 + i ≡ i = omega arith in
     ap (λ l. l ++ rising_key i ∷ []) e ∙ append_assoc old (map rising_key (range_with_len 0 i)) (rising_key i ∷ []) ∙ ap (λ l. old ++ l) (sym (map-range_with_len_more rising_key 0 i i same))
-
--- ---- from one number that passes a test to the next
-record Gap (p : ℕ → Bool) (n s e : ℕ) : Type 0 where
-  some : s < e
-  within : e ≤ n
-  start : p s ≡ true
-  inner : (k : ℕ) → s < k → k < e → p k ≡ false
-  end : e < n → p e ≡ true
-
-record First (p : ℕ → Bool) (n a e : ℕ) : Type 0 where
-  from : a ≤ e
-  within : e ≤ n
-  inner : (k : ℕ) → a ≤ k → k < e → p k ≡ false
-  end : e < n → p e ≡ true
-
-first : (p : ℕ → Bool) (n a m : ℕ) → n ≡ a + m → First p n a (get_or (filter p (range_with_len a m)) 0 n)
-first p n a zero e = record { from = omega (arith, e); within = omega arith; inner = λ k h l. absurd (omega (arith, e, h, l)); end = λ h. absurd (omega (arith, h)) }
-first p n a (suc m) e = go (p a) refl (first p n (a + 1) m (omega (arith, e)))
-  where
-    before : (x : ℕ) → First p n (a + 1) x → p a ≡ false → (k : ℕ) → a ≤ k → k < x → (a < k) ⊎ (k ≤ a) → p k ≡ false
-    before x f none k h l (inl more) = f.inner k (omega (arith, more)) l
-    before x f none k h l (inr at) =
-        let one : k ≡ a = omega (arith, h, at) in
-        ap p one ∙ none
-
-    go : (b : Bool) → p a ≡ b → First p n (a + 1) (get_or (filter p (range_with_len (a + 1) m)) 0 n) → First p n a (get_or (cond b (a ∷ filter p (range_with_len (a + 1) m)) (filter p (range_with_len (a + 1) m))) 0 n)
-    go true t f = record { from = omega arith; within = omega (arith, e); inner = λ k h l. absurd (omega (arith, h, l)); end = λ h. t }
-    go false t f =
-        let x = get_or (filter p (range_with_len (a + 1) m)) 0 n in
-        record { from = omega (arith, f.from); within = f.within; inner = λ k h l. before x f t k h l (below_or_not a k); end = f.end }
-
-gap : (p : ℕ → Bool) (n a m i : ℕ) → n ≡ a + m → i < length (filter p (range_with_len a m)) → Gap p n (get_or (filter p (range_with_len a m)) i n) (get_or (filter p (range_with_len a m)) (suc i) n)
-gap p n a zero i e h = absurd (omega (arith, h))
-gap p n a (suc m) i e h = go (p a) refl (λ j l. gap p n (a + 1) m j (omega (arith, e)) l) i h
-  where
-    go : (b : Bool) → p a ≡ b → ((j : ℕ) → j < length (filter p (range_with_len (a + 1) m)) → Gap p n (get_or (filter p (range_with_len (a + 1) m)) j n) (get_or (filter p (range_with_len (a + 1) m)) (suc j) n))
-        → (j : ℕ) → j < length (cond b (a ∷ filter p (range_with_len (a + 1) m)) (filter p (range_with_len (a + 1) m)))
-        → Gap p n (get_or (cond b (a ∷ filter p (range_with_len (a + 1) m)) (filter p (range_with_len (a + 1) m))) j n) (get_or (cond b (a ∷ filter p (range_with_len (a + 1) m)) (filter p (range_with_len (a + 1) m))) (suc j) n)
-    go true t ih zero l =
-        let f = first p n (a + 1) m (omega (arith, e)) in
-        record { some = omega (arith, f.from); within = f.within; start = t; inner = λ k b c. f.inner k (omega (arith, b)) c; end = f.end }
-    go true t ih (suc j) l = ih j (omega (arith, l))
-    go false t ih j l = ih j l
-
--- ---- partitions
-pub stretch_at : (keys : List SortKey) (rows : List Row) (places starts : List ℕ) → starts ≡ filter (is_start keys rows places) (range_with_len 0 (length places)) → (i : ℕ) → i < length starts
-    → IsStretch keys rows places (get_or starts i (length places)) (get_or starts (i + 1) (length places))
-stretch_at keys rows places starts e i h =
-    let n = length places in
-    let next : suc i ≡ i + 1 = omega arith in
-    let whole : n ≡ 0 + n = omega arith in
-    let there = ap length e in
-    let g = gap (is_start keys rows places) n 0 n i whole (omega (arith, h, there)) in
-    let g' = subst (λ l. Gap (is_start keys rows places) n (get_or l i n) (get_or l (suc i) n)) (sym e) g in
-    let g'' = subst (λ j. Gap (is_start keys rows places) n (get_or starts i n) (get_or starts j n)) next g' in
-    record { some = g''.some; within = g''.within; start = g''.start; inner = g''.inner; end = g''.end }
-
-pub starts_at_first : (keys : List SortKey) (rows : List Row) (places starts : List ℕ) → starts ≡ filter (is_start keys rows places) (range_with_len 0 (length places)) → get_or starts 0 (length places) ≡ 0
-starts_at_first keys rows places starts e =
-    let n = length places in
-    let f = first (is_start keys rows places) n 0 n (omega arith) in
-    ap (λ l. get_or l 0 n) e ∙ go (get_or (filter (is_start keys rows places) (range_with_len 0 n)) 0 n) f (below_or_not 0 (get_or (filter (is_start keys rows places) (range_with_len 0 n)) 0 n))
-  where
-    go : (x : ℕ) → First (is_start keys rows places) (length places) 0 x → (0 < x) ⊎ (x ≤ 0) → x ≡ 0
-    go x f (inl more) = absurd (true≢false (f.inner 0 (omega arith) more))
-    go x f (inr at) = omega (arith, at)
-
-take_to : {X : Type 0} (s m : ℕ) (xs : List X) → take (s + m) xs ≡ take s xs ++ take m (drop s xs)
-take_to zero m xs =
-    let same : 0 + m ≡ m = omega arith in
-    ap (λ n. take n xs) same
-take_to {X = X} (suc s) m [] = take-nil (suc s + m) ∙ sym (take-nil m)
-take_to (suc s) m (x ∷ xs) =
-    let more : suc s + m ≡ suc (s + m) = omega arith in
-    ap (λ n. take n (x ∷ xs)) more ∙ ap (λ l. x ∷ l) (take_to s m xs)
-
-pub values_more : (f : ℕ → Outcome Cell) (places : List ℕ) (s e : ℕ) (old now : List (Outcome Cell)) → s ≤ e → now ≡ old ++ map f (take s places) → now ++ map f (take (e - s) (drop s places)) ≡ old ++ map f (take e places)
-values_more f places s e old now h same =
-    let rest : s + (e - s) ≡ e = omega (arith, h) in
-    ap (λ l. l ++ map f (take (e - s) (drop s places))) same ∙ append_assoc old (map f (take s places)) (map f (take (e - s) (drop s places)))
-    ∙ ap (λ l. old ++ l) (sym (map-append f (take s places) (take (e - s) (drop s places)))) ∙ ap (λ l. old ++ map f l) (sym (take_to s (e - s) places)) ∙ ap (λ n. old ++ map f (take n places)) rest
 
 -- ---- values put back
 -- all values, those that are left, and those that are put back, which are the ones behind
@@ -213,13 +131,17 @@ all_columns : (a n w : ℕ) → a + n ≤ w → AllByRecursion (λ i. (rising_ke
 all_columns a zero w h = tt
 all_columns a (suc n) w h = (omega (arith, h), all_columns (a + 1) n w (omega (arith, h)))
 
-pub keys_within : (scope : Scope) (o : Over) (n : ℕ) → AllByRecursion (λ x. place_in scope x < n) o.partition → AllByRecursion (λ k. place_in scope k.column < n) o.order
-    → All (λ k. k.column < n) ((map (partition_key scope) o.partition ++ map (order_key scope) o.order) ++ map rising_key (range_with_len 0 n))
-keys_within scope o n partition order =
-    All-from_recursion (λ k. k.column < n) ((map (partition_key scope) o.partition ++ map (order_key scope) o.order) ++ map rising_key (range_with_len 0 n))
-    (all_appended (λ k. k.column < n) (map (partition_key scope) o.partition ++ map (order_key scope) o.order) (map rising_key (range_with_len 0 n))
+breakers_within : (c : WindowCall) (n : ℕ) → AllByRecursion (λ k. k.column < n) (tie_breakers c n)
+breakers_within call.Rank n = tt
+breakers_within c n = all_mapped rising_key n (range_with_len 0 n) (all_columns 0 n n (omega arith))
+
+pub keys_within : (scope : Scope) (o : Over) (c : WindowCall) (n : ℕ) → AllByRecursion (λ x. place_in scope x < n) o.partition → AllByRecursion (λ k. place_in scope k.column < n) o.order
+    → All (λ k. k.column < n) ((map (partition_key scope) o.partition ++ map (order_key scope) o.order) ++ tie_breakers c n)
+keys_within scope o c n partition order =
+    All-from_recursion (λ k. k.column < n) ((map (partition_key scope) o.partition ++ map (order_key scope) o.order) ++ tie_breakers c n)
+    (all_appended (λ k. k.column < n) (map (partition_key scope) o.partition ++ map (order_key scope) o.order) (tie_breakers c n)
     (all_appended (λ k. k.column < n) (map (partition_key scope) o.partition) (map (order_key scope) o.order) (all_mapped (partition_key scope) n o.partition partition) (all_mapped (order_key scope) n o.order order))
-    (all_mapped rising_key n (range_with_len 0 n) (all_columns 0 n n (omega arith))))
+    (breakers_within c n))
 
 pub partition_named : (v : View) (columns : List Column) → map key_of (map (λ x. rising_key (v.place x)) columns) ≡ map rising (map v.place columns)
 partition_named v [] = refl

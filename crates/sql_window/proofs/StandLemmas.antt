@@ -8,15 +8,12 @@ use Rattle.std.specs.Ordering.{is_lt, nat_cmp, on, ordering_reverse, ordering_th
 use Rattle.std.specs.declared.cmp.Ordering.{Ordering}
 use Rattle.std.specs.declared.cmp.Ordering.TheVariants.{Less, Equal, Greater}
 use Rattle.std.proofs.lemmas.List.{drop_all, drop_more}
-use Rattle.std.proofs.lemmas.List.Sums.{sum_by-cons}
 use Rattle.vtl_cell.specs.Row.{Row, same_row}
 use Rattle.vtl_lists.specs.Sorting.{insert_by, le_by, sorted_by}
 use Rattle.vtl_cell.proofs.Rows.{same_row-is, same_row-sym}
 use Rattle.vtl_rows.specs.Places.{row_at}
+use Rattle.vtl_frames.proofs.RankLemmas.{count_cons}
 use Rattle.sql_window.specs.Runs.{IsTold, behind}
-
-count_cons : {X : Type 0} (p : X → Bool) (x : X) (xs : List X) → count_by p (x ∷ xs) ≡ cond (p x) 1 0 + count_by p xs
-count_cons p x xs = sum_by-cons (λ y. cond (p y) 1 0) x xs
 
 none_more : (n : ℕ) → n ≡ 0 + n
 none_more n = omega arith

@@ -1,11 +1,8 @@
 -- Partitions as stretches of row numbers.
-use Rattle.std.specs.Prelude.{◌≡◌, ℕ, ◌+◌, ◌<◌, List, [], ◌∷◌, map, length, drop, count_by, pos, slice_index_or}
+use Rattle.std.specs.Prelude.{◌≡◌, ℕ, ◌+◌, ◌<◌, List, [], ◌∷◌, map, length, drop, count_by, slice_index_or}
 use Rattle.std.specs.List.{range_with_len}
 use Rattle.vtl_cell.specs.Outcome.{Outcome}
-use Rattle.vtl_decimal.specs.Range.{fit_integer}
-use Rattle.vtl_cell.specs.Row.{Row, column_of, same_row}
-use Rattle.vtl_cell.specs.ScalarArithmetic.{integer}
-use Rattle.vtl_decimal.specs.Settings.{Settings}
+use Rattle.vtl_cell.specs.Row.{Row, same_row}
 use Rattle.vtl_cell.specs.declared.cell.Cell.{Cell}
 use Rattle.vtl_rows.specs.Places.{row_at}
 use Rattle.sql_tree.specs.declared.windows.Over.{Over}
@@ -14,18 +11,12 @@ use Rattle.sql_tree.specs.declared.windows.WindowCall.{WindowCall}
 use Rattle.sql_tree.specs.declared.word_groups.ShiftFunction.{ShiftFunction}
 use Rattle.sql_tree.specs.declared.word_groups.ShiftFunction.TheVariants as shift
 use Rattle.vtl_lists.specs.Perm.{Perm}
-use Rattle.vtl_cell.specs.Sorted.{by_keys, window_cmp}
+use Rattle.vtl_cell.specs.Sorted.{window_cmp}
 use Rattle.vtl_lists.specs.Sorting.{Rises, le_by}
 use Rattle.vtl_frames.specs.declared.picks.Shift as places
 use Rattle.vtl_frames.specs.declared.picks.Shift.TheVariants as place
-use Rattle.vtl_rows.specs.Keys.{key_of}
-use Rattle.vtl_rows.specs.declared.column.SortKey.{SortKey}
 use Rattle.sql_meaning.specs.Values.{View}
 use Rattle.sql_meaning.specs.Windows.{Stand, call_value, keys_of, partition_of, partition_places, window_value}
-
--- the cells of a column at these rows
-abbrev pub lane_cells : List Row → List ℕ → ℕ → List Cell
-lane_cells rows places column = map (λ k. column_of column (row_at rows k)) places
 
 -- how many rows behind a place are the same as its row
 abbrev pub behind : List Row → ℕ → ℕ
@@ -46,18 +37,10 @@ pub record IsPartition (v : View) (o : Over) (rows : List Row) (run : List ℕ) 
   pub rises : Rises (λ j k. le_by (window_cmp (keys_of v o) []) (row_at rows j) (row_at rows k)) run
   pub told : IsTold rows run
 
--- a count as a value
-abbrev pub count_in : Settings → ℕ → Outcome Cell
-count_in p n = integer (fit_integer p.scale (pos n))
-
 -- the side to which a function of shifts looks
 abbrev pub shift_in : ShiftFunction → places.Shift
 shift_in shift.Lag = place.Lag
 shift_in shift.Lead = place.Lead
-
--- no row is before the one in front of it by the keys
-abbrev pub AreInOrder : List SortKey → List Row → List ℕ → Type 0
-AreInOrder keys rows run = Rises (λ j k. le_by (by_keys (map key_of keys)) (row_at rows j) (row_at rows k)) run
 
 -- a place of a stretch, which is a partition in order
 abbrev pub stand_at : List Row → List ℕ → ℕ → Stand

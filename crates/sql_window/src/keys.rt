@@ -2,11 +2,11 @@
 ghost use Rattle.std.specs.List.{range_with_len};
 ghost use Rattle.std.specs.Prelude.{◌≡◌, ◌++◌, IfOk, OnOk, map};
 ghost use Rattle.sql_from.specs.Sources.{scope_held};
-ghost use Rattle.sql_window.specs.Keys.{falls, order_key, partition_key, rising_key};
+ghost use Rattle.sql_window.specs.Keys.{falls, order_key, partition_key, rising_key, tie_breakers};
 
 use sql_eval::Names;
 use sql_from::Sources;
-use sql_tree::{Column, Direction, WindowKey};
+use sql_tree::{Column, Direction, WindowCall, WindowKey};
 use std::alloc::{AllocError, Global};
 use vtl_rows::SortKey;
 
@@ -75,18 +75,35 @@ fn push_columns(all: &mut Vec<SortKey>, width: usize) -> Result<(), AllocError>
     Ok(())
 }
 
-/// The columns of PARTITION BY, the keys of ORDER BY, and all columns. It fails only if memory runs out.
+// Puts behind other keys what is looked at where rows tie by these: all columns, or nothing for a rank, which is one for
+// rows that tie.
+fn push_tie_breakers(
+    all: &mut Vec<SortKey>,
+    call: &WindowCall,
+    width: usize,
+) -> Result<(), AllocError>
+    ensures { OnOk result (all.new.items ≡ all.old.items ++ tie_breakers call.now width) }
+{
+    match call {
+        WindowCall::Rank => Ok(()),
+        _ => push_columns(all, width),
+    }
+}
+
+/// The columns of PARTITION BY, the keys of ORDER BY, and what a call looks at where rows tie. It fails only if memory
+/// runs out.
 pub(crate) fn all_keys(
     alloc: Global,
     partition: &[SortKey],
     order: &[SortKey],
+    call: &WindowCall,
     width: usize,
 ) -> Result<Vec<SortKey>, AllocError>
-    ensures { IfOk result (λ v. v.items ≡ (partition.now ++ order.now) ++ map rising_key (range_with_len 0 width)) }
+    ensures { IfOk result (λ v. v.items ≡ (partition.now ++ order.now) ++ tie_breakers call.now width) }
 {
     let mut all = Vec::new(alloc);
     push_keys(&mut all, partition)?;
     push_keys(&mut all, order)?;
-    push_columns(&mut all, width)?;
+    push_tie_breakers(&mut all, call, width)?;
     Ok(all)
 }

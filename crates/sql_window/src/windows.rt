@@ -1,6 +1,6 @@
 // Windows over the rows of FROM that WHERE keeps.
-ghost use Rattle.std.specs.List.{AllByRecursion, range_with_len};
-ghost use Rattle.std.specs.Prelude.{◌≡◌, ◌-◌, ◌<◌, ◌≤◌, ◌++◌, ℕ, IfOk, IsPermutation, OnOk, drop, length, map, slice_index_or, take};
+ghost use Rattle.std.specs.List.{AllByRecursion, concat, range_with_len};
+ghost use Rattle.std.specs.Prelude.{◌≡◌, ◌<◌, ◌++◌, ℕ, IfOk, IsPermutation, OnOk, length, map};
 ghost use Rattle.vtl_cell.specs.Outcome.{Outcome};
 ghost use Rattle.vtl_cell.specs.declared.cell.Cell as cells;
 ghost use Rattle.sql_check_parts.specs.Scopes.{row_of};
@@ -19,47 +19,25 @@ use sql_tree::Window;
 use std::alloc::{AllocError, Global};
 use vtl_cell::Cell;
 use vtl_decimal::{Fault, Profile};
+use vtl_frames::Stretches;
 use vtl_rows::{SortKey, Table};
 
-// The start of a number, or a count where there is none.
-fn start_at(starts: &[usize], number: usize, count: usize) -> usize
-    ensures { result ≡ slice_index_or starts.now number count }
-{
-    match starts.get(number) {
-        Some(start) => *start,
-        None => count,
-    }
-}
-
-// A part of row numbers.
-fn part(places: &[usize], start: usize, end: usize) -> &[usize]
-    requires order { start ≤ end }
-    requires within { end ≤ length places.now }
-    ensures { result.now ≡ take (end - start) (drop start places.now) }
-{
-    &places[start..end]
-}
-
-// Puts the values of a window at rows that stand in its order behind other values, partition by partition.
+// Puts the values of a window at the rows of its partitions behind other values, partition by partition.
 fn push_partitions(
     alloc: Global,
     out: &mut Outcomes,
     sources: &Sources<'_>,
     table: &Table,
-    places: &[usize],
-    starts: &[usize],
+    partitions: &Stretches<'_>,
     window: &Window,
     order: &[SortKey],
     p: &Profile,
 ) -> Result<(), AllocError>
-    requires { AreCut (sight_of p.now sources.now) window.now.over order.now table.now.rows (length table.now.columns) places.now starts.now }
-    ensures { OnOk result (out.new.items ≡ out.old.items ++ map (window_at (sight_of p.now sources.now) window.now table.now.rows) places.now) }
+    requires { AreCut (sight_of p.now sources.now) window.now order.now table.now.rows (length table.now.columns) partitions.now }
+    ensures { OnOk result (out.new.items ≡ out.old.items ++ map (window_at (sight_of p.now sources.now) window.now table.now.rows) (concat partitions.now)) }
 {
-    let count = places.len();
-    for number in 0..starts.len() {
-        let start = start_at(starts, number, count);
-        let end = start_at(starts, number + 1, count);
-        let run = part(places, start, end);
+    for i in 0..partitions.len() {
+        let run = partitions.stretch(i);
         push_call(alloc, out, sources, table, run, window, order, p)?;
     }
     Ok(())
@@ -113,17 +91,17 @@ pub fn window_values(
     let sources = rows.sources();
     let partition = partition_keys(alloc, sources, window.over.partition.as_slice())?;
     let order = order_keys(alloc, sources, window.over.order.as_slice())?;
-    let keys = all_keys(alloc, &partition, &order, table.columns().len())?;
+    let width = table.columns().len();
+    let keys = all_keys(alloc, &partition, &order, &window.call, width)?;
     let places = table.places_by_columns(alloc, &keys)?;
-    let starts = table.runs(alloc, &places, &partition)?;
+    let partitions = Stretches::of(alloc, table, &places, &partition)?;
     let mut values = Vec::with_capacity(alloc, places.len())?;
     push_partitions(
         alloc,
         &mut values,
         sources,
         table,
-        &places,
-        &starts,
+        &partitions,
         window,
         &order,
         p,

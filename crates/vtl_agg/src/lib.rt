@@ -15,3 +15,4 @@ mod total;
 
 pub use acc::Acc;
 pub use laws::only_totals_and_counts_are_out_of_range;
+pub use numbers::{fit, quotient, unit, units};

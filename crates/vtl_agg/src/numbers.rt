@@ -1,6 +1,7 @@
 // Numbers from totals and quotients of any size.
 ghost use Rattle.std.specs.Prelude.{◌≡◌, ◌^◌, ◌<◌, ◌≤◌, ◌+ℤ◌, ◌*ℤ◌, pos, unsigned_abs};
 ghost use Rattle.vtl_agg.specs.Added.{with_sign};
+ghost use Rattle.vtl_agg.specs.Quotients.{has_minus};
 ghost use Rattle.vtl_cell.specs.Groups.{units_of};
 ghost use Rattle.vtl_cell.specs.ScalarArithmetic.{number};
 ghost use Rattle.vtl_decimal.specs.Range.{fit_number};
@@ -25,11 +26,12 @@ fn goes_up(rounding: Rounding, quotient: u128, rest: u128, divisor: u128) -> boo
 }
 
 // The size of a quotient, rounded.
-fn rounded_size_of(rounding: Rounding, dividend: u128, divisor: u64) -> u128
-    requires { 0 < divisor }
+fn rounded_size_of(rounding: Rounding, dividend: u128, divisor: u128) -> u128
+    requires some { 0 < divisor }
+    requires dividend { dividend ≤ 2 ^ 127 }
+    requires divisor { divisor ≤ 2 ^ 127 }
     ensures { result ≡ rounded_size rounding dividend divisor }
 {
-    let divisor = u128::from(divisor);
     let quotient = dividend / divisor;
     let rest = dividend % divisor;
     if goes_up(rounding, quotient, rest, divisor) {
@@ -50,27 +52,36 @@ fn signed(is_negative: bool, size: u128) -> Result<Dec, Fault>
     Dec::from_k(if is_negative { -units } else { units }).ok_or(Fault::Range)
 }
 
-// The number of so many units.
-pub(crate) fn fit(units: i128) -> Result<Dec, Fault>
+/// The number of so many units; a range fault where it is too great.
+pub fn fit(units: i128) -> Result<Dec, Fault>
     ensures { result ≡ fit_number units }
 {
     signed(units < 0, units.unsigned_abs())
 }
 
-// A quotient, rounded once.
-pub(crate) fn quotient(rounding: Rounding, dividend: i128, divisor: u64) -> Result<Dec, Fault>
-    requires { 0 < divisor }
-    ensures { result ≡ fit_number (rounded_quotient rounding dividend (pos divisor)) }
+// Whether a quotient that is not zero is below it.
+fn has_minus(dividend: i128, divisor: i128) -> bool
+    ensures { result ≡ has_minus dividend divisor }
 {
-    signed(
-        dividend < 0,
-        rounded_size_of(rounding, dividend.unsigned_abs(), divisor),
-    )
+    if dividend < 0 {
+        divisor >= 0
+    } else {
+        divisor < 0
+    }
 }
 
-// How many units one is.
+/// A quotient in units, rounded once; a range fault where it is too great.
+pub fn quotient(rounding: Rounding, dividend: i128, divisor: i128) -> Result<Dec, Fault>
+    requires { 0 < unsigned_abs divisor }
+    ensures { result ≡ fit_number (rounded_quotient rounding dividend divisor) }
+{
+    let size = rounded_size_of(rounding, dividend.unsigned_abs(), divisor.unsigned_abs());
+    signed(has_minus(dividend, divisor), size)
+}
+
+/// How many units one is.
 #[tactic(auto, using(vtl_decimal::proofs::PowerLemmas::power_of_ten_fits))]
-pub(crate) fn unit(p: &Profile) -> i64
+pub fn unit(p: &Profile) -> i64
     ensures value { result ≡ pos (10 ^ p.now.scale) }
     ensures bound { unsigned_abs result ≤ 10 ^ 9 }
 {
@@ -80,14 +91,16 @@ pub(crate) fn unit(p: &Profile) -> i64
 // The product of an amount and a factor.
 fn product(amount: i64, factor: i64) -> i128
     requires { unsigned_abs factor ≤ 10 ^ 9 }
-    ensures { result ≡ amount *ℤ factor }
+    ensures value { result ≡ amount *ℤ factor }
+    ensures bound { unsigned_abs result ≤ 2 ^ 93 }
 {
     i128::from(amount) * i128::from(factor)
 }
 
-// A value in units, an integer standing for the equal number; other values count as zero.
-pub(crate) fn units(c: &Cell, p: &Profile) -> i128
-    ensures { result ≡ units_of p.now.scale c.now }
+/// A value in units, an integer standing for the equal number; other values count as zero.
+pub fn units(c: &Cell, p: &Profile) -> i128
+    ensures value { result ≡ units_of p.now.scale c.now }
+    ensures bound { unsigned_abs result ≤ 2 ^ 93 }
 {
     match c {
         Cell::Int(n) => product(*n, unit(p)),

@@ -147,7 +147,7 @@ impl Total {
         ensures { result ≡ number (fit_number (mean_units p.now self.now)) }
     {
         match self.units(p) {
-            Some(units) => Ok(Cell::Num(quotient(p.rounding(), units, self.count)?)),
+            Some(units) => Ok(Cell::Num(quotient(p.rounding(), units, i128::from(self.count))?)),
             None => Err(Fault::Range),
         }
     }

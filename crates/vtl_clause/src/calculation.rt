@@ -100,12 +100,12 @@ pub fn calc(
     alloc: Global,
     a: &DataSet,
     items: &[CalcItem],
-    made: Structure,
+    made: &Structure,
     p: &Profile,
 ) -> Result<DataSet, ScalarErr>
-    requires { IsCalculated p.now (map item_tree items.now) a.now.structure made }
-    ensures { Answers result (with_structure made (calculated_of p.now (map item_tree items.now) a.now made)) }
+    requires { IsCalculated p.now (map item_tree items.now) a.now.structure made.now }
+    ensures { Answers result (with_structure made.now (calculated_of p.now (map item_tree items.now) a.now made.now)) }
 {
-    let table = calculated_table(alloc, a, items, &made, p);
+    let table = calculated_table(alloc, a, items, made, p);
     DataSet::answered(alloc, made, table)
 }

@@ -16,7 +16,7 @@ ghost use Rattle.vtl_scalar.specs.Seen.{seen_of};
 use std::alloc::Global;
 use vtl_cell::Cell;
 use vtl_decimal::Profile;
-use vtl_expr::{Prepared, prepare, value_at};
+use vtl_expr::{Point, Prepared, prepare};
 use vtl_rows::Table;
 use vtl_scalar::{ScalarErr, Seen};
 use vtl_sets::{DataSet, new_table};
@@ -44,7 +44,7 @@ fn keep(
     ensures seen { IfOk result (λ s. seen_of s ≡ join (seen_of seen) (fault_in (value p.now (prepared_exp condition.now) row.now))) }
     ensures err { IfErr result (λ e. e ≡ ScalarErr.OutOfMemory) }
 {
-    match value_at(alloc, condition, row, &[], p) {
+    match Point::of(row).value(alloc, condition, p) {
         Ok(value) => {
             if is_true(value.cell()) {
                 kept.push_copy(row)?;
@@ -83,12 +83,12 @@ pub fn filter(
     alloc: Global,
     a: &DataSet,
     condition: &CompExpr,
-    made: Structure,
+    made: &Structure,
     p: &Profile,
 ) -> Result<DataSet, ScalarErr>
-    requires { IsFiltered p.now (comp_exp_of condition.now) a.now.structure made }
-    ensures { Answers result (with_structure made (filter_of p.now (comp_exp_of condition.now) a.now.points)) }
+    requires { IsFiltered p.now (comp_exp_of condition.now) a.now.structure made.now }
+    ensures { Answers result (with_structure made.now (filter_of p.now (comp_exp_of condition.now) a.now.points)) }
 {
-    let table = kept_table(alloc, a, condition, &made, p);
+    let table = kept_table(alloc, a, condition, made, p);
     DataSet::answered(alloc, made, table)
 }

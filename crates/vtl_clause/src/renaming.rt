@@ -20,10 +20,10 @@ fn renamed_table(alloc: Global, a: &DataSet, made: &Structure) -> Result<SharedT
 }
 
 /// The same points under other names: their cells are shared, and none is copied. It fails only if memory runs out.
-pub fn rename(alloc: Global, a: &DataSet, made: Structure) -> Result<DataSet, AllocError>
-    requires { IsRenamed a.now.structure made }
-    ensures { IfOk result (λ d. d ≡ data_set made a.now.points) }
+pub fn rename(alloc: Global, a: &DataSet, made: &Structure) -> Result<DataSet, AllocError>
+    requires { IsRenamed a.now.structure made.now }
+    ensures { IfOk result (λ d. d ≡ data_set made.now a.now.points) }
 {
-    let table = renamed_table(alloc, a, &made)?;
-    Ok(DataSet::shared(made, table))
+    let table = renamed_table(alloc, a, made)?;
+    DataSet::shared(alloc, made, table)
 }

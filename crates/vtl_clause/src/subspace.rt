@@ -115,11 +115,11 @@ pub fn sub(
     alloc: Global,
     a: &DataSet,
     items: &[SubItem],
-    made: Structure,
+    made: &Structure,
 ) -> Result<DataSet, AllocError>
-    requires { IsSub items.now a.now.structure made }
-    ensures { IfOk result (λ d. d ≡ data_set made (sub_of items.now a.now made)) }
+    requires { IsSub items.now a.now.structure made.now }
+    ensures { IfOk result (λ d. d ≡ data_set made.now (sub_of items.now a.now made.now)) }
 {
-    let table = sub_table(alloc, a, items, &made)?;
+    let table = sub_table(alloc, a, items, made)?;
     DataSet::of(alloc, made, table)
 }

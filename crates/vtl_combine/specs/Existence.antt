@@ -8,8 +8,7 @@ use Rattle.vtl_syntax.specs.declared.word_groups.Retain.{Retain}
 use Rattle.vtl_tree.specs.Environment.{DataSet}
 use Rattle.vtl_tree.specs.Structure.{columns_of}
 use Rattle.vtl_tree.specs.declared.structure.Structure.{Structure}
-use Rattle.vtl_tree.specs.Columns.{common_identifiers}
-use Rattle.vtl_tree.specs.Columns.{places_in}
+use Rattle.vtl_tree.specs.Columns.{common_identifiers, places_in}
 use Rattle.vtl_meaning.specs.Sets.{is_retained}
 
 -- the points of a data set, as points of a structure ask for those that agree with them

@@ -50,12 +50,12 @@ pub fn setdiff(
     alloc: Global,
     a: &DataSet,
     b: &DataSet,
-    made: Structure,
+    made: &Structure,
 ) -> Result<DataSet, AllocError>
-    requires { IsCombined a.now.structure (b.now.structure ∷ []) made }
-    ensures { IfOk result (λ d. d ≡ data_set made (difference_of a.now b.now made)) }
+    requires { IsCombined a.now.structure (b.now.structure ∷ []) made.now }
+    ensures { IfOk result (λ d. d ≡ data_set made.now (difference_of a.now b.now made.now)) }
 {
-    let table = difference_table(alloc, a, b, &made)?;
+    let table = difference_table(alloc, a, b, made)?;
     DataSet::of(alloc, made, table)
 }
 
@@ -81,11 +81,11 @@ pub fn symdiff(
     alloc: Global,
     a: &DataSet,
     b: &DataSet,
-    made: Structure,
+    made: &Structure,
 ) -> Result<DataSet, AllocError>
-    requires { IsCombined a.now.structure (b.now.structure ∷ []) made }
-    ensures { IfOk result (λ d. d ≡ data_set made (symmetric_difference_of a.now b.now made)) }
+    requires { IsCombined a.now.structure (b.now.structure ∷ []) made.now }
+    ensures { IfOk result (λ d. d ≡ data_set made.now (symmetric_difference_of a.now b.now made.now)) }
 {
-    let table = symmetric_difference_table(alloc, a, b, &made)?;
+    let table = symmetric_difference_table(alloc, a, b, made)?;
     DataSet::of(alloc, made, table)
 }

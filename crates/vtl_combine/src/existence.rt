@@ -98,11 +98,11 @@ pub fn exists_in(
     a: &DataSet,
     b: &DataSet,
     retain: Retain,
-    made: Structure,
+    made: &Structure,
 ) -> Result<DataSet, AllocError>
-    requires { IsExistence a.now.structure b.now.structure made }
-    ensures { IfOk result (λ d. d ≡ data_set made (existence_of a.now b.now retain)) }
+    requires { IsExistence a.now.structure b.now.structure made.now }
+    ensures { IfOk result (λ d. d ≡ data_set made.now (existence_of a.now b.now retain)) }
 {
-    let table = existence_table::<Brand>(alloc, a, b, retain, &made, Blank::new(1))?;
+    let table = existence_table::<Brand>(alloc, a, b, retain, made, Blank::new(1))?;
     DataSet::of(alloc, made, table)
 }

@@ -55,12 +55,12 @@ fn intersection_table(
 pub fn intersect_all(
     alloc: Global,
     operands: &[&DataSet],
-    made: Structure,
+    made: &Structure,
 ) -> Result<DataSet, AllocError>
-    requires { AreCombined (structures_of (shown operands.now)) made }
-    ensures { IfOk result (λ d. d ≡ data_set made (intersection_of (shown operands.now) made)) }
+    requires { AreCombined (structures_of (shown operands.now)) made.now }
+    ensures { IfOk result (λ d. d ≡ data_set made.now (intersection_of (shown operands.now) made.now)) }
 {
-    let table = intersection_table(alloc, operands[0], &operands[1..], &made)?;
+    let table = intersection_table(alloc, operands[0], &operands[1..], made)?;
     DataSet::of(alloc, made, table)
 }
 
@@ -69,10 +69,10 @@ pub fn intersect(
     alloc: Global,
     a: &DataSet,
     b: &DataSet,
-    made: Structure,
+    made: &Structure,
 ) -> Result<DataSet, AllocError>
-    requires { IsCombined a.now.structure (b.now.structure ∷ []) made }
-    ensures { IfOk result (λ d. d ≡ data_set made (intersection_of (a.now ∷ b.now ∷ []) made)) }
+    requires { IsCombined a.now.structure (b.now.structure ∷ []) made.now }
+    ensures { IfOk result (λ d. d ≡ data_set made.now (intersection_of (a.now ∷ b.now ∷ []) made.now)) }
 {
     intersect_all(alloc, &[a, b], made)
 }

@@ -204,11 +204,11 @@ pub fn pivot(
     a: &DataSet,
     id: &Txt,
     measure: &Txt,
-    made: Structure,
+    made: &Structure,
 ) -> Result<DataSet, AllocError>
-    requires { IsPivoted id.now measure.now a.now.structure made }
-    ensures { IfOk result (λ d. d ≡ data_set made (pivot_of a.now id.now measure.now)) }
+    requires { IsPivoted id.now measure.now a.now.structure made.now }
+    ensures { IfOk result (λ d. d ≡ data_set made.now (pivot_of a.now id.now measure.now)) }
 {
-    let table = pivot_table::<Brand>(alloc, a, id, measure, &made, Blank::new(1))?;
+    let table = pivot_table::<Brand>(alloc, a, id, measure, made, Blank::new(1))?;
     DataSet::of(alloc, made, table)
 }

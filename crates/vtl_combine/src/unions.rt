@@ -84,12 +84,12 @@ fn union_table(alloc: Global, operands: &[&DataSet], made: &Structure) -> Result
 pub fn union_all(
     alloc: Global,
     operands: &[&DataSet],
-    made: Structure,
+    made: &Structure,
 ) -> Result<DataSet, AllocError>
-    requires { AreCombined (structures_of (shown operands.now)) made }
-    ensures { IfOk result (λ d. d ≡ data_set made (union_of (shown operands.now) made)) }
+    requires { AreCombined (structures_of (shown operands.now)) made.now }
+    ensures { IfOk result (λ d. d ≡ data_set made.now (union_of (shown operands.now) made.now)) }
 {
-    let table = union_table(alloc, operands, &made)?;
+    let table = union_table(alloc, operands, made)?;
     DataSet::of(alloc, made, table)
 }
 
@@ -98,10 +98,10 @@ pub fn union(
     alloc: Global,
     a: &DataSet,
     b: &DataSet,
-    made: Structure,
+    made: &Structure,
 ) -> Result<DataSet, AllocError>
-    requires { IsCombined a.now.structure (b.now.structure ∷ []) made }
-    ensures { IfOk result (λ d. d ≡ data_set made (union_of (a.now ∷ b.now ∷ []) made)) }
+    requires { IsCombined a.now.structure (b.now.structure ∷ []) made.now }
+    ensures { IfOk result (λ d. d ≡ data_set made.now (union_of (a.now ∷ b.now ∷ []) made.now)) }
 {
     union_all(alloc, &[a, b], made)
 }

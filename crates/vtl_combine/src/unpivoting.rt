@@ -120,10 +120,10 @@ fn unpivot_table(alloc: Global, a: &DataSet, made: &Structure) -> Result<Table, 
 
 /// A point for each point of the operand and each of its measures that is not null: the identifiers, the name of the
 /// measure, and its value; as a data set of the structure that typing gives. It fails only if memory runs out.
-pub fn unpivot(alloc: Global, a: &DataSet, made: Structure) -> Result<DataSet, AllocError>
-    requires { (id : List ℕ) × (measure : List ℕ) × IsUnpivoted id measure a.now.structure made }
-    ensures { IfOk result (λ d. d ≡ data_set made (unpivot_of a.now)) }
+pub fn unpivot(alloc: Global, a: &DataSet, made: &Structure) -> Result<DataSet, AllocError>
+    requires { (id : List ℕ) × (measure : List ℕ) × IsUnpivoted id measure a.now.structure made.now }
+    ensures { IfOk result (λ d. d ≡ data_set made.now (unpivot_of a.now)) }
 {
-    let table = unpivot_table(alloc, a, &made)?;
+    let table = unpivot_table(alloc, a, made)?;
     DataSet::of(alloc, made, table)
 }

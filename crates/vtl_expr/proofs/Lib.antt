@@ -4,6 +4,8 @@ pub mod FindingLemmas
 pub mod MeasureLemmas
 pub mod PairLemmas
 pub mod PointLemmas
+pub mod PointValues
 pub mod PreparedLemmas
+pub mod ValueWalks
 pub mod Values
 pub mod Walks

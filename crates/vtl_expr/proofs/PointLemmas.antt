@@ -27,6 +27,7 @@ use Rattle.vtl_meaning.proofs.Kept.{values_fit}
 use Rattle.vtl_expr.specs.Prepared.{SameValues, prepared_exp}
 use Rattle.vtl_scalar.specs.Seen.{answer_of}
 use Rattle.vtl_expr.specs.declared.prepared.Prepared.{Prepared}
+use Rattle.vtl_expr.proofs.PointValues.{all_same_at}
 
 -- ---- one more value
 pub values_more : {X : Type 0} (f : X → CompExp) (p : Settings) (es : List X) (i : ℕ) (e : X) (r : Row) → i < length es → e ≡ get_or es i e → point_of p (map f (take (i + 1) es)) r ≡ point_of p (map f (take i es)) r ++ cell_or_null (value p (f e) r) ∷ []
@@ -52,10 +53,10 @@ fault_by_values p [] r = refl
 fault_by_values p (e ∷ es) r = ap (join (fault_in (value p e r))) (fault_by_values p es r)
 
 points_same : (p : Settings) (es fs : List CompExp) → SameValues es fs → point_of p es ≡ point_of p fs
-points_same p es fs same = λ j r. (point_by_values p es r ∙ ap (map cell_or_null) (same p r) ∙ sym (point_by_values p fs r)) j
+points_same p es fs same = λ j r. (point_by_values p es r ∙ ap (map cell_or_null) (all_same_at es fs same p r) ∙ sym (point_by_values p fs r)) j
 
 faults_same : (p : Settings) (es fs : List CompExp) → SameValues es fs → point_fault p es ≡ point_fault p fs
-faults_same p es fs same = λ j r. (fault_by_values p es r ∙ ap (faults_by fault_in) (same p r) ∙ sym (fault_by_values p fs r)) j
+faults_same p es fs same = λ j r. (fault_by_values p es r ∙ ap (faults_by fault_in) (all_same_at es fs same p r) ∙ sym (fault_by_values p fs r)) j
 
 -- in place of the expressions that they were made of
 module _ (p : Settings) (lent items : List Prepared) (es : List CompExp) (is : lent ≡ items) (same : SameValues (map prepared_exp items) es) where
@@ -65,12 +66,12 @@ module _ (p : Settings) (lent items : List Prepared) (es : List CompExp) (is : l
   faults_prepared : point_fault p (map prepared_exp lent) ≡ point_fault p es
   faults_prepared = ap (λ l. point_fault p (map prepared_exp l)) is ∙ faults_same p (map prepared_exp items) es same
 
-  -- at a point that is in one piece
-  pub point_whole : (r : Row) → point_of p (map prepared_exp lent) (r ++ []) ≡ point_of p es r
-  point_whole r = ap (λ (f : Row → Row). f (r ++ [])) points_prepared ∙ ap (point_of p es) (append-nil r)
+  -- at a point
+  pub point_prepared : (r : Row) → point_of p (map prepared_exp lent) r ≡ point_of p es r
+  point_prepared r = ap (λ (f : Row → Row). f r) points_prepared
 
-  pub fault_whole : (r : Row) → point_fault p (map prepared_exp lent) (r ++ []) ≡ point_fault p es r
-  fault_whole r = ap (λ (f : Row → Option Fault). f (r ++ [])) faults_prepared ∙ ap (point_fault p es) (append-nil r)
+  pub fault_prepared : (r : Row) → point_fault p (map prepared_exp lent) r ≡ point_fault p es r
+  fault_prepared r = ap (λ (f : Row → Option Fault). f r) faults_prepared
 
   -- at all of them
   pub each_prepared : (rows : List Row) → each_point p (map prepared_exp lent) rows ≡ each_point p es rows

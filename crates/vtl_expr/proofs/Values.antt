@@ -14,8 +14,10 @@ use Rattle.vtl_cell.specs.declared.operator.ScalarOp.TheVariants as op
 use Rattle.vtl_scalar.specs.Answers.{AnswersBy}
 use Rattle.vtl_scalar.specs.declared.error.ScalarErr.TheVariants as err
 use Rattle.vtl_scalar.specs.declared.error.ScalarErr.{ScalarErr}
-use Rattle.vtl_tree.specs.Value.{called, is_choice, value, values}
+use Rattle.vtl_tree.specs.Value.{called, is_choice}
 use Rattle.vtl_tree.specs.View.{comp_exps_of}
+use Rattle.vtl_tree.specs.declared.expression.AggCall.{AggCall}
+use Rattle.vtl_meaning.specs.GroupExpressions.{value_over, values_over}
 use Rattle.vtl_expr.specs.Prepared.{prepared_exp}
 use Rattle.vtl_expr.specs.declared.prepared.Prepared.{Prepared}
 
@@ -59,12 +61,12 @@ other_number : (o : ScalarOp) (n : ℕ) → (n == 3) ≡ false → is_choice o n
 other_number op.If n h = h
 other_number other n h = refl
 
-module _ (p : Settings) (row : List Cell) where
+module _ (p : Settings) (columns : ℕ → List ℕ → Cell) (aggregates : AggCall → Outcome Cell) where
   abbrev pub of_item : Prepared → Outcome Cell
-  of_item x = value p (prepared_exp x) row
+  of_item x = value_over p columns aggregates (prepared_exp x)
 
   abbrev pub of_items : List Prepared → List (Outcome Cell)
-  of_items args = values p (comp_exps_of (map prepared_exp args)) row
+  of_items args = values_over p columns aggregates (comp_exps_of (map prepared_exp args))
 
   pub no_operands_chosen : (kind : Kind) (o : ScalarOp) (args : List Prepared) → ¬ (length args ≡ 3) → called p kind (of_items args) o ≡ after (all_of (of_items args)) (result_of p o kind)
   no_operands_chosen kind o args h = no_choice p kind o (of_items args) (other_number o (length (of_items args)) (ap (λ n. n == 3) (as_many args) ∙ not_three (length args == 3) refl))

@@ -158,11 +158,11 @@ pub fn choose(
     condition: &DataSet,
     then: &DataSet,
     other: &DataSet,
-    made: Structure,
+    made: &Structure,
 ) -> Result<DataSet, AllocError>
-    requires { IsChoice condition.now.structure then.now.structure other.now.structure made }
-    ensures { IfOk result (λ d. d ≡ data_set made (choice_of condition.now then.now other.now made)) }
+    requires { IsChoice condition.now.structure then.now.structure other.now.structure made.now }
+    ensures { IfOk result (λ d. d ≡ data_set made.now (choice_of condition.now then.now other.now made.now)) }
 {
-    let table = choice_table::<Brand>(alloc, condition, then, other, &made, Blank::new(1))?;
+    let table = choice_table::<Brand>(alloc, condition, then, other, made, Blank::new(1))?;
     DataSet::of(alloc, made, table)
 }

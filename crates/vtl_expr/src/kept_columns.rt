@@ -34,10 +34,10 @@ fn kept_table(alloc: Global, a: DataSet, made: &Structure) -> Result<SharedTable
 /// The points with the columns of this structure alone, which has all identifiers: `keep`, `drop` and `a#m`. The table
 /// stays where these are all columns in their order. Else its cells are moved together where it has no other owner and
 /// the columns keep their order, and are copied where not. It fails only if memory runs out.
-pub fn keep_columns(alloc: Global, a: DataSet, made: Structure) -> Result<DataSet, AllocError>
-    requires { IsLeft a.structure made }
-    ensures { IfOk result (λ d. d ≡ data_set made (left_of a made)) }
+pub fn keep_columns(alloc: Global, a: DataSet, made: &Structure) -> Result<DataSet, AllocError>
+    requires { IsLeft a.structure made.now }
+    ensures { IfOk result (λ d. d ≡ data_set made.now (left_of a made.now)) }
 {
-    let table = kept_table(alloc, a, &made)?;
-    Ok(DataSet::shared(made, table))
+    let table = kept_table(alloc, a, made)?;
+    DataSet::shared(alloc, made, table)
 }

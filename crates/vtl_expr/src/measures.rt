@@ -97,12 +97,12 @@ pub fn map_measures(
     alloc: Global,
     op: &MeasureOp,
     a: &DataSet,
-    made: Structure,
+    made: &Structure,
     p: &Profile,
 ) -> Result<DataSet, ScalarErr>
-    requires { IsMeasured p.now (measure_tree op.now) a.now.structure made }
-    ensures { Answers result (with_structure made (measured_of p.now (measure_tree op.now) a.now made)) }
+    requires { IsMeasured p.now (measure_tree op.now) a.now.structure made.now }
+    ensures { Answers result (with_structure made.now (measured_of p.now (measure_tree op.now) a.now made.now)) }
 {
-    let table = measured_table(alloc, op, a, &made, p);
+    let table = measured_table(alloc, op, a, made, p);
     DataSet::answered(alloc, made, table)
 }

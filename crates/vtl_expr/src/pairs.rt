@@ -21,7 +21,8 @@ ghost use Rattle.vtl_expr.specs.Sides.{left_column, right_column, side_column};
 
 use crate::namesakes::{Side, namesake_exps};
 use crate::partners::Partners;
-use crate::points::Points;
+use crate::point::Point;
+use crate::points::{Points, push_values};
 use crate::prepared::{Prepared, prepare_all};
 use std::alloc::{AllocError, Global};
 use std::marker::Brand;
@@ -51,7 +52,7 @@ fn push_pair<L: Ledger>(
     ensures err { IfErr result (λ e. e ≡ ScalarErr.OutOfMemory) }
 {
     match partners.find(row, steps) {
-        Some(partner) => points.push(alloc, exps, row, partner, p),
+        Some(partner) => push_values(alloc, points, exps, &Point::beside(row, partner), p),
         None => Ok(()),
     }
 }
@@ -188,12 +189,12 @@ pub fn pair_measures(
     op: ScalarOp,
     a: &DataSet,
     b: &DataSet,
-    made: Structure,
+    made: &Structure,
     p: &Profile,
 ) -> Result<DataSet, ScalarErr>
-    requires { IsPaired p.now op a.now.structure b.now.structure made }
-    ensures { Answers result (with_structure made (pair_of p.now op a.now b.now made)) }
+    requires { IsPaired p.now op a.now.structure b.now.structure made.now }
+    ensures { Answers result (with_structure made.now (pair_of p.now op a.now b.now made.now)) }
 {
-    let table = pair_table(alloc, op, a, b, &made, p);
+    let table = pair_table(alloc, op, a, b, made, p);
     DataSet::answered(alloc, made, table)
 }

@@ -1,10 +1,10 @@
 // Points that are made one after the other.
 ghost use Rattle.std.specs.Prelude.{◌≡◌, true, ◌++◌, ◌∷◌, [], map, IfOk, IfErr, OnOk, None};
-ghost use Rattle.vtl_cell.specs.Outcome.{fault_in, join, unless};
-ghost use Rattle.vtl_rows.specs.Tables.{fits};
-ghost use Rattle.vtl_scalar.specs.Answers.{AnswersBy};
+ghost use Rattle.vtl_cell.specs.Outcome.{Outcome, fault_in, join, unless};
+ghost use Rattle.vtl_cell.specs.declared.cell.Cell.{Cell};
+ghost use Rattle.vtl_rows.specs.Tables.{cells_at, fits};
+ghost use Rattle.vtl_scalar.specs.Answers.{Answers, AnswersBy};
 ghost use Rattle.vtl_tree.specs.Structure.{IsStructure, columns_of};
-ghost use Rattle.vtl_tree.specs.Value.{value};
 ghost use Rattle.vtl_tree.specs.View.{comp_exp_of};
 ghost use Rattle.vtl_sets.specs.TableOf.{table_columns};
 ghost use Rattle.vtl_meaning.specs.Made.{AreFor};
@@ -12,7 +12,8 @@ ghost use Rattle.vtl_meaning.specs.Points.{cell_or_null, each_point, point_fault
 ghost use Rattle.vtl_expr.specs.Prepared.{prepared_exp};
 ghost use Rattle.vtl_scalar.specs.Seen.{answer_of, seen_of};
 
-use crate::evaluation::value_at;
+use crate::places::push_cells;
+use crate::point::Point;
 use crate::prepared::{Prepared, prepare_all};
 use std::alloc::{AllocError, Global};
 use vtl_cell::Cell;
@@ -22,11 +23,14 @@ use vtl_scalar::{ScalarErr, Seen};
 use vtl_sets::{DataSet, new_table};
 use vtl_tree::{CompExpr, Structure};
 
-// A table of the points so far, the list in which the next one is made, and the fault of their values.
-pub(crate) struct Points {
-    pub(crate) table: Table,
-    pub(crate) cells: Vec<Cell>,
-    pub(crate) seen: Seen,
+/// A table of the points so far, the cells of the next one, and the fault of the values that were put there.
+pub struct Points {
+    /// The table of the points so far.
+    pub table: Table,
+    /// The cells of the next point.
+    pub cells: Vec<Cell>,
+    /// The fault of the values so far.
+    pub seen: Seen,
 }
 
 // Written out, so that each owner sees one call and not the drop of each part.
@@ -40,57 +44,9 @@ impl Drop for Points {
     }
 }
 
-// Puts the value of an expression at a point behind others, or null where it has a fault. The point is in two pieces.
-fn push_value(
-    alloc: Global,
-    cells: &mut Vec<Cell>,
-    seen: Seen,
-    e: &Prepared,
-    first: &[Cell],
-    second: &[Cell],
-    p: &Profile,
-) -> Result<Seen, ScalarErr>
-    ensures cells { IfOk result (λ _. cells.new.items ≡ cells.old.items ++ cell_or_null (value p.now (prepared_exp e.now) (first.now ++ second.now)) ∷ []) }
-    ensures seen { IfOk result (λ s. seen_of s ≡ join (seen_of seen) (fault_in (value p.now (prepared_exp e.now) (first.now ++ second.now)))) }
-    ensures err { IfErr result (λ e. e ≡ ScalarErr.OutOfMemory) }
-{
-    match value_at(alloc, e, first, second, p) {
-        Ok(value) => {
-            cells.push(value.into_cell()?)?;
-            Ok(seen)
-        }
-        Err(error) => {
-            let seen = seen.and(error)?;
-            cells.push(Cell::Null)?;
-            Ok(seen)
-        }
-    }
-}
-
-// Puts the values of expressions at a point behind others.
-fn push_values(
-    alloc: Global,
-    cells: &mut Vec<Cell>,
-    seen: Seen,
-    exps: &[Prepared],
-    first: &[Cell],
-    second: &[Cell],
-    p: &Profile,
-) -> Result<Seen, ScalarErr>
-    ensures cells { IfOk result (λ _. cells.new.items ≡ cells.old.items ++ point_of p.now (map prepared_exp exps.now) (first.now ++ second.now)) }
-    ensures seen { IfOk result (λ s. seen_of s ≡ join (seen_of seen) (point_fault p.now (map prepared_exp exps.now) (first.now ++ second.now))) }
-    ensures err { IfErr result (λ e. e ≡ ScalarErr.OutOfMemory) }
-{
-    let mut with_these = seen;
-    for e in exps {
-        with_these = push_value(alloc, cells, with_these, e, first, second, p)?;
-    }
-    Ok(with_these)
-}
-
 impl Points {
-    // No points, with room for so many.
-    pub(crate) fn new(alloc: Global, made: &Structure, count: usize) -> Result<Points, AllocError>
+    /// No points, with the columns of a structure and room for so many. It fails only if memory runs out.
+    pub fn new(alloc: Global, made: &Structure, count: usize) -> Result<Points, AllocError>
         requires { IsStructure made.now }
         ensures columns { IfOk result (λ points. points.table.columns ≡ table_columns made.now) }
         ensures rows { IfOk result (λ points. points.table.rows ≡ []) }
@@ -105,30 +61,46 @@ impl Points {
         })
     }
 
-    // Adds the point of the values of expressions at a point in two pieces.
-    pub(crate) fn push(
-        &mut self,
-        alloc: Global,
-        exps: &[Prepared],
-        first: &[Cell],
-        second: &[Cell],
-        p: &Profile,
-    ) -> Result<(), ScalarErr>
-        requires { fits self.old.table.columns (point_of p.now (map prepared_exp exps.now) (first.now ++ second.now)) ≡ true }
-        ensures columns { self.new.table.columns ≡ self.old.table.columns }
-        ensures rows { OnOk result (self.new.table.rows ≡ self.old.table.rows ++ point_of p.now (map prepared_exp exps.now) (first.now ++ second.now) ∷ []) }
-        ensures seen { OnOk result (seen_of self.new.seen ≡ join (seen_of self.old.seen) (point_fault p.now (map prepared_exp exps.now) (first.now ++ second.now))) }
-        ensures err { IfErr result (λ e. e ≡ ScalarErr.OutOfMemory) }
+    /// Begins the next point, with the cells at places of a row. It fails only if memory runs out.
+    pub fn begin(&mut self, row: &[Cell], places: &[usize]) -> Result<(), AllocError>
+        ensures cells { OnOk result (self.new.cells.items ≡ cells_at places.now row.now) }
+        ensures table { self.new.table ≡ self.old.table }
+        ensures seen { self.new.seen ≡ self.old.seen }
     {
         self.cells.clear();
-        let seen = push_values(alloc, &mut self.cells, self.seen, exps, first, second, p)?;
-        self.table.push_cells(&mut self.cells)?;
-        self.seen = seen;
+        push_cells(&mut self.cells, row, places)
+    }
+
+    /// Puts a value behind the cells of the next point, or null where it has a fault, which is noted. It fails only if
+    /// memory runs out.
+    pub fn put(&mut self, value: Result<Cell, ScalarErr>) -> Result<(), ScalarErr>
+        ensures table { self.new.table ≡ self.old.table }
+        ensures cells { OnOk result ((m : Outcome Cell) → Answers value m → self.new.cells.items ≡ self.old.cells.items ++ cell_or_null m ∷ []) }
+        ensures seen { OnOk result ((m : Outcome Cell) → Answers value m → seen_of self.new.seen ≡ join (seen_of self.old.seen) (fault_in m)) }
+        ensures err { IfErr result (λ e. e ≡ ScalarErr.OutOfMemory) }
+    {
+        match value {
+            Ok(cell) => self.cells.push(cell)?,
+            Err(error) => {
+                self.seen = self.seen.and(error)?;
+                self.cells.push(Cell::Null)?;
+            }
+        }
         Ok(())
     }
 
-    // The table, unless a value has a fault.
-    pub(crate) fn finish(self) -> Result<Table, ScalarErr>
+    /// Adds the next point. It fails only if memory runs out.
+    pub fn add(&mut self) -> Result<(), AllocError>
+        requires { fits self.old.table.columns self.old.cells.items ≡ true }
+        ensures columns { self.new.table.columns ≡ self.old.table.columns }
+        ensures rows { OnOk result (self.new.table.rows ≡ self.old.table.rows ++ self.old.cells.items ∷ []) }
+        ensures seen { self.new.seen ≡ self.old.seen }
+    {
+        self.table.push_cells(&mut self.cells)
+    }
+
+    /// The table, unless a value has a fault.
+    pub fn finish(self) -> Result<Table, ScalarErr>
         ensures { result ≡ answer_of (unless (seen_of self.seen) self.table) }
     {
         let Points {
@@ -138,6 +110,44 @@ impl Points {
         } = self;
         seen.unless(table)
     }
+}
+
+// Puts the values of expressions at a point behind the cells of the next one.
+fn put_values(
+    alloc: Global,
+    points: &mut Points,
+    exps: &[Prepared],
+    at: &Point<'_>,
+    p: &Profile,
+) -> Result<(), ScalarErr>
+    ensures table { points.new.table ≡ points.old.table }
+    ensures cells { OnOk result (points.new.cells.items ≡ points.old.cells.items ++ point_of p.now (map prepared_exp exps.now) at.now) }
+    ensures seen { OnOk result (seen_of points.new.seen ≡ join (seen_of points.old.seen) (point_fault p.now (map prepared_exp exps.now) at.now)) }
+    ensures err { IfErr result (λ e. e ≡ ScalarErr.OutOfMemory) }
+{
+    for e in exps {
+        points.put(at.cell(alloc, e, p))?;
+    }
+    Ok(())
+}
+
+// Adds the point of the values of expressions at a point.
+pub(crate) fn push_values(
+    alloc: Global,
+    points: &mut Points,
+    exps: &[Prepared],
+    at: &Point<'_>,
+    p: &Profile,
+) -> Result<(), ScalarErr>
+    requires { fits points.old.table.columns (point_of p.now (map prepared_exp exps.now) at.now) ≡ true }
+    ensures columns { points.new.table.columns ≡ points.old.table.columns }
+    ensures rows { OnOk result (points.new.table.rows ≡ points.old.table.rows ++ point_of p.now (map prepared_exp exps.now) at.now ∷ []) }
+    ensures seen { OnOk result (seen_of points.new.seen ≡ join (seen_of points.old.seen) (point_fault p.now (map prepared_exp exps.now) at.now)) }
+    ensures err { IfErr result (λ e. e ≡ ScalarErr.OutOfMemory) }
+{
+    points.begin(&[], &[])?;
+    put_values(alloc, points, exps, at, p)?;
+    Ok(points.add()?)
 }
 
 /// A table of the values of expressions at each point, or their fault: division by zero where one of them has it,
@@ -158,7 +168,7 @@ pub fn each_point(
     let table = a.table();
     let mut points = Points::new(alloc, made, table.len())?;
     for i in 0..table.len() {
-        points.push(alloc, &prepared, table.row(i), &[], p)?;
+        push_values(alloc, &mut points, &prepared, &Point::of(table.row(i)), p)?;
     }
     points.finish()
 }

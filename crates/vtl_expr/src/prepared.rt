@@ -1,4 +1,4 @@
-// Expressions that are evaluated at many points.
+// Expressions that are evaluated at many points or over many groups.
 ghost use Rattle.std.specs.Prelude.{◌≡◌, ◌<◌, IfOk, IfSome, drop, length, map};
 ghost use Rattle.vtl_cell.specs.declared.kind.Kind.{Kind};
 ghost use Rattle.vtl_tree.specs.CompExp.{call, const};
@@ -8,15 +8,23 @@ ghost use Rattle.vtl_expr.specs.Prepared.{SameValue, SameValues, membership_op, 
 use std::alloc::{AllocError, Global};
 use vtl_cell::{Cell, Kind, ScalarOp, clone_cell};
 use vtl_scalar::Members;
-use vtl_tree::CompExpr;
+use vtl_text::Txt;
+use vtl_tree::{AggCall, CompExpr};
 
-/// An expression as it is evaluated at many points: it keeps of the tree what a value depends on, and its sets stand in
-/// an order in which a value is found at once.
+/// An expression as it is evaluated at many points or over many groups: it keeps of the tree what a value depends on,
+/// and its sets stand in an order in which a value is found at once.
 pub enum Prepared {
-    /// The cell at a place.
-    Column(usize),
-    /// A value that is the same at all points.
+    /// The cell of a column.
+    Column {
+        /// Its place.
+        place: usize,
+        /// Its name.
+        name: Txt,
+    },
+    /// A value that is the same everywhere.
     Const(Cell),
+    /// An aggregate of the points of a group.
+    Aggregate(AggCall),
     /// An operator on the values of its operands.
     Apply {
         /// The operator.
@@ -42,8 +50,12 @@ impl Drop for Prepared {
     #[cycle(dropped)]
     fn drop(self) {
         match self {
-            Prepared::Column(_) => {}
+            Prepared::Column {
+                place: _,
+                name: _name,
+            } => {}
             Prepared::Const(_cell) => {}
+            Prepared::Aggregate(_call) => {}
             Prepared::Apply {
                 op: _,
                 kind: _,
@@ -58,15 +70,33 @@ impl Drop for Prepared {
     }
 }
 
-/// The expression, prepared: its value at each point is that of the tree. It fails only if memory runs out.
+// An equal call of an aggregate, whose text is shared.
+fn shared_call(call: &AggCall) -> Result<AggCall, AllocError>
+    ensures { IfOk result (λ shared. shared ≡ call.now) }
+{
+    let component = match &call.component {
+        Some(name) => Some(name.share()?),
+        None => None,
+    };
+    Ok(AggCall {
+        kind: call.kind,
+        component,
+    })
+}
+
+/// The expression, prepared: its value at each point and over each group is that of the tree. It fails only if memory
+/// runs out.
 #[cycle(preparing)]
 pub fn prepare(alloc: Global, e: &CompExpr) -> Result<Prepared, AllocError>
     ensures { IfOk result (λ x. SameValue (prepared_exp x) (comp_exp_of e.now)) }
 {
     match e {
-        CompExpr::Column { place, .. } => Ok(Prepared::Column(*place)),
+        CompExpr::Column { place, name, .. } => Ok(Prepared::Column {
+            place: *place,
+            name: name.share()?,
+        }),
         CompExpr::Const(cell) => Ok(Prepared::Const(clone_cell(cell)?)),
-        CompExpr::Aggregate { .. } => Ok(Prepared::Const(Cell::Null)),
+        CompExpr::Aggregate { call, .. } => Ok(Prepared::Aggregate(shared_call(call)?)),
         CompExpr::Apply { op, kind, args } => {
             let args = prepare_all(alloc, args)?;
             prepared_call(alloc, *op, *kind, args)
@@ -74,8 +104,7 @@ pub fn prepare(alloc: Global, e: &CompExpr) -> Result<Prepared, AllocError>
     }
 }
 
-/// Expressions, prepared one by one: the values of each at each point are those of the tree. It fails only if memory
-/// runs out.
+/// Expressions, prepared one by one: the values of each are those of the tree. It fails only if memory runs out.
 #[cycle(preparing)]
 pub fn prepare_all(alloc: Global, exps: &[CompExpr]) -> Result<Vec<Prepared>, AllocError>
     ensures { IfOk result (λ v. SameValues (map prepared_exp v.items) (map comp_exp_of exps.now)) }

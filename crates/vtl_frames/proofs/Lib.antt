@@ -1,6 +1,11 @@
 pub mod BestLemmas
 pub mod KeptLemmas
+pub mod ListLemmas
+pub mod OrderLemmas
+pub mod PartitionLemmas
 pub mod PickLemmas
 pub mod PlaceLemmas
-pub mod QuotientLemmas
+pub mod RankLemmas
+pub mod RunLemmas
+pub mod StretchLemmas
 pub mod TotalLemmas

@@ -1,7 +1,10 @@
 pub mod Best
 pub mod Framed
 pub mod Kept
+pub mod Lanes
+pub mod Lent
 pub mod Picks
-pub mod Quotients
+pub mod Ranked
 pub mod Ratios
+pub mod Stretches
 pub mod Totals

@@ -1,14 +1,15 @@
 // Shares of the total of a partition.
-ghost use Rattle.std.specs.Prelude.{◌≡◌, ◌^◌, ◌<◌, ◌++◌, OnOk, length};
-ghost use Rattle.vtl_cell.specs.Groups.{ratio_of};
+ghost use Rattle.std.specs.Prelude.{◌≡◌, ◌^◌, ◌<◌, ◌≤◌, ◌++◌, ◌*ℤ◌, OnOk, length, unsigned_abs};
+ghost use Rattle.vtl_cell.specs.Groups.{ratio_of, units_of};
 ghost use Rattle.vtl_cell.specs.Row.{column_of};
+ghost use Rattle.vtl_decimal.specs.Operators as decimal;
 ghost use Rattle.vtl_frames.specs.Framed.{at_each};
 ghost use Rattle.vtl_frames.specs.Ratios.{ratio_to, total_number};
 
 use crate::Partition;
-use crate::numbers::share;
 use crate::totals::Totals;
 use std::alloc::AllocError;
+use vtl_agg::{quotient, unit, units};
 use vtl_cell::Cell;
 use vtl_decimal::{Dec, Fault, Profile};
 
@@ -21,6 +22,26 @@ fn total_of<P: Partition>(cells: &P, p: &Profile) -> Result<Dec, Fault>
         totals.enter(cells.cell(place));
     }
     totals.total(p)
+}
+
+// An amount in units times a factor.
+fn scaled(units: i128, factor: i64) -> i128
+    requires units { unsigned_abs units ≤ 2 ^ 93 }
+    requires factor { unsigned_abs factor ≤ 10 ^ 9 }
+    ensures { result ≡ units *ℤ factor }
+{
+    units * i128::from(factor)
+}
+
+// A value of a cell divided by a total, rounded once.
+fn share(c: &Cell, total: Dec, p: &Profile) -> Result<Dec, Fault>
+    ensures { result ≡ decimal.quotient p.now.rounding p.now.scale (units_of p.now.scale c.now) total }
+{
+    if total.k() == 0 {
+        return Err(Fault::DivZero);
+    }
+    let dividend = scaled(units(c, p), unit(p));
+    quotient(p.rounding(), dividend, i128::from(total.k()))
 }
 
 // The share that a cell has of a total, null for null.

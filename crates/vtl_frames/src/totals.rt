@@ -6,7 +6,7 @@ ghost use Rattle.vtl_cell.specs.ScalarArithmetic.{number};
 ghost use Rattle.vtl_decimal.specs.Range.{fit_number};
 ghost use Rattle.vtl_frames.specs.Totals.{HasCounted, IsRoomy, IsSmall, joined, left, sums_in, totals_of, value_of};
 
-use crate::numbers::{fit, rounded, unit};
+use vtl_agg::{fit, quotient, unit};
 use vtl_cell::{AggKind, Cell};
 use vtl_decimal::{Dec, Fault, Profile, whole};
 
@@ -127,7 +127,7 @@ impl Totals {
         ensures { result ≡ number (fit_number (mean_units p.now (sums_in self.now))) }
     {
         match self.units(p) {
-            Some(units) => Ok(Cell::Num(rounded(p.rounding(), units, self.count as i64)?)),
+            Some(units) => Ok(Cell::Num(quotient(p.rounding(), units, i128::from(self.count))?)),
             None => Err(Fault::Range),
         }
     }

@@ -2,22 +2,23 @@
 use Rattle.std.proofs.Common.{◌≡◌, ℕ, ◌<◌, ◌∷◌, Bool, cond, List, length, get_or, map, None, Option, sym, ap, ◌∙◌, subst, arith}
 use Rattle.std.specs.Prelude.{option_map}
 use Rattle.vtl_decimal.specs.declared.number.Fault.{Fault}
+use Rattle.vtl_cell.specs.Outcome.{fault_in, join}
 use Rattle.vtl_cell.specs.Row.{Row}
 use Rattle.vtl_decimal.specs.Settings.{Settings}
 use Rattle.vtl_rows.specs.Places.{row_at}
 use Rattle.vtl_rows.specs.Tables.{Listed, cells_at}
 use Rattle.vtl_tree.specs.CompExp.{CompExp}
-use Rattle.vtl_tree.specs.View.{comp_exp_of}
 use Rattle.vtl_tree.specs.declared.structure.Component.{Component}
 use Rattle.vtl_tree.specs.Trees.{AggTree}
 use Rattle.vtl_index.specs.Groups.{firsts, rows_led}
 use Rattle.vtl_index.specs.Leads.{leads_of}
 use Rattle.vtl_meaning.specs.Groups.{keys_by, places_named, points_with}
 use Rattle.vtl_group.specs.Calls.{AreWithin, column_place, placed_for, rows_at}
-use Rattle.vtl_group.specs.Points.{fault_for, passes, row_for, tested}
+use Rattle.vtl_expr.specs.Prepared.{prepared_exp}
+use Rattle.vtl_group.specs.Points.{SameCondition, fault_for, faults_of_calls, passes, row_for, tested}
 use Rattle.vtl_group.specs.Walks.{first_of, group_in}
 use Rattle.vtl_group.specs.declared.calls.Call.{Call}
-use Rattle.vtl_group.specs.declared.points.Recipe.{Recipe}
+use Rattle.vtl_group.specs.declared.recipe.Recipe.{Recipe}
 use Rattle.vtl_group.proofs.KeyedGroups.{all_within, key_of_first, many_keys, numbers, rows_are, some_numbers}
 use Rattle.vtl_group.proofs.Recipes.{at_key, columns_for, fault_at, fault_at_is, kept, kept_is, places_are, point, row_is}
 
@@ -30,13 +31,13 @@ pub record Stands (spec : AggTree) (xs ys : List Component) (d : List Row) (r : 
   pub columns : r.table.now.columns ≡ columns_for xs
   pub names : r.names.now ≡ spec.grouping
   pub places : r.places.items ≡ places_named spec.grouping xs
-  pub having : option_map comp_exp_of r.having.now ≡ spec.having
+  pub having : SameCondition (option_map prepared_exp r.having) spec.having
   pub calls : r.calls.items ≡ calls_by spec xs ys
   pub led : g ≡ leads_of (cells_at (places_named spec.grouping xs)) d
 
 -- as it is found
 pub stands_by : (spec : AggTree) (xs ys : List Component) (d : List Row) (r : Recipe) (g : List ℕ) (t : Listed) (lent : List ℕ) → r.table.now ≡ t → t.rows ≡ d → t.columns ≡ columns_for xs → r.names.now ≡ spec.grouping
-    → r.places.items ≡ map (λ name. column_place name t.columns) spec.grouping → option_map comp_exp_of r.having.now ≡ spec.having → r.calls.items ≡ map (λ y. placed_for t.columns spec.items y.name) ys
+    → r.places.items ≡ map (λ name. column_place name t.columns) spec.grouping → SameCondition (option_map prepared_exp r.having) spec.having → r.calls.items ≡ map (λ y. placed_for t.columns spec.items y.name) ys
     → lent ≡ r.places.items → g ≡ leads_of (cells_at lent) t.rows → Stands spec xs ys d r g
 stands_by spec xs ys d r g t lent table rows columns names places having calls deref led =
     let placed : r.places.items ≡ places_named spec.grouping xs = places ∙ ap (λ cs. map (λ name. column_place name cs) spec.grouping) columns ∙ places_are xs spec.grouping in
@@ -86,8 +87,10 @@ module _ (p : Settings) (spec : AggTree) (xs ys : List Component) (d : List Row)
     pub row_found : row_for p r.calls.items (group_in r found) ≡ point p spec xs ys d key
     row_found = (λ n. row_for p (s.calls n) (group_found n)) ∙ row_is p spec xs ys d key
 
-    pub kept_found : passes (tested p (group_in r found) (option_map comp_exp_of r.having.now)) ≡ kept p spec xs ys d key
-    kept_found = (λ n. passes (tested p (group_found n) (s.having n))) ∙ kept_is p spec xs ys d spec.having key
+    pub kept_found : passes (tested p (group_in r found) (option_map prepared_exp r.having)) ≡ kept p spec xs ys d key
+    kept_found = ap passes (s.having p (group_in r found)) ∙ (λ n. passes (tested p (group_found n) spec.having)) ∙ kept_is p spec xs ys d spec.having key
 
-    pub fault_found : fault_for p (option_map comp_exp_of r.having.now) r.calls.items (group_in r found) ≡ fault_at p spec xs ys d key
-    fault_found = (λ n. fault_for p (s.having n) (s.calls n) (group_found n)) ∙ fault_at_is p spec xs ys d key
+    pub fault_found : fault_for p (option_map prepared_exp r.having) r.calls.items (group_in r found) ≡ fault_at p spec xs ys d key
+    fault_found =
+        ap (λ test. join (fault_in test) (cond (passes test) (faults_of_calls p r.calls.items (rows_at r.table.now.rows found)) None)) (s.having p (group_in r found))
+        ∙ (λ n. fault_for p spec.having (s.calls n) (group_found n)) ∙ fault_at_is p spec xs ys d key

@@ -1,5 +1,5 @@
+pub mod Conditions
 pub mod Found
 pub mod GroupWalks
 pub mod KeyedGroups
 pub mod Recipes
-pub mod Values

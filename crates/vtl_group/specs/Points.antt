@@ -1,5 +1,5 @@
 -- The point that is made of a group, with places in place of names.
-use Rattle.std.specs.Prelude.{ℕ, Bool, true, false, List, ◌++◌, map, Option, Some, None, Ok, Err, if◌then◌else◌}
+use Rattle.std.specs.Prelude.{◌≡◌, ℕ, Bool, true, false, List, ◌++◌, map, Option, Some, None, Ok, Err, if◌then◌else◌}
 use Rattle.vtl_decimal.specs.declared.number.Fault.{Fault}
 use Rattle.vtl_cell.specs.Outcome.{Outcome, after, fault_in, faults_by, join}
 use Rattle.vtl_cell.specs.Outcomes.{is_true}
@@ -7,10 +7,10 @@ use Rattle.vtl_cell.specs.Row.{Row}
 use Rattle.vtl_decimal.specs.Settings.{Settings}
 use Rattle.vtl_cell.specs.declared.cell.Cell.{Cell}
 use Rattle.vtl_rows.specs.declared.column.Column.{Column}
-use Rattle.vtl_tree.specs.CompExp.{CompExp, CompExps}
+use Rattle.vtl_tree.specs.CompExp.{CompExp}
 use Rattle.vtl_tree.specs.declared.expression.AggCall.{AggCall}
 use Rattle.vtl_meaning.specs.Aggregates.{cell_or_null}
-use Rattle.vtl_meaning.specs.GroupExpressions.{grouped_cell, value_over, values_over}
+use Rattle.vtl_meaning.specs.GroupExpressions.{grouped_cell, value_over}
 use Rattle.vtl_group.specs.Calls.{call_value, placed_call}
 use Rattle.vtl_group.specs.declared.calls.Call.{Call}
 
@@ -29,15 +29,16 @@ called_in p g a = call_value p (placed_call g.columns a) g.points
 abbrev pub value_in : Settings → Group → CompExp → Outcome Cell
 value_in p g e = value_over p (grouped_cell g.names g.key) (called_in p g) e
 
-abbrev pub values_in : Settings → Group → CompExps → List (Outcome Cell)
-values_in p g es = values_over p (grouped_cell g.names g.key) (called_in p g) es
-
 -- ---- the condition
 
 -- whether the group is kept; without a condition each group is
 abbrev pub tested : Settings → Group → Option CompExp → Outcome Bool
 tested p g None = Ok true
 tested p g (Some e) = after (value_in p g e) (λ v. Ok (is_true (Ok v)))
+
+-- the same test at each group
+abbrev pub SameCondition : Option CompExp → Option CompExp → Type 0
+SameCondition x y = (p : Settings) (g : Group) → tested p g x ≡ tested p g y
 
 abbrev pub passes : Outcome Bool → Bool
 passes (Ok b) = b

@@ -4,7 +4,7 @@ use Rattle.vtl_rows.specs.Places.{row_at}
 use Rattle.vtl_rows.specs.Tables.{cells_at}
 use Rattle.vtl_group.specs.Calls.{rows_at}
 use Rattle.vtl_group.specs.Points.{Group}
-use Rattle.vtl_group.specs.declared.points.Recipe.{Recipe}
+use Rattle.vtl_group.specs.declared.recipe.Recipe.{Recipe}
 
 -- the number of the first row
 abbrev pub first_of : List ℕ → ℕ

@@ -1,25 +1,29 @@
 // Aggregates of data sets.
-ghost use Rattle.std.specs.Prelude.{◌≡◌, IfOk, map};
+ghost use Rattle.std.specs.Prelude.{◌≡◌, IfOk, map, option_map};
 ghost use Rattle.vtl_meaning.specs.Aggregates.{aggregate_of};
 ghost use Rattle.vtl_meaning.specs.AggregateShapes.{IsAggregated};
 ghost use Rattle.vtl_tree.specs.Columns.{others_of};
 ghost use Rattle.vtl_sets.specs.DataSets.{with_structure};
 ghost use Rattle.vtl_sets.specs.TableOf.{IsTableOf};
+ghost use Rattle.vtl_expr.specs.Prepared.{prepared_exp};
 ghost use Rattle.vtl_group.specs.Calls.{column_place, placed_for};
+ghost use Rattle.vtl_group.specs.Points.{SameCondition};
 ghost use Rattle.vtl_tree.specs.NodeView.{agg_tree};
 ghost use Rattle.vtl_scalar.specs.Answers.{Answers, AnswersBy};
 ghost use Rattle.vtl_tree.specs.Shown.{shown};
+ghost use Rattle.vtl_tree.specs.View.{comp_exp_of};
 
 use crate::calls::{Call, call_for, column_place};
-use crate::points::{Points, Recipe};
+use crate::recipe::Recipe;
 use std::alloc::{AllocError, Global};
 use vtl_decimal::Profile;
+use vtl_expr::{Points, Prepared, prepare};
 use vtl_index::Groups;
 use vtl_rows::{Column, Table};
 use vtl_scalar::ScalarErr;
 use vtl_sets::DataSet;
 use vtl_text::Txt;
-use vtl_tree::{AggItems, AggSpec, Component, Structure};
+use vtl_tree::{AggItems, AggSpec, CompExpr, Component, Structure};
 
 // The places of columns by their names.
 fn column_places(alloc: Global, columns: &[Column], names: &[Txt]) -> Result<Vec<usize>, AllocError>
@@ -62,6 +66,20 @@ fn calls_for(
     calls_of(alloc, columns, items, &all[identifiers..])
 }
 
+// The condition of groups, prepared.
+#[tactic(auto, using(crate::proofs::Conditions::same_condition))]
+fn prepared_condition(
+    alloc: Global,
+    having: &Option<CompExpr>,
+) -> Result<Option<Prepared>, AllocError>
+    ensures { IfOk result (λ x. SameCondition (option_map prepared_exp x) (option_map comp_exp_of having.now)) }
+{
+    match having {
+        Some(condition) => Ok(Some(prepare(alloc, condition)?)),
+        None => Ok(None),
+    }
+}
+
 fn recipe_of<'a>(
     alloc: Global,
     table: &'a Table,
@@ -71,7 +89,7 @@ fn recipe_of<'a>(
     ensures table { IfOk result (λ r. r.table.now ≡ table.now) }
     ensures names { IfOk result (λ r. r.names.now ≡ spec.now.grouping) }
     ensures places { IfOk result (λ r. r.places.items ≡ map (λ name. column_place name table.now.columns) spec.now.grouping) }
-    ensures having { IfOk result (λ r. r.having.now ≡ spec.now.having) }
+    ensures having { IfOk result (λ r. SameCondition (option_map prepared_exp r.having) (option_map comp_exp_of spec.now.having)) }
     ensures calls { IfOk result (λ r. r.calls.items ≡ map (λ y. placed_for table.now.columns spec.now.items y.name) (others_of made.now)) }
 {
     let names = spec.grouping.as_slice();
@@ -80,7 +98,7 @@ fn recipe_of<'a>(
         table,
         names,
         places: column_places(alloc, columns, names)?,
-        having: &spec.having,
+        having: prepared_condition(alloc, &spec.having)?,
         calls: calls_for(alloc, columns, &spec.items, made)?,
     })
 }
@@ -99,9 +117,9 @@ fn aggregated_table(
     let table = a.table();
     let recipe = recipe_of(alloc, table, spec, made)?;
     let groups = Groups::by(alloc, table, &recipe.places)?;
-    let mut points = Points::new(alloc, made)?;
+    let mut points = Points::new(alloc, made, 0)?;
     for group in 0..groups.len() {
-        points.push(alloc, &recipe, groups.rows(group), p)?;
+        recipe.push(alloc, &mut points, groups.rows(group), p)?;
     }
     points.finish()
 }
@@ -117,12 +135,12 @@ pub fn aggregate(
     alloc: Global,
     a: &DataSet,
     spec: &AggSpec,
-    made: Structure,
+    made: &Structure,
     p: &Profile,
 ) -> Result<DataSet, ScalarErr>
-    requires { IsAggregated (agg_tree spec.now) a.now.structure made }
-    ensures { Answers result (with_structure made (aggregate_of p.now (agg_tree spec.now) a.now made)) }
+    requires { IsAggregated (agg_tree spec.now) a.now.structure made.now }
+    ensures { Answers result (with_structure made.now (aggregate_of p.now (agg_tree spec.now) a.now made.now)) }
 {
-    let table = aggregated_table(alloc, a, spec, &made, p);
+    let table = aggregated_table(alloc, a, spec, made, p);
     DataSet::answered(alloc, made, table)
 }

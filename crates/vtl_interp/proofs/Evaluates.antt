@@ -20,19 +20,6 @@ use Rattle.vtl_meaning.specs.Meaning.{node_value, nodes_value, operands_value, w
 use Rattle.vtl_meaning.specs.Points.{with_points}
 use Rattle.vtl_interp.specs.Evaluated.{Evaluates, Gives}
 
--- a function of a structure and a data set at others that are the same
-pub at_same : {X : Type 0} (f : Structure → DataSet → X) (s t : Structure) (d e : DataSet) → s ≡ t → d ≡ e → f s d ≡ f t e
-at_same f s t d e p q = ap (λ u. f u d) p ∙ ap (f t) q
-
-pub at_same_two : {X : Type 0} (f : Structure → DataSet → DataSet → X) (s t : Structure) (a b d e : DataSet) → s ≡ t → a ≡ b → d ≡ e → f s a d ≡ f t b e
-at_same_two f s t a b d e p q r = ap (λ u. f u a d) p ∙ ap (λ x. f t x d) q ∙ ap (f t b) r
-
--- a fault is told of whatever is answered
-pub fault_passed : {A B C : Type 0} (v : A → C) (w : B → C) (e : ScalarErr) (m n : Outcome C) → m ≡ n → AnswersBy v (Err e) m → AnswersBy w (Err e) n
-fault_passed v w err.DivZero m n same h = sym same ∙ h
-fault_passed v w err.Range m n same h = sym same ∙ h
-fault_passed v w err.OutOfMemory m n same h = tt
-
 -- the operands before are evaluated, and the operator is applied to what they give
 pub applied : {A : Type 0} (view : A → DataSet) (p : Settings) (env : Environment) (n : NodeTree) (points : Outcome (List Row)) (r : Result A ScalarErr)
     → node_value p env n ≡ points → AnswersBy view r (with_structure (structure_of n) points) → Evaluates view p env n r

@@ -19,6 +19,7 @@ use Rattle.vtl_tree.specs.Trees.{FormTree, NodeTree, nodes_of, operands_of, stru
 use Rattle.vtl_tree.specs.NodeView.{agg_tree, analytic_tree, form_tree, item_tree, measure_tree, node_tree, operand_tree}
 use Rattle.vtl_tree.specs.declared.clauses.CalcItem.{CalcItem}
 use Rattle.vtl_tree.specs.declared.clauses.SubItem.{SubItem}
+use Rattle.vtl_tree.specs.declared.renaming.Renaming.{Renaming}
 use Rattle.vtl_tree.specs.declared.nodes.JoinOperand.{JoinOperand}
 use Rattle.vtl_tree.specs.declared.nodes.MeasureOp.{MeasureOp}
 use Rattle.vtl_tree.specs.declared.nodes.Node as node
@@ -31,7 +32,7 @@ use Rattle.vtl_tree.specs.declared.specifications.AnalyticSpec.{AnalyticSpec}
 use Rattle.vtl_tree.specs.declared.specifications.JoinSpec.{JoinSpec}
 use Rattle.vtl_syntax.specs.declared.word_groups.Retain.{Retain}
 use Rattle.vtl_meaning.specs.AggregateShapes.{IsAggregated}
-use Rattle.vtl_sets.specs.DataSets.{with_structure}
+use Rattle.vtl_sets.specs.DataSets.{data_set, with_structure}
 use Rattle.vtl_meaning.specs.Joined.{structures_of}
 use Rattle.vtl_meaning.specs.Made.{AreCombined, IsChoice, IsJoined, IsMade, IsMadeForm, IsMeasured, IsWindowed, node_structures}
 use Rattle.vtl_meaning.specs.Meaning.{form_value, known_in, node_value, nodes_value, operands_value, with_operand}
@@ -66,6 +67,9 @@ form_tree-Keep a names = search (rules, forms.the_lemmas)
 
 pub form_tree-DropNamed : (a : Box Node Global) (names : List Txt) → form_tree (form.DropNamed a names) ≡ nodes.drop_named (node_tree a.value) names
 form_tree-DropNamed a names = search (rules, forms.the_lemmas)
+
+pub form_tree-Rename : (a : Box Node Global) (pairs : List Renaming) → form_tree (form.Rename a pairs) ≡ nodes.rename (node_tree a.value) pairs
+form_tree-Rename a pairs = search (rules, forms.the_lemmas)
 
 pub form_tree-Sub : (a : Box Node Global) (values : List SubItem) → form_tree (form.Sub a values) ≡ nodes.sub (node_tree a.value) values
 form_tree-Sub a values = search (rules, forms.the_lemmas)
@@ -164,6 +168,14 @@ pub one_operand : {A : Type 0} (view : A → DataSet) (p : Settings) (env : Envi
 one_operand view p env n f t a d op r e tree value g h =
     subst (λ (u : NodeTree). Evaluates view p env u r) (sym (tree_with n f t e tree))
     (applied view p env (nodes.node n.structure t) (op d) r (value ∙ then p env a d op g) h)
+
+-- the same points under other names
+pub renamed : {A : Type 0} (view : A → DataSet) (p : Settings) (env : Environment) (n : Node) (a : Box Node Global) (pairs : List Renaming) (d : DataSet) (r : Result A ScalarErr)
+    → n.form ≡ form.Rename a pairs → Gives p env (node_tree a.value) d → AnswersBy view r (Ok (data_set n.structure d.points)) → Evaluates view p env (node_tree n) r
+renamed view p env n a pairs d r e g h =
+    let t = nodes.rename (node_tree a.value) pairs in
+    subst (λ (u : NodeTree). Evaluates view p env u r) (sym (tree_with n (form.Rename a pairs) t e (form_tree-Rename a pairs)))
+    (applied view p env (nodes.node n.structure t) (Ok d.points) r g.points h)
 
 -- an operator on two
 pub two_operands : {A : Type 0} (view : A → DataSet) (p : Settings) (env : Environment) (n : Node) (f : NodeForm) (t : FormTree) (a b : NodeTree) (d e : DataSet) (op : DataSet → DataSet → Outcome (List Row)) (r : Result A ScalarErr)

@@ -1,13 +1,13 @@
-// Joins, set operators and `exists_in`, `pivot` and `unpivot`, each on the data sets of its operands.
-ghost use Rattle.std.specs.Prelude.{◌≡◌, ◌<◌, ◌∷◌, [], ℕ, IfOk, List, Ok, length, map};
+// Operators on three data sets or on any number of them: `if`, joins, `union` and `intersect`.
+ghost use Rattle.std.specs.Prelude.{◌≡◌, ◌<◌, IfOk, Ok, length, map};
 ghost use Rattle.std.specs.Option.{IfSome};
 ghost use Rattle.vtl_scalar.specs.Answers.{AnswersBy};
 ghost use Rattle.vtl_tree.specs.Shown.{shown};
 ghost use Rattle.vtl_sets.specs.DataSets.{data_set};
 ghost use Rattle.vtl_meaning.specs.Joined.{join_of, structures_of};
-ghost use Rattle.vtl_meaning.specs.Made.{AreCombined, IsCombined, IsExistence, IsJoined, IsPivoted, IsUnpivoted};
-ghost use Rattle.vtl_meaning.specs.Sets.{difference_of, existence_of, intersection_of, symmetric_difference_of, union_of};
-ghost use Rattle.vtl_meaning.specs.Turned.{pivot_of, unpivot_of};
+ghost use Rattle.vtl_meaning.specs.Made.{AreCombined, IsChoice, IsJoined};
+ghost use Rattle.vtl_meaning.specs.Operators.{choice_of};
+ghost use Rattle.vtl_meaning.specs.Sets.{intersection_of, union_of};
 ghost use Rattle.vtl_join.specs.Joining.{sets_of};
 ghost use Rattle.vtl_interp.specs.Values.{value_view};
 
@@ -16,9 +16,8 @@ use std::alloc::{AllocError, Global};
 use vtl_join::Joined;
 use vtl_scalar::ScalarErr;
 use vtl_sets::DataSet;
-use vtl_syntax::{JoinKind, Retain};
-use vtl_text::Txt;
-use vtl_tree::{JoinOperand, Structure, share_structure};
+use vtl_syntax::JoinKind;
+use vtl_tree::{JoinOperand, Structure};
 
 // The data sets, lent.
 fn lent<'v, 'a>(alloc: Global, values: &'v [Value<'a>]) -> Result<Vec<&'v DataSet>, AllocError>
@@ -62,7 +61,6 @@ pub fn join<'a>(
     requires joined { IsJoined kind (structures_of (map value_view values.now)) made.now }
     ensures { AnswersBy value_view result (Ok (data_set made.now (join_of kind (map value_view values.now)))) }
 {
-    let made = share_structure(alloc, made)?;
     let joined = joined(alloc, kind, values, operands)?;
     Ok(Value::Made(vtl_join::close(alloc, kind, joined, made)?))
 }
@@ -76,7 +74,6 @@ pub fn union<'a>(
     requires { AreCombined (structures_of (map value_view values.now)) made.now }
     ensures { AnswersBy value_view result (Ok (data_set made.now (union_of (map value_view values.now) made.now))) }
 {
-    let made = share_structure(alloc, made)?;
     let sets = lent(alloc, values)?;
     Ok(Value::Made(vtl_combine::union_all(alloc, &sets, made)?))
 }
@@ -90,74 +87,20 @@ pub fn intersect<'a>(
     requires { AreCombined (structures_of (map value_view values.now)) made.now }
     ensures { AnswersBy value_view result (Ok (data_set made.now (intersection_of (map value_view values.now) made.now))) }
 {
-    let made = share_structure(alloc, made)?;
     let sets = lent(alloc, values)?;
     Ok(Value::Made(vtl_combine::intersect_all(alloc, &sets, made)?))
 }
 
-/// `setdiff`
-pub fn set_diff<'a>(
+/// `if`
+pub fn choose<'a>(
     alloc: Global,
+    condition: Value<'a>,
     a: Value<'a>,
     b: Value<'a>,
     made: &Structure,
 ) -> Result<Value<'a>, ScalarErr>
-    requires { IsCombined (value_view a).structure ((value_view b).structure ∷ []) made.now }
-    ensures { AnswersBy value_view result (Ok (data_set made.now (difference_of (value_view a.entry) (value_view b.entry) made.now))) }
+    requires { IsChoice (value_view condition).structure (value_view a).structure (value_view b).structure made.now }
+    ensures { AnswersBy value_view result (Ok (data_set made.now (choice_of (value_view condition.entry) (value_view a.entry) (value_view b.entry) made.now))) }
 {
-    let made = share_structure(alloc, made)?;
-    Ok(Value::Made(vtl_combine::setdiff(alloc, a.data(), b.data(), made)?))
-}
-
-/// `symdiff`
-pub fn sym_diff<'a>(
-    alloc: Global,
-    a: Value<'a>,
-    b: Value<'a>,
-    made: &Structure,
-) -> Result<Value<'a>, ScalarErr>
-    requires { IsCombined (value_view a).structure ((value_view b).structure ∷ []) made.now }
-    ensures { AnswersBy value_view result (Ok (data_set made.now (symmetric_difference_of (value_view a.entry) (value_view b.entry) made.now))) }
-{
-    let made = share_structure(alloc, made)?;
-    Ok(Value::Made(vtl_combine::symdiff(alloc, a.data(), b.data(), made)?))
-}
-
-/// `exists_in`
-pub fn exists_in<'a>(
-    alloc: Global,
-    a: Value<'a>,
-    b: Value<'a>,
-    retain: Retain,
-    made: &Structure,
-) -> Result<Value<'a>, ScalarErr>
-    requires { IsExistence (value_view a).structure (value_view b).structure made.now }
-    ensures { AnswersBy value_view result (Ok (data_set made.now (existence_of (value_view a.entry) (value_view b.entry) retain))) }
-{
-    let made = share_structure(alloc, made)?;
-    Ok(Value::Made(vtl_combine::exists_in(alloc, a.data(), b.data(), retain, made)?))
-}
-
-/// `pivot`
-pub fn pivot<'a>(
-    alloc: Global,
-    a: Value<'a>,
-    id: &Txt,
-    m: &Txt,
-    made: &Structure,
-) -> Result<Value<'a>, ScalarErr>
-    requires { IsPivoted id.now m.now (value_view a).structure made.now }
-    ensures { AnswersBy value_view result (Ok (data_set made.now (pivot_of (value_view a.entry) id.now m.now))) }
-{
-    let made = share_structure(alloc, made)?;
-    Ok(Value::Made(vtl_combine::pivot(alloc, a.data(), id, m, made)?))
-}
-
-/// `unpivot`
-pub fn unpivot<'a>(alloc: Global, a: Value<'a>, made: &Structure) -> Result<Value<'a>, ScalarErr>
-    requires { (id : List ℕ) × (measure : List ℕ) × IsUnpivoted id measure (value_view a).structure made.now }
-    ensures { AnswersBy value_view result (Ok (data_set made.now (unpivot_of (value_view a.entry)))) }
-{
-    let made = share_structure(alloc, made)?;
-    Ok(Value::Made(vtl_combine::unpivot(alloc, a.data(), made)?))
+    Ok(Value::Made(vtl_expr::choose(alloc, condition.data(), a.data(), b.data(), made)?))
 }

@@ -9,9 +9,8 @@ ghost use Rattle.vtl_interp.specs.Evaluated.{Evaluates};
 ghost use Rattle.vtl_interp.specs.Values.{value_view, values_view};
 
 use crate::applied::{apply_to_one, apply_to_two};
-use crate::combinations::{intersect, join, union};
+use crate::combinations::{choose, intersect, join, union};
 use crate::held::Known;
-use crate::operators::choose;
 use crate::value::Value;
 use std::alloc::Global;
 use vtl_decimal::Profile;

@@ -15,7 +15,7 @@ use vtl_check::Checked;
 use vtl_rows::{Inputs, SharedTable};
 use vtl_sets::DataSet;
 use vtl_text::Txt;
-use vtl_tree::{Structure, share_structure};
+use vtl_tree::Structure;
 
 // The data set of a table, which is shared.
 fn data_set_of(
@@ -26,8 +26,7 @@ fn data_set_of(
     requires { IsTableOf structure.now table.now }
     ensures { IfOk result (λ d. d ≡ data_set structure.now table.now.rows) }
 {
-    let structure = share_structure(alloc, structure)?;
-    Ok(DataSet::shared(structure, table.share()?))
+    DataSet::shared(alloc, structure, table.share()?)
 }
 
 // The data set of an input.

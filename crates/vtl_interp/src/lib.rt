@@ -2,8 +2,8 @@
 //! memory.
 //!
 //! It holds data sets by name, lends them to the operators that read them, and releases each after the last statement
-//! that reads it. What an operator gives is computed by `vtl_clause`, `vtl_combine`, `vtl_group`, `vtl_window` and
-//! `vtl_join`. Beside it `run_over` runs a script by any back end, over inputs that it puts in order where that is of
+//! that reads it. What an operator gives is computed by `vtl_expr`, `vtl_clause`, `vtl_combine`, `vtl_group`,
+//! `vtl_window` and `vtl_join`. Beside it `run_over` runs a script by any back end, over inputs that it puts in order where that is of
 //! use, and then lets go.
 //! It decides no type rule (the script is typed already), reads and writes no file, and knows no status.
 //! Begin with vtl_backend/specs/Runs.antt, which it meets, then src/statements.rt and src/evaluation.rt.
@@ -16,7 +16,6 @@ mod held;
 mod inputs;
 mod interp;
 mod last_reads;
-mod operators;
 mod ordered;
 mod statements;
 mod value;

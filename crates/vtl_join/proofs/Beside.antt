@@ -16,9 +16,8 @@ use Rattle.vtl_tree.specs.Structure.{columns_of}
 use Rattle.vtl_tree.specs.declared.structure.Role.TheVariants as role
 use Rattle.vtl_tree.specs.declared.structure.Structure.{Structure}
 use Rattle.vtl_tuples.proofs.Lists.{filter-map, map-map, map_same}
-use Rattle.vtl_tree.specs.Columns.{common_identifiers}
+use Rattle.vtl_tree.specs.Columns.{common_identifiers, identifiers_of}
 use Rattle.vtl_meaning.specs.Agreement.{agree_in, first_agreeing}
-use Rattle.vtl_tree.specs.Columns.{identifiers_of}
 use Rattle.vtl_meaning.specs.Joined.{Tuple, attributes_in, inner_tuples, is_whole, left_tuples, measures_in, part_of, structures_of, tuple_beside, tuple_point}
 use Rattle.vtl_meaning.proofs.Agreements.{own_values}
 use Rattle.vtl_meaning.proofs.JoinAgreements.{agreeing_own}

@@ -10,8 +10,7 @@ use Rattle.vtl_tree.specs.Environment.{DataSet}
 use Rattle.vtl_tree.specs.Structure.{columns_of}
 use Rattle.vtl_tree.specs.declared.structure.Component.{Component}
 use Rattle.vtl_tree.specs.declared.structure.Structure.{Structure}
-use Rattle.vtl_tree.specs.Columns.{common_identifiers}
-use Rattle.vtl_tree.specs.Columns.{places_in}
+use Rattle.vtl_tree.specs.Columns.{common_identifiers, places_in}
 
 -- the points of an operand, by the identifiers that it has in common with the structure of the rows that ask
 abbrev pub sought_beside : Structure → DataSet → Sought

@@ -147,13 +147,13 @@ pub fn close(
     alloc: Global,
     kind: JoinKind,
     j: Joined,
-    made: Structure,
+    made: &Structure,
 ) -> Result<DataSet, AllocError>
     requires kind { IfSome j.kind (λ before. before ≡ kind) }
-    requires made { IsJoined kind (structures_of (sets_of j.operands)) made }
-    ensures { IfOk result (λ d. d ≡ data_set made (join_of kind (sets_of j.operands))) }
+    requires made { IsJoined kind (structures_of (sets_of j.operands)) made.now }
+    ensures { IfOk result (λ d. d ≡ data_set made.now (join_of kind (sets_of j.operands))) }
 {
     operands_are_sets(&j.operands);
-    let table = joined_table(alloc, kind, &j.operands, &made)?;
+    let table = joined_table(alloc, kind, &j.operands, made)?;
     DataSet::of(alloc, made, table)
 }

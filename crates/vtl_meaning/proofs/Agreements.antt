@@ -16,9 +16,8 @@ use Rattle.vtl_tree.specs.Names.{component_of, is_among}
 use Rattle.vtl_tree.specs.Operands.{is_alike, is_there}
 use Rattle.vtl_tree.specs.Pairs.{contains}
 use Rattle.vtl_tree.specs.declared.operands.Compared.TheVariants as compared
-use Rattle.vtl_tree.specs.Columns.{common_identifiers, has_identifier}
+use Rattle.vtl_tree.specs.Columns.{common_identifiers, has_identifier, identifiers_of}
 use Rattle.vtl_meaning.specs.Agreement.{first_agreeing, values_in}
-use Rattle.vtl_tree.specs.Columns.{identifiers_of}
 use Rattle.vtl_meaning.specs.Points.{partner}
 use Rattle.vtl_meaning.proofs.LookUps.{named_cells}
 use Rattle.vtl_meaning.proofs.Places.{all_filtered, all_more, key_cells, key_within}

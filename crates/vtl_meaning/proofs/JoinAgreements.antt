@@ -15,9 +15,8 @@ use Rattle.vtl_tree.specs.Structure.{IsStructure, columns_of, key_width, names_o
 use Rattle.vtl_tree.specs.declared.structure.Component.{Component}
 use Rattle.vtl_tree.specs.declared.structure.Structure.{Structure}
 use Rattle.vtl_tree.specs.Names.{is_among}
-use Rattle.vtl_tree.specs.Columns.{common_identifiers, has_identifier}
+use Rattle.vtl_tree.specs.Columns.{common_identifiers, has_identifier, identifiers_of, place_of}
 use Rattle.vtl_meaning.specs.Agreement.{OperandPoint, agree_in, first_agreeing, operand_point, points_agree, values_in}
-use Rattle.vtl_tree.specs.Columns.{identifiers_of, place_of}
 use Rattle.vtl_meaning.specs.LookUps.{value_named}
 use Rattle.vtl_meaning.specs.Made.{AreAmong, IsColumnAt}
 use Rattle.vtl_meaning.proofs.Agreements.{own_values}

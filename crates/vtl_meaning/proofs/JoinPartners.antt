@@ -10,9 +10,8 @@ use Rattle.vtl_tree.specs.Environment.{DataSet}
 use Rattle.vtl_tree.specs.Structure.{IsStructure, columns_of, key_width}
 use Rattle.vtl_tree.specs.declared.structure.Component.{Component}
 use Rattle.vtl_tree.specs.declared.structure.Structure.{Structure}
-use Rattle.vtl_tree.specs.Columns.{common_identifiers, has_identifier}
+use Rattle.vtl_tree.specs.Columns.{common_identifiers, has_identifier, identifiers_of, place_of}
 use Rattle.vtl_meaning.specs.Agreement.{first_agreeing, key_of, values_in}
-use Rattle.vtl_tree.specs.Columns.{identifiers_of, place_of}
 use Rattle.vtl_meaning.specs.JoinWords.{IsWithin, looked_tuple, point_with}
 use Rattle.vtl_meaning.specs.Joined.{part_of, tuple_at, tuple_beside}
 use Rattle.vtl_meaning.specs.LookUps.{part_for, value_named, values_named}

@@ -11,13 +11,14 @@ use vtl_decimal::Profile;
 use vtl_rows::Table;
 use vtl_tree::{Structure, Structures};
 
+const STRUCTURES: CaseErr = CaseErr::Unfit("no structures file of one data set");
+
 // The text of the data set that is read, or the first fault.
 pub(crate) fn rewritten(alloc: Global, row: &Row) -> Result<String, CaseErr> {
     let profile = profile(row.field(0), row.field(1))?;
-    let text = bytes(alloc, row.field(3))?;
     match read_structures(alloc, row.field(2).as_bytes()) {
-        Ok(structures) => one_read(alloc, &structures, &text, &profile),
-        Err(StructErr::Structure { .. }) => Err(CaseErr::Structures),
+        Ok(structures) => one_read(alloc, &structures, row.field(3), &profile),
+        Err(StructErr::Structure { .. }) => Err(STRUCTURES),
         Err(StructErr::OutOfMemory) => Err(CaseErr::OutOfMemory),
     }
 }
@@ -25,13 +26,13 @@ pub(crate) fn rewritten(alloc: Global, row: &Row) -> Result<String, CaseErr> {
 fn one_read(
     alloc: Global,
     structures: &Structures,
-    text: &[u8],
+    text: &str,
     profile: &Profile,
 ) -> Result<String, CaseErr> {
     if structures.len() == 1 {
-        read(alloc, structures.at(0).1, text, profile)
+        read(alloc, structures.at(0).1, text.as_bytes(), profile)
     } else {
-        Err(CaseErr::Structures)
+        Err(STRUCTURES)
     }
 }
 
@@ -66,7 +67,7 @@ fn written(
 ) -> Result<String, CaseErr>
     requires { IsTableOf structure.now table.now }
 {
-    escaped(alloc, file(alloc, table, structure, profile)?)
+    text_of(file(alloc, table, structure, profile)?)
 }
 
 // The bytes that are written, without what is promised about them.
@@ -79,38 +80,4 @@ fn file(
     requires { IsTableOf structure.now table.now }
 {
     write_dataset(alloc, table, structure, profile)
-}
-
-// A carriage return and a `\` are escaped, as in the answers of the table.
-fn escaped(alloc: Global, bytes: Vec<u8>) -> Result<String, CaseErr> {
-    let mut out = String::new(alloc);
-    for c in text_of(bytes)?.chars() {
-        match c {
-            '\r' => out.push_str("\\x0D")?,
-            '\\' => out.push_str("\\x5C")?,
-            _ => out.push(c)?,
-        }
-    }
-    Ok(out)
-}
-
-// The bytes of a text in which `\xHH` stands for the byte with this number in hexadecimal digits.
-fn bytes(alloc: Global, text: &str) -> Result<Vec<u8>, CaseErr> {
-    let mut out = Vec::new(alloc);
-    let mut parts = text.split("\\");
-    out.extend_from_slice(parts.next().unwrap_or("").as_bytes())?;
-    for part in parts {
-        let Some(byte) = escaped_byte(part) else {
-            return Err(CaseErr::Escape);
-        };
-        out.push(byte)?;
-        out.extend_from_slice(part.as_bytes().get(3..).unwrap_or(&[]))?;
-    }
-    Ok(out)
-}
-
-// The byte that `xHH` at the front stands for.
-fn escaped_byte(part: &str) -> Option<u8> {
-    let digits = part.strip_prefix("x")?.get(..2)?;
-    u8::from_str_radix(digits, 16).ok()
 }

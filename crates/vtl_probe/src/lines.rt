@@ -40,37 +40,29 @@ impl Lines {
         }
     }
 
-    // A node without parts.
-    pub(crate) fn push(&mut self, text: &str) {
-        self.pushed("", text, "");
-    }
-
-    // A node without parts, whose line is made of three texts.
-    pub(crate) fn pushed(&mut self, before: &str, text: &str, after: &str) {
+    // A node that is called so.
+    pub(crate) fn name(&mut self, name: &str) {
         self.indent();
-        self.add(before);
-        self.add(text);
-        self.add(after);
+        self.add(name);
         self.add("\n");
     }
 
-    // A node without parts, named by what it is.
-    pub(crate) fn word<T: fmt::Debug>(&mut self, word: &T) {
+    // A node that is shown as what it is.
+    pub(crate) fn part<T: fmt::Debug>(&mut self, part: &T) {
         self.indent();
-        if writeln!(self.text, "{word:?}").is_err() {
+        if writeln!(self.text, "{part:?}").is_err() {
             self.lacks_memory = true;
         }
     }
 
-    // A node whose parts follow, up to `close`.
-    pub(crate) fn open(&mut self, head: &str) {
-        self.push(head);
-        self.level = self.level.saturating_add(1);
+    // A node that is called so; its parts follow, up to `close`.
+    pub(crate) fn open(&mut self, name: &str) {
+        self.name(name);
+        self.enter();
     }
 
-    // The same, named by what it is.
-    pub(crate) fn open_word<T: fmt::Debug>(&mut self, word: &T) {
-        self.word(word);
+    // What follows are parts of the last node, up to `close`.
+    pub(crate) fn enter(&mut self) {
         self.level = self.level.saturating_add(1);
     }
 

@@ -12,22 +12,20 @@ mod lines;
 mod notation;
 mod operands;
 mod order;
-mod parts;
 mod refusals;
 mod report;
 mod rows;
 mod runs;
 mod sql;
 mod structures;
-mod sums;
 mod syntax;
 mod tables;
+mod texts;
 mod times;
 mod tokens;
 mod tree;
 mod trouble;
 mod types;
-mod values;
 mod words;
 
 use report::Report;
@@ -69,44 +67,14 @@ fn carried_out<'a, F: Files>(
             let text = files::text(alloc, files, path)?;
             tables::verdict(alloc, table, "", &text)
         }
-        Command::Prefixes {
-            language,
-            script,
-            path,
-        } => {
-            let script = files::text(alloc, files, script)?;
+        Command::Text { view, path } => {
             let text = files::text(alloc, files, path)?;
-            tables::verdict(alloc, tables::Table::Prefixes(language), &script, &text)
+            Ok(view.of(alloc, &text)?)
         }
         Command::Types { structures, path } => {
             let structures = files::text(alloc, files, structures)?;
             let text = files::text(alloc, files, path)?;
             tables::verdict(alloc, tables::Table::Types, &structures, &text)
         }
-        Command::Check {
-            script,
-            structures,
-            scale,
-        } => {
-            let script = files::text(alloc, files, script)?;
-            let structures = files::text(alloc, files, structures)?;
-            checked(alloc, &script, &structures, scale)
-        }
-        Command::Tokens(path) => Ok(tokens::printed(alloc, &files::text(alloc, files, path)?)?),
-        Command::Tree(path) => Ok(syntax::printed(alloc, &files::text(alloc, files, path)?)?),
-        Command::Sql(path) => Ok(sql::told(alloc, &files::text(alloc, files, path)?)?),
-        Command::Print(path) => Ok(sql::printed(alloc, &files::text(alloc, files, path)?)?),
-    }
-}
-
-fn checked<'a>(
-    alloc: Global,
-    script: &str,
-    structures: &str,
-    scale: &str,
-) -> Result<Report, Trouble<'a>> {
-    match types::printed(alloc, script, structures, scale) {
-        Ok(report) => Ok(report),
-        Err(error) => Err(Trouble::Words(error.why())),
     }
 }

@@ -1,4 +1,4 @@
-// The lines of `vtl` for a script that is refused before any data is read, without their line feed, and their codes.
+// The lines of `vtl` for a text that is refused before any data is read, without their line feed, and their codes.
 use crate::report::Report;
 use std::alloc::{AllocError, Global};
 use std::str;
@@ -14,10 +14,6 @@ pub(crate) fn of_text(alloc: Global, error: ParseErr) -> Result<Report, AllocErr
         ParseErr::Syntax { done, byte } => answered(alloc, &Status::Syntax { done, byte }),
         ParseErr::OutOfMemory => Err(AllocError),
     }
-}
-
-pub(crate) fn syntax(alloc: Global, done: usize, byte: usize) -> Result<String, AllocError> {
-    line(alloc, &Status::Syntax { done, byte })
 }
 
 pub(crate) fn of_structures(alloc: Global, error: StructErr) -> Result<Report, AllocError> {
@@ -40,19 +36,21 @@ pub(crate) fn of_rulesets(alloc: Global) -> Result<Report, AllocError> {
     answered(alloc, &Status::Unbuilt(Txt::new(alloc, "rulesets")?))
 }
 
-fn answered(alloc: Global, status: &Status) -> Result<Report, AllocError> {
+// That nothing is refused.
+pub(crate) fn nothing(alloc: Global) -> Result<Report, AllocError> {
     Ok(Report {
-        text: line(alloc, status)?,
-        code: status.code(),
+        text: String::from_str(alloc, "typed")?,
+        code: 0,
     })
 }
 
-// The line of a status, without its line feed.
-fn line(alloc: Global, status: &Status) -> Result<String, AllocError> {
+// The line and the code of a status.
+pub(crate) fn answered(alloc: Global, status: &Status) -> Result<Report, AllocError> {
     let mut sink = MemSink::new(alloc, 4096, Vec::new(alloc));
     tell(status, &mut sink);
-    match str::from_utf8(sink.taken()) {
-        Ok(line) => String::from_str(alloc, line.trim_end()),
-        Err(_) => Ok(String::new(alloc)),
-    }
+    let line = str::from_utf8(sink.taken()).ok().unwrap_or("");
+    Ok(Report {
+        text: String::from_str(alloc, line.trim_end())?,
+        code: status.code(),
+    })
 }

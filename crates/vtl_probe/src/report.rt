@@ -7,6 +7,15 @@ pub(crate) struct Report {
     pub(crate) code: u8,
 }
 
+impl Report {
+    // The same with a line feed behind the text.
+    pub(crate) fn line(self) -> Result<Report, AllocError> {
+        let Report { mut text, code } = self;
+        text.push('\n')?;
+        Ok(Report { text, code })
+    }
+}
+
 // How many cases came out as wanted.
 #[derive(Drop)]
 pub(crate) struct Tally {

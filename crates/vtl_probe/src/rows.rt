@@ -1,5 +1,4 @@
 // The fields of a case.
-use crate::trouble::CaseErr;
 use csv::StringRecord;
 use std::alloc::{AllocError, Global};
 
@@ -13,16 +12,6 @@ impl<'a> Row<'a> {
     // A field that is not there is empty.
     pub(crate) fn field(&self, place: usize) -> &'a str {
         self.fields.get(place).unwrap_or("")
-    }
-
-    // A whole number.
-    pub(crate) fn whole(&self, place: usize) -> Result<i64, CaseErr> {
-        self.field(place).parse().ok().ok_or(CaseErr::Number)
-    }
-
-    // A number of levels or bytes.
-    pub(crate) fn size(&self, place: usize) -> Result<usize, CaseErr> {
-        self.field(place).parse().ok().ok_or(CaseErr::Number)
     }
 
     // The fields from a place on, with commas between them.

@@ -3,7 +3,6 @@ ghost use Rattle.std.specs.Prelude.{◌≡◌, length, pos, IfOk, OnErr};
 
 use crate::operands::{SIZE, TEXTS, numbers, pairs};
 use crate::report::Report;
-use crate::structures::read_times;
 use crate::times::{Operation, Order};
 use std::alloc::{AllocError, Global};
 use vtl_decimal::{Dec, Profile, Rounding, add, div, mul, read, write};
@@ -58,7 +57,7 @@ fn bytes_written(
     Ok(sum)
 }
 
-// The checksum of an order's results: the wrapping sum of their units, of the bytes written, or of the data sets read.
+// The checksum of an order's results: the wrapping sum of their units, or of the bytes written.
 fn checksum(alloc: Global, order: Order) -> Result<i64, AllocError> {
     let p = profile();
     let count = order.count;
@@ -76,7 +75,6 @@ fn checksum(alloc: Global, order: Order) -> Result<i64, AllocError> {
         )),
         Operation::Read => Ok(sum_round(&TEXTS, count, |text| units(read(text, &p)))),
         Operation::Write => bytes_written(alloc, &numbers(), count, &p),
-        Operation::Structures(filling) => read_times(alloc, filling, count),
     }
 }
 

@@ -1,37 +1,28 @@
 // Tables of cases.
 use crate::report::{Report, Tally};
 use crate::rows::Row;
-use crate::syntax::Language;
 use crate::trouble::{CaseErr, Trouble};
-use crate::{datasets, order, sql, structures, sums, syntax, tokens, types, values};
+use crate::{datasets, order, sql, structures, syntax, tokens, types};
 use csv::{Reader, ReaderBuilder, StringRecord};
-use std::alloc::{AllocError, Global};
+use std::alloc::Global;
 
 // What the cases of a table are about.
 #[derive(Clone, Copy)]
 pub(crate) enum Table {
-    // Scalar operators on their operands.
-    Scalars,
-    // Texts of values.
-    Values,
     // Two values, of which the first comes before the second.
     Order,
     // Periods that are shifted.
     Periods,
     // What may be a name.
     Names,
-    // Totals and means.
-    Sums,
     // The tokens of texts.
     Tokens,
-    // How many statements a text has, or where its fault is.
-    Syntax(Language),
-    // How many levels a nest may have.
-    Depth(Language),
-    // The same as for `Syntax`, of the texts at the front of a script.
-    Prefixes(Language),
-    // The same as for `Syntax`, of the text that an SQL script is printed as.
-    Again,
+    // How many statements a script has, or where its fault is.
+    Syntax,
+    // The same of a script of SQL.
+    SqlSyntax,
+    // The same of the text that a script of SQL is printed as.
+    SqlAgain,
     // How expressions of SQL are printed.
     Groups,
     // What scripts of SQL are typed as, or their faults.
@@ -48,18 +39,13 @@ impl Table {
     // The table that the word names.
     pub(crate) fn named(word: &str) -> Option<Table> {
         Some(match word {
-            "scalars" => Table::Scalars,
-            "values" => Table::Values,
             "order" => Table::Order,
             "periods" => Table::Periods,
             "names" => Table::Names,
-            "sums" => Table::Sums,
             "lexed" => Table::Tokens,
-            "syntax" => Table::Syntax(Language::Vtl),
-            "depth" => Table::Depth(Language::Vtl),
-            "sql_syntax" => Table::Syntax(Language::Sql),
-            "sql_depth" => Table::Depth(Language::Sql),
-            "sql_again" => Table::Again,
+            "syntax" => Table::Syntax,
+            "sql_syntax" => Table::SqlSyntax,
+            "sql_again" => Table::SqlAgain,
             "sql_groups" => Table::Groups,
             "sql_types" => Table::SqlTypes,
             "structures" => Table::Structures,
@@ -71,44 +57,35 @@ impl Table {
     // The header, and how many of its columns are given; the others are wanted.
     fn header(self) -> (&'static str, usize) {
         match self {
-            Table::Scalars => ("scale,rounding,operator,operands,result", 4),
-            Table::Values => ("scale,rounding,kind,text,result", 4),
             Table::Order => ("kind,low,high", 3),
             Table::Periods => ("period,by,result", 2),
             Table::Names => ("text,word,reserved,name,component", 1),
-            Table::Sums => ("scale,rounding,numbers,total,mean", 3),
             Table::Tokens => ("text,tokens", 1),
-            Table::Syntax(_) | Table::Again => ("text,done,byte", 1),
+            Table::Syntax | Table::SqlSyntax | Table::SqlAgain => ("text,done,byte", 1),
             Table::Groups => ("given,printed", 1),
-            Table::Depth(_) => ("head,open,middle,close,tail,most", 6),
-            Table::Prefixes(_) => ("from,to,done,byte", 2),
             Table::Types => ("scale,script,answer", 2),
             Table::SqlTypes | Table::Structures => ("text,answer", 1),
             Table::Datasets => ("scale,rounding,structures,text,answer", 4),
         }
     }
 
-    // What comes of a case, as its wanted columns have it. A table of prefixes has a script, one of types
-    // structures.
-    fn came(self, alloc: Global, script: &str, row: &Row) -> Result<String, CaseErr> {
-        match self {
-            Table::Scalars => values::scalar(alloc, row),
-            Table::Values => values::rewritten(alloc, row),
-            Table::Order => order::ordered(alloc, row),
-            Table::Periods => order::shifted(alloc, row),
-            Table::Names => Ok(order::named(alloc, row)?),
-            Table::Sums => sums::summed(alloc, row),
-            Table::Tokens => Ok(tokens::shown(alloc, row.field(0))?),
-            Table::Syntax(language) => Ok(language.outcome(alloc, row.field(0))?),
-            Table::Depth(language) => syntax::nested(alloc, language, row),
-            Table::Prefixes(language) => syntax::fronts(alloc, language, script, row),
-            Table::Again => Ok(sql::outcome_again(alloc, row.field(0))?),
-            Table::Groups => Ok(sql::grouped(alloc, row.field(0))?),
-            Table::SqlTypes => Ok(sql::typed(alloc, row.field(0))?),
-            Table::Types => types::outcome(alloc, script, row),
-            Table::Structures => Ok(structures::declared(alloc, row.field(0))?),
-            Table::Datasets => datasets::rewritten(alloc, row),
-        }
+    // What comes of a case, as its wanted columns have it. A table of types has structures.
+    fn came(self, alloc: Global, declared: &str, row: &Row) -> Result<String, CaseErr> {
+        let text = row.field(0);
+        Ok(match self {
+            Table::Order => return order::ordered(alloc, row),
+            Table::Periods => return order::shifted(alloc, row),
+            Table::Types => return types::outcome(alloc, declared, row),
+            Table::Datasets => return datasets::rewritten(alloc, row),
+            Table::Names => order::named(alloc, row)?,
+            Table::Tokens => tokens::listed(alloc, text)?,
+            Table::Syntax => syntax::outcome(alloc, text)?,
+            Table::SqlSyntax => sql::outcome(alloc, text)?,
+            Table::SqlAgain => sql::outcome_again(alloc, text)?,
+            Table::Groups => sql::grouped(alloc, text)?,
+            Table::SqlTypes => sql::typed(alloc, text)?.text,
+            Table::Structures => structures::declared(alloc, text)?,
+        })
     }
 }
 
@@ -116,19 +93,19 @@ impl Table {
 pub(crate) fn verdict<'a>(
     alloc: Global,
     table: Table,
-    script: &str,
+    declared: &str,
     text: &str,
 ) -> Result<Report, Trouble<'a>> {
     let mut tally = Tally::new(alloc);
-    judge_all(alloc, table, script, text, &mut tally)?;
+    judge_all(alloc, table, declared, text, &mut tally)?;
     Ok(tally.report()?)
 }
 
-// Counts each case of a table.
+// Counts each case of a table. An empty file has an empty header.
 fn judge_all<'a>(
     alloc: Global,
     table: Table,
-    script: &str,
+    declared: &str,
     text: &str,
     tally: &mut Tally,
 ) -> Result<(), Trouble<'a>> {
@@ -137,22 +114,25 @@ fn judge_all<'a>(
         .flexible(true)
         .from_reader(alloc, text.as_bytes());
     let mut fields = StringRecord::new(alloc);
-    let mut width = 0;
-    for case in 0..=text.len() {
-        // An empty file has an empty header.
-        if !is_read(&mut reader, &mut fields)? && case > 0 {
+    is_read(&mut reader, &mut fields)?;
+    check_header(alloc, table, &Row { fields: &fields })?;
+    let width = fields.len();
+    for case in 1..=text.len() {
+        if !is_read(&mut reader, &mut fields)? {
             break;
         }
-        let row = Row { fields: &fields };
-        if case == 0 {
-            check_header(alloc, table, &row)?;
-            width = fields.len();
-        } else if fields.len() == width {
-            judge(alloc, table, script, &row, case, tally)?;
-        } else {
+        if fields.len() != width {
             let why = "not as many fields as the header has";
             return Err(Trouble::Case { case, why });
         }
+        judge(
+            alloc,
+            table,
+            declared,
+            &Row { fields: &fields },
+            case,
+            tally,
+        )?;
     }
     Ok(())
 }
@@ -177,12 +157,12 @@ fn check_header<'a>(alloc: Global, table: Table, row: &Row) -> Result<(), Troubl
 fn judge<'a>(
     alloc: Global,
     table: Table,
-    script: &str,
+    declared: &str,
     row: &Row,
     case: usize,
     tally: &mut Tally,
 ) -> Result<(), Trouble<'a>> {
-    match table.came(alloc, script, row) {
+    match table.came(alloc, declared, row) {
         Ok(came) => {
             let (_, given) = table.header();
             tally.count(case, &row.from(alloc, given)?, &came)?;

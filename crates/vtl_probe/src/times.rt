@@ -1,9 +1,7 @@
 // What is timed.
 ghost use Rattle.std.specs.Prelude.{◌≡◌, ◌↔◌, ◌≤◌, codes, Some, IfSome};
 
-use crate::structures::Filling;
-
-// An operation on decimal numbers, or the reading of a large structures file.
+// An operation on decimal numbers.
 #[derive(Clone, Copy)]
 pub(crate) enum Operation {
     Add,
@@ -11,7 +9,6 @@ pub(crate) enum Operation {
     Div,
     Read,
     Write,
-    Structures(Filling),
 }
 
 // An operation, and how many times it is run.
@@ -31,9 +28,6 @@ fn operation_of(word: &str) -> Option<Operation>
     ensures div { (result ≡ Some Operation.Div) ↔ (word.now ≡ codes "div") }
     ensures read { (result ≡ Some Operation.Read) ↔ (word.now ≡ codes "read") }
     ensures write { (result ≡ Some Operation.Write) ↔ (word.now ≡ codes "write") }
-    ensures records { (result ≡ Some (Operation.Structures Filling.Records)) ↔ (word.now ≡ codes "records") }
-    ensures data_sets { (result ≡ Some (Operation.Structures Filling.DataSets)) ↔ (word.now ≡ codes "data_sets") }
-    ensures code_lists { (result ≡ Some (Operation.Structures Filling.Codes)) ↔ (word.now ≡ codes "codes") }
 {
     match word {
         "add" => Some(Operation::Add),
@@ -41,9 +35,6 @@ fn operation_of(word: &str) -> Option<Operation>
         "div" => Some(Operation::Div),
         "read" => Some(Operation::Read),
         "write" => Some(Operation::Write),
-        "records" => Some(Operation::Structures(Filling::Records)),
-        "data_sets" => Some(Operation::Structures(Filling::DataSets)),
-        "codes" => Some(Operation::Structures(Filling::Codes)),
         _ => None,
     }
 }

@@ -1,35 +1,29 @@
-// The tree of a script, a line for each node; parts that are not written are left out.
+// The tree of a script, a line for each node. Expressions, and what holds expressions, have their parts below them; every
+// other part is one line.
 use crate::lines::Lines;
-use crate::parts::{
-    after, clause_words, comp, comps, constant, error, group, hier_rule, last, maybe_comps,
-    maybe_text, maybe_word,
-};
-use vtl_syntax::{
-    CalcPart, Clause, Comp, Expr, HierRule, JoinPart, PointRule, Script, Statement, Targets,
-};
-use vtl_text::Txt;
+use std::fmt;
+use vtl_syntax::{CalcPart, Clause, Expr, JoinPart, PointRule, Script, Statement, Targets};
 
-// What stands before the expressions that are parts of this one.
-fn before(out: &mut Lines, e: &Expr) {
+// The line of an expression that has parts.
+fn head(out: &mut Lines, e: &Expr) {
     match e {
-        Expr::Component(c) => comp(out, c),
-        Expr::Constant(c) => constant(out, c),
-        Expr::Binary { op, .. } => out.open_word(op),
-        Expr::Unary { op, .. } => out.open_word(op),
-        Expr::Function { function, .. } => out.open_word(function),
-        Expr::SetOp { operator, .. } => out.open_word(operator),
-        Expr::Difference { operator, .. } => out.open_word(operator),
-        Expr::Aggregate { function, .. } | Expr::AggregateOver { function, .. } => out.open_word(
+        Expr::Binary { op, .. } => out.part(op),
+        Expr::Unary { op, .. } => out.part(op),
+        Expr::Function { function, .. } => out.part(function),
+        Expr::SetOp { operator, .. } => out.part(operator),
+        Expr::Difference { operator, .. } => out.part(operator),
+        Expr::Aggregate { function, .. } | Expr::AggregateOver { function, .. } => out.part(
             function,
         ),
-        Expr::ValueWindow { function, .. } => out.open_word(function),
-        Expr::Shift { function, .. } => out.open_word(function),
-        _ => out.open(head(e)),
+        Expr::ValueWindow { function, .. } => out.part(function),
+        Expr::Shift { function, .. } => out.part(function),
+        Expr::Join { kind, .. } => out.part(kind),
+        _ => out.name(word(e)),
     }
 }
 
 // The word that names an expression of a kind that has one form.
-fn head(e: &Expr) -> &'static str {
+fn word(e: &Expr) -> &'static str {
     match e {
         Expr::Brackets(_) => "brackets",
         Expr::WithClause { .. } => "clause",
@@ -42,19 +36,30 @@ fn head(e: &Expr) -> &'static str {
         Expr::Check { .. } => "check",
         Expr::CheckDatapoint { .. } => "check_datapoint",
         Expr::CheckHierarchy { .. } => "check_hierarchy",
-        Expr::Hierarchy { .. } => "hierarchy",
-        Expr::Join { .. } => "join",
-        _ => "?",
+        _ => "hierarchy",
     }
 }
 
-// An expression: what stands before its parts, the expressions that are its parts, and what stands after them.
+// An expression.
 #[cycle(show)]
 fn expr(out: &mut Lines, e: &Expr) {
-    before(out, e);
     match e {
-        Expr::Component(_) | Expr::Constant(_) => return,
-        Expr::Rank(_) => {}
+        Expr::Component(found) => out.part(found),
+        Expr::Constant(found) => out.part(found),
+        _ => {
+            head(out, e);
+            out.enter();
+            operands(out, e);
+            plain(out, e);
+            out.close();
+        }
+    }
+}
+
+// The expressions that are parts of an expression, and what stands between them.
+#[cycle(show)]
+fn operands(out: &mut Lines, e: &Expr) {
+    match e {
         Expr::If {
             condition,
             then,
@@ -86,54 +91,127 @@ fn expr(out: &mut Lines, e: &Expr) {
         }
         _ => mixed(out, e),
     }
-    after(out, e);
-    out.close();
 }
 
-// The parts of an expression of which some are no expressions.
+// The same of an expression in which other parts stand between.
 #[cycle(show)]
 fn mixed(out: &mut Lines, e: &Expr) {
     match e {
-        Expr::WithClause { operand, clause: c } => {
+        Expr::WithClause {
+            operand,
+            clause: found,
+        } => {
             expr(out, operand);
-            clause(out, c);
+            clause(out, found);
         }
         Expr::Aggregate {
             operand,
-            group: g,
+            group,
             having,
             ..
         } => {
             maybe(out, "of", operand);
-            group(out, g);
+            out.part(group);
             maybe(out, "having", having);
         }
         Expr::AggregateOver { operand, .. } => maybe(out, "of", operand),
         Expr::Check {
             operand,
-            error: part,
+            error,
             imbalance,
             ..
         } => {
             expr(out, operand);
-            error(out, part);
+            out.part(error);
             maybe(out, "imbalance", imbalance);
         }
         Expr::Join {
-            kind,
             operands,
             using,
             filter,
             targets: made,
             ..
         } => {
-            out.word(kind);
             joined(out, operands);
-            maybe_comps(out, "using", using);
+            out.part(using);
             maybe(out, "filter", filter);
             if let Some(made) = made {
                 targets(out, made);
             }
+        }
+        _ => {}
+    }
+}
+
+// What stands behind the last of these.
+fn plain(out: &mut Lines, e: &Expr) {
+    match e {
+        Expr::Member { component, .. } => out.part(component),
+        Expr::InSet { literals, .. } => out.part(literals),
+        Expr::ExistsIn { retain, .. } => out.part(retain),
+        Expr::AggregateOver { over, .. } | Expr::ValueWindow { over, .. } | Expr::Rank(over) =>
+            out.part(over),
+        Expr::Shift {
+            points,
+            default,
+            over,
+            ..
+        } => {
+            out.part(points);
+            out.part(default);
+            out.part(over);
+        }
+        Expr::Check { output, .. } => out.part(output),
+        Expr::Join {
+            keeping,
+            renames,
+            ..
+        } => {
+            out.part(keeping);
+            out.part(renames);
+        }
+        _ => by_ruleset(out, e),
+    }
+}
+
+// What stands behind the operand of a check by a ruleset.
+fn by_ruleset(out: &mut Lines, e: &Expr) {
+    match e {
+        Expr::CheckDatapoint {
+            ruleset,
+            output,
+            ..
+        } => {
+            out.part(ruleset);
+            out.part(output);
+        }
+        Expr::CheckHierarchy {
+            ruleset,
+            rule,
+            mode,
+            dataset,
+            output,
+            ..
+        } => {
+            out.part(ruleset);
+            out.part(rule);
+            out.part(mode);
+            out.part(dataset);
+            out.part(output);
+        }
+        Expr::Hierarchy {
+            ruleset,
+            rule,
+            mode,
+            input,
+            output,
+            ..
+        } => {
+            out.part(ruleset);
+            out.part(rule);
+            out.part(mode);
+            out.part(input);
+            out.part(output);
         }
         _ => {}
     }
@@ -144,15 +222,16 @@ fn joined(out: &mut Lines, operands: &Vec<JoinPart>) {
     for part in operands {
         out.open("operand");
         expr(out, &part.operand);
-        maybe_text(out, "as", &part.alias);
+        out.part(&part.alias);
         out.close();
     }
 }
 
+// An expression that may be left out, below the name of its place.
 #[cycle(show)]
-fn maybe(out: &mut Lines, head: &str, found: &Option<Box<Expr>>) {
+fn maybe(out: &mut Lines, name: &str, found: &Option<Box<Expr>>) {
     if let Some(e) = found {
-        out.open(head);
+        out.open(name);
         expr(out, e);
         out.close();
     }
@@ -167,8 +246,33 @@ fn clause(out: &mut Lines, c: &Clause) {
             out.close();
         }
         Clause::Targets(made) => targets(out, made),
-        _ => clause_words(out, c),
+        _ => without_expressions(out, c),
     }
+}
+
+// The clauses that hold no expression.
+fn without_expressions(out: &mut Lines, c: &Clause) {
+    match c {
+        Clause::Keeping(kept) => out.part(kept),
+        Clause::Rename(renames) => named(out, "rename", renames),
+        Clause::Sub(values) => named(out, "sub", values),
+        Clause::Pivot {
+            identifier,
+            measure,
+        } => named(out, "pivot", &(identifier, measure)),
+        Clause::Unpivot {
+            identifier,
+            measure,
+        } => named(out, "unpivot", &(identifier, measure)),
+        Clause::Filter(_) | Clause::Targets(_) => {}
+    }
+}
+
+// A part below its name.
+fn named<T: fmt::Debug>(out: &mut Lines, name: &str, part: &T) {
+    out.open(name);
+    out.part(part);
+    out.close();
 }
 
 #[cycle(show)]
@@ -180,12 +284,12 @@ fn targets(out: &mut Lines, made: &Targets) {
         }
         Targets::Aggr {
             parts,
-            group: g,
+            group,
             having,
         } => {
             out.open("aggr");
             calcs(out, parts);
-            group(out, g);
+            out.part(group);
             maybe(out, "having", having);
         }
     }
@@ -196,8 +300,8 @@ fn targets(out: &mut Lines, made: &Targets) {
 fn calcs(out: &mut Lines, parts: &Vec<CalcPart>) {
     for part in parts {
         out.open("make");
-        maybe_word(out, &part.role);
-        comp(out, &part.component);
+        out.part(&part.role);
+        out.part(&part.component);
         expr(out, &part.value);
         out.close();
     }
@@ -205,40 +309,23 @@ fn calcs(out: &mut Lines, parts: &Vec<CalcPart>) {
 
 fn point_rule(out: &mut Lines, rule: &PointRule) {
     out.open("rule");
-    maybe_text(out, "name", &rule.name);
+    out.part(&rule.name);
     if let Some(condition) = &rule.when {
         out.open("when");
         expr(out, condition);
         out.close();
     }
     expr(out, &rule.holds);
-    error(out, &rule.error);
+    out.part(&rule.error);
     out.close();
-}
-
-fn datapoint(out: &mut Lines, name: &Txt, variables: &[Comp], rules: &[PointRule]) {
-    out.open("datapoint");
-    out.push(name.as_str());
-    comps(out, "variables", variables);
-    for rule in rules {
-        point_rule(out, rule);
-    }
-}
-
-fn hierarchical(out: &mut Lines, name: &Txt, item: &Comp, rules: &[HierRule]) {
-    out.open("hierarchical");
-    out.push(name.as_str());
-    comp(out, item);
-    for rule in rules {
-        hier_rule(out, rule);
-    }
 }
 
 fn statement(out: &mut Lines, s: &Statement) {
     match s {
         Statement::Assignment { name, kind, value } => {
-            out.open_word(kind);
-            out.push(name.as_str());
+            out.part(kind);
+            out.enter();
+            out.part(name);
             expr(out, value);
         }
         Statement::Datapoint {
@@ -247,8 +334,13 @@ fn statement(out: &mut Lines, s: &Statement) {
             rules,
             last_semicolon,
         } => {
-            datapoint(out, name, variables.as_slice(), rules.as_slice());
-            last(out, *last_semicolon);
+            out.open("datapoint");
+            out.part(name);
+            out.part(variables);
+            for rule in rules.as_slice() {
+                point_rule(out, rule);
+            }
+            out.part(last_semicolon);
         }
         Statement::Hierarchical {
             name,
@@ -256,8 +348,13 @@ fn statement(out: &mut Lines, s: &Statement) {
             rules,
             last_semicolon,
         } => {
-            hierarchical(out, name, item, rules.as_slice());
-            last(out, *last_semicolon);
+            out.open("hierarchical");
+            out.part(name);
+            out.part(item);
+            for rule in rules.as_slice() {
+                out.part(rule);
+            }
+            out.part(last_semicolon);
         }
     }
     out.close();

@@ -4,11 +4,11 @@ ghost use Rattle.vtl_check.specs.Script.{has_definitions};
 ghost use Rattle.vtl_syntax.specs.View.{script_tree};
 ghost use Rattle.vtl_syntax.specs.Written.{AreWritten};
 
-use crate::notation::{kind_word, profile};
+use crate::notation::profile;
 use crate::refusals;
 use crate::report::Report;
 use crate::rows::Row;
-use crate::structures::{push_codes, role_word};
+use crate::structures::push_components;
 use crate::trouble::CaseErr;
 use std::alloc::{AllocError, Global};
 use vtl_check::{Checked, check, defines_rulesets};
@@ -16,7 +16,7 @@ use vtl_csv::read_structures;
 use vtl_decimal::Profile;
 use vtl_parser::parse;
 use vtl_syntax::Script;
-use vtl_tree::{Component, Structures};
+use vtl_tree::Structures;
 
 // What is reported about a script, with the exit code that `vtl` has for it.
 fn answered(
@@ -77,51 +77,15 @@ fn typed(
 
 // The structure of the last result, one component after another.
 fn last_structure(alloc: Global, checked: &Checked) -> Result<Report, AllocError> {
-    let mut text = String::from_str(alloc, "typed")?;
+    let mut report = refusals::nothing(alloc)?;
     if let Some(node) = checked.nodes().last() {
-        for component in node.structure.components.as_slice() {
-            push_component(alloc, &mut text, component)?;
-        }
+        push_components(&mut report.text, node.structure.components.as_slice())?;
     }
-    Ok(Report { text, code: 0 })
-}
-
-fn push_component(
-    alloc: Global,
-    out: &mut String,
-    component: &Component,
-) -> Result<(), AllocError> {
-    write!(
-        out,
-        "; {} {} {}",
-        component.name.as_str(),
-        role_word(component.role),
-        kind_word(component.kind)
-    )?;
-    if component.codes.is_some() {
-        out.push(' ')?;
-    }
-    push_codes(alloc, out, &component.codes)
+    Ok(report)
 }
 
 // What comes of a script over the structures that its table has.
 pub(crate) fn outcome(alloc: Global, structures: &str, row: &Row) -> Result<String, CaseErr> {
     let profile = profile(row.field(0), "half_up")?;
     Ok(answered(alloc, row.field(1), structures, &profile)?.text)
-}
-
-// `typed`, or the line that `vtl` would answer.
-pub(crate) fn printed(
-    alloc: Global,
-    text: &str,
-    structures: &str,
-    scale: &str,
-) -> Result<Report, CaseErr> {
-    let profile = profile(scale, "half_up")?;
-    let mut answer = answered(alloc, text, structures, &profile)?;
-    if answer.code == 0 {
-        answer.text = String::from_str(alloc, "typed")?;
-    }
-    answer.text.push('\n')?;
-    Ok(answer)
 }

@@ -1,32 +1,13 @@
 // The words of the command line.
-use crate::syntax::Language;
 use crate::tables::Table;
+use crate::texts::View;
 use crate::times::{Order, order_of};
 
 // What is asked for.
 pub(crate) enum Command<'a> {
-    Table {
-        table: Table,
-        path: &'a str,
-    },
-    Prefixes {
-        language: Language,
-        script: &'a str,
-        path: &'a str,
-    },
-    Types {
-        structures: &'a str,
-        path: &'a str,
-    },
-    Check {
-        script: &'a str,
-        structures: &'a str,
-        scale: &'a str,
-    },
-    Tokens(&'a str),
-    Tree(&'a str),
-    Sql(&'a str),
-    Print(&'a str),
+    Table { table: Table, path: &'a str },
+    Text { view: View, path: &'a str },
+    Types { structures: &'a str, path: &'a str },
     Time(Order),
 }
 
@@ -37,18 +18,14 @@ pub(crate) fn command_of(words: &[String]) -> Option<Command> {
     match words.len() {
         2 => with_one(name, first),
         3 => with_two(name, first, words.get(2)?.as_str()),
-        5 => scaled(words),
         _ => None,
     }
 }
 
 fn with_one<'a>(name: &str, path: &'a str) -> Option<Command<'a>> {
-    match name {
-        "tokens" => Some(Command::Tokens(path)),
-        "tree" => Some(Command::Tree(path)),
-        "sql" => Some(Command::Sql(path)),
-        "print" => Some(Command::Print(path)),
-        _ => Some(Command::Table {
+    match View::named(name) {
+        Some(view) => Some(Command::Text { view, path }),
+        None => Some(Command::Table {
             table: Table::named(name)?,
             path,
         }),
@@ -57,38 +34,11 @@ fn with_one<'a>(name: &str, path: &'a str) -> Option<Command<'a>> {
 
 fn with_two<'a>(name: &str, first: &'a str, second: &'a str) -> Option<Command<'a>> {
     match name {
-        "prefixes" => Some(Command::Prefixes {
-            language: Language::Vtl,
-            script: first,
-            path: second,
-        }),
-        "sql_prefixes" => Some(Command::Prefixes {
-            language: Language::Sql,
-            script: first,
-            path: second,
-        }),
         "types" => Some(Command::Types {
             structures: first,
             path: second,
         }),
-        "check" => Some(Command::Check {
-            script: first,
-            structures: second,
-            scale: "6",
-        }),
         "time" => Some(Command::Time(order_of(first, second)?)),
-        _ => None,
-    }
-}
-
-// `check SCRIPT STRUCTURES --scale D`
-fn scaled(words: &[String]) -> Option<Command> {
-    match (words.first()?.as_str(), words.get(3)?.as_str()) {
-        ("check", "--scale") => Some(Command::Check {
-            script: words.get(1)?.as_str(),
-            structures: words.get(2)?.as_str(),
-            scale: words.get(4)?.as_str(),
-        }),
         _ => None,
     }
 }

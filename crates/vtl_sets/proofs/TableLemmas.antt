@@ -40,10 +40,6 @@ point_fits (x ∷ xs) (v ∷ vs) e =
     let front = and_parts (is_of x.kind v) (not (same_role x.role role.Identifier && is_null v)) parts.0 in
     ap (λ b. b && fits (map column_for xs) vs) front.0 ∙ point_fits xs vs parts.1
 
--- an equal table below an equal structure
-pub table_shared : (s other : Structure) (t shared : Listed) → IsTableOf s t → other ≡ s → shared ≡ t → IsTableOf other shared
-table_shared s other t shared is e same = subst (λ x. IsTableOf x shared) (sym e) (subst (IsTableOf s) (sym same) is)
-
 -- a table that is made for want of no memory
 pub made_is_table : {E : Type 0} (s : Structure) (r : Result Listed E) (points : List Row) → IfOk r (λ t. t.columns ≡ table_columns s) → IfOk r (λ t. t.rows ≡ points) → IsDataSet s points → IfOk r (IsTableOf s)
 made_is_table s (Ok t) points c e is = record { columns = c; points = subst (IsDataSet s) (sym e) is }

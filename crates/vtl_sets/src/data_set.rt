@@ -34,32 +34,40 @@ impl Model for DataSet {
 }
 
 impl DataSet {
-    /// The data set of a table that is one of this structure, and that may have other owners.
-    pub fn shared(structure: Structure, table: SharedTable) -> DataSet
-        requires { IsTableOf structure table }
-        ensures { result ≡ data_set structure table.rows }
+    /// The data set of a table that is one of this structure, and that may have other owners. The structure is shared. It
+    /// fails only if memory runs out.
+    pub fn shared(
+        alloc: Global,
+        structure: &Structure,
+        table: SharedTable,
+    ) -> Result<DataSet, AllocError>
+        requires { IsTableOf structure.now table }
+        ensures { IfOk result (λ d. d ≡ data_set structure.now table.rows) }
     {
-        DataSet { structure, table }
+        Ok(DataSet {
+            structure: share_structure(alloc, structure)?,
+            table,
+        })
     }
 
-    /// The data set of a table that is one of this structure. It fails only if memory runs out.
-    pub fn of(alloc: Global, structure: Structure, table: Table) -> Result<DataSet, AllocError>
-        requires { IsTableOf structure table }
-        ensures { IfOk result (λ d. d ≡ data_set structure table.rows) }
+    /// The data set of a table that is one of this structure, which is shared. It fails only if memory runs out.
+    pub fn of(alloc: Global, structure: &Structure, table: Table) -> Result<DataSet, AllocError>
+        requires { IsTableOf structure.now table }
+        ensures { IfOk result (λ d. d ≡ data_set structure.now table.rows) }
     {
         let table = SharedTable::of(alloc, table)?;
-        Ok(DataSet::shared(structure, table))
+        DataSet::shared(alloc, structure, table)
     }
 
     /// The data set of the table that was answered, which is one of this structure; or the fault that was answered,
-    /// which may be that memory ran out.
+    /// which may be that memory ran out. The structure is shared.
     pub fn answered(
         alloc: Global,
-        structure: Structure,
+        structure: &Structure,
         table: Result<Table, ScalarErr>,
     ) -> Result<DataSet, ScalarErr>
-        requires { IfOk table (IsTableOf structure) }
-        ensures { (m : Outcome (List Row)) → AnswersBy (λ t. t.rows) table m → Answers result (with_structure structure m) }
+        requires { IfOk table (IsTableOf structure.now) }
+        ensures { (m : Outcome (List Row)) → AnswersBy (λ t. t.rows) table m → Answers result (with_structure structure.now m) }
     {
         match table {
             Ok(table) => Ok(DataSet::of(alloc, structure, table)?),
@@ -111,7 +119,6 @@ impl DataSet {
     pub fn copy(&self, alloc: Global) -> Result<DataSet, AllocError>
         ensures { IfOk result (λ d. d ≡ self.now) }
     {
-        let structure = share_structure(alloc, &self.structure)?;
-        Ok(DataSet::shared(structure, self.table.share()?))
+        DataSet::shared(alloc, &self.structure, self.table.share()?)
     }
 }

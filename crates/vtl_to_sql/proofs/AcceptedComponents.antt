@@ -41,9 +41,9 @@ use Rattle.vtl_tree.specs.declared.targets.Target.{Target}
 use Rattle.check_laws.proofs.Columns.{at-found, found-filter, kind-found, of-columns}
 use Rattle.check_laws.proofs.Lists as lists
 use Rattle.sql_tree.specs.Formed.{IsName}
-use Rattle.vtl_to_sql.specs.Conditions.{HaveNames}
+use Rattle.selects_to_sql.specs.Writable.{HaveNames}
 use Rattle.vtl_to_sql.proofs.AcceptedWords.{AreRenamings, CallsHaveNames, HasCodes, IsColumnName, TargetsHaveNames}
-use Rattle.vtl_to_sql.proofs.Names.{component_is_name}
+use Rattle.selects_to_sql.proofs.Names.{component_is_name}
 
 -- ---- components
 -- one of the names that renamings are from

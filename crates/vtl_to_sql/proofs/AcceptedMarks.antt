@@ -28,7 +28,7 @@ use Rattle.sql_lexer.proofs.NameParts.{size-append}
 use Rattle.sql_tree.specs.Formed.{IsName}
 use Rattle.vtl_to_sql.proofs.AcceptedComponents.{ArePlain, IsFrom, IsPlain, agreed_named, all_weaker, column_name, plain}
 use Rattle.vtl_to_sql.proofs.AcceptedWords.{AreRenamings, IsColumnName, name_word, word_column}
-use Rattle.vtl_to_sql.proofs.Names.{all_pass}
+use Rattle.selects_to_sql.proofs.Names.{all_pass}
 
 -- ---- names behind aliases
 no_control : (c : ℕ) → is_component_character c ≡ true → not (is_control c) ≡ true

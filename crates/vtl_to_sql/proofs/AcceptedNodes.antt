@@ -34,7 +34,9 @@ use Rattle.check_laws.proofs.Inner.{made-shaped}
 use Rattle.check_laws.proofs.Lists as lists
 use Rattle.rules_to_sql.specs.Held.{HoldsValues}
 use Rattle.vtl_to_sql.specs.Accepted.{AllHoldValues, AnalyticHoldsValues, FormHoldsParts, HoldsParts, MadeHoldsValues, NodesHoldParts, OperandsHoldParts, are_nodes_translated, are_operands_translated, is_form_translated, is_translated}
-use Rattle.vtl_to_sql.specs.Conditions.{AllCanBeWritten, AreNodesTranslated, AreOperandsTranslated, CallsCanBeWritten, CanBeWritten, HasValue, IsFormTranslated, IsTranslated, ValueCanBeWritten}
+use Rattle.selects_to_sql.specs.Writable.{AllCanBeWritten, CanBeWritten, HasValue}
+use Rattle.vtl_to_sql.specs.Conditions.{AreNodesTranslated, AreOperandsTranslated, IsFormTranslated, IsTranslated}
+use Rattle.groups_to_sql.specs.Writable.{CallsCanBeWritten, ValueCanBeWritten}
 use Rattle.vtl_to_sql.proofs.AcceptedComponents.{AreKnownNamed, codes_are_texts, columns_named}
 use Rattle.vtl_to_sql.proofs.AcceptedForms.{evaluated, form_evaluated}
 use Rattle.vtl_to_sql.proofs.AcceptedNames.{components_named, form_named, marks}

@@ -9,9 +9,11 @@ use Rattle.vtl_tree.specs.Trees as nodes
 use Rattle.vtl_tree.specs.Trees.{FormTree, NodeTree, NodeTrees, OperandTrees, structure_of}
 use Rattle.vtl_tree.specs.Joins.{structures_of}
 use Rattle.sql_tree.specs.Trees.{QueryTree, Text}
-use Rattle.vtl_to_sql.specs.Queries.{intersection_query, union_query}
-use Rattle.vtl_to_sql.specs.FullJoins.{key_structure, keys_query, once_query}
-use Rattle.vtl_to_sql.specs.Tables.{Made, Sources, and_then, by_names, combined_of, full_made, join_made, keys_of, made_of, made_of_form, numbered, operands_of, over, source_of, sources_of, stored, table_of, with_one, with_two}
+use Rattle.vtl_to_sql.specs.Sets.{intersection_query, union_query}
+use Rattle.joins_to_sql.specs.FullJoins.{key_structure, keys_query, once_query}
+use Rattle.selects_to_sql.specs.Tables.{Made, Sources, and_then, by_names, numbered, over, stored, table_of, with_one, with_two}
+use Rattle.vtl_to_sql.specs.Tables.{combined_of, made_of, made_of_form, operands_of, source_of, sources_of}
+use Rattle.joins_to_sql.specs.JoinTables.{full_made, join_made, keys_of}
 
 -- the next number behind so many tables
 abbrev AreCounted : ℕ → Sources → Type 0

@@ -33,7 +33,7 @@ use Rattle.check_clauses.specs.JoinOperands.{is_left}
 use Rattle.check_operators.specs.Typed.{TypedTree, value, dataset, components_in}
 use Rattle.check_laws.specs.Gives.{Gives}
 use Rattle.check_laws.proofs.Left.{IsNamed}
-use Rattle.vtl_to_sql.proofs.Names.{all_pass, word_characters}
+use Rattle.selects_to_sql.proofs.Names.{all_pass, word_characters}
 
 -- ---- names
 -- a name of a component

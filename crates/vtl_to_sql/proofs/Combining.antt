@@ -16,23 +16,17 @@ use Rattle.vtl_tree.specs.declared.nodes.NodeForm.{NodeForm}
 use Rattle.vtl_tree.specs.declared.nodes.NodeForm.TheVariants as form
 use Rattle.sql_tree.specs.Trees.{Exp, QueryTree, SelectTree, StatementTree, Text}
 use Rattle.vtl_to_sql.specs.Combined.{combined_made, combined_query, rest_made}
-use Rattle.vtl_to_sql.specs.Queries.{is_matched, left_query, matched_select, shown_query, shown_select}
-use Rattle.vtl_to_sql.specs.Scripts.{create_for}
-use Rattle.vtl_to_sql.specs.Tables.{Made, Sources, Table, and_then, by_name, made_of_form, numbered, over, sources_of, stored, table_of, with_one, with_two}
+use Rattle.vtl_to_sql.specs.Sets.{is_matched, matched_select, shown_query, shown_select}
+use Rattle.selects_to_sql.specs.Queries.{left_query}
+use Rattle.selects_to_sql.specs.Tables.{create_for, Made, Sources, Table, and_then, by_name, numbered, over, stored, table_of, with_one, with_two}
+use Rattle.vtl_to_sql.specs.Tables.{made_of_form, sources_of}
 use Rattle.vtl_to_sql.specs.Accepted.{are_nodes_translated, is_translated}
 use Rattle.vtl_to_sql.specs.declared.set_operators.SetOperator.{SetOperator}
 use Rattle.vtl_to_sql.specs.declared.set_operators.SetOperator.TheVariants as operator
-use Rattle.vtl_to_sql.proofs.Forms.{shown_written}
+use Rattle.vtl_to_sql.proofs.SetForms.{shown_written}
+use Rattle.selects_to_sql.proofs.Behind.{IsBehind, given}
 
 -- ---- tables before others stay before them
-
-pub record IsBehind (T : List Table) (m less : Made) : Type 0 where
-  pub query : m.query ≡ less.query
-  pub next : m.next ≡ less.next
-  pub tables : m.tables ≡ T ++ less.tables
-
-abbrev pub given : List Text → List Table → ℕ → Sources
-given names T n = record { names = names; tables = T; next = n }
 
 behind : (o : SetOperator) (p : Settings) (r : Text) (s : Structure) (ns : List NodeTree) (a : Structure) (names : List Text) (T : List Table) (n : ℕ)
     → IsBehind T (rest_made o p r s ns a (given names T n)) (rest_made o p r s ns a (given names [] n))

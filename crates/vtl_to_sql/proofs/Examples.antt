@@ -30,13 +30,14 @@ use Rattle.sql_lexer.specs.Spelling.{spelled}
 use Rattle.sql_tree.specs.Printing.{written_query, written_statement}
 use Rattle.sql_tree.specs.Trees.{QueryTree, StatementTree}
 use Rattle.sql_tree.specs.declared.word_groups.JoinKind.TheVariants as joining
-use Rattle.vtl_to_sql.specs.FullJoins.{full_query, key_structure, keys_query, once_query}
-use Rattle.vtl_to_sql.specs.Grouped.{aggregate_query}
-use Rattle.vtl_to_sql.specs.Joins.{cross_query, reference_query}
-use Rattle.vtl_to_sql.specs.Queries as q
-use Rattle.vtl_to_sql.specs.Turned as turned
+use Rattle.joins_to_sql.specs.FullJoins.{full_query, key_structure, keys_query, once_query}
+use Rattle.groups_to_sql.specs.Grouped.{aggregate_query}
+use Rattle.joins_to_sql.specs.Joins.{cross_query, reference_query}
+use Rattle.selects_to_sql.specs.Queries as q
+use Rattle.vtl_to_sql.specs.Sets as sets
+use Rattle.groups_to_sql.specs.Turned as turned
 use Rattle.vtl_to_sql.specs.Scripts.{statements_for}
-use Rattle.vtl_to_sql.specs.Windowed.{analytic_query}
+use Rattle.groups_to_sql.specs.Windowed.{analytic_query}
 
 abbrev scale_six : Settings
 scale_six = record { scale = 6; rounding = HalfUp }
@@ -186,10 +187,10 @@ of_operands =
     (q.pair_query scale_six op.Subtract by_year counted by_year table other, codes " SELECT \"a\" . \"area\" AS \"area\" , \"a\" . \"year\" AS \"year\" , \"a\" . \"people\" - \"b\" . \"people\" AS \"people\" FROM \"A\" AS \"a\" INNER JOIN \"B\" AS \"b\" ON \"b\" . \"area\" = \"a\" . \"area\"")
     ∷ (q.pair_query scale_six op.Subtract counted by_year by_year table other, codes " SELECT \"a\" . \"area\" AS \"area\" , \"a\" . \"year\" AS \"year\" , \"b\" . \"people\" - \"a\" . \"people\" AS \"people\" FROM \"B\" AS \"a\" INNER JOIN \"A\" AS \"b\" ON \"b\" . \"area\" = \"a\" . \"area\"")
     ∷ (q.choose_query scale_six answers counted counted counted (codes "T") table other, codes " SELECT \"a\" . \"area\" AS \"area\" , \"b\" . \"people\" AS \"people\" FROM \"T\" AS \"a\" INNER JOIN \"A\" AS \"b\" ON \"b\" . \"area\" = \"a\" . \"area\" WHERE \"a\" . \"bool_var\" UNION ALL SELECT \"a\" . \"area\" AS \"area\" , \"b\" . \"people\" AS \"people\" FROM \"T\" AS \"a\" INNER JOIN \"B\" AS \"b\" ON \"b\" . \"area\" = \"a\" . \"area\" WHERE CASE WHEN \"a\" . \"bool_var\" THEN FALSE ELSE TRUE END")
-    ∷ (q.union_query scale_six counted counted counted table other, codes " SELECT \"a\" . \"area\" AS \"area\" , \"a\" . \"people\" AS \"people\" FROM \"A\" AS \"a\" UNION ALL SELECT \"a\" . \"area\" AS \"area\" , \"a\" . \"people\" AS \"people\" FROM \"B\" AS \"a\" WHERE NOT EXISTS ( SELECT 1 FROM \"A\" AS \"b\" WHERE \"b\" . \"area\" = \"a\" . \"area\" )")
-    ∷ (q.intersection_query scale_six counted counted counted table other, codes " SELECT \"a\" . \"area\" AS \"area\" , \"a\" . \"people\" AS \"people\" FROM \"A\" AS \"a\" WHERE EXISTS ( SELECT 1 FROM \"B\" AS \"b\" WHERE \"b\" . \"area\" = \"a\" . \"area\" )")
-    ∷ (q.difference_query scale_six counted counted counted table other, codes " SELECT \"a\" . \"area\" AS \"area\" , \"a\" . \"people\" AS \"people\" FROM \"A\" AS \"a\" WHERE NOT EXISTS ( SELECT 1 FROM \"B\" AS \"b\" WHERE \"b\" . \"area\" = \"a\" . \"area\" )")
-    ∷ (q.existence_query scale_six retain.All by_year counted (of_components (area ∷ year ∷ made (codes "bool_var") role.Measure k.Bool ∷ [])) table other, codes " SELECT \"a\" . \"area\" AS \"area\" , \"a\" . \"year\" AS \"year\" , EXISTS ( SELECT 1 FROM \"B\" AS \"b\" WHERE \"b\" . \"area\" = \"a\" . \"area\" ) AS \"bool_var\" FROM \"A\" AS \"a\"")
+    ∷ (sets.union_query scale_six counted counted counted table other, codes " SELECT \"a\" . \"area\" AS \"area\" , \"a\" . \"people\" AS \"people\" FROM \"A\" AS \"a\" UNION ALL SELECT \"a\" . \"area\" AS \"area\" , \"a\" . \"people\" AS \"people\" FROM \"B\" AS \"a\" WHERE NOT EXISTS ( SELECT 1 FROM \"A\" AS \"b\" WHERE \"b\" . \"area\" = \"a\" . \"area\" )")
+    ∷ (sets.intersection_query scale_six counted counted counted table other, codes " SELECT \"a\" . \"area\" AS \"area\" , \"a\" . \"people\" AS \"people\" FROM \"A\" AS \"a\" WHERE EXISTS ( SELECT 1 FROM \"B\" AS \"b\" WHERE \"b\" . \"area\" = \"a\" . \"area\" )")
+    ∷ (sets.difference_query scale_six counted counted counted table other, codes " SELECT \"a\" . \"area\" AS \"area\" , \"a\" . \"people\" AS \"people\" FROM \"A\" AS \"a\" WHERE NOT EXISTS ( SELECT 1 FROM \"B\" AS \"b\" WHERE \"b\" . \"area\" = \"a\" . \"area\" )")
+    ∷ (sets.existence_query scale_six retain.All by_year counted (of_components (area ∷ year ∷ made (codes "bool_var") role.Measure k.Bool ∷ [])) table other, codes " SELECT \"a\" . \"area\" AS \"area\" , \"a\" . \"year\" AS \"year\" , EXISTS ( SELECT 1 FROM \"B\" AS \"b\" WHERE \"b\" . \"area\" = \"a\" . \"area\" ) AS \"bool_var\" FROM \"A\" AS \"a\"")
     ∷ []
 
 of_operands_are : map (λ e. shown e.0) of_operands ≡ map (λ e. e.1) of_operands
@@ -240,7 +241,7 @@ alone = of_components (people ∷ [])
 abbrev without_identifiers : List (QueryTree × List ℕ)
 without_identifiers =
     (q.pair_query scale_six op.Add alone alone alone table other, codes " SELECT \"a\" . \"people\" + \"b\" . \"people\" AS \"people\" FROM \"A\" AS \"a\" INNER JOIN \"B\" AS \"b\" ON TRUE")
-    ∷ (q.difference_query scale_six alone alone alone table other, codes " SELECT \"a\" . \"people\" AS \"people\" FROM \"A\" AS \"a\" WHERE NOT EXISTS ( SELECT 1 FROM \"B\" AS \"b\" )")
+    ∷ (sets.difference_query scale_six alone alone alone table other, codes " SELECT \"a\" . \"people\" AS \"people\" FROM \"A\" AS \"a\" WHERE NOT EXISTS ( SELECT 1 FROM \"B\" AS \"b\" )")
     ∷ (keys_query scale_six alone (alone ∷ []) (table ∷ []), codes " SELECT TRUE AS \"there\" FROM \"A\" AS \"a\"")
     ∷ (once_query scale_six (key_structure alone) (codes "R$1"), codes " SELECT \"a\" . \"there\" AS \"there\" FROM \"R$1\" AS \"a\" GROUP BY \"a\" . \"there\"")
     ∷ []

@@ -17,9 +17,8 @@ use Rattle.vtl_tree.specs.DataSet.{IsDataSet, is_point}
 use Rattle.vtl_tree.specs.Structure.{columns_of, names_of}
 use Rattle.vtl_tree.specs.declared.structure.Component.{Component}
 use Rattle.vtl_tree.specs.declared.structure.Structure.{Structure}
-use Rattle.vtl_tree.specs.Columns.{common_identifiers, has_identifier}
+use Rattle.vtl_tree.specs.Columns.{common_identifiers, has_identifier, columns_named, identifiers_of, others_of, place_of, places_in}
 use Rattle.vtl_meaning.specs.Agreement.{agree_in, has_agreeing, key_of}
-use Rattle.vtl_tree.specs.Columns.{columns_named, identifiers_of, others_of, place_of, places_in}
 use Rattle.vtl_meaning.specs.LookUps.{values_named}
 use Rattle.vtl_meaning.specs.Made.{AreAmong, IsColumnAt, IsExistence}
 use Rattle.vtl_meaning.specs.Points.{with_points}
@@ -38,20 +37,21 @@ use Rattle.sql_check_parts.specs.Scopes.{add_source, columns_of as table_columns
 use Rattle.sql_meaning.specs.From.{condition_fault, kept, source_rows}
 use Rattle.sql_meaning.specs.Scripts.{Data, base_of, tables_in}
 use Rattle.sql_meaning.specs.Values.{at_rows, value as sql_value}
-use Rattle.vtl_to_sql.specs.Conditions.{HaveNames}
-use Rattle.vtl_to_sql.specs.Queries.{all_to_sql, answer_shown, existence_query, first_alias, is_matched, items_as, of_one, retained, select_as, source_as}
-use Rattle.vtl_to_sql.specs.Runs.{IsTable, entries, printable_depth}
-use Rattle.vtl_to_sql.proofs.Exact.{IsExactly, exactly_same}
+use Rattle.selects_to_sql.specs.Writable.{HaveNames}
+use Rattle.selects_to_sql.specs.Queries.{all_to_sql, first_alias, items_as, of_one, select_as, source_as}
+use Rattle.vtl_to_sql.specs.Sets.{answer_shown, existence_query, is_matched, retained}
+use Rattle.selects_to_sql.specs.Runs.{IsTable, entries, printable_depth}
+use Rattle.selects_to_sql.proofs.Exact.{IsExactly, exactly_same}
 use Rattle.vtl_to_sql.proofs.Exists.{has_row, is_answer, matched_fits, matched_printed, matched_rows, matched_value}
-use Rattle.vtl_to_sql.proofs.Expressions.{Translates}
-use Rattle.vtl_to_sql.proofs.Givens.{AreGiven, kinds_in}
-use Rattle.vtl_to_sql.proofs.Identifiers.{AreIdentifiersAt, IsIdentifierAt, identifiers_there, own_there}
-use Rattle.vtl_to_sql.proofs.ItemLists.{items_behind, items_where}
-use Rattle.vtl_to_sql.proofs.OneOperand.{columns_for, columns_written, known_there, one_from, own_names, rows_there}
-use Rattle.vtl_to_sql.proofs.SelectItems.{AreItems, IsItem, Valued, each_by, select_gives, values_at, values_fault}
-use Rattle.vtl_to_sql.proofs.Selects.{IsPointOf, expression_items, valued}
-use Rattle.vtl_to_sql.proofs.Sources.{one_formed, one_scope}
-use Rattle.vtl_to_sql.proofs.Unions.{one_exactly}
+use Rattle.selects_to_sql.proofs.Expressions.{Translates}
+use Rattle.selects_to_sql.proofs.Givens.{AreGiven, kinds_in}
+use Rattle.selects_to_sql.proofs.Identifiers.{AreIdentifiersAt, IsIdentifierAt, identifiers_there, own_there}
+use Rattle.groups_to_sql.proofs.ItemLists.{items_behind, items_where}
+use Rattle.selects_to_sql.proofs.OneOperand.{columns_for, columns_written, known_there, one_from, own_names, rows_there}
+use Rattle.selects_to_sql.proofs.SelectItems.{AreItems, IsItem, Valued, each_by, select_gives, values_at, values_fault}
+use Rattle.selects_to_sql.proofs.Selects.{IsPointOf, expression_items, valued}
+use Rattle.selects_to_sql.proofs.Sources.{one_formed, one_scope}
+use Rattle.selects_to_sql.proofs.Unions.{one_exactly}
 
 -- ---- columns of the same names and kinds
 

@@ -30,11 +30,12 @@ use Rattle.sql_meaning.specs.Outcomes.{operated}
 use Rattle.sql_meaning.specs.Tables.{Base}
 use Rattle.sql_meaning.specs.Values.{View, at_rows, is_there, is_tied, place_in, value as sql_value}
 use Rattle.rules_to_sql.specs.ToSql as to_sql
-use Rattle.vtl_to_sql.specs.Conditions.{HaveNames}
-use Rattle.vtl_to_sql.specs.Queries.{first_alias, is_matched, second_alias, source_as, tied}
-use Rattle.vtl_to_sql.specs.Runs.{entries, printable_depth}
-use Rattle.vtl_to_sql.proofs.Identifiers.{AreIdentifiersAt, IsIdentifierAt, kind_is}
-use Rattle.vtl_to_sql.proofs.Sources.{AreApart, first_is_name, kind_found, one_names, one_scope, place_found, second_is_name}
+use Rattle.selects_to_sql.specs.Writable.{HaveNames}
+use Rattle.selects_to_sql.specs.Queries.{first_alias, second_alias, source_as}
+use Rattle.vtl_to_sql.specs.Sets.{is_matched, tied}
+use Rattle.selects_to_sql.specs.Runs.{entries, printable_depth}
+use Rattle.selects_to_sql.proofs.Identifiers.{AreIdentifiersAt, IsIdentifierAt, kind_is}
+use Rattle.selects_to_sql.proofs.Sources.{AreApart, first_is_name, kind_found, one_names, one_scope, place_found, second_is_name}
 
 -- ---- equality of values that are there
 

@@ -27,7 +27,7 @@ use Rattle.sql_meaning.specs.Inputs as asked
 use Rattle.sql_meaning.specs.Inputs.{IsInputData, has_whole_key}
 use Rattle.sql_meaning.specs.Tables.{RowsFit, kinds_of}
 use Rattle.vtl_to_sql.specs.Inputs.{AreAsked, are_listed, is_listed}
-use Rattle.vtl_to_sql.specs.Runs.{entries}
+use Rattle.selects_to_sql.specs.Runs.{entries}
 use Rattle.vtl_to_sql.specs.Scripts.{input_column, input_of}
 use Rattle.vtl_to_sql.proofs.ReadTables.{columns_read, key_read, order_read}
 

@@ -35,17 +35,19 @@ use Rattle.sql_check_parts.specs.Queries.{query_columns}
 use Rattle.sql_check_parts.specs.Scopes.{Tables, columns_of as table_columns, is_among}
 use Rattle.sql_check_parts.specs.Statements.{IsTypedScript, is_taken, nothing}
 use Rattle.sql_meaning.specs.Scripts.{Data, tables_in}
-use Rattle.vtl_to_sql.specs.Conditions.{AreTranslated, HaveNames, IsScript}
+use Rattle.vtl_to_sql.specs.Conditions.{AreTranslated, IsScript}
+use Rattle.selects_to_sql.specs.Writable.{HaveNames}
 use Rattle.vtl_to_sql.specs.Exports.{tables_read}
 use Rattle.vtl_to_sql.specs.Means.{AreStored, ScriptGives, Stores}
-use Rattle.vtl_to_sql.specs.Runs.{AreLawful, entries, given_behind, held, printable_depth}
-use Rattle.vtl_to_sql.specs.Scripts.{create_for, export_for, input_column, input_for, script_for, statements_for, written_of}
-use Rattle.vtl_to_sql.specs.Tables.{Table, script_tables}
+use Rattle.selects_to_sql.specs.Runs.{AreLawful, entries, given_behind, held, printable_depth}
+use Rattle.selects_to_sql.specs.Tables.{create_for, Table}
+use Rattle.vtl_to_sql.specs.Scripts.{export_for, input_column, input_for, script_for, statements_for, written_of}
+use Rattle.vtl_to_sql.specs.Tables.{script_tables}
 use Rattle.vtl_to_sql.proofs.EmptyData.{empty_are_sets, empty_empty, empty_known, empty_read, empty_sets, meaning_there}
-use Rattle.vtl_to_sql.proofs.Names.{word_is_name}
+use Rattle.selects_to_sql.proofs.Names.{word_is_name}
 use Rattle.vtl_to_sql.proofs.Nodes.{names_in}
-use Rattle.vtl_to_sql.proofs.Running.{columns_there, given_is}
-use Rattle.vtl_to_sql.proofs.Givens.{columns_count, each_column}
+use Rattle.selects_to_sql.proofs.Running.{columns_there, given_is}
+use Rattle.selects_to_sql.proofs.Givens.{columns_count, each_column}
 use Rattle.vtl_to_sql.proofs.TranslatedScripts.{all_apart_from, all_translated, tables_give}
 use Rattle.vtl_to_sql.proofs.TypedScripts.{IsReadable, IsWritten, all_readable, creates_fit, creates_give, exports_fit, giving, inputs_fit, inputs_give}
 use Rattle.vtl_to_sql.proofs.WholeScript.{scale_read, set_is, written_are}

@@ -38,31 +38,34 @@ use Rattle.vtl_meaning.proofs.SetsFolds.{each_own, own_cells}
 use Rattle.vtl_meaning.proofs.SetsKept.{shown_kept}
 use Rattle.sql_tree.specs.Trees.{QueryTree, Text}
 use Rattle.sql_meaning.specs.Scripts.{Data}
-use Rattle.vtl_to_sql.specs.Conditions.{AreNodesTranslated, AreOperandsTranslated, HaveNames, IsFormTranslated, IsTranslated}
-use Rattle.vtl_to_sql.specs.Means.{AreEarlier, Means, NodeGives, SourcesGive, Stands, StandsAs, Extends}
-use Rattle.vtl_to_sql.specs.Queries.{calc_query, choose_query, copy_query, filter_query, left_query, measures_query, pair_query, rename_query, shown_query, sub_query, union_query, intersection_query, difference_query, symmetric_difference_query, existence_query}
-use Rattle.vtl_to_sql.specs.Tables.{Sources, and_then, combined_of, made_of, made_of_form, numbered, operands_of, over, source_of, sources_of, table_of, with_one, with_two, stored}
+use Rattle.vtl_to_sql.specs.Conditions.{AreNodesTranslated, AreOperandsTranslated, IsFormTranslated, IsTranslated}
+use Rattle.selects_to_sql.specs.Writable.{HaveNames}
+use Rattle.selects_to_sql.specs.Means.{AreEarlier, Means, NodeGives, SourcesGive, Stands, StandsAs, Extends}
+use Rattle.selects_to_sql.specs.Queries.{calc_query, choose_query, copy_query, filter_query, left_query, measures_query, pair_query, rename_query, sub_query}
+use Rattle.vtl_to_sql.specs.Sets.{shown_query, union_query, intersection_query, difference_query, symmetric_difference_query, existence_query}
+use Rattle.selects_to_sql.specs.Tables.{Sources, and_then, numbered, over, table_of, with_one, with_two, stored}
+use Rattle.vtl_to_sql.specs.Tables.{combined_of, made_of, made_of_form, operands_of, source_of, sources_of}
 use Rattle.vtl_meaning.proofs.TurnedOrders.{pivot_order, unpivot_order}
 use Rattle.vtl_meaning.proofs.AnalyticOrders.{analytics_respect}
 use Rattle.vtl_meaning.proofs.GroupOrders.{aggregates_respect}
-use Rattle.vtl_to_sql.specs.Grouped.{aggregate_query}
-use Rattle.vtl_to_sql.specs.Turned.{pivot_query, unpivot_query}
-use Rattle.vtl_to_sql.specs.Windowed.{analytic_query}
-use Rattle.vtl_to_sql.proofs.Aggregated.{aggregate_means}
-use Rattle.vtl_to_sql.proofs.Choices.{choose_means}
-use Rattle.vtl_to_sql.proofs.Composition.{all_earlier, all_stand_still, alone, beside_gives, no_tables, one_gives, stored_gives, three_gives, together, two_gives}
-use Rattle.vtl_to_sql.proofs.Exact.{means_by, means_turned, set_turned}
-use Rattle.vtl_to_sql.proofs.Expressions.{Translates}
-use Rattle.vtl_to_sql.proofs.OneOperand.{calc_means, copy_means, filter_means, left_means, measures_mean, rename_means, same_functions}
+use Rattle.groups_to_sql.specs.Grouped.{aggregate_query}
+use Rattle.groups_to_sql.specs.Turned.{pivot_query, unpivot_query}
+use Rattle.groups_to_sql.specs.Windowed.{analytic_query}
+use Rattle.groups_to_sql.proofs.Aggregated.{aggregate_means}
+use Rattle.selects_to_sql.proofs.Choices.{choose_means}
+use Rattle.selects_to_sql.proofs.Composition.{all_earlier, all_stand_still, alone, beside_gives, no_tables, one_gives, stored_gives, three_gives, together, two_gives}
+use Rattle.selects_to_sql.proofs.Exact.{means_by, means_turned, set_turned}
+use Rattle.selects_to_sql.proofs.Expressions.{Translates}
+use Rattle.selects_to_sql.proofs.OneOperand.{calc_means, copy_means, filter_means, left_means, measures_mean, rename_means, same_functions}
 use Rattle.vtl_to_sql.proofs.SetQueries.{IsShown, shown_means}
 use Rattle.vtl_to_sql.proofs.SetSteps.{IsStep, difference_step, intersection_step, intersections_fold, symmetric_difference_step, union_step, unions_fold}
-use Rattle.vtl_to_sql.proofs.Givens.{AreGiven, columns_given}
-use Rattle.vtl_to_sql.proofs.Joins.{join_gives, operands_first}
-use Rattle.vtl_to_sql.proofs.Pivots.{pivot_means}
-use Rattle.vtl_to_sql.proofs.Subs.{sub_means}
-use Rattle.vtl_to_sql.proofs.TwoOperands.{pair_means}
-use Rattle.vtl_to_sql.proofs.Unpivots.{unpivot_means}
-use Rattle.vtl_to_sql.proofs.Windowed.{analytic_means}
+use Rattle.selects_to_sql.proofs.Givens.{AreGiven, columns_given}
+use Rattle.joins_to_sql.proofs.Joins.{join_gives, operands_first}
+use Rattle.groups_to_sql.proofs.Pivots.{pivot_means}
+use Rattle.selects_to_sql.proofs.Subs.{sub_means}
+use Rattle.selects_to_sql.proofs.TwoOperands.{pair_means}
+use Rattle.groups_to_sql.proofs.Unpivots.{unpivot_means}
+use Rattle.groups_to_sql.proofs.Windowed.{analytic_means}
 
 -- ---- what is translated is evaluated, and its columns have names
 

@@ -24,11 +24,11 @@ use Rattle.sql_check_parts.specs.Scopes.{is_among}
 use Rattle.sql_check_parts.specs.Statements.{column_entry, in_table_order, input_columns, is_of_key}
 use Rattle.sql_meaning.specs.Scripts.{Inputs, input_table, rows_read}
 use Rattle.vtl_to_sql.specs.Exports.{AreRead, tables_read}
-use Rattle.vtl_to_sql.specs.Means.{Stands, StandsAs}
-use Rattle.vtl_to_sql.specs.Runs.{IsTable, entries}
+use Rattle.selects_to_sql.specs.Means.{Stands, StandsAs}
+use Rattle.selects_to_sql.specs.Runs.{IsTable, entries}
 use Rattle.vtl_to_sql.specs.Scripts.{input_column, input_of}
-use Rattle.vtl_to_sql.proofs.Names.{word_is_name}
-use Rattle.vtl_to_sql.proofs.Sources.{AreApart}
+use Rattle.selects_to_sql.proofs.Names.{word_is_name}
+use Rattle.selects_to_sql.proofs.Sources.{AreApart}
 
 -- ---- the columns of an INPUT in order are those of the structure
 

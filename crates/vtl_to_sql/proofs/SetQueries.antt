@@ -25,19 +25,20 @@ use Rattle.sql_meaning.specs.From.{condition_fault, kept, source_rows}
 use Rattle.sql_meaning.specs.Scripts.{Data, base_of}
 use Rattle.sql_meaning.specs.Values.{at_rows}
 use Rattle.sql_check_parts.specs.Scopes.{add_source}
-use Rattle.vtl_to_sql.specs.Conditions.{HaveNames}
-use Rattle.vtl_to_sql.specs.Queries.{first_alias, is_matched, matched_select, shown_query, shown_select}
-use Rattle.vtl_to_sql.specs.Runs.{IsTable}
-use Rattle.vtl_to_sql.proofs.Exact.{IsExactly}
+use Rattle.selects_to_sql.specs.Writable.{HaveNames}
+use Rattle.selects_to_sql.specs.Queries.{first_alias}
+use Rattle.vtl_to_sql.specs.Sets.{is_matched, matched_select, shown_query, shown_select}
+use Rattle.selects_to_sql.specs.Runs.{IsTable}
+use Rattle.selects_to_sql.proofs.Exact.{IsExactly}
 use Rattle.vtl_to_sql.proofs.Exists.{has_row, is_answer, matched_fits, matched_printed, matched_rows}
-use Rattle.vtl_to_sql.proofs.Expressions.{Translates}
-use Rattle.vtl_to_sql.proofs.Givens.{AreGiven}
-use Rattle.vtl_to_sql.proofs.Identifiers.{AreIdentifiersAt, identifiers_there}
-use Rattle.vtl_to_sql.proofs.OneOperand.{columns_each, columns_for, columns_written, known_there, rows_give, rows_there}
-use Rattle.vtl_to_sql.proofs.SelectItems.{GivesRows, gives_same}
-use Rattle.vtl_to_sql.proofs.Selects.{IsPointOf}
-use Rattle.vtl_to_sql.proofs.Sources.{one_scope}
-use Rattle.vtl_to_sql.proofs.Unions.{one_exactly}
+use Rattle.selects_to_sql.proofs.Expressions.{Translates}
+use Rattle.selects_to_sql.proofs.Givens.{AreGiven}
+use Rattle.selects_to_sql.proofs.Identifiers.{AreIdentifiersAt, identifiers_there}
+use Rattle.selects_to_sql.proofs.OneOperand.{columns_each, columns_for, columns_written, known_there, rows_give, rows_there}
+use Rattle.selects_to_sql.proofs.SelectItems.{GivesRows, gives_same}
+use Rattle.selects_to_sql.proofs.Selects.{IsPointOf}
+use Rattle.selects_to_sql.proofs.Sources.{one_scope}
+use Rattle.selects_to_sql.proofs.Unions.{one_exactly}
 
 -- ---- an operand in the columns of the result
 

@@ -23,15 +23,15 @@ use Rattle.vtl_meaning.proofs.SetsKept.{either_only_kept, has_any, reduced_kept,
 use Rattle.sql_tree.specs.Trees.{QueryTree, Text}
 use Rattle.sql_tree.specs.Formed.{IsName}
 use Rattle.sql_meaning.specs.Scripts.{Data}
-use Rattle.vtl_to_sql.specs.Conditions.{HaveNames}
-use Rattle.vtl_to_sql.specs.Queries.{difference_query, intersection_query, matched_select, shown_select, symmetric_difference_query, union_query}
-use Rattle.vtl_to_sql.specs.Runs.{IsTable}
-use Rattle.vtl_to_sql.proofs.Exact.{IsExactly, exactly_same, set_turned}
-use Rattle.vtl_to_sql.proofs.Expressions.{Translates}
-use Rattle.vtl_to_sql.proofs.Givens.{AreGiven}
-use Rattle.vtl_to_sql.proofs.SelectItems.{GivesRows}
+use Rattle.selects_to_sql.specs.Writable.{HaveNames}
+use Rattle.vtl_to_sql.specs.Sets.{difference_query, intersection_query, matched_select, shown_select, symmetric_difference_query, union_query}
+use Rattle.selects_to_sql.specs.Runs.{IsTable}
+use Rattle.selects_to_sql.proofs.Exact.{IsExactly, exactly_same, set_turned}
+use Rattle.selects_to_sql.proofs.Expressions.{Translates}
+use Rattle.selects_to_sql.proofs.Givens.{AreGiven}
+use Rattle.selects_to_sql.proofs.SelectItems.{GivesRows}
 use Rattle.vtl_to_sql.proofs.SetQueries.{IsShown, ids_there, matched_gives, shown_gives}
-use Rattle.vtl_to_sql.proofs.Unions.{one_exactly, union_there}
+use Rattle.selects_to_sql.proofs.Unions.{one_exactly, union_there}
 
 -- ---- lists
 

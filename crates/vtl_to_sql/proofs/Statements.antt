@@ -22,14 +22,16 @@ use Rattle.sql_tree.specs.Trees.{Text}
 use Rattle.sql_meaning.specs.Scripts.{Data, NamedFault, base_of, fault_name, tables_in}
 use Rattle.sql_meaning.specs.Selects.{query_value}
 use Rattle.vtl_to_sql.specs.Conditions.{IsTranslated}
-use Rattle.vtl_to_sql.specs.Means.{AreNamed, AreStored, Extends, IsApartFrom, IsEarlier, IsNumbered, Means, NodeGives, ScriptGives, Stands, StandsAs}
-use Rattle.vtl_to_sql.specs.Runs.{AreLawful, IsTable, held, run}
-use Rattle.vtl_to_sql.specs.Tables.{Made, Table, first_number, made_of, script_tables, statement_tables, table_of}
-use Rattle.vtl_to_sql.proofs.Composition.{stands_still}
-use Rattle.vtl_to_sql.proofs.Expressions.{Translates}
-use Rattle.vtl_to_sql.proofs.Names.{not_numbered, numbered_name, other_statement, plain_name, word_is_name}
+use Rattle.vtl_to_sql.specs.Means.{AreNamed, AreStored, ScriptGives}
+use Rattle.selects_to_sql.specs.Means.{Extends, IsApartFrom, IsEarlier, IsNumbered, Means, NodeGives, Stands, StandsAs}
+use Rattle.selects_to_sql.specs.Runs.{AreLawful, IsTable, held, run}
+use Rattle.selects_to_sql.specs.Tables.{Made, Table, first_number, table_of}
+use Rattle.vtl_to_sql.specs.Tables.{made_of, script_tables, statement_tables}
+use Rattle.selects_to_sql.proofs.Composition.{stands_still}
+use Rattle.selects_to_sql.proofs.Expressions.{Translates}
+use Rattle.selects_to_sql.proofs.Names.{not_numbered, numbered_name, other_statement, plain_name, word_is_name}
 use Rattle.vtl_to_sql.proofs.Nodes.{node_gives, translated_built}
-use Rattle.vtl_to_sql.proofs.Running.{lawful_on, name_free, run_on, run_one, run_stops, same_ok, there_last}
+use Rattle.selects_to_sql.proofs.Running.{lawful_on, name_free, run_on, run_one, run_stops, same_ok, there_last}
 
 -- tables of one more statement
 named_still : (p : Settings) (before more : Data) (r : Text) (ss : List Statement) → AllByRecursion (λ t. fault_name t.0 ≡ r) more → AllByRecursion (λ t. same_text t.result r ≡ false) ss → AreNamed p before ss → AreNamed p (before ++ more) ss

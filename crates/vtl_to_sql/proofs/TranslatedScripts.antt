@@ -15,11 +15,12 @@ use Rattle.sql_tree.specs.Trees.{Text}
 use Rattle.sql_meaning.specs.Scripts.{Data, Inputs, script_value}
 use Rattle.vtl_to_sql.specs.Conditions.{AreTranslated, IsScript, IsTranslated}
 use Rattle.vtl_to_sql.specs.Exports.{AreRead, exported_as, tables_read}
-use Rattle.vtl_to_sql.specs.Means.{AreNamed, IsApartFrom, ScriptGives, Stands}
+use Rattle.vtl_to_sql.specs.Means.{AreNamed, ScriptGives}
+use Rattle.selects_to_sql.specs.Means.{IsApartFrom, Stands}
 use Rattle.vtl_to_sql.specs.Scripts.{script_for}
 use Rattle.vtl_to_sql.specs.Tables.{script_tables}
-use Rattle.vtl_to_sql.proofs.Expressions.{translates}
-use Rattle.vtl_to_sql.proofs.Names.{plain_name}
+use Rattle.selects_to_sql.proofs.Expressions.{translates}
+use Rattle.selects_to_sql.proofs.Names.{plain_name}
 use Rattle.vtl_to_sql.proofs.ReadTables.{reads_stand}
 use Rattle.vtl_to_sql.proofs.Statements.{script_gives}
 use Rattle.vtl_to_sql.proofs.WholeScript.{script_is}

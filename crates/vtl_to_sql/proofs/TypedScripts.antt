@@ -31,14 +31,15 @@ use Rattle.sql_check_parts.specs.Scopes.{Columns, Tables, columns_of as table_co
 use Rattle.sql_check_parts.specs.Statements.{Given, after, codes_fit, input_columns, is_of_key, is_taken, is_text}
 use Rattle.sql_check_parts.specs.Queries.{query_columns}
 use Rattle.sql_meaning.specs.Scripts.{Inputs, tables_in}
-use Rattle.vtl_to_sql.specs.Conditions.{AreReadable, HaveNames}
+use Rattle.vtl_to_sql.specs.Conditions.{AreReadable}
+use Rattle.selects_to_sql.specs.Writable.{HaveNames}
 use Rattle.vtl_to_sql.specs.Exports.{tables_read}
-use Rattle.vtl_to_sql.specs.Runs.{AreLawful, entries, given_behind}
-use Rattle.vtl_to_sql.specs.Scripts.{create_for, export_for, input_column, input_for, input_of, ordered}
-use Rattle.vtl_to_sql.specs.Tables.{Table}
-use Rattle.vtl_to_sql.proofs.Names.{component_is_name}
+use Rattle.selects_to_sql.specs.Runs.{AreLawful, entries, given_behind}
+use Rattle.selects_to_sql.specs.Tables.{create_for, Table}
+use Rattle.vtl_to_sql.specs.Scripts.{export_for, input_column, input_for, input_of, ordered}
+use Rattle.selects_to_sql.proofs.Names.{component_is_name}
 use Rattle.vtl_to_sql.proofs.ReadTables.{all_among, columns_read}
-use Rattle.vtl_to_sql.proofs.Givens.{columns_count, each_column}
+use Rattle.selects_to_sql.proofs.Givens.{columns_count, each_column}
 
 abbrev pub giving : Tables → List Text → Given
 giving tables exported = record { tables = tables; exported = exported }

@@ -24,9 +24,9 @@ use Rattle.vtl_tree.specs.declared.nodes.NodeForm.TheVariants as form
 use Rattle.vtl_tree.specs.declared.specifications.AggSpec.{AggSpec}
 use Rattle.vtl_tree.specs.declared.specifications.AnalyticSpec.{AnalyticSpec}
 use Rattle.sql_tree.specs.Trees.{StatementTree, Text}
-use Rattle.vtl_to_sql.specs.Scripts.{create_for}
+use Rattle.selects_to_sql.specs.Tables.{create_for, Sources, and_then, over, with_one, with_two}
 use Rattle.vtl_to_sql.specs.FormQueries.{query_of_one, query_of_two}
-use Rattle.vtl_to_sql.specs.Tables.{Sources, and_then, made_of_form, over, sources_of, with_one, with_two}
+use Rattle.vtl_to_sql.specs.Tables.{made_of_form, sources_of}
 
 -- ---- trees of forms
 

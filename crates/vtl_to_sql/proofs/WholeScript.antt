@@ -32,12 +32,14 @@ use Rattle.sql_meaning.specs.Selects.{query_value}
 use Rattle.rules_to_sql.proofs.WrittenConstants.{integer_there}
 use Rattle.vtl_to_sql.specs.Conditions.{IsTranslated}
 use Rattle.vtl_to_sql.specs.Exports.{exported, exported_as, tables_read}
-use Rattle.vtl_to_sql.specs.Means.{AreNamed, AreStored, ScriptGives, Stands}
-use Rattle.vtl_to_sql.specs.Runs.{entries, run}
-use Rattle.vtl_to_sql.specs.Scripts.{create_for, export_for, input_for, input_of, ordered, script_for, statements_for, written_of}
-use Rattle.vtl_to_sql.specs.Tables.{Table, script_tables}
-use Rattle.vtl_to_sql.proofs.Expressions.{Translates}
-use Rattle.vtl_to_sql.proofs.Running.{behind}
+use Rattle.vtl_to_sql.specs.Means.{AreNamed, AreStored, ScriptGives}
+use Rattle.selects_to_sql.specs.Means.{Stands}
+use Rattle.selects_to_sql.specs.Runs.{entries, run}
+use Rattle.selects_to_sql.specs.Tables.{create_for, Table}
+use Rattle.vtl_to_sql.specs.Scripts.{export_for, input_for, input_of, ordered, script_for, statements_for, written_of}
+use Rattle.vtl_to_sql.specs.Tables.{script_tables}
+use Rattle.selects_to_sql.proofs.Expressions.{Translates}
+use Rattle.selects_to_sql.proofs.Running.{behind}
 use Rattle.vtl_to_sql.proofs.Statements.{script_gives}
 
 -- ---- SET

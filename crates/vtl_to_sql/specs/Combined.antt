@@ -4,8 +4,9 @@ use Rattle.vtl_decimal.specs.Settings.{Settings}
 use Rattle.vtl_tree.specs.declared.structure.Structure.{Structure}
 use Rattle.vtl_tree.specs.Trees.{NodeTree, nodes_of, structure_of}
 use Rattle.sql_tree.specs.Trees.{QueryTree, Text}
-use Rattle.vtl_to_sql.specs.Queries.{difference_query, intersection_query, symmetric_difference_query, union_query}
-use Rattle.vtl_to_sql.specs.Tables.{Made, Sources, combined_of, sources_of}
+use Rattle.vtl_to_sql.specs.Sets.{difference_query, intersection_query, symmetric_difference_query, union_query}
+use Rattle.selects_to_sql.specs.Tables.{Made, Sources}
+use Rattle.vtl_to_sql.specs.Tables.{combined_of, sources_of}
 use Rattle.vtl_to_sql.specs.declared.set_operators.SetOperator.{SetOperator}
 use Rattle.vtl_to_sql.specs.declared.set_operators.SetOperator.TheVariants as operator
 

@@ -1,63 +1,24 @@
 -- Which expressions on data sets and which statements are translated: their names and constants can be written, and no expression
 -- is too deep to be printed.
-use Rattle.std.specs.Prelude.{◌≡◌, ◌≤◌, ◌<◌, ◌+◌, ◌^◌, ℕ, true, false, List, [], ◌∷◌, length}
+use Rattle.std.specs.Prelude.{◌≡◌, ◌≤◌, ◌<◌, ◌+◌, ◌^◌, true, false, List, [], ◌∷◌, length}
 use Rattle.std.specs.List.{AllByRecursion}
 use Rattle.std.specs.Option.{IfSome}
-use Rattle.vtl_cell.specs.Held.{IsHeld}
-use Rattle.vtl_cell.specs.Kinds.{is_null}
-use Rattle.vtl_cell.specs.Profile.{IsOfProfile}
 use Rattle.vtl_decimal.specs.Settings.{Settings}
 use Rattle.vtl_text.specs.Words.{is_word}
 use Rattle.vtl_cell.specs.declared.kind.Kind.TheVariants as k
-use Rattle.vtl_tree.specs.CompExp.{CompExp}
 use Rattle.vtl_tree.specs.Structure.{columns_of, most_components}
 use Rattle.vtl_tree.specs.Structures.{AreStructures, Named, has_name}
-use Rattle.vtl_tree.specs.declared.structure.Component.{Component}
 use Rattle.vtl_tree.specs.declared.structure.Structure.{Structure}
-use Rattle.vtl_meaning.specs.AnalyticShapes.{default_in}
 use Rattle.vtl_tree.specs.Columns.{identifiers_of, kind_named}
 use Rattle.vtl_meaning.specs.Made.{IsMade, operands_in}
 use Rattle.vtl_meaning.specs.Meaning.{Statement}
 use Rattle.vtl_meaning.specs.Operators.{calculated_exps, measured_exps, pair_exps}
 use Rattle.vtl_tree.specs.Trees as nodes
-use Rattle.vtl_tree.specs.Trees.{AnalyticTree, FormTree, NodeTree, NodeTrees, OperandTrees, ValueTree, structure_of}
-use Rattle.vtl_tree.specs.declared.clauses.SubItem.{SubItem}
-use Rattle.sql_tree.specs.Formed.{IsName}
-use Rattle.check_laws.specs.Depths.{comp_depth}
-use Rattle.rules_to_sql.specs.Held.{HoldsValues}
-use Rattle.vtl_to_sql.specs.Tables.{first_number, made_of}
-
--- ---- parts
-
--- the deepest expression that is translated: its translation is at most one deeper, and can be printed
-abbrev pub most_depth : ℕ
-most_depth = 200
-
-pub record CanBeWritten (e : CompExp) : Type 0 where
-  pub constants : HoldsValues e
-  pub shallow : comp_depth e ≤ most_depth
-
-abbrev pub AllCanBeWritten : List CompExp → Type 0
-AllCanBeWritten es = AllByRecursion CanBeWritten es
-
--- the names of columns
-abbrev pub HaveNames : List Component → Type 0
-HaveNames xs = AllByRecursion (λ x. IsName x.name) xs
-
--- the value of an identifier, as typing gives it
-pub record HasValue (p : Settings) (i : SubItem) : Type 0 where
-  pub held : IsHeld i.value
-  pub ranged : IsOfProfile p i.value
-  pub filled : is_null i.value ≡ false
-
--- a target can be written, and the default of `lag` and `lead`
-abbrev pub ValueCanBeWritten : ValueTree → Type 0
-ValueCanBeWritten (nodes.scalar e) = CanBeWritten e
-ValueCanBeWritten (nodes.analytic x) = IsHeld (default_in x.op)
-
-abbrev pub CallsCanBeWritten : AnalyticTree → Type 0
-CallsCanBeWritten (nodes.of_measures o w) = IsHeld (default_in o)
-CallsCanBeWritten (nodes.of_items items) = AllByRecursion (λ i. ValueCanBeWritten i.value) items
+use Rattle.vtl_tree.specs.Trees.{FormTree, NodeTree, NodeTrees, OperandTrees, structure_of}
+use Rattle.selects_to_sql.specs.Tables.{first_number}
+use Rattle.vtl_to_sql.specs.Tables.{made_of}
+use Rattle.selects_to_sql.specs.Writable.{CanBeWritten, AllCanBeWritten, HaveNames, HasValue}
+use Rattle.groups_to_sql.specs.Writable.{CallsCanBeWritten}
 
 -- ---- expressions on data sets
 

@@ -9,11 +9,12 @@ use Rattle.vtl_tree.specs.declared.structure.Structure.{Structure}
 use Rattle.vtl_tree.specs.Columns.{identifiers_of}
 use Rattle.vtl_meaning.specs.Meaning.{Statement}
 use Rattle.vtl_tree.specs.Trees.{structure_of}
-use Rattle.sql_tree.specs.Trees.{ScriptTree, StatementTree, create, export, input, setting}
+use Rattle.sql_tree.specs.Trees.{ScriptTree, StatementTree, export, input, setting}
 use Rattle.sql_tree.specs.declared.statements.InputColumn.{InputColumn}
 use Rattle.sql_tree.specs.declared.statements.SqlExport.{SqlExport}
 use Rattle.sql_tree.specs.declared.statements.SqlInput.{SqlInput}
-use Rattle.vtl_to_sql.specs.Tables.{Table, script_tables}
+use Rattle.vtl_to_sql.specs.Tables.{script_tables}
+use Rattle.selects_to_sql.specs.Tables.{create_for}
 
 -- ---- INPUT
 
@@ -27,11 +28,6 @@ input_of e = record { name = e.0; columns = map input_column (columns_of e.1); k
 
 abbrev pub input_for : List ℕ × Structure → StatementTree
 input_for e = input (input_of e)
-
--- ---- CREATE
-
-abbrev pub create_for : Table → StatementTree
-create_for t = create t.name t.query
 
 -- ---- EXPORT
 

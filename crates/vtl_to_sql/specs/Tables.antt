@@ -2,116 +2,25 @@
 -- operands and then one query.
 use Rattle.std.specs.Prelude.{ℕ, ◌+◌, List, [], ◌∷◌, ◌++◌}
 use Rattle.std.specs.List.{flat_map}
-use Rattle.std.specs.Fmt.{decimal}
 use Rattle.vtl_decimal.specs.Settings.{Settings}
 use Rattle.vtl_tree.specs.declared.structure.Structure.{Structure}
-use Rattle.vtl_syntax.specs.declared.word_groups.JoinKind.{JoinKind}
-use Rattle.vtl_syntax.specs.declared.word_groups.JoinKind.TheVariants as join
 use Rattle.vtl_tree.specs.Joins as joins
-use Rattle.vtl_meaning.specs.Joined.{reference_place}
 use Rattle.vtl_meaning.specs.Made.{operands_in}
 use Rattle.vtl_meaning.specs.Meaning.{Statement}
 use Rattle.vtl_tree.specs.Trees as nodes
 use Rattle.vtl_tree.specs.Trees.{FormTree, NodeTree, NodeTrees, OperandTrees, structure_of}
 use Rattle.sql_tree.specs.Trees.{Text, QueryTree}
-use Rattle.sql_tree.specs.declared.word_groups.JoinKind.TheVariants as joining
-use Rattle.sql_meaning.specs.Scripts.{dollar}
-use Rattle.vtl_to_sql.specs.FullJoins.{full_query, key_structure, keys_query, once_query}
-use Rattle.vtl_to_sql.specs.Grouped.{aggregate_query}
-use Rattle.vtl_to_sql.specs.Joins.{cross_query, reference_query}
-use Rattle.vtl_to_sql.specs.Queries.{calc_query, choose_query, copy_query, difference_query, filter_query, intersection_query, left_query, measures_query, pair_query, rename_query, shown_query, sub_query, symmetric_difference_query, union_query, existence_query}
-use Rattle.vtl_to_sql.specs.Turned.{pivot_query, unpivot_query}
-use Rattle.vtl_to_sql.specs.Windowed.{analytic_query}
-
--- a table by a query
-pub record Table : Type 0 where
-  pub name : Text
-  pub query : QueryTree
-
-abbrev pub table_of : Text → QueryTree → Table
-table_of name q = record { name = name; query = q }
-
--- of an expression: the tables before its own, the query of its own, and the next number of a table
-pub record Made : Type 0 where
-  pub tables : List Table
-  pub query : QueryTree
-  pub next : ℕ
-
--- of operands: the names of the tables that stand for them, the tables that are made for them, and the next number
-pub record Sources : Type 0 where
-  pub names : List Text
-  pub tables : List Table
-  pub next : ℕ
-
--- the result's name, `$` and a number
-abbrev pub numbered : Text → ℕ → Text
-numbered result n = result ++ dollar ∷ decimal n
-
--- ---- operands
-
--- by its name, and by a table of its own
-abbrev pub by_name : Text → ℕ → Sources
-by_name x n = record { names = x ∷ []; tables = []; next = n }
-
-abbrev pub stored : Text → Made → Sources
-stored result m = record {
-  names = numbered result m.next ∷ [];
-  tables = m.tables ++ table_of (numbered result m.next) m.query ∷ [];
-  next = m.next + 1;
-}
+use Rattle.groups_to_sql.specs.Grouped.{aggregate_query}
+use Rattle.selects_to_sql.specs.Queries.{calc_query, choose_query, copy_query, filter_query, left_query, measures_query, pair_query, rename_query, sub_query}
+use Rattle.vtl_to_sql.specs.Sets.{difference_query, intersection_query, shown_query, symmetric_difference_query, union_query, existence_query}
+use Rattle.groups_to_sql.specs.Turned.{pivot_query, unpivot_query}
+use Rattle.groups_to_sql.specs.Windowed.{analytic_query}
+use Rattle.joins_to_sql.specs.JoinTables.{join_made}
+use Rattle.selects_to_sql.specs.Tables.{Table, table_of, Made, Sources, by_name, stored, and_then, with_one, with_two, with_three, over, by_names, first_number}
 
 abbrev pub source_of : Text → FormTree → ℕ → Made → Sources
 source_of result (nodes.named x) n m = by_name x n
 source_of result form n m = stored result m
-
--- operands, and others behind them
-abbrev pub and_then : Sources → (ℕ → Sources) → Sources
-and_then a f =
-    let b = f a.next in
-    record { names = a.names ++ b.names; tables = a.tables ++ b.tables; next = b.next }
-
--- the names of one, two and three operands
-abbrev pub with_one : (Text → QueryTree) → List Text → QueryTree
-with_one q (x ∷ []) = q x
-with_one q names = []
-
-abbrev pub with_two : (Text → Text → QueryTree) → List Text → QueryTree
-with_two q (x ∷ y ∷ []) = q x y
-with_two q names = []
-
-abbrev pub with_three : (Text → Text → Text → QueryTree) → List Text → QueryTree
-with_three q (x ∷ y ∷ z ∷ []) = q x y z
-with_three q names = []
-
--- a query over operands
-abbrev pub over : Sources → (List Text → QueryTree) → Made
-over os q = record { tables = os.tables; query = q os.names; next = os.next }
-
--- by names of tables that there are
-abbrev pub by_names : List Text → ℕ → Sources
-by_names xs n = record { names = xs; tables = []; next = n }
-
--- the names of operands, and of one behind them
-abbrev pub with_last : (List Text → Text → QueryTree) → List Text → QueryTree
-with_last q [] = []
-with_last q (x ∷ []) = q [] x
-with_last q (x ∷ y ∷ xs) = with_last (λ zs z. q (x ∷ zs) z) (y ∷ xs)
-
--- ---- joins
-
--- the identifiers of operands in a table of their own, and each tuple of them once in another one
-abbrev pub keys_of : Settings → (result : Text) → Structure → List Structure → List Text → ℕ → Sources
-keys_of p r a ss xs n = stored r (over (stored r (over (by_names xs n) (keys_query p a ss))) (with_one (once_query p (key_structure a))))
-
-abbrev pub full_made : Settings → (result : Text) → List Structure → Structure → Sources → Made
-full_made p r [] s os = over os (λ names. [])
-full_made p r (a ∷ ss) s os = over (and_then os (keys_of p r a (a ∷ ss) os.names)) (with_last (full_query p a (a ∷ ss) s))
-
-abbrev pub join_made : Settings → (result : Text) → JoinKind → List Structure → Structure → Sources → Made
-join_made p r join.Inner ss s os = over os (reference_query p joining.Inner (reference_place join.Inner ss) ss s)
-join_made p r join.Left ss s os = over os (reference_query p joining.Left (reference_place join.Left ss) ss s)
-join_made p r join.Cross ss s os = over os (cross_query p ss s)
-join_made p r join.Full ss s os = full_made p r ss s os
 
 -- ---- expressions
 
@@ -160,10 +69,6 @@ abbrev mutual
   combined_of p r q s (nodes.and_node b (nodes.and_node c ns)) a os = combined_of p r q s (nodes.and_node c ns) s (stored r (over (and_then os (sources_of p r b)) (with_two (q a (structure_of b)))))
 
 -- ---- statements
-
--- the first number of a table
-abbrev pub first_number : ℕ
-first_number = 1
 
 -- the last of a statement's tables has the result's name
 abbrev pub statement_tables : Settings → Statement → List Table

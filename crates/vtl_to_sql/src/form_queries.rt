@@ -6,17 +6,13 @@ ghost use Rattle.sql_tree.specs.View.{query_tree};
 ghost use Rattle.vtl_to_sql.specs.FormQueries.{query_of_one, query_of_three, query_of_two};
 
 use crate::existence_queries::existence_query;
-use crate::grouped_queries::aggregate_query;
-use crate::pair_queries::{Operand, choose_query, pair_query};
-use crate::pivot_queries::pivot_query;
-use crate::queries::{
-    calc_query, filter_query, left_query, measures_query, no_query, rename_query, sub_query,
-};
 use crate::set_operators::SetOperator;
 use crate::set_queries::set_query;
-use crate::unpivot_queries::unpivot_query;
-use crate::windowed_queries::analytic_query;
-use crate::writer::Writer;
+use groups_to_sql::{aggregate_query, analytic_query, pivot_query, unpivot_query};
+use selects_to_sql::{
+    Operand, Writer, calc_query, choose_query, filter_query, left_query, measures_query, no_query,
+    pair_query, rename_query, sub_query,
+};
 use sql_tree::Query;
 use std::alloc::{AllocError, Global};
 use vtl_text::Txt;

@@ -10,7 +10,7 @@ ghost use Rattle.sql_tree.specs.View.{statement_tree};
 ghost use Rattle.vtl_to_sql.specs.Reads.{IsRead};
 ghost use Rattle.vtl_to_sql.specs.Scripts.{input_column, input_for, input_of};
 
-use crate::draft::Draft;
+use selects_to_sql::Draft;
 use sql_tree::{InputColumn, SqlInput, Statement};
 use std::alloc::{AllocError, Global};
 use vtl_check::Checked;

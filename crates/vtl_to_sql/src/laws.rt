@@ -20,9 +20,10 @@ ghost use Rattle.vtl_to_sql.specs.Accepted.{AreFew, AreHeld, are_translated, is_
 ghost use Rattle.vtl_to_sql.specs.Conditions.{HasFewTables, IsScript};
 ghost use Rattle.vtl_to_sql.specs.Exports.{AreRead, exported_as};
 ghost use Rattle.vtl_to_sql.specs.Inputs.{AreAsked, AreTaken, sets_read};
-ghost use Rattle.vtl_to_sql.specs.Runs.{entries};
+ghost use Rattle.selects_to_sql.specs.Runs.{entries};
 ghost use Rattle.vtl_to_sql.specs.Scripts.{input_of, script_for};
-ghost use Rattle.vtl_to_sql.specs.Tables.{first_number, made_of};
+ghost use Rattle.selects_to_sql.specs.Tables.{first_number};
+ghost use Rattle.vtl_to_sql.specs.Tables.{made_of};
 
 /// Over the data sets that a script reads, their rows in any order, the script in SQL exports the outputs in order, each
 /// sorted by its identifiers; or it has the same fault with the name of the same result.

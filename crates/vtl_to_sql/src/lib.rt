@@ -9,35 +9,15 @@
 //! Begin with specs/Queries.antt, Tables.antt and Scripts.antt, then Means.antt and src/laws.rt.
 #![tactic(auto)]
 
-mod all_joins;
-mod components;
-mod conditions;
 mod constants;
-mod draft;
 mod existence_queries;
 mod form_queries;
-mod full_joins;
-mod grouped_queries;
-mod groups;
 mod inputs;
-mod items;
-mod join_items;
-mod join_operands;
-mod join_queries;
 mod laws;
-mod named_items;
-mod pair_items;
-mod pair_queries;
-mod pivot_queries;
-mod queries;
 mod script;
 mod set_operators;
 mod set_queries;
-mod unpivot_queries;
 mod walk;
-mod windowed_queries;
-mod windows;
-mod writer;
 
 pub use constants::constants_are_held;
 pub use laws::{

@@ -11,14 +11,14 @@ ghost use Rattle.sql_tree.specs.View.{script_tree, statement_tree};
 ghost use Rattle.vtl_to_sql.specs.Accepted.{AreFew, are_translated, is_translated};
 ghost use Rattle.vtl_to_sql.specs.Conditions.{HasFewTables, IsScript};
 ghost use Rattle.vtl_to_sql.specs.Reads.{statement_of};
-ghost use Rattle.vtl_to_sql.specs.Scripts.{create_for, export_for, ordered, script_for, statements_for, written_of};
+ghost use Rattle.selects_to_sql.specs.Tables.{create_for};
+ghost use Rattle.vtl_to_sql.specs.Scripts.{export_for, ordered, script_for, statements_for, written_of};
 ghost use Rattle.vtl_to_sql.specs.Tables.{script_tables, statement_tables};
 
 use crate::constants::constants_are_held;
-use crate::draft::Draft;
 use crate::inputs::{names, push_inputs};
 use crate::walk::query;
-use crate::writer::Writer;
+use selects_to_sql::{Draft, Writer};
 use sql_tree::{SqlExport, SqlScript, Statement};
 use std::alloc::{AllocError, Global};
 use vtl_check::Checked;

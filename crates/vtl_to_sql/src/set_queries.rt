@@ -8,12 +8,10 @@ ghost use Rattle.vtl_tree.specs.Names.{is_among};
 ghost use Rattle.vtl_tree.specs.Columns.{common_identifiers};
 ghost use Rattle.sql_tree.specs.View.{expr_tree, query_tree, select_tree};
 ghost use Rattle.vtl_to_sql.specs.Combined.{combined_query};
-ghost use Rattle.vtl_to_sql.specs.Queries.{answered, is_matched, matched_select, shown_select, tied};
+ghost use Rattle.vtl_to_sql.specs.Sets.{answered, is_matched, matched_select, shown_select, tied};
 
-use crate::items::renamed_items;
-use crate::queries::{from_one, one_select, two_selects};
 use crate::set_operators::SetOperator;
-use crate::writer::Writer;
+use selects_to_sql::{Writer, from_one, one_select, renamed_items, two_selects};
 use sql_tree::{Equality, Query, Select, SqlExpr};
 use std::alloc::{AllocError, Global};
 use vtl_cell::ScalarOp;

@@ -2,7 +2,7 @@
 ghost use Rattle.std.specs.Prelude.{◌≡◌, ◌++◌, ◌∷◌, [], length, map, true, IfOk, OnOk};
 ghost use Rattle.vtl_tree.specs.NodeView.{form_tree, node_tree, operand_tree};
 ghost use Rattle.sql_tree.specs.View.{query_tree, statement_tree};
-ghost use Rattle.vtl_to_sql.specs.Scripts.{create_for};
+ghost use Rattle.selects_to_sql.specs.Tables.{create_for};
 ghost use Rattle.vtl_tree.specs.Trees.{join, nodes_of, operands_of};
 ghost use Rattle.vtl_tree.specs.Shown.{shown};
 ghost use Rattle.vtl_tree.specs.Joins.{structures_of};
@@ -11,13 +11,11 @@ ghost use Rattle.vtl_to_sql.specs.Combined.{combined_made};
 ghost use Rattle.vtl_to_sql.specs.Tables.{made_of_form, operands_of as joined_sources, sources_of};
 ghost use Rattle.vtl_to_sql.specs.Accepted.{are_nodes_translated, are_operands_translated, is_form_translated, is_translated};
 
-use crate::all_joins::join_query;
-use crate::draft::Draft;
 use crate::form_queries::{query_of_one, query_of_three, query_of_two};
-use crate::queries::{left_query, no_query};
 use crate::set_operators::SetOperator;
 use crate::set_queries::set_query;
-use crate::writer::Writer;
+use joins_to_sql::join_query;
+use selects_to_sql::{Draft, Writer, left_query, no_query};
 use sql_tree::Query;
 use std::alloc::{AllocError, Global};
 use vtl_text::Txt;

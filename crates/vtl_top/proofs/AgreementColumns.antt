@@ -24,7 +24,7 @@ use Rattle.vtl_csv.proofs.PlainLemmas.{plain_rows_same}
 use Rattle.sql_engine.specs.Structures.{component_of, listed_codes, structure_of}
 use Rattle.sql_check_parts.specs.Statements.{is_of_key}
 use Rattle.vtl_to_sql.specs.Scripts.{input_column, input_of}
-use Rattle.vtl_to_sql.proofs.Givens.{columns_count}
+use Rattle.selects_to_sql.proofs.Givens.{columns_count}
 use Rattle.vtl_to_sql.proofs.ReadTables.{all_among, none_among}
 
 -- ---- one component

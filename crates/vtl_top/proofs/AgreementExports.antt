@@ -24,7 +24,7 @@ use Rattle.sql_engine.specs.Exported.{entry_column}
 use Rattle.sql_check_parts.specs.Scopes.{Columns}
 use Rattle.sql_meaning.specs.Scripts.{sort_key}
 use Rattle.vtl_to_sql.specs.Exports.{exported, exported_as}
-use Rattle.vtl_to_sql.specs.Runs.{entries}
+use Rattle.selects_to_sql.specs.Runs.{entries}
 use Rattle.vtl_top.specs.Expected.{file_in, output_of, outputs_of}
 use Rattle.vtl_top.specs.SqlRun.{export_file, exports_of}
 use Rattle.vtl_top.specs.Steps.{File, Path}

@@ -20,9 +20,9 @@ use Rattle.vtl_meaning.specs.Aggregates.{Made, cell_or_null}
 use Rattle.vtl_meaning.specs.Analytics.{made_of, point_of, tree_value, value_for}
 use Rattle.vtl_tree.specs.Columns.{place_of}
 use Rattle.vtl_tree.specs.Trees.{AnalyticTree, ValueTree}
-use Rattle.vtl_group.proofs.GroupWalks.{cells_more, seen_more}
+use Rattle.vtl_expr.proofs.ValueWalks.{cells_more, seen_more}
 use Rattle.vtl_window.specs.Analyses.{cells_by, cells_in, faults_of, made_cells, made_faults}
-use Rattle.vtl_window.proofs.PartitionLemmas.{listed}
+use Rattle.vtl_frames.proofs.ListLemmas.{listed}
 use Rattle.vtl_window.specs.declared.column.Column.{Column}
 
 -- ---- one more value

@@ -2,7 +2,7 @@
 use Rattle.std.proofs.Common.{◌≡◌, ℕ, zero, suc, ◌+◌, ◌<◌, ◌≤◌, List, [], ◌∷◌, length, get_or, map, Option, Some, None, refl, sym, ap, ◌∙◌, arith}
 use Rattle.std.specs.Borrow.{Bor}
 use Rattle.std.specs.Prelude.{option_map}
-use Rattle.std.specs.List.{AllByRecursion, range_with_len}
+use Rattle.std.specs.List.{AllByRecursion}
 use Rattle.std.specs.Option.{option_map_or}
 use Rattle.std.proofs.lemmas.List.{get_or-map, length-map}
 use Rattle.vtl_cell.specs.Frames.{frame_of}
@@ -24,17 +24,9 @@ use Rattle.vtl_tree.specs.declared.calls.Bound.TheVariants as bound
 use Rattle.vtl_tree.specs.declared.calls.Window.{Window}
 use Rattle.vtl_meaning.specs.Windows.{argument, bound_of, frame_in, framed, op_value}
 use Rattle.vtl_window.specs.Frames.{bound_in, taken_frame}
-use Rattle.vtl_window.specs.Runs.{lane_cells, run_values, stand_at, value_at}
-
--- ---- values at each place
-map_from : {X : Type 0} (f g : ℕ → X) (a n : ℕ) → ((i : ℕ) → a ≤ i → i < a + n → f i ≡ g i) → map f (range_with_len a n) ≡ map g (range_with_len a n)
-map_from f g a zero same = refl
-map_from f g a (suc n) same =
-    ap (λ x. x ∷ map f (range_with_len (a + 1) n)) (same a (omega arith) (omega arith))
-    ∙ ap (λ l. g a ∷ l) (map_from f g (a + 1) n (λ i h k. same i (omega (arith, h)) (omega (arith, k))))
-
-pub map_same : {X : Type 0} (f g : ℕ → X) (n m : ℕ) → n ≡ m → ((i : ℕ) → i < m → f i ≡ g i) → map f (range_with_len 0 n) ≡ map g (range_with_len 0 m)
-map_same f g n m e same = ap (λ k. map f (range_with_len 0 k)) e ∙ map_from f g 0 m (λ i h k. same i (omega (arith, k)))
+use Rattle.vtl_frames.specs.Lanes.{lane_cells}
+use Rattle.vtl_frames.proofs.ListLemmas.{map_same}
+use Rattle.vtl_window.specs.Runs.{run_values, stand_at, value_at}
 
 -- ---- frames
 bound_is : (b : Bound) → frames.bound_of (bound_in b) ≡ bound_of b

@@ -1,12 +1,8 @@
 pub mod AnalysisLemmas
 pub mod CallLemmas
-pub mod OrderLemmas
 pub mod PartitionLemmas
 pub mod PlaceLemmas
 pub mod PutLemmas
-pub mod RankLemmas
-pub mod RunLemmas
 pub mod SortLemmas
-pub mod StretchLemmas
 pub mod ValueLemmas
 pub mod Windowed

@@ -10,8 +10,8 @@ use Rattle.vtl_lists.proofs.Aparts.{apart_more, apart_parts}
 use Rattle.vtl_cell.proofs.Keys.{window_order}
 use Rattle.vtl_cell.proofs.Rows.{same_row-is, same_row-refl}
 use Rattle.vtl_meaning.proofs.Places.{all_more}
-use Rattle.vtl_window.proofs.PutLemmas.{all_get}
-use Rattle.vtl_window.proofs.RankLemmas.{below_or_not, count_front, rises_get}
+use Rattle.vtl_frames.proofs.ListLemmas.{all_get, rises_get}
+use Rattle.vtl_frames.proofs.RankLemmas.{below_or_not, count_front}
 
 -- ---- rows that are apart
 

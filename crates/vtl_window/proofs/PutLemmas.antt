@@ -13,14 +13,10 @@ use Rattle.vtl_cell.specs.Outcome.{Outcome, fault_in, join}
 use Rattle.vtl_cell.specs.declared.cell.Cell.{Cell}
 use Rattle.vtl_cell.specs.declared.cell.Cell.TheVariants as c
 use Rattle.vtl_lists.proofs.Perms.{AllByRecursion-Perm, Perm-from_IsPermutation, Perm-sym, length-Perm}
+use Rattle.vtl_frames.proofs.ListLemmas.{all_get}
 use Rattle.vtl_tree.proofs.Faults.{faults_by-Perm, join_assoc}
 use Rattle.vtl_meaning.specs.Aggregates.{cell_or_null}
 use Rattle.vtl_window.specs.Analyses.{cells_by, faults_of}
-
-pub all_get : {X : Type 0} (P : X → Type 0) (xs : List X) (k : ℕ) (d : X) → k < length xs → AllByRecursion P xs → P (get_or xs k d)
-all_get P [] k d h all = absurd (omega (arith, h))
-all_get P (x ∷ xs) zero d h all = all.0
-all_get P (x ∷ xs) (suc k) d h all = all_get P xs k d (omega (arith, h)) all.1
 
 -- ---- cells put at places
 module _ (f : ℕ → Cell) where

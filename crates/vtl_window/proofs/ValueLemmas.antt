@@ -36,14 +36,13 @@ use Rattle.vtl_tree.specs.declared.calls.AnalyticOp.TheVariants as op
 use Rattle.vtl_meaning.proofs.Places.{key_cells, key_within}
 use Rattle.vtl_window.specs.Runs.{run_values, stand_at, value_at}
 use Rattle.vtl_window.specs.Sorted.{identifier_keys, order_keys, partition_keys, sort_keys, tie_breakers}
-use Rattle.vtl_window.proofs.CallLemmas.{map_same}
-use Rattle.vtl_window.proofs.OrderLemmas.{at_most, rises_with}
-use Rattle.vtl_window.proofs.PartitionLemmas.{listed, perm_at, run_order, within}
+use Rattle.vtl_frames.proofs.ListLemmas.{all_get, listed, map_same, rises_with}
+use Rattle.vtl_frames.proofs.OrderLemmas.{at_most}
+use Rattle.vtl_frames.proofs.RankLemmas.{count_by-Perm, row_rank-Perm}
+use Rattle.vtl_frames.proofs.StretchLemmas.{IsStretch}
+use Rattle.vtl_window.proofs.PartitionLemmas.{perm_at, run_order, within}
 use Rattle.vtl_window.proofs.PlaceLemmas.{apart_at, apart_in, place_in}
-use Rattle.vtl_window.proofs.PutLemmas.{all_get}
-use Rattle.vtl_window.proofs.RankLemmas.{count_by-Perm, row_rank-Perm}
 use Rattle.vtl_window.proofs.SortLemmas.{order_ids_are}
-use Rattle.vtl_window.proofs.StretchLemmas.{IsStretch}
 
 -- ---- identifiers
 -- points of one data set that tie by all identifiers are one

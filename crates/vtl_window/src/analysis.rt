@@ -51,12 +51,12 @@ pub fn analytic(
     alloc: Global,
     a: &DataSet,
     spec: &AnalyticSpec,
-    made: Structure,
+    made: &Structure,
     p: &Profile,
 ) -> Result<DataSet, ScalarErr>
-    requires { IsWindowed p.now (analytic_tree spec.now) a.now.structure made }
-    ensures { Answers result (with_structure made (analytic_of p.now (analytic_tree spec.now) a.now made)) }
+    requires { IsWindowed p.now (analytic_tree spec.now) a.now.structure made.now }
+    ensures { Answers result (with_structure made.now (analytic_of p.now (analytic_tree spec.now) a.now made.now)) }
 {
-    let table = analyzed_table(alloc, a, spec, &made, p);
+    let table = analyzed_table(alloc, a, spec, made, p);
     DataSet::answered(alloc, made, table)
 }

@@ -1,7 +1,7 @@
 // The columns of the result.
 ghost use Rattle.std.specs.Prelude.{◌≡◌, IfErr, IfOk, map};
 ghost use Rattle.vtl_cell.specs.Outcome.{join, unless};
-ghost use Rattle.vtl_scalar.specs.Answers.{Answers, AnswersBy};
+ghost use Rattle.vtl_scalar.specs.Answers.{AnswersBy};
 ghost use Rattle.vtl_tree.specs.Shown.{shown};
 ghost use Rattle.vtl_tree.specs.Structure.{columns_of};
 ghost use Rattle.vtl_tree.specs.Value.{value};
@@ -22,20 +22,12 @@ use crate::values::call_cells;
 use std::alloc::{AllocError, Global};
 use vtl_cell::{Cell, Kind};
 use vtl_decimal::Profile;
-use vtl_expr::{Prepared, prepare, value_at};
+use vtl_expr::{Point, Prepared, prepare};
 use vtl_rows::Table;
 use vtl_scalar::{ScalarErr, Seen};
 use vtl_sets::DataSet;
 use vtl_text::Txt;
 use vtl_tree::{AnalyticSpec, CompExpr, Component, place_of};
-
-// The value of an expression at a point.
-fn value_of(alloc: Global, e: &Prepared, row: &[Cell], p: &Profile) -> Result<Cell, ScalarErr>
-    ensures { Answers result (value p.now (prepared_exp e.now) row.now) }
-{
-    let value = value_at(alloc, e, row, &[], p)?;
-    Ok(value.into_cell()?)
-}
 
 // The values of an expression at the rows of a table; a null stands for a value with a fault, which is noted.
 fn computed_cells(
@@ -51,7 +43,7 @@ fn computed_cells(
 {
     let mut cells = Vec::with_capacity(alloc, table.len())?;
     for i in 0..table.len() {
-        cells.push(noted(seen, value_of(alloc, e, table.row(i), p))?)?;
+        cells.push(noted(seen, Point::of(table.row(i)).cell(alloc, e, p))?)?;
     }
     Ok(cells)
 }

@@ -3,8 +3,7 @@
 //! It decides how windows are gone over: the points are sorted once for a call, each partition is taken in turn, and
 //! each value is put back at its point. What windows, their values and their faults are is defined in `vtl_meaning`; the
 //! structure of a result is decided where scripts are checked, and passed in.
-//! It knows no script, no statement, no file and no text format. The calls of `vtl_group` and of the crates below it it
-//! passes on, so that the interpreter names one crate for all of them.
+//! It knows no script, no statement, no file and no text format.
 //! Begin with specs/Calls.antt, then `values.rt` and `analysis.rt`.
 #![tactic(auto)]
 
@@ -15,7 +14,6 @@ mod columns;
 mod faults;
 mod frames;
 mod keys;
-mod lane;
 mod maker;
 mod partition;
 mod putting_back;

@@ -1,61 +1,28 @@
 // The values of a call over a partition.
-ghost use Rattle.std.specs.List.{range_with_len};
-ghost use Rattle.std.specs.Prelude.{◌≡◌, ◌++◌, ◌∷◌, [], ℕ, filter, length, map, option_map, OnOk};
+ghost use Rattle.std.specs.Prelude.{◌≡◌, ◌++◌, ℕ, map, option_map, OnOk};
 ghost use Rattle.vtl_cell.specs.Row.{column_of};
 ghost use Rattle.vtl_rows.specs.Keys.{key_of};
 ghost use Rattle.vtl_rows.specs.Places.{row_at};
-ghost use Rattle.vtl_rows.specs.Runs.{is_start, rank_at};
 ghost use Rattle.vtl_tree.specs.Structure.{columns_of};
 ghost use Rattle.vtl_meaning.specs.Windows.{argument, keys_in};
 ghost use Rattle.vtl_window.specs.Calls.{lent};
-ghost use Rattle.vtl_window.specs.Runs.{AreInOrder, count_in, run_values};
+ghost use Rattle.vtl_frames.specs.Ranked.{AreInOrder};
+ghost use Rattle.vtl_window.specs.Runs.{run_values};
 
 use crate::call::Call;
 use crate::frames::frame_of;
-use crate::lane::Lane;
 use std::alloc::{AllocError, Global};
 use vtl_cell::{AggKind, Cell};
-use vtl_decimal::{Fault, Profile, whole};
-use vtl_frames::{End, Shift, push_aggregates, push_ends, push_ratios, push_shifted};
-use vtl_rows::{SortKey, Table, ranks};
+use vtl_decimal::{Fault, Profile};
+use vtl_frames::{
+    End, Lane, Shift, push_aggregates, push_ends, push_ranks, push_ratios, push_shifted,
+};
+use vtl_rows::SortKey;
 use vtl_sets::DataSet;
 use vtl_tree::AnalyticOp;
 
 /// The values so far, each an outcome.
 pub(crate) type Outcomes = Vec<Result<Cell, Fault>>;
-
-// A count as a value.
-fn count_cell(count: usize, p: &Profile) -> Result<Cell, Fault>
-    ensures { result ≡ count_in p.now count }
-{
-    Ok(Cell::Int(whole(count as i128, p)?))
-}
-
-// Puts counts behind other values.
-fn push_counts(out: &mut Outcomes, counts: &[usize], p: &Profile) -> Result<(), AllocError>
-    ensures { OnOk result (out.new.items ≡ out.old.items ++ map (count_in p.now) counts.now) }
-{
-    for count in counts {
-        out.push(count_cell(*count, p))?;
-    }
-    Ok(())
-}
-
-// The ranks of the rows of a partition in order.
-fn push_ranks(
-    alloc: Global,
-    out: &mut Outcomes,
-    table: &Table,
-    run: &[usize],
-    keys: &[SortKey],
-    p: &Profile,
-) -> Result<(), AllocError>
-    ensures { OnOk result (out.new.items ≡ out.old.items ++ map (count_in p.now) (map (rank_at (0 ∷ []) (filter (is_start keys.now table.now.rows run.now) (range_with_len 0 (length run.now)))) (range_with_len 0 (length run.now)))) }
-{
-    let peers = table.runs(alloc, run, keys)?;
-    let ranks = ranks(alloc, &[0], &peers, run.len())?;
-    push_counts(out, &ranks, p)
-}
 
 /// Puts the values of a call at the rows of a partition, which stand in order, behind other values; `column` is the
 /// place of its component. It fails only if memory runs out.

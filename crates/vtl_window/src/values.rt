@@ -1,6 +1,6 @@
 // The values of a call at the points.
 ghost use Rattle.std.specs.List.{AllByRecursion};
-ghost use Rattle.std.specs.Prelude.{◌≡◌, ◌<◌, ◌≤◌, ◌-◌, ℕ, All, IfErr, IfOk, drop, length, map, option_map, take};
+ghost use Rattle.std.specs.Prelude.{◌≡◌, ◌<◌, ℕ, All, IfErr, IfOk, length, map, option_map};
 ghost use Rattle.std.specs.Option.{option_map_or};
 ghost use Rattle.vtl_cell.specs.Outcome.{join};
 ghost use Rattle.vtl_cell.specs.Row.{column_of};
@@ -15,7 +15,6 @@ ghost use Rattle.vtl_meaning.specs.Windows.{argument, call_value};
 ghost use Rattle.vtl_tree.specs.Trees.{analytic};
 ghost use Rattle.vtl_window.specs.Analyses.{cells_by, faults_of};
 ghost use Rattle.vtl_window.specs.Calls.{lent};
-ghost use Rattle.vtl_window.specs.Runs.{start_at};
 ghost use Rattle.vtl_window.specs.Sorted.{order_keys, partition_keys, sort_keys, tie_breakers};
 
 use crate::call::Call;
@@ -25,6 +24,7 @@ use crate::putting_back::put_back;
 use std::alloc::{AllocError, Global};
 use vtl_cell::{Cell, Kind};
 use vtl_decimal::Profile;
+use vtl_frames::Stretches;
 use vtl_rows::SortKey;
 use vtl_scalar::{ScalarErr, Seen};
 use vtl_sets::DataSet;
@@ -39,25 +39,6 @@ fn argument_place(columns: &[&Component], component: Option<&Txt>) -> usize
         Some(name) => place_of(columns, name),
         None => columns.len(),
     }
-}
-
-// Where a stretch begins; past the last one the number of rows.
-fn start_at(starts: &[usize], count: usize, i: usize) -> usize
-    ensures { result ≡ start_at starts.now count i }
-{
-    match starts.get(i) {
-        Some(start) => *start,
-        None => count,
-    }
-}
-
-// The numbers from one place up to another.
-fn stretch(places: &[usize], start: usize, end: usize) -> &[usize]
-    requires rises { start ≤ end }
-    requires within { end ≤ length places.now }
-    ensures { result.now ≡ take (end - start) (drop start places.now) }
-{
-    &places[start..end]
 }
 
 // The numbers of the points in the order of the sort for a call.
@@ -96,12 +77,10 @@ fn sorted_values(
     requires sorted { IsOrderOf (sort_keys (columns_of a.now.structure) (tie_breakers call.op.now (identifiers_of a.now.structure)) call.window.now) a.now.points places.now }
     ensures { IfOk result (λ v. v.items ≡ map (λ k. call_value p.now a.now (lent call.entry) (row_at a.now.points k)) places.now) }
 {
-    let starts = a.table().runs(alloc, places, partition)?;
+    let partitions = Stretches::of(alloc, a.table(), places, partition)?;
     let mut out = Vec::with_capacity(alloc, places.len())?;
-    for i in 0..starts.len() {
-        let start = start_at(&starts, places.len(), i);
-        let end = start_at(&starts, places.len(), i + 1);
-        let run = stretch(places, start, end);
+    for i in 0..partitions.len() {
+        let run = partitions.stretch(i);
         push_call(alloc, &mut out, a, run, call, column, order, p)?;
     }
     Ok(out)

@@ -1,8 +1,8 @@
 use Rattle.std.proofs.Common.{◌++◌, ap, ◌∙◌}
 use Rattle.std.proofs.lemmas.Result.{on_ok_weaker}
 use Rattle.sql_from.specs.Standing.{sight_of}
-use Rattle.sql_window.specs.Lanes.{cells_in}
-use Rattle.sql_window.specs.Runs.{lane_cells}
+use Rattle.vtl_frames.specs.Lanes.{lane_cells}
+use Rattle.vtl_frames.specs.Lent.{cells_in}
 use Rattle.sql_window.proofs.CallLemmas.{aggregate_values}
 use Rattle.sql_window.proofs.calls.push_aggregate.Goals as goal
 

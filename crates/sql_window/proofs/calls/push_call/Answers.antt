@@ -1,10 +1,14 @@
-use Rattle.std.proofs.Common.{◌++◌, ap, sym, ◌∙◌}
+use Rattle.std.proofs.Common.{◌++◌, map, ap, sym, ◌∙◌}
 use Rattle.std.proofs.lemmas.Result.{on_ok_weaker}
+use Rattle.vtl_cell.specs.Sorted.{row_rank}
+use Rattle.vtl_rows.specs.Places.{row_at}
 use Rattle.sql_from.specs.Standing.{sight_of}
-use Rattle.sql_window.specs.Lanes.{cells_in}
-use Rattle.sql_window.specs.Runs.{lane_cells, run_values}
+use Rattle.sql_meaning.specs.Windows.{keys_of}
+use Rattle.vtl_frames.specs.Lanes.{lane_cells}
+use Rattle.vtl_frames.specs.Lent.{cells_in}
+use Rattle.vtl_frames.proofs.ListLemmas.{listed}
+use Rattle.sql_window.specs.Runs.{run_values}
 use Rattle.sql_window.proofs.CallLemmas.{shift_values, value_values}
-use Rattle.sql_window.proofs.RankLemmas.{rank_values}
 use Rattle.sql_window.proofs.calls.push_call.Goals as goal
 
 pub returns-in-Value : goal.returns-in-Value
@@ -36,5 +40,6 @@ returns-in-Rank c =
     let rows = c.args.table.now.rows in
     let run = c.args.run.now in
     on_ok_weaker c.push_ranks.result
-    (λ e. e ∙ ap (λ l. c.args.out.now.items ++ l) (rank_values v o c.args.keys.now rows run c.requires.order c.requires.keys ∙ ap (λ w. run_values v w o rows run) (sym c.in-Rank.is)))
+    (λ e. e ∙ ap (λ l. c.args.out.now.items ++ l) (ap (λ ks. map (λ k. row_rank v.base.settings ks (row_at rows k) (map (row_at rows) run)) run) c.requires.keys
+    ∙ sym (listed (λ k. row_rank v.base.settings (keys_of v o) (row_at rows k) (map (row_at rows) run)) run 0) ∙ ap (λ w. run_values v w o rows run) (sym c.in-Rank.is)))
     c.push_ranks.ensures

@@ -4,7 +4,7 @@ use Rattle.vtl_cell.specs.Row.{column_of}
 use Rattle.vtl_frames.specs.Framed.{at_each}
 use Rattle.vtl_frames.specs.declared.picks.End.TheVariants as ends
 use Rattle.sql_meaning.specs.Windows.{value_in}
-use Rattle.sql_window.specs.Lanes.{cells_in}
+use Rattle.vtl_frames.specs.Lent.{cells_in}
 use Rattle.sql_window.proofs.CallLemmas.{end_values}
 use Rattle.sql_window.proofs.calls.push_value.Goals as goal
 

@@ -14,7 +14,9 @@ use Rattle.vtl_sets.specs.TableOf.{table_columns}
 use Rattle.vtl_sets.proofs.TableLemmas.{answered_is_table, point_fits}
 use Rattle.vtl_meaning.proofs.Kept.{filtered_kept}
 use Rattle.vtl_scalar.specs.Seen.{seen_of}
+use Rattle.vtl_expr.specs.Prepared.{prepared_exp}
 use Rattle.vtl_expr.proofs.PointLemmas.{answered_keeps, finished, holds_at}
+use Rattle.vtl_expr.proofs.PointValues.{same_at}
 use Rattle.vtl_expr.proofs.Walks.{kept_more, seen_more}
 use Rattle.vtl_clause.proofs.filtering.kept_table.Goals as goal
 
@@ -37,7 +39,7 @@ loop-i-preserved c =
     let r = c.row.result.now in
     let rows = c.table-table.result.now.rows in
     let within : c.loop-i.i < length rows = omega (arith, c.len-i-end.ensures.rows, c.loop-i-test.true) in
-    let same = c.in_ok-prepared.ensures p r in
+    let same = same_at (prepared_exp c.in_ok-prepared.prepared) e c.in_ok-prepared.ensures p r in
     record {
       columns = c.keep.ensures.columns ∙ c.loop-i.invariant.columns;
       rows = kept_more (λ x. is_true (value p e x)) rows c.loop-i.i r c.loop-i.kept.rows c.keep.new.kept.rows within c.row.ensures.row c.loop-i.invariant.rows

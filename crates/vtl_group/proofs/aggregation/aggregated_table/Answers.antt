@@ -1,5 +1,5 @@
 use Rattle.std.proofs.Common.{◌≡◌, ◌<◌, ◌≤◌, ◌++◌, ◌∷◌, [], true, List, length, map, filter, cond, ap, sym, subst, ◌∙◌, arith}
-use Rattle.std.specs.Prelude.{IfOk, option_map}
+use Rattle.std.specs.Prelude.{IfOk}
 use Rattle.std.specs.List.{AllByRecursion}
 use Rattle.std.proofs.lemmas.List.{take_all}
 use Rattle.vtl_cell.specs.Outcome.{faults_by, join}
@@ -8,7 +8,6 @@ use Rattle.vtl_rows.specs.Places.{row_at}
 use Rattle.vtl_rows.specs.Tables.{Listed, fits}
 use Rattle.vtl_tree.specs.DataSet.{IsDataSet, is_point}
 use Rattle.vtl_tree.specs.Structure.{columns_of}
-use Rattle.vtl_tree.specs.View.{comp_exp_of}
 use Rattle.vtl_tree.specs.NodeView.{agg_tree}
 use Rattle.vtl_tree.specs.Columns.{identifiers_of, others_of}
 use Rattle.vtl_scalar.specs.Seen.{seen_of}
@@ -35,7 +34,7 @@ push-requires c =
     let recipe = c.in_ok-recipe.recipe in
     let groups = c.in_ok-groups.groups in
     let stands = stands_by spec xs ys a.points recipe groups c.table-table.result.now c.deref.result.now
-    c.in_ok-recipe.ensures.table c.table-table.ensures.points c.table-table.ensures.table.columns c.in_ok-recipe.ensures.names c.in_ok-recipe.ensures.places (ap (option_map comp_exp_of) c.in_ok-recipe.ensures.having) c.in_ok-recipe.ensures.calls c.deref.ensures.value c.in_ok-groups.ensures in
+    c.in_ok-recipe.ensures.table c.table-table.ensures.points c.table-table.ensures.table.columns c.in_ok-recipe.ensures.names c.in_ok-recipe.ensures.places c.in_ok-recipe.ensures.having c.in_ok-recipe.ensures.calls c.deref.ensures.value c.in_ok-groups.ensures in
     let i = c.loop-group.group in
     let within : i < length (firsts groups) = omega (arith, c.len-group-end.ensures, c.loop-group-test.true) in
     let own = subst (λ (l : List Row). IsDataSet a.structure l) c.table-table.ensures.points c.table-table.ensures.table.points in
@@ -64,7 +63,7 @@ loop-group-preserved c =
     let recipe = c.in_ok-recipe.recipe in
     let groups = c.in_ok-groups.groups in
     let stands = stands_by spec xs ys d recipe groups c.table-table.result.now c.deref.result.now
-    c.in_ok-recipe.ensures.table c.table-table.ensures.points c.table-table.ensures.table.columns c.in_ok-recipe.ensures.names c.in_ok-recipe.ensures.places (ap (option_map comp_exp_of) c.in_ok-recipe.ensures.having) c.in_ok-recipe.ensures.calls c.deref.ensures.value c.in_ok-groups.ensures in
+    c.in_ok-recipe.ensures.table c.table-table.ensures.points c.table-table.ensures.table.columns c.in_ok-recipe.ensures.names c.in_ok-recipe.ensures.places c.in_ok-recipe.ensures.having c.in_ok-recipe.ensures.calls c.deref.ensures.value c.in_ok-groups.ensures in
     let i = c.loop-group.group in
     let within : i < length (firsts groups) = omega (arith, c.len-group-end.ensures, c.loop-group-test.true) in
     let many = many_groups p spec xs ys d recipe groups stands in
@@ -77,10 +76,10 @@ loop-group-preserved c =
     record {
       columns = c.push.ensures.columns ∙ c.loop-group.invariant.columns;
       rows =
-          rows_more (point p spec xs ys d) (kept p spec xs ys d) ks i inside now c.push.new.self.table.rows c.loop-group.invariant.rows
+          rows_more (point p spec xs ys d) (kept p spec xs ys d) ks i inside now c.push.new.points.table.rows c.loop-group.invariant.rows
           (c.in_ok-push.ensures.rows ∙ (λ n. now ++ cond (is_kept n) (row n ∷ []) []));
       seen =
-          faults_more (fault_at p spec xs ys d) ks i inside (seen_of c.loop-group.points.seen) (seen_of c.push.new.self.seen) c.loop-group.invariant.seen
+          faults_more (fault_at p spec xs ys d) ks i inside (seen_of c.loop-group.points.seen) (seen_of c.push.new.points.seen) c.loop-group.invariant.seen
           (c.in_ok-push.ensures.seen ∙ ap (join (seen_of c.loop-group.points.seen)) fault);
     }
 
@@ -95,7 +94,7 @@ returns-clause-rows c =
     let recipe = c.in_ok-recipe.recipe in
     let groups = c.in_ok-groups.groups in
     let stands = stands_by spec xs ys d recipe groups c.table-table.result.now c.deref.result.now
-    c.in_ok-recipe.ensures.table c.table-table.ensures.points c.table-table.ensures.table.columns c.in_ok-recipe.ensures.names c.in_ok-recipe.ensures.places (ap (option_map comp_exp_of) c.in_ok-recipe.ensures.having) c.in_ok-recipe.ensures.calls c.deref.ensures.value c.in_ok-groups.ensures in
+    c.in_ok-recipe.ensures.table c.table-table.ensures.points c.table-table.ensures.table.columns c.in_ok-recipe.ensures.names c.in_ok-recipe.ensures.places c.in_ok-recipe.ensures.having c.in_ok-recipe.ensures.calls c.deref.ensures.value c.in_ok-groups.ensures in
     let many = many_groups p spec xs ys d recipe groups stands in
     let ks = keys p spec xs ys d in
     let past : length ks ≤ c.loop-group.group = omega (arith, c.len-group-end.ensures, c.loop-group-test.false, many) in

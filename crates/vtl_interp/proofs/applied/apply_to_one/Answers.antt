@@ -1,136 +1,23 @@
-use Rattle.std.proofs.Common.{Ok, map, refl, subst}
-use Rattle.vtl_scalar.specs.Answers.{AnswersBy}
-use Rattle.vtl_tree.specs.Trees as nodes
-use Rattle.vtl_tree.specs.NodeView.{agg_tree, analytic_tree, item_tree, measure_tree, node_tree}
-use Rattle.vtl_tree.specs.declared.nodes.NodeForm.TheVariants as form
-use Rattle.vtl_meaning.specs.Aggregates.{aggregate_of}
-use Rattle.vtl_meaning.specs.Analytics.{analytic_of}
-use Rattle.vtl_sets.specs.DataSets.{data_set, with_structure}
-use Rattle.vtl_meaning.specs.Operators.{calculated_of, left_of, measured_of, sub_of}
-use Rattle.vtl_meaning.specs.Turned.{pivot_of}
+use Rattle.std.proofs.Common.{rules, ◌≡◌, Err, subst, sym}
+use Rattle.vtl_tree.specs.Environment.{DataSet}
+use Rattle.vtl_tree.specs.NodeView.{form_tree, node_tree}
+use Rattle.vtl_interp.specs.Evaluated.{GivesOne}
 use Rattle.vtl_interp.specs.Values.{value_view}
-use Rattle.vtl_interp.proofs.NodesEvaluated.{aggregate_fits, analytic_fits, form_tree-Aggregate, form_tree-Analytic, form_tree-Calc, form_tree-DropNamed, form_tree-Keep, form_tree-Measures, form_tree-Member, form_tree-Pivot, form_tree-Sub, measures_fit, one_given_at, one_operand}
+use Rattle.vtl_interp.proofs.Evaluates.{stops}
 use Rattle.vtl_interp.proofs.applied.apply_to_one.Goals as goal
 
-pub measures-requires : goal.measures-requires
-measures-requires c =
-    let n = c.args.node.now in
-    let v = value_view c.args.a in
-    let x = c.in-Measures in
-    measures_fit c.args.p.now c.requires.0 n x.op x.a v x.is c.requires.1
-    (one_given_at c.args.p.now c.requires.0 n (form.Measures x.op x.a) (nodes.measures (measure_tree x.op) (node_tree x.a.value)) v x.is (form_tree-Measures x.op x.a) c.requires.2)
+pub made_of_one-requires : goal.made_of_one-requires
+made_of_one-requires c =
+    (c.requires.0, c.requires.1, subst (λ (d : DataSet). GivesOne c.args.p.now c.requires.0 (form_tree c.args.node.now.form) d) (sym c.in_ok-data.ensures) c.requires.2)
 
-pub returns-in-Measures : goal.returns-in-Measures
-returns-in-Measures c env made g =
-    let n = c.args.node.now in
-    let s = n.structure in
-    let v = value_view c.args.a in
-    let x = c.in-Measures in
-    let a = node_tree x.a.value in
-    one_operand value_view c.args.p.now env n (form.Measures x.op x.a) (nodes.measures (measure_tree x.op) a) a v (λ d. measured_of c.args.p.now (measure_tree x.op) d s) c.measures.result x.is (form_tree-Measures x.op x.a) refl
-    (one_given_at c.args.p.now env n (form.Measures x.op x.a) (nodes.measures (measure_tree x.op) a) v x.is (form_tree-Measures x.op x.a) g)
-    c.measures.ensures
+pub returns-in_err-made_of_one : goal.returns-in_err-made_of_one
+returns-in_err-made_of_one c env made g =
+    let p = c.args.p.now in
+    let n = node_tree c.args.node.now in
+    let passed : c.from_residual-in_err-made_of_one.result ≡ Err c.in_err-made_of_one.field-0.0 = search rules in
+    rw passed (stops (λ d. d) value_view p env n n c.in_err-made_of_one.field-0.0 (λ f h. h)
+    (c.in_err-made_of_one.ensures env made (subst (λ (d : DataSet). GivesOne p env (form_tree c.args.node.now.form) d) (sym c.in_ok-data.ensures) g)))
 
-pub returns-in-Member : goal.returns-in-Member
-returns-in-Member c env made g =
-    let n = c.args.node.now in
-    let s = n.structure in
-    let v = value_view c.args.a in
-    let x = c.in-Member in
-    let a = node_tree x.a.value in
-    one_operand value_view c.args.p.now env n (form.Member x.a x.m) (nodes.member a x.m) a v (λ d. Ok (left_of d s)) c.columns.result x.is (form_tree-Member x.a x.m) refl
-    (one_given_at c.args.p.now env n (form.Member x.a x.m) (nodes.member a x.m) v x.is (form_tree-Member x.a x.m) g)
-    c.columns.ensures
-
-pub returns-in-Keep : goal.returns-in-Keep
-returns-in-Keep c env made g =
-    let n = c.args.node.now in
-    let s = n.structure in
-    let v = value_view c.args.a in
-    let x = c.in-Keep in
-    let a = node_tree x.a.value in
-    one_operand value_view c.args.p.now env n (form.Keep x.a x.names) (nodes.keep a x.names) a v (λ d. Ok (left_of d s)) c.columns-in-Keep.result x.is (form_tree-Keep x.a x.names) refl
-    (one_given_at c.args.p.now env n (form.Keep x.a x.names) (nodes.keep a x.names) v x.is (form_tree-Keep x.a x.names) g)
-    c.columns-in-Keep.ensures
-
-pub returns-in-DropNamed : goal.returns-in-DropNamed
-returns-in-DropNamed c env made g =
-    let n = c.args.node.now in
-    let s = n.structure in
-    let v = value_view c.args.a in
-    let x = c.in-DropNamed in
-    let a = node_tree x.a.value in
-    one_operand value_view c.args.p.now env n (form.DropNamed x.a x.names) (nodes.drop_named a x.names) a v (λ d. Ok (left_of d s)) c.columns-in-DropNamed.result x.is (form_tree-DropNamed x.a x.names) refl
-    (one_given_at c.args.p.now env n (form.DropNamed x.a x.names) (nodes.drop_named a x.names) v x.is (form_tree-DropNamed x.a x.names) g)
-    c.columns-in-DropNamed.ensures
-
-pub returns-in-Calc : goal.returns-in-Calc
-returns-in-Calc c env made g =
-    let n = c.args.node.now in
-    let s = n.structure in
-    let v = value_view c.args.a in
-    let x = c.in-Calc in
-    let a = node_tree x.a.value in
-    one_operand value_view c.args.p.now env n (form.Calc x.a x.items) (nodes.calc a (map item_tree x.items)) a v (λ d. calculated_of c.args.p.now (map item_tree x.items) d s) c.calc.result x.is (form_tree-Calc x.a x.items) refl
-    (one_given_at c.args.p.now env n (form.Calc x.a x.items) (nodes.calc a (map item_tree x.items)) v x.is (form_tree-Calc x.a x.items) g)
-    (subst (λ items. AnswersBy value_view c.calc.result (with_structure s (calculated_of c.args.p.now (map item_tree items) v s))) c.as_slice.ensures c.calc.ensures)
-
-pub returns-in-Sub : goal.returns-in-Sub
-returns-in-Sub c env made g =
-    let n = c.args.node.now in
-    let s = n.structure in
-    let v = value_view c.args.a in
-    let x = c.in-Sub in
-    let a = node_tree x.a.value in
-    one_operand value_view c.args.p.now env n (form.Sub x.a x.values) (nodes.sub a x.values) a v (λ d. Ok (sub_of x.values d s)) c.sub.result x.is (form_tree-Sub x.a x.values) refl
-    (one_given_at c.args.p.now env n (form.Sub x.a x.values) (nodes.sub a x.values) v x.is (form_tree-Sub x.a x.values) g)
-    (subst (λ items. AnswersBy value_view c.sub.result (Ok (data_set s (sub_of items v s)))) c.as_slice-in-Sub.ensures c.sub.ensures)
-
-pub returns-in-Pivot : goal.returns-in-Pivot
-returns-in-Pivot c env made g =
-    let n = c.args.node.now in
-    let s = n.structure in
-    let v = value_view c.args.a in
-    let x = c.in-Pivot in
-    let a = node_tree x.a.value in
-    one_operand value_view c.args.p.now env n (form.Pivot x.a x.id x.m) (nodes.pivot a x.id x.m) a v (λ d. Ok (pivot_of d x.id x.m)) c.pivot.result x.is (form_tree-Pivot x.a x.id x.m) refl
-    (one_given_at c.args.p.now env n (form.Pivot x.a x.id x.m) (nodes.pivot a x.id x.m) v x.is (form_tree-Pivot x.a x.id x.m) g)
-    c.pivot.ensures
-
-pub aggregate-requires : goal.aggregate-requires
-aggregate-requires c =
-    let n = c.args.node.now in
-    let v = value_view c.args.a in
-    let x = c.in-Aggregate in
-    aggregate_fits c.args.p.now c.requires.0 n x.a x.spec v x.is c.requires.1
-    (one_given_at c.args.p.now c.requires.0 n (form.Aggregate x.a x.spec) (nodes.aggregate (node_tree x.a.value) (agg_tree x.spec)) v x.is (form_tree-Aggregate x.a x.spec) c.requires.2)
-
-pub returns-in-Aggregate : goal.returns-in-Aggregate
-returns-in-Aggregate c env made g =
-    let n = c.args.node.now in
-    let s = n.structure in
-    let v = value_view c.args.a in
-    let x = c.in-Aggregate in
-    let a = node_tree x.a.value in
-    one_operand value_view c.args.p.now env n (form.Aggregate x.a x.spec) (nodes.aggregate a (agg_tree x.spec)) a v (λ d. aggregate_of c.args.p.now (agg_tree x.spec) d s) c.aggregate.result x.is (form_tree-Aggregate x.a x.spec) refl
-    (one_given_at c.args.p.now env n (form.Aggregate x.a x.spec) (nodes.aggregate a (agg_tree x.spec)) v x.is (form_tree-Aggregate x.a x.spec) g)
-    c.aggregate.ensures
-
-pub analytic-requires : goal.analytic-requires
-analytic-requires c =
-    let n = c.args.node.now in
-    let v = value_view c.args.a in
-    let x = c.in-Analytic in
-    analytic_fits c.args.p.now c.requires.0 n x.a x.spec v x.is c.requires.1
-    (one_given_at c.args.p.now c.requires.0 n (form.Analytic x.a x.spec) (nodes.analytic_of (node_tree x.a.value) (analytic_tree x.spec)) v x.is (form_tree-Analytic x.a x.spec) c.requires.2)
-
-pub returns-in-Analytic : goal.returns-in-Analytic
-returns-in-Analytic c env made g =
-    let n = c.args.node.now in
-    let s = n.structure in
-    let v = value_view c.args.a in
-    let x = c.in-Analytic in
-    let a = node_tree x.a.value in
-    one_operand value_view c.args.p.now env n (form.Analytic x.a x.spec) (nodes.analytic_of a (analytic_tree x.spec)) a v (λ d. analytic_of c.args.p.now (analytic_tree x.spec) d s) c.analytic.result x.is (form_tree-Analytic x.a x.spec) refl
-    (one_given_at c.args.p.now env n (form.Analytic x.a x.spec) (nodes.analytic_of a (analytic_tree x.spec)) v x.is (form_tree-Analytic x.a x.spec) g)
-    c.analytic.ensures
+pub returns : goal.returns
+returns c env made g =
+    c.in_ok-made_of_one.ensures env made (subst (λ (d : DataSet). GivesOne c.args.p.now env (form_tree c.args.node.now.form) d) (sym c.in_ok-data.ensures) g)

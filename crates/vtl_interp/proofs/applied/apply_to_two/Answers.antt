@@ -1,87 +1,29 @@
-use Rattle.std.proofs.Common.{[], ◌∷◌, Ok, refl}
-use Rattle.vtl_tree.specs.Trees as nodes
-use Rattle.vtl_tree.specs.NodeView.{node_tree}
-use Rattle.vtl_tree.specs.declared.nodes.NodeForm.TheVariants as form
-use Rattle.vtl_meaning.specs.Made.{IsCombined, IsExistence}
-use Rattle.vtl_meaning.specs.Operators.{pair_of}
-use Rattle.vtl_meaning.specs.Sets.{difference_of, existence_of, symmetric_difference_of}
+use Rattle.std.proofs.Common.{rules, ◌≡◌, Err, subst, sym}
+use Rattle.vtl_tree.specs.Environment.{DataSet, Environment}
+use Rattle.vtl_tree.specs.NodeView.{form_tree, node_tree}
+use Rattle.vtl_tree.specs.Trees.{FormTree}
+use Rattle.vtl_decimal.specs.Settings.{Settings}
+use Rattle.vtl_interp.specs.Evaluated.{GivesTwo}
 use Rattle.vtl_interp.specs.Values.{value_view}
-use Rattle.vtl_interp.proofs.NodesEvaluated.{form_tree-ExistsIn, form_tree-Pair, form_tree-SetDiff, form_tree-SymDiff, two_fit, two_given_at, two_operands}
+use Rattle.vtl_interp.proofs.Evaluates.{stops}
 use Rattle.vtl_interp.proofs.applied.apply_to_two.Goals as goal
 
-pub returns-in-Pair : goal.returns-in-Pair
-returns-in-Pair c env made g =
-    let n = c.args.node.now in
-    let v = value_view c.args.a in
-    let w = value_view c.args.b in
-    let x = c.in-Pair in
-    let a = node_tree x.a.value in
-    let b = node_tree x.b.value in
-    let both = two_given_at c.args.p.now env n (form.Pair x.op x.a x.b) (nodes.pair x.op a b) v w x.is (form_tree-Pair x.op x.a x.b) g in
-    two_operands value_view c.args.p.now env n (form.Pair x.op x.a x.b) (nodes.pair x.op a b) a b v w (λ d e. pair_of c.args.p.now x.op d e n.structure) c.pair.result x.is (form_tree-Pair x.op x.a x.b) refl both.0 both.1 c.pair.ensures
+-- by equal data sets
+gives_same : (p : Settings) (env : Environment) (f : FormTree) (a b d e : DataSet) → a ≡ d → b ≡ e → GivesTwo p env f d e → GivesTwo p env f a b
+gives_same p env f a b d e is are g = subst (λ (x : DataSet). GivesTwo p env f x b) (sym is) (subst (λ (y : DataSet). GivesTwo p env f d y) (sym are) g)
 
-pub set_diff-requires : goal.set_diff-requires
-set_diff-requires c =
-    let n = c.args.node.now in
-    let v = value_view c.args.a in
-    let w = value_view c.args.b in
-    let x = c.in-SetDiff in
-    let a = node_tree x.a.value in
-    let b = node_tree x.b.value in
-    let g = two_given_at c.args.p.now c.requires.0 n (form.SetDiff x.a x.b) (nodes.set_diff a b) v w x.is (form_tree-SetDiff x.a x.b) c.requires.2 in
-    two_fit (λ d e m. IsCombined d (e ∷ []) m) c.args.p.now c.requires.0 n (form.SetDiff x.a x.b) (nodes.set_diff a b) a b v w x.is (form_tree-SetDiff x.a x.b) (λ m. m.2) c.requires.1 g.0 g.1
+pub made_of_two-requires : goal.made_of_two-requires
+made_of_two-requires c =
+    (c.requires.0, c.requires.1, gives_same c.args.p.now c.requires.0 (form_tree c.args.node.now.form) c.data.result.now c.data-2.result.now _ _ c.data.ensures c.data-2.ensures c.requires.2)
 
-pub returns-in-SetDiff : goal.returns-in-SetDiff
-returns-in-SetDiff c env made g =
-    let n = c.args.node.now in
-    let v = value_view c.args.a in
-    let w = value_view c.args.b in
-    let x = c.in-SetDiff in
-    let a = node_tree x.a.value in
-    let b = node_tree x.b.value in
-    let both = two_given_at c.args.p.now env n (form.SetDiff x.a x.b) (nodes.set_diff a b) v w x.is (form_tree-SetDiff x.a x.b) g in
-    two_operands value_view c.args.p.now env n (form.SetDiff x.a x.b) (nodes.set_diff a b) a b v w (λ d e. Ok (difference_of d e n.structure)) c.set_diff.result x.is (form_tree-SetDiff x.a x.b) refl both.0 both.1 c.set_diff.ensures
+pub returns-in_err-made_of_two : goal.returns-in_err-made_of_two
+returns-in_err-made_of_two c env made g =
+    let p = c.args.p.now in
+    let n = node_tree c.args.node.now in
+    let passed : c.from_residual.result ≡ Err c.in_err-made_of_two.field-0.0 = search rules in
+    rw passed (stops (λ d. d) value_view p env n n c.in_err-made_of_two.field-0.0 (λ f h. h)
+    (c.in_err-made_of_two.ensures env made (gives_same p env (form_tree c.args.node.now.form) c.data.result.now c.data-2.result.now _ _ c.data.ensures c.data-2.ensures g)))
 
-pub sym_diff-requires : goal.sym_diff-requires
-sym_diff-requires c =
-    let n = c.args.node.now in
-    let v = value_view c.args.a in
-    let w = value_view c.args.b in
-    let x = c.in-SymDiff in
-    let a = node_tree x.a.value in
-    let b = node_tree x.b.value in
-    let g = two_given_at c.args.p.now c.requires.0 n (form.SymDiff x.a x.b) (nodes.sym_diff a b) v w x.is (form_tree-SymDiff x.a x.b) c.requires.2 in
-    two_fit (λ d e m. IsCombined d (e ∷ []) m) c.args.p.now c.requires.0 n (form.SymDiff x.a x.b) (nodes.sym_diff a b) a b v w x.is (form_tree-SymDiff x.a x.b) (λ m. m.2) c.requires.1 g.0 g.1
-
-pub returns-in-SymDiff : goal.returns-in-SymDiff
-returns-in-SymDiff c env made g =
-    let n = c.args.node.now in
-    let v = value_view c.args.a in
-    let w = value_view c.args.b in
-    let x = c.in-SymDiff in
-    let a = node_tree x.a.value in
-    let b = node_tree x.b.value in
-    let both = two_given_at c.args.p.now env n (form.SymDiff x.a x.b) (nodes.sym_diff a b) v w x.is (form_tree-SymDiff x.a x.b) g in
-    two_operands value_view c.args.p.now env n (form.SymDiff x.a x.b) (nodes.sym_diff a b) a b v w (λ d e. Ok (symmetric_difference_of d e n.structure)) c.sym_diff.result x.is (form_tree-SymDiff x.a x.b) refl both.0 both.1 c.sym_diff.ensures
-
-pub exists_in-requires : goal.exists_in-requires
-exists_in-requires c =
-    let n = c.args.node.now in
-    let v = value_view c.args.a in
-    let w = value_view c.args.b in
-    let x = c.in-ExistsIn in
-    let a = node_tree x.a.value in
-    let b = node_tree x.b.value in
-    let g = two_given_at c.args.p.now c.requires.0 n (form.ExistsIn x.a x.b x.retain) (nodes.exists_in a b x.retain) v w x.is (form_tree-ExistsIn x.a x.b x.retain) c.requires.2 in
-    two_fit IsExistence c.args.p.now c.requires.0 n (form.ExistsIn x.a x.b x.retain) (nodes.exists_in a b x.retain) a b v w x.is (form_tree-ExistsIn x.a x.b x.retain) (λ m. m.2) c.requires.1 g.0 g.1
-
-pub returns-in-ExistsIn : goal.returns-in-ExistsIn
-returns-in-ExistsIn c env made g =
-    let n = c.args.node.now in
-    let v = value_view c.args.a in
-    let w = value_view c.args.b in
-    let x = c.in-ExistsIn in
-    let a = node_tree x.a.value in
-    let b = node_tree x.b.value in
-    let both = two_given_at c.args.p.now env n (form.ExistsIn x.a x.b x.retain) (nodes.exists_in a b x.retain) v w x.is (form_tree-ExistsIn x.a x.b x.retain) g in
-    two_operands value_view c.args.p.now env n (form.ExistsIn x.a x.b x.retain) (nodes.exists_in a b x.retain) a b v w (λ d e. Ok (existence_of d e x.retain)) c.exists_in.result x.is (form_tree-ExistsIn x.a x.b x.retain) refl both.0 both.1 c.exists_in.ensures
+pub returns : goal.returns
+returns c env made g =
+    c.in_ok-made_of_two.ensures env made (gives_same c.args.p.now env (form_tree c.args.node.now.form) c.data.result.now c.data-2.result.now _ _ c.data.ensures c.data-2.ensures g)

@@ -1,6 +1,5 @@
 use Rattle.std.proofs.Common.{List, subst, sym}
 use Rattle.vtl_tree.specs.Environment.{DataSet}
-use Rattle.vtl_tree.specs.declared.structure.Structure.{Structure}
 use Rattle.vtl_join.specs.Joining.{sets_of}
 use Rattle.vtl_meaning.specs.Joined.{structures_of}
 use Rattle.vtl_meaning.specs.Made.{IsJoined}
@@ -8,5 +7,4 @@ use Rattle.vtl_interp.proofs.combinations.join.Goals as goal
 
 pub close-requires-clause-made : goal.close-requires-clause-made
 close-requires-clause-made c =
-    subst (λ (m : Structure). IsJoined c.args.kind (structures_of (sets_of c.in_ok-joined.joined.operands)) m) (sym c.in_ok-made.ensures)
-    (subst (λ (ds : List DataSet). IsJoined c.args.kind (structures_of ds) c.args.made.now) (sym c.in_ok-joined.ensures.operands) c.requires.joined)
+    subst (λ (ds : List DataSet). IsJoined c.args.kind (structures_of ds) c.args.made.now) (sym c.in_ok-joined.ensures.operands) c.requires.joined

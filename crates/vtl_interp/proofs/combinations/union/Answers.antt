@@ -1,12 +1,10 @@
 use Rattle.std.proofs.Common.{List, subst, sym, ap, ◌∙◌}
 use Rattle.vtl_tree.specs.Environment.{DataSet}
 use Rattle.vtl_tree.specs.Shown.{shown}
-use Rattle.vtl_tree.specs.declared.structure.Structure.{Structure}
 use Rattle.vtl_meaning.specs.Joined.{structures_of}
 use Rattle.vtl_meaning.specs.Made.{AreCombined}
 use Rattle.vtl_interp.proofs.combinations.union.Goals as goal
 
 pub union_all-requires : goal.union_all-requires
 union_all-requires c =
-    subst (λ (m : Structure). AreCombined (structures_of (shown c.deref.result.now)) m) (sym c.in_ok-made.ensures)
-    (subst (λ (ds : List DataSet). AreCombined (structures_of ds) c.args.made.now) (sym (ap shown c.deref.ensures.value ∙ c.in_ok-sets.ensures)) c.requires)
+    subst (λ (ds : List DataSet). AreCombined (structures_of ds) c.args.made.now) (sym (ap shown c.deref.ensures.value ∙ c.in_ok-sets.ensures)) c.requires

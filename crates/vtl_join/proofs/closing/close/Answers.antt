@@ -9,7 +9,7 @@ use Rattle.vtl_join.proofs.closing.close.Goals as goal
 
 pub of-requires : goal.of-requires
 of-requires c =
-    let made = c.args.made in
+    let made = c.args.made.now in
     let seen : c.deref.result.now ≡ c.args.j.operands = c.deref.ensures.value ∙ ap (λ (x : Joining). x.operands) c.j.view_is in
     let again : c.deref-2.result.now ≡ c.args.j.operands = c.deref-2.ensures.value ∙ ap (λ (x : Joining). x.operands) c.j.view_is in
     let sets = subst (λ (os : List Operand). AreSets (sets_of os)) seen c.operands_are_sets.ensures in

@@ -4,8 +4,7 @@ use Rattle.vtl_index.specs.Seekers.{Sought}
 use Rattle.vtl_tree.specs.Shown.{shown}
 use Rattle.vtl_tree.specs.Structure.{columns_of}
 use Rattle.vtl_tree.specs.declared.structure.Component.{Component}
-use Rattle.vtl_tree.specs.Columns.{common_identifiers}
-use Rattle.vtl_tree.specs.Columns.{places_in}
+use Rattle.vtl_tree.specs.Columns.{common_identifiers, places_in}
 use Rattle.vtl_join.specs.Finding.{sought_beside}
 use Rattle.vtl_join.proofs.Stepping.{sought_is}
 use Rattle.vtl_join.proofs.sources.seek_beside.Goals as goal

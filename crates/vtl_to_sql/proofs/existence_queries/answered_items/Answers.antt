@@ -3,7 +3,7 @@ use Rattle.vtl_tree.specs.Shown.{shown}
 use Rattle.vtl_tree.specs.declared.structure.Component.{Component}
 use Rattle.vtl_tree.specs.Columns.{identifiers_of}
 use Rattle.sql_tree.specs.View.{expr_tree, item_tree}
-use Rattle.vtl_to_sql.specs.NamedItems.{AreNext, own_columns}
+use Rattle.selects_to_sql.specs.NamedItems.{AreNext, own_columns}
 use Rattle.vtl_to_sql.proofs.existence_queries.answered_items.Goals as goal
 
 pub returns : goal.returns

@@ -4,14 +4,13 @@ use Rattle.std.specs.Option.{option_map}
 use Rattle.vtl_tree.specs.Shown.{shown}
 use Rattle.vtl_tree.specs.Structure.{columns_of}
 use Rattle.vtl_tree.specs.declared.structure.Component.{Component}
-use Rattle.vtl_tree.specs.Columns.{common_identifiers}
-use Rattle.vtl_tree.specs.Columns.{identifiers_of}
+use Rattle.vtl_tree.specs.Columns.{common_identifiers, identifiers_of}
 use Rattle.sql_tree.specs.Trees.{Exp}
 use Rattle.sql_tree.specs.View.{expr_tree}
 use Rattle.vtl_to_sql.specs.Existences.{retained_matches, shown_matches}
-use Rattle.vtl_to_sql.specs.Items.{from_one}
-use Rattle.vtl_to_sql.specs.NamedItems.{own_columns}
-use Rattle.vtl_to_sql.specs.Queries.{items_as}
+use Rattle.selects_to_sql.specs.Items.{from_one}
+use Rattle.selects_to_sql.specs.NamedItems.{own_columns}
+use Rattle.selects_to_sql.specs.Queries.{items_as}
 use Rattle.vtl_to_sql.proofs.ExistenceForms.{existence_written}
 use Rattle.vtl_to_sql.proofs.existence_queries.existence_query.Goals as goal
 

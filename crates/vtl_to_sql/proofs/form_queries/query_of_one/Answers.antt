@@ -3,7 +3,7 @@ use Rattle.std.proofs.lemmas.Result.{IfOk-weaker}
 use Rattle.vtl_tree.specs.Trees.{FormTree, structure_of}
 use Rattle.vtl_tree.specs.NodeView.{item_tree, node_tree}
 use Rattle.vtl_to_sql.specs.FormQueries.{query_of_one}
-use Rattle.vtl_to_sql.specs.Queries.{calc_query, sub_query}
+use Rattle.selects_to_sql.specs.Queries.{calc_query, sub_query}
 use Rattle.vtl_to_sql.proofs.Walked.{tree_of_aggregate, tree_of_calc, tree_of_drop, tree_of_keep, tree_of_member, tree_of_sub}
 use Rattle.vtl_to_sql.proofs.form_queries.query_of_one.Goals as goal
 

@@ -1,5 +1,5 @@
 use Rattle.std.proofs.Common.{arith}
-use Rattle.vtl_to_sql.specs.Tables.{first_number}
+use Rattle.selects_to_sql.specs.Tables.{first_number}
 use Rattle.vtl_to_sql.proofs.AcceptedTables.{made_counted}
 use Rattle.vtl_to_sql.proofs.laws.tables_are_counted.Goals as goal
 

@@ -4,7 +4,7 @@ use Rattle.vtl_backend.specs.Statements.{with_nodes}
 use Rattle.vtl_check.proofs.LeftLemmas.{left}
 use Rattle.sql_tree.specs.View.{statement_tree}
 use Rattle.vtl_to_sql.specs.Accepted.{AreFew, are_translated}
-use Rattle.vtl_to_sql.specs.Scripts.{create_for}
+use Rattle.selects_to_sql.specs.Tables.{create_for}
 use Rattle.vtl_to_sql.specs.Tables.{script_tables}
 use Rattle.vtl_to_sql.proofs.script.push_results.Given as goal
 

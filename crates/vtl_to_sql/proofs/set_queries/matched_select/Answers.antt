@@ -3,7 +3,7 @@ use Rattle.std.proofs.lemmas.Result.{IfOk-weaker}
 use Rattle.vtl_tree.specs.Shown.{shown}
 use Rattle.vtl_tree.specs.declared.structure.Component.{Component}
 use Rattle.sql_tree.specs.Trees.{Exp}
-use Rattle.vtl_to_sql.specs.Queries.{is_matched, shown_select}
+use Rattle.vtl_to_sql.specs.Sets.{is_matched, shown_select}
 use Rattle.vtl_to_sql.proofs.set_queries.matched_select.Goals as goal
 
 pub returns : goal.returns

@@ -3,7 +3,7 @@ use Rattle.std.proofs.lemmas.Result.{IfOk-weaker}
 use Rattle.sql_tree.specs.Trees.{SelectTree}
 use Rattle.sql_tree.specs.View.{select_tree}
 use Rattle.vtl_to_sql.specs.Combined.{combined_query}
-use Rattle.vtl_to_sql.specs.Queries.{matched_select, shown_select}
+use Rattle.vtl_to_sql.specs.Sets.{matched_select, shown_select}
 use Rattle.vtl_to_sql.specs.declared.set_operators.SetOperator.{SetOperator}
 use Rattle.vtl_to_sql.proofs.set_queries.set_query.Goals as goal
 

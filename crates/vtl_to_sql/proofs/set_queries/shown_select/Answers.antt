@@ -2,8 +2,8 @@ use Rattle.std.proofs.Common.{ap, sym, ◌∙◌}
 use Rattle.std.specs.Option.{option_map}
 use Rattle.std.proofs.lemmas.Result.{IfOk-weaker}
 use Rattle.sql_tree.specs.View.{expr_tree}
-use Rattle.vtl_to_sql.specs.Items.{from_one}
-use Rattle.vtl_to_sql.proofs.Forms.{shown_written}
+use Rattle.selects_to_sql.specs.Items.{from_one}
+use Rattle.vtl_to_sql.proofs.SetForms.{shown_written}
 use Rattle.vtl_to_sql.proofs.set_queries.shown_select.Goals as goal
 
 pub returns : goal.returns

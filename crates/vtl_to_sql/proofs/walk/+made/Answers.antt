@@ -7,9 +7,9 @@ use Rattle.vtl_tree.specs.declared.nodes.Node.{Node}
 use Rattle.sql_tree.specs.View.{query_tree, statement_tree}
 use Rattle.vtl_to_sql.specs.Combined.{combined_made}
 use Rattle.vtl_to_sql.specs.FormQueries.{query_of_one, query_of_two}
-use Rattle.vtl_to_sql.specs.Scripts.{create_for}
-use Rattle.vtl_to_sql.specs.Tables.{Made, and_then, made_of_form, sources_of, with_one, with_two}
-use Rattle.vtl_to_sql.proofs.JoinTables.{join_gives, join_of_form}
+use Rattle.selects_to_sql.specs.Tables.{create_for, Made, and_then, with_one, with_two}
+use Rattle.vtl_to_sql.specs.Tables.{made_of_form, sources_of}
+use Rattle.vtl_to_sql.proofs.JoinNodes.{join_gives, join_of_form}
 use Rattle.vtl_to_sql.proofs.Combining.{alone, begun, ended, ends, intersection_of_form, left_ready, one_more, turn_made, union_of_form}
 use Rattle.vtl_to_sql.proofs.Walked.{behind_names, behind_others, one_made, tree_of_choose, tree_of_named, two_made}
 use Rattle.vtl_to_sql.proofs.walk.+made.Goals as goal

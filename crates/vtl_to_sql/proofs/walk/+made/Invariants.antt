@@ -3,8 +3,8 @@ use Rattle.vtl_tree.specs.Trees as nodes
 use Rattle.vtl_tree.specs.NodeView.{node_tree, operand_tree}
 use Rattle.sql_tree.specs.View.{statement_tree}
 use Rattle.vtl_to_sql.specs.Combined.{combined_made, rest_made}
-use Rattle.vtl_to_sql.specs.Scripts.{create_for}
-use Rattle.vtl_to_sql.specs.Tables.{by_name, operands_of}
+use Rattle.selects_to_sql.specs.Tables.{create_for, by_name}
+use Rattle.vtl_to_sql.specs.Tables.{operands_of}
 use Rattle.vtl_to_sql.specs.Accepted.{are_nodes_translated, are_operands_translated}
 use Rattle.vtl_to_sql.proofs.Combining.{GivesAll}
 use Rattle.vtl_to_sql.proofs.walk.+made.Given as goal

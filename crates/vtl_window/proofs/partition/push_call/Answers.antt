@@ -1,21 +1,23 @@
-use Rattle.std.proofs.Common.{◌≡◌, ◌++◌, ◌∷◌, [], Ok, length, map, refl, ap, sym, ◌∙◌}
-use Rattle.std.specs.Prelude.{filter}
+use Rattle.std.proofs.Common.{◌≡◌, ◌++◌, Ok, length, map, refl, ap, sym, ◌∙◌}
 use Rattle.std.specs.List.{range_with_len}
 use Rattle.std.proofs.lemmas.Result.{on_ok_weaker}
 use Rattle.vtl_cell.specs.Frames.{first_cell, lag_of, last_cell, lead_of}
 use Rattle.vtl_cell.specs.Groups.{group_value, ratio_of}
 use Rattle.vtl_cell.specs.Row.{column_of}
+use Rattle.vtl_cell.specs.Sorted.{row_rank}
+use Rattle.vtl_rows.specs.Places.{row_at}
 use Rattle.vtl_cell.specs.declared.operator.AggKind.TheVariants as agg
 use Rattle.vtl_frames.specs.Framed as frames
-use Rattle.vtl_rows.specs.Runs.{is_start, rank_at}
 use Rattle.vtl_tree.specs.Structure.{columns_of}
 use Rattle.vtl_tree.specs.declared.calls.AnalyticOp.TheVariants as op
 use Rattle.vtl_meaning.specs.Windows.{argument, keys_in, op_value}
 use Rattle.vtl_window.specs.Calls.{lent}
-use Rattle.vtl_window.specs.Lanes.{cells_in}
-use Rattle.vtl_window.specs.Runs.{count_in, lane_cells, stand_at}
+use Rattle.vtl_frames.specs.Lanes.{lane_cells}
+use Rattle.vtl_frames.specs.Lent.{cells_in}
+use Rattle.vtl_frames.specs.Ranked.{ranks_in}
+use Rattle.vtl_frames.proofs.ListLemmas.{listed}
+use Rattle.vtl_window.specs.Runs.{stand_at}
 use Rattle.vtl_window.proofs.CallLemmas.{frame_is, lent_cells, op_values, own_cell}
-use Rattle.vtl_window.proofs.RankLemmas.{rank_values}
 use Rattle.vtl_window.proofs.partition.push_call.Goals as goal
 
 pub returns-in-Sum : goal.returns-in-Sum
@@ -168,8 +170,9 @@ returns-in-Rank c =
     let rows = c.args.a.now.points in
     let run = c.args.run.now in
     on_ok_weaker c.push_ranks.result
-    (λ e. e ∙ ap (λ l. c.args.out.now.items ++ l) (ap (λ rs. map (count_in p) (map (rank_at (0 ∷ []) (filter (is_start c.args.keys.now rs run) (range_with_len 0 (length run)))) (range_with_len 0 (length run)))) c.table-table.ensures.points
-    ∙ rank_values p c.args.keys.now (keys_in xs call.window) rows run c.requires.order c.requires.keys
+    (λ e. e ∙ ap (λ l. c.args.out.now.items ++ l) (ap (λ rs. ranks_in p c.args.keys.now rs run) c.table-table.ensures.points
+    ∙ ap (λ ks. map (λ k. row_rank p ks (row_at rows k) (map (row_at rows) run)) run) c.requires.keys
+    ∙ sym (listed (λ k. row_rank p (keys_in xs call.window) (row_at rows k) (map (row_at rows) run)) run 0)
     ∙ ap (λ o. map (λ i. op_value p xs call.window (argument xs call.component) o (stand_at rows run i)) (range_with_len 0 (length run))) (sym c.in-Rank.is)))
     c.push_ranks.ensures
 

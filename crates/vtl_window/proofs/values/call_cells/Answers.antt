@@ -20,7 +20,8 @@ use Rattle.vtl_window.specs.Calls.{lent}
 use Rattle.vtl_window.specs.Sorted.{order_keys, partition_keys}
 use Rattle.vtl_window.proofs.AnalysisLemmas.{faults_listed, ok_same}
 use Rattle.vtl_window.proofs.CallLemmas.{argument_at}
-use Rattle.vtl_window.proofs.PartitionLemmas.{listed, points_wide_each}
+use Rattle.vtl_frames.proofs.ListLemmas.{listed}
+use Rattle.vtl_window.proofs.PartitionLemmas.{points_wide_each}
 use Rattle.vtl_window.proofs.PutLemmas.{places_many}
 use Rattle.vtl_window.proofs.values.call_cells.Goals as goal
 

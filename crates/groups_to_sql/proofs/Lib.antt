@@ -1,0 +1,11 @@
+pub mod ItemLists
+pub mod Unpivots
+pub mod Pivots
+pub mod Aggregated
+pub mod WindowOrders
+pub mod WindowCalls
+pub mod ValueItems
+pub mod TargetKinds
+pub mod Windowed
+pub mod TurnedForms
+pub mod GroupedForms

@@ -1,0 +1,5 @@
+pub mod Joins
+pub mod FullJoins
+pub mod JoinItems
+pub mod KeyItems
+pub mod JoinTables

@@ -1,0 +1,10 @@
+use Rattle.std.proofs.Common.{ap, sym, None, ◌∙◌}
+use Rattle.std.proofs.lemmas.Result.{IfOk-weaker}
+use Rattle.selects_to_sql.specs.Items.{from_table}
+use Rattle.selects_to_sql.proofs.Forms.{left_written}
+use Rattle.selects_to_sql.proofs.queries.left_query.Goals as goal
+
+pub returns : goal.returns
+returns c =
+    let table = c.args.table.now in
+    IfOk-weaker c.from_table.result _ _ (λ q e a. e ∙ ap (λ l. from_table l None table) c.in_ok-items.ensures ∙ sym (left_written c.args.writer.now a c.args.s.now table)) c.from_table.ensures

@@ -1,0 +1,11 @@
+use Rattle.std.proofs.Common.{ap, sym, None, ◌∙◌}
+use Rattle.std.proofs.lemmas.Result.{IfOk-weaker}
+use Rattle.selects_to_sql.specs.Items.{from_table}
+use Rattle.vtl_tree.specs.NodeView.{measure_tree}
+use Rattle.selects_to_sql.proofs.Forms.{measures_written}
+use Rattle.selects_to_sql.proofs.queries.measures_query.Goals as goal
+
+pub returns : goal.returns
+returns c =
+    let table = c.args.table.now in
+    IfOk-weaker c.from_table.result _ _ (λ q e. e ∙ ap (λ l. from_table l None table) c.in_ok-items.ensures ∙ sym (measures_written c.args.writer.now (measure_tree c.args.op.now) c.args.a.now c.args.s.now table)) c.from_table.ensures

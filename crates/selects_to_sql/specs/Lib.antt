@@ -1,0 +1,9 @@
+pub mod Queries
+pub mod Tables
+pub mod Runs
+pub mod Means
+pub mod Items
+pub mod PairItems
+pub mod NamedItems
+pub mod Groups
+pub mod Writable

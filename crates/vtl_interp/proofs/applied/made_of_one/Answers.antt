@@ -1,0 +1,156 @@
+use Rattle.std.proofs.Common.{◌≡◌, Ok, map, refl, subst}
+use Rattle.std.specs.Prelude.{IfOk}
+use Rattle.vtl_scalar.specs.Answers.{Answers}
+use Rattle.vtl_tree.specs.Trees as nodes
+use Rattle.vtl_tree.specs.NodeView.{agg_tree, analytic_tree, item_tree, measure_tree, node_tree}
+use Rattle.vtl_tree.specs.declared.nodes.NodeForm.TheVariants as form
+use Rattle.vtl_meaning.specs.Aggregates.{aggregate_of}
+use Rattle.vtl_meaning.specs.Analytics.{analytic_of}
+use Rattle.vtl_sets.specs.DataSets.{data_set, with_structure}
+use Rattle.vtl_meaning.specs.Operators.{calculated_of, left_of, measured_of, sub_of}
+use Rattle.vtl_meaning.specs.Turned.{pivot_of, unpivot_of}
+use Rattle.vtl_interp.proofs.NodesEvaluated.{aggregate_fits, analytic_fits, form_tree-Aggregate, form_tree-Analytic, form_tree-Calc, form_tree-DropNamed, form_tree-Keep, form_tree-Measures, form_tree-Member, form_tree-Pivot, form_tree-Rename, form_tree-Sub, form_tree-Unpivot, measures_fit, one_given_at, one_operand, renamed}
+use Rattle.vtl_interp.proofs.applied.made_of_one.Goals as goal
+
+pub map_measures-requires : goal.map_measures-requires
+map_measures-requires c =
+    let n = c.args.node.now in
+    let v = c.args.a in
+    let x = c.in-Measures in
+    measures_fit c.args.p.now c.requires.0 n x.op x.a v x.is c.requires.1
+    (one_given_at c.args.p.now c.requires.0 n (form.Measures x.op x.a) (nodes.measures (measure_tree x.op) (node_tree x.a.value)) v x.is (form_tree-Measures x.op x.a) c.requires.2)
+
+pub returns-in-Measures : goal.returns-in-Measures
+returns-in-Measures c env made g =
+    let n = c.args.node.now in
+    let s = n.structure in
+    let v = c.args.a in
+    let x = c.in-Measures in
+    let a = node_tree x.a.value in
+    one_operand (λ d. d) c.args.p.now env n (form.Measures x.op x.a) (nodes.measures (measure_tree x.op) a) a v (λ d. measured_of c.args.p.now (measure_tree x.op) d s) c.map_measures.result x.is (form_tree-Measures x.op x.a) refl
+    (one_given_at c.args.p.now env n (form.Measures x.op x.a) (nodes.measures (measure_tree x.op) a) v x.is (form_tree-Measures x.op x.a) g)
+    c.map_measures.ensures
+
+pub returns-in-Member : goal.returns-in-Member
+returns-in-Member c env made g =
+    let n = c.args.node.now in
+    let s = n.structure in
+    let v = c.args.a in
+    let x = c.in-Member in
+    let a = node_tree x.a.value in
+    one_operand (λ d. d) c.args.p.now env n (form.Member x.a x.m) (nodes.member a x.m) a v (λ d. Ok (left_of d s)) c.answered.result x.is (form_tree-Member x.a x.m) refl
+    (one_given_at c.args.p.now env n (form.Member x.a x.m) (nodes.member a x.m) v x.is (form_tree-Member x.a x.m) g)
+    (c.answered.ensures (data_set s (left_of v s)) c.keep_columns.ensures)
+
+pub returns-in-Keep : goal.returns-in-Keep
+returns-in-Keep c env made g =
+    let n = c.args.node.now in
+    let s = n.structure in
+    let v = c.args.a in
+    let x = c.in-Keep in
+    let a = node_tree x.a.value in
+    one_operand (λ d. d) c.args.p.now env n (form.Keep x.a x.names) (nodes.keep a x.names) a v (λ d. Ok (left_of d s)) c.answered-in-Keep.result x.is (form_tree-Keep x.a x.names) refl
+    (one_given_at c.args.p.now env n (form.Keep x.a x.names) (nodes.keep a x.names) v x.is (form_tree-Keep x.a x.names) g)
+    (c.answered-in-Keep.ensures (data_set s (left_of v s)) c.keep_columns-in-Keep.ensures)
+
+pub returns-in-DropNamed : goal.returns-in-DropNamed
+returns-in-DropNamed c env made g =
+    let n = c.args.node.now in
+    let s = n.structure in
+    let v = c.args.a in
+    let x = c.in-DropNamed in
+    let a = node_tree x.a.value in
+    one_operand (λ d. d) c.args.p.now env n (form.DropNamed x.a x.names) (nodes.drop_named a x.names) a v (λ d. Ok (left_of d s)) c.answered-in-DropNamed.result x.is (form_tree-DropNamed x.a x.names) refl
+    (one_given_at c.args.p.now env n (form.DropNamed x.a x.names) (nodes.drop_named a x.names) v x.is (form_tree-DropNamed x.a x.names) g)
+    (c.answered-in-DropNamed.ensures (data_set s (left_of v s)) c.keep_columns-in-DropNamed.ensures)
+
+pub returns-in-Calc : goal.returns-in-Calc
+returns-in-Calc c env made g =
+    let n = c.args.node.now in
+    let s = n.structure in
+    let v = c.args.a in
+    let x = c.in-Calc in
+    let a = node_tree x.a.value in
+    one_operand (λ d. d) c.args.p.now env n (form.Calc x.a x.items) (nodes.calc a (map item_tree x.items)) a v (λ d. calculated_of c.args.p.now (map item_tree x.items) d s) c.calc.result x.is (form_tree-Calc x.a x.items) refl
+    (one_given_at c.args.p.now env n (form.Calc x.a x.items) (nodes.calc a (map item_tree x.items)) v x.is (form_tree-Calc x.a x.items) g)
+    (subst (λ items. Answers c.calc.result (with_structure s (calculated_of c.args.p.now (map item_tree items) v s))) c.as_slice.ensures c.calc.ensures)
+
+pub returns-in-Sub : goal.returns-in-Sub
+returns-in-Sub c env made g =
+    let n = c.args.node.now in
+    let s = n.structure in
+    let v = c.args.a in
+    let x = c.in-Sub in
+    let a = node_tree x.a.value in
+    one_operand (λ d. d) c.args.p.now env n (form.Sub x.a x.values) (nodes.sub a x.values) a v (λ d. Ok (sub_of x.values d s)) c.answered-in-Sub.result x.is (form_tree-Sub x.a x.values) refl
+    (one_given_at c.args.p.now env n (form.Sub x.a x.values) (nodes.sub a x.values) v x.is (form_tree-Sub x.a x.values) g)
+    (c.answered-in-Sub.ensures (data_set s (sub_of x.values v s)) (subst (λ items. IfOk c.sub.result (λ d. d ≡ data_set s (sub_of items v s))) c.as_slice-in-Sub.ensures c.sub.ensures))
+
+pub returns-in-Rename : goal.returns-in-Rename
+returns-in-Rename c env made g =
+    let n = c.args.node.now in
+    let v = c.args.a in
+    let x = c.in-Rename in
+    renamed (λ d. d) c.args.p.now env n x.a x.pairs v c.answered-in-Rename.result x.is
+    (one_given_at c.args.p.now env n (form.Rename x.a x.pairs) (nodes.rename (node_tree x.a.value) x.pairs) v x.is (form_tree-Rename x.a x.pairs) g)
+    (c.answered-in-Rename.ensures (data_set n.structure v.points) c.rename.ensures)
+
+pub returns-in-Unpivot : goal.returns-in-Unpivot
+returns-in-Unpivot c env made g =
+    let n = c.args.node.now in
+    let s = n.structure in
+    let v = c.args.a in
+    let x = c.in-Unpivot in
+    let a = node_tree x.a.value in
+    one_operand (λ d. d) c.args.p.now env n (form.Unpivot x.a x.id x.m) (nodes.unpivot a x.id x.m) a v (λ d. Ok (unpivot_of d)) c.answered-in-Unpivot.result x.is (form_tree-Unpivot x.a x.id x.m) refl
+    (one_given_at c.args.p.now env n (form.Unpivot x.a x.id x.m) (nodes.unpivot a x.id x.m) v x.is (form_tree-Unpivot x.a x.id x.m) g)
+    (c.answered-in-Unpivot.ensures (data_set s (unpivot_of v)) c.unpivot.ensures)
+
+pub returns-in-Pivot : goal.returns-in-Pivot
+returns-in-Pivot c env made g =
+    let n = c.args.node.now in
+    let s = n.structure in
+    let v = c.args.a in
+    let x = c.in-Pivot in
+    let a = node_tree x.a.value in
+    one_operand (λ d. d) c.args.p.now env n (form.Pivot x.a x.id x.m) (nodes.pivot a x.id x.m) a v (λ d. Ok (pivot_of d x.id x.m)) c.answered-in-Pivot.result x.is (form_tree-Pivot x.a x.id x.m) refl
+    (one_given_at c.args.p.now env n (form.Pivot x.a x.id x.m) (nodes.pivot a x.id x.m) v x.is (form_tree-Pivot x.a x.id x.m) g)
+    (c.answered-in-Pivot.ensures (data_set s (pivot_of v x.id x.m)) c.pivot.ensures)
+
+pub aggregate-requires : goal.aggregate-requires
+aggregate-requires c =
+    let n = c.args.node.now in
+    let v = c.args.a in
+    let x = c.in-Aggregate in
+    aggregate_fits c.args.p.now c.requires.0 n x.a x.spec v x.is c.requires.1
+    (one_given_at c.args.p.now c.requires.0 n (form.Aggregate x.a x.spec) (nodes.aggregate (node_tree x.a.value) (agg_tree x.spec)) v x.is (form_tree-Aggregate x.a x.spec) c.requires.2)
+
+pub returns-in-Aggregate : goal.returns-in-Aggregate
+returns-in-Aggregate c env made g =
+    let n = c.args.node.now in
+    let s = n.structure in
+    let v = c.args.a in
+    let x = c.in-Aggregate in
+    let a = node_tree x.a.value in
+    one_operand (λ d. d) c.args.p.now env n (form.Aggregate x.a x.spec) (nodes.aggregate a (agg_tree x.spec)) a v (λ d. aggregate_of c.args.p.now (agg_tree x.spec) d s) c.aggregate.result x.is (form_tree-Aggregate x.a x.spec) refl
+    (one_given_at c.args.p.now env n (form.Aggregate x.a x.spec) (nodes.aggregate a (agg_tree x.spec)) v x.is (form_tree-Aggregate x.a x.spec) g)
+    c.aggregate.ensures
+
+pub analytic-requires : goal.analytic-requires
+analytic-requires c =
+    let n = c.args.node.now in
+    let v = c.args.a in
+    let x = c.in-Analytic in
+    analytic_fits c.args.p.now c.requires.0 n x.a x.spec v x.is c.requires.1
+    (one_given_at c.args.p.now c.requires.0 n (form.Analytic x.a x.spec) (nodes.analytic_of (node_tree x.a.value) (analytic_tree x.spec)) v x.is (form_tree-Analytic x.a x.spec) c.requires.2)
+
+pub returns-in-Analytic : goal.returns-in-Analytic
+returns-in-Analytic c env made g =
+    let n = c.args.node.now in
+    let s = n.structure in
+    let v = c.args.a in
+    let x = c.in-Analytic in
+    let a = node_tree x.a.value in
+    one_operand (λ d. d) c.args.p.now env n (form.Analytic x.a x.spec) (nodes.analytic_of a (analytic_tree x.spec)) a v (λ d. analytic_of c.args.p.now (analytic_tree x.spec) d s) c.analytic.result x.is (form_tree-Analytic x.a x.spec) refl
+    (one_given_at c.args.p.now env n (form.Analytic x.a x.spec) (nodes.analytic_of a (analytic_tree x.spec)) v x.is (form_tree-Analytic x.a x.spec) g)
+    c.analytic.ensures

@@ -1,7 +1,0 @@
-use Rattle.std.proofs.Common.{◌≡◌, map, take}
-use Rattle.sql_tree.specs.View.{join_tree}
-use Rattle.vtl_to_sql.specs.JoinItems.{aliased_of, keyed_with}
-use Rattle.vtl_to_sql.proofs.full_joins.all_keyed.Given as goal
-
-abbrev pub invariant-loop-operand : goal.invariant-loop-operand
-invariant-loop-operand l = map join_tree l.joins.items ≡ map (keyed_with (aliased_of l.keys)) (map aliased_of (take l.operand-index l.operands))

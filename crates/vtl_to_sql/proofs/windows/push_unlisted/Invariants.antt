@@ -1,7 +1,0 @@
-use Rattle.std.proofs.Common.{◌≡◌, ◌++◌, take}
-use Rattle.vtl_tree.specs.Shown.{shown}
-use Rattle.vtl_to_sql.specs.WindowItems.{unlisted_keys}
-use Rattle.vtl_to_sql.proofs.windows.push_unlisted.Given as goal
-
-abbrev pub invariant-loop-component : goal.invariant-loop-component
-invariant-loop-component l = l.keys.items ≡ l.fn.keys.items ++ unlisted_keys l.seen (shown (take l.component-index l.components))
