@@ -21,6 +21,9 @@ without-many taken left h = go (leb_tells taken left)
     go (inl p) = absurd (omega (arith, p.1))
     go (inr p) = ap (λ b. cond b (Some (left - taken)) None) p.0
 
+pub without-none : (left : ℕ) → without 0 left ≡ Some left
+without-none left = without-few 0 left (omega arith) ∙ ap Some (omega arith)
+
 then-without : (a b left : ℕ) → option_and_then (without b) (without a left) ≡ without (a + b) left
 then-without a b left = go (leb_tells a left)
   where
@@ -41,17 +44,28 @@ counted_append (x ∷ xs) ys = go (is_counted x) (counted_append xs ys)
     go true e = omega (arith, e)
     go false e = e
 
--- ---- what is left behind several, and behind an expression
-pub without_parts : (xs ys : List NodeTree) (left : ℕ) → without (counted (xs ++ ys)) left ≡ option_and_then (without (counted ys)) (without (counted xs) left)
-without_parts xs ys left = ap (λ n. without n left) (counted_append xs ys) ∙ sym (then-without (counted xs) (counted ys) left)
+-- what is left behind some nodes, and then behind others
+without-parts : (xs ys : List NodeTree) (left : ℕ) → without (counted (xs ++ ys)) left ≡ option_and_then (without (counted ys)) (without (counted xs) left)
+without-parts xs ys left = ap (λ n. without n left) (counted_append xs ys) ∙ sym (then-without (counted xs) (counted ys) left)
 
--- a node itself, and then its operands
-pub without_node : (n : NodeTree) (left : ℕ) → without (count n) left ≡ option_and_then (without (counted (flat_map nodes_in (operands_in n)))) (without (counted (n ∷ [])) left)
-without_node n left = ap (λ l. without (counted l) left) (nodes_by_operands n) ∙ without_parts (n ∷ []) (flat_map nodes_in (operands_in n)) left
+-- ---- what is left behind expressions, one behind the other
+abbrev pub left_behind : List NodeTree → ℕ → Option ℕ
+left_behind ns left = without (counted (flat_map nodes_in ns)) left
 
--- the first of several, and then the others
-pub without_first : (ns : List NodeTree) (n : NodeTree) (rest : List NodeTree) (left : ℕ) → ns ≡ n ∷ rest → without (counted (flat_map nodes_in ns)) left ≡ option_and_then (without (counted (flat_map nodes_in rest))) (without (count n) left)
-without_first ns n rest left e = ap (λ l. without (counted (flat_map nodes_in l)) left) e ∙ without_parts (nodes_in n) (flat_map nodes_in rest) left
+pub first-left : (ns : List NodeTree) (n : NodeTree) (rest : List NodeTree) (left : ℕ) → ns ≡ n ∷ rest → left_behind ns left ≡ option_and_then (left_behind rest) (without (count n) left)
+first-left ns n rest left e = ap (λ l. left_behind l left) e ∙ without-parts (nodes_in n) (flat_map nodes_in rest) left
+
+-- behind an expression, where something is left behind the node itself
+pub node-left : (n : NodeTree) (ops : List NodeTree) (left own : ℕ) → ops ≡ operands_in n → without (counted (n ∷ [])) left ≡ Some own → without (count n) left ≡ left_behind ops own
+node-left n ops left own is e =
+    ap (λ l. without (counted l) left) (nodes_by_operands n) ∙ without-parts (n ∷ []) (flat_map nodes_in (operands_in n)) left
+    ∙ ap (option_and_then (left_behind (operands_in n))) e ∙ sym (ap (λ l. left_behind l own) is)
+
+-- and where nothing is
+pub node-gone : (n : NodeTree) (left : ℕ) → without (counted (n ∷ [])) left ≡ None → without (count n) left ≡ None
+node-gone n left e =
+    ap (λ l. without (counted l) left) (nodes_by_operands n) ∙ without-parts (n ∷ []) (flat_map nodes_in (operands_in n)) left
+    ∙ ap (option_and_then (left_behind (operands_in n))) e
 
 -- what is left of a number, where some is
 without-some : (taken left rest : ℕ) → without taken left ≡ Some rest → rest + taken ≡ left

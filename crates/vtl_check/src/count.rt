@@ -33,7 +33,6 @@ fn spend_alone(node: &Node, left: usize) -> Option<usize>
 }
 
 // How many of this many nodes are left after an expression, or none where it has more. So no sum can overflow.
-#[tactic(auto, using(crate::proofs::CountLemmas::without_first, crate::proofs::CountLemmas::without_node))]
 fn spend(node: &Node, left: usize) -> Option<usize>
     ensures { result ≡ without (count (node_tree node.now)) left }
 {
