@@ -2,9 +2,9 @@
 
 use vtl_text::Txt;
 use vtl_tree::{
-    AnalyticSpec, CalcItem, CalcValue, JoinOperand, Node, NodeForm, Role, Structure, Window,
-    is_same_role,
+    AnalyticSpec, CalcItem, CalcValue, Node, NodeForm, Role, Structure, Window, is_same_role,
 };
+use vtl_walks::operands;
 
 // Whether a structure has an identifier of this name.
 fn is_identifier(structure: &Structure, name: &Txt) -> bool {
@@ -55,7 +55,6 @@ fn any_goes_along_identifiers(spec: &AnalyticSpec, structure: &Structure) -> boo
 }
 
 /// Whether any of these expressions has a window that goes along identifiers, at its head or in an operand.
-#[cycle(windowed)]
 pub(crate) fn have_window(nodes: &[Node]) -> bool {
     for node in nodes {
         if has_window(node) {
@@ -65,49 +64,20 @@ pub(crate) fn have_window(nodes: &[Node]) -> bool {
     false
 }
 
-#[cycle(windowed)]
-fn has_window(node: &Node) -> bool {
+// Whether a node has one itself.
+fn goes_along(node: &Node) -> bool {
     match &node.form {
-        NodeForm::Analytic { a, spec } => {
-            any_goes_along_identifiers(spec, &a.structure) || has_window(a)
-        }
-        NodeForm::Named(_) => false,
-        NodeForm::Join { operands, .. } => operands_have_window(operands),
-        NodeForm::Union(nodes) | NodeForm::Intersect(nodes) => have_window(nodes),
-        NodeForm::Choose { c, a, b } => has_window(c) || has_window(a) || has_window(b),
-        NodeForm::Pair { a, b, .. }
-        | NodeForm::SetDiff { a, b }
-        | NodeForm::SymDiff { a, b }
-        | NodeForm::ExistsIn { a, b, .. }
-        | NodeForm::Check {
-            a,
-            imbalance: Some(b),
-            ..
-        } => has_window(a) || has_window(b),
-        NodeForm::Measures { a, .. }
-        | NodeForm::Member { a, .. }
-        | NodeForm::Filter { a, .. }
-        | NodeForm::Calc { a, .. }
-        | NodeForm::Keep { a, .. }
-        | NodeForm::DropNamed { a, .. }
-        | NodeForm::Rename { a, .. }
-        | NodeForm::Sub { a, .. }
-        | NodeForm::Pivot { a, .. }
-        | NodeForm::Unpivot { a, .. }
-        | NodeForm::Aggregate { a, .. }
-        | NodeForm::Check { a, .. }
-        | NodeForm::CheckDatapoint { a, .. }
-        | NodeForm::CheckHierarchy { a, .. }
-        | NodeForm::Hierarchy { a, .. } => has_window(a),
+        NodeForm::Analytic { a, spec } => any_goes_along_identifiers(spec, &a.structure),
+        _ => false,
     }
 }
 
-#[cycle(windowed)]
-fn operands_have_window(operands: &[JoinOperand]) -> bool {
-    for operand in operands {
-        if has_window(&operand.node) {
+fn has_window(node: &Node) -> bool {
+    let operands = operands(node);
+    for i in 0..operands.len() {
+        if has_window(operands.nth(i)) {
             return true;
         }
     }
-    false
+    goes_along(node)
 }
