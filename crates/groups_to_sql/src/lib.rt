@@ -10,6 +10,9 @@
 mod grouped_queries;
 mod pivot_queries;
 mod unpivot_queries;
+mod window_calls;
+mod window_frames;
+mod window_orders;
 mod windowed_queries;
 mod windows;
 

@@ -2,16 +2,15 @@
 ghost use Rattle.std.specs.Prelude.{◌≡◌, map, IfOk};
 ghost use Rattle.vtl_tree.specs.Shown.{shown};
 ghost use Rattle.sql_tree.specs.View.{expr_tree, item_tree, query_tree, select_tree};
-ghost use Rattle.selects_to_sql.specs.Items.{from_one};
 ghost use Rattle.selects_to_sql.specs.Queries.{items_as};
 ghost use Rattle.groups_to_sql.specs.Turned.{is_filled, text_constant, unpivot_query};
 ghost use Rattle.groups_to_sql.specs.TurnedItems.{measure_select, named_values};
 
-use selects_to_sql::{Writer, from_one, measures, push_next, push_own};
+use selects_to_sql::{Writer, from_one, push_next, push_own};
 use sql_tree::{Constant, Item, Query, Select, SqlExpr};
 use std::alloc::{AllocError, Global};
 use vtl_text::{List, Txt};
-use vtl_tree::{Component, Structure};
+use vtl_tree::{Component, Role, Structure};
 
 /// A text as a constant. It fails only if memory runs out.
 pub(crate) fn text_constant(text: &Txt) -> Result<SqlExpr, AllocError>
@@ -95,6 +94,6 @@ pub fn unpivot_query(
 {
     let identifiers = a.identifiers(alloc)?;
     let columns = s.columns(alloc)?;
-    let measures = measures(alloc, a)?;
+    let measures = a.of_role(alloc, Role::Measure)?;
     measure_selects(alloc, writer, &identifiers, &measures, &columns, table)
 }

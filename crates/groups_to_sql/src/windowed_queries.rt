@@ -9,7 +9,8 @@ ghost use Rattle.selects_to_sql.specs.Queries.{first_alias};
 ghost use Rattle.groups_to_sql.specs.Windowed.{analytic_item, analytic_query, made_to_sql, window_to_sql};
 ghost use Rattle.groups_to_sql.specs.WindowItems.{analytic_items};
 
-use crate::windows::{argument, window};
+use crate::window_calls::argument;
+use crate::windows::window;
 use selects_to_sql::{Writer, from_table, target_named};
 use sql_tree::{Item, ItemValue, Query};
 use std::alloc::{AllocError, Global};

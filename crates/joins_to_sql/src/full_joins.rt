@@ -8,14 +8,14 @@ ghost use Rattle.joins_to_sql.specs.JoinItems.{aliased_of, keyed_query, keyed_wi
 ghost use Rattle.joins_to_sql.specs.KeyItems.{identifiers_select, key_items};
 
 use crate::join_items::push_columns;
-use crate::join_operands::{Aliased, common_identifiers, with_aliases};
+use crate::join_operands::{Aliased, with_aliases};
 use crate::join_queries::{joined_on, joined_query, push_others};
 use selects_to_sql::{Writer, from_one, group_of, grouped, one_select, own_items, push_item};
 use sql_tree::{Constant, Item, Join, JoinKind, Query, Select, SqlExpr};
 use std::alloc::{AllocError, Global};
 use vtl_cell::Kind;
 use vtl_text::{List, Txt};
-use vtl_tree::{Component, Role, Structure, share_component};
+use vtl_tree::{Component, Role, Structure, common_identifiers, share_component};
 
 // The name of the column of a table of identifiers where there are none.
 fn spare_name(alloc: Global) -> Result<Txt, AllocError>

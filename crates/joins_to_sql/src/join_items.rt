@@ -9,7 +9,7 @@ ghost use Rattle.selects_to_sql.specs.Items.{all_of};
 ghost use Rattle.joins_to_sql.specs.JoinItems.{aliased_of, column_from, columns_from, columns_from_all, picked_column, tied_with};
 ghost use Rattle.selects_to_sql.specs.Queries.{items_as};
 
-use crate::join_operands::{Aliased, of_role};
+use crate::join_operands::Aliased;
 use selects_to_sql::{all_of, between, push_item};
 use sql_tree::{Column, Item, SqlExpr};
 use std::alloc::{AllocError, Global};
@@ -58,7 +58,7 @@ fn push_role<'a, 'b>(
 ) -> Result<(), AllocError>
     ensures { OnOk result (map picked_column picked.new.items ≡ map picked_column picked.old.items ++ columns_from (of_role role) (aliased_of operand.now)) }
 {
-    let components = of_role(alloc, operand.structure, role)?;
+    let components = operand.structure.of_role(alloc, role)?;
     push_columns(picked, &operand.alias, &components)
 }
 

@@ -1,9 +1,6 @@
 // The operands of joins, under aliases, and which of them is the reference.
-ghost use Rattle.std.specs.Prelude.{◌≡◌, ◌<◌, IfOk, filter, length, map};
+ghost use Rattle.std.specs.Prelude.{◌≡◌, ◌<◌, IfOk, length, map};
 ghost use Rattle.vtl_tree.specs.Shown.{shown};
-ghost use Rattle.vtl_tree.specs.Structure.{names_of, of_role};
-ghost use Rattle.vtl_tree.specs.Names.{is_among};
-ghost use Rattle.vtl_tree.specs.Columns.{common_identifiers};
 ghost use Rattle.vtl_meaning.specs.Joined.{contains_all, reference_place};
 ghost use Rattle.joins_to_sql.specs.JoinItems.{aliased_around, aliased_of, number_around};
 
@@ -11,7 +8,7 @@ use selects_to_sql::Writer;
 use std::alloc::{AllocError, Global};
 use vtl_syntax::JoinKind;
 use vtl_text::Txt;
-use vtl_tree::{Component, Role, Structure, contains, is_same_role};
+use vtl_tree::{Structure, contains};
 
 /// An operand of a join.
 #[derive(Drop)]
@@ -58,53 +55,6 @@ pub(crate) fn with_aliases<'a>(
         })?;
     }
     Ok(operands)
-}
-
-/// The components of a role. It fails only if memory runs out.
-pub(crate) fn of_role(
-    alloc: Global,
-    structure: &Structure,
-    role: Role,
-) -> Result<Vec<&Component>, AllocError>
-    ensures { IfOk result (λ v. shown v.items ≡ of_role role structure.now) }
-{
-    let mut components = Vec::new(alloc);
-    for component in structure.components.as_slice() {
-        if is_same_role(component.role, role) {
-            components.push(component)?;
-        }
-    }
-    Ok(components)
-}
-
-fn has_name(components: &[&Component], name: &Txt) -> bool
-    ensures { result ≡ is_among name.now (names_of (shown components.now)) }
-{
-    for component in components {
-        if component.name == *name {
-            return true;
-        }
-    }
-    false
-}
-
-/// The identifiers of the second structure that the first one has too. It fails only if memory runs out.
-pub(crate) fn common_identifiers<'a>(
-    alloc: Global,
-    structure: &Structure,
-    other: &'a Structure,
-) -> Result<Vec<&'a Component>, AllocError>
-    ensures { IfOk result (λ v. shown v.items ≡ common_identifiers structure.now other.now) }
-{
-    let known = structure.identifiers(alloc)?;
-    let mut common = Vec::new(alloc);
-    let identifiers = other.identifiers(alloc)?;
-    for identifier in &identifiers {
-        if has_name(&known, &identifier.name) {
-            common.push(*identifier)?;
-        }
-    }
-    Ok(common)
 }
 
 fn contains_all(structures: &[&Structure], structure: &Structure) -> bool

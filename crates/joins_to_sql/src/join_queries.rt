@@ -7,12 +7,12 @@ ghost use Rattle.joins_to_sql.specs.Joins.{cross_query, reference_query, without
 ghost use Rattle.selects_to_sql.specs.Queries.{source_as};
 
 use crate::join_items::{Picked, all_tied, named_items, push_columns, push_roles};
-use crate::join_operands::{Aliased, common_identifiers, with_aliases};
+use crate::join_operands::{Aliased, with_aliases};
 use selects_to_sql::{Writer, no_query};
 use sql_tree::{Join, JoinKind, Query, Select, Source};
 use std::alloc::{AllocError, Global};
 use vtl_text::{List, Txt};
-use vtl_tree::{Component, Role, Structure};
+use vtl_tree::{Component, Role, Structure, common_identifiers};
 
 fn source(operand: &Aliased<'_>) -> Result<Source, AllocError>
     ensures { IfOk result (λ x. x ≡ source_as (aliased_of operand.now).alias (aliased_of operand.now).table) }

@@ -1,5 +1,5 @@
 // Conditions of selects.
-ghost use Rattle.std.specs.Prelude.{◌≡◌, ◌++◌, ◌∷◌, [], length, map, IfOk, OnOk};
+ghost use Rattle.std.specs.Prelude.{◌≡◌, length, map, IfOk};
 ghost use Rattle.sql_tree.specs.Trees.{binary, branch, case_when, constant, no_branches};
 ghost use Rattle.sql_tree.specs.View.{expr_tree};
 ghost use Rattle.vtl_tree.specs.Shown.{shown};
@@ -9,13 +9,12 @@ ghost use Rattle.selects_to_sql.specs.Items.{all_of, value_equality};
 ghost use Rattle.selects_to_sql.specs.PairItems.{agreement_on, chosen, not_chosen};
 ghost use Rattle.selects_to_sql.specs.Queries.{name_of_first};
 
-use crate::components::measures;
 use crate::writer::Writer;
 use sql_tree::{Branch, Constant, SqlExpr};
 use std::alloc::{AllocError, Global};
 use vtl_cell::ScalarOp;
 use vtl_text::Txt;
-use vtl_tree::{Component, Structure, SubItem, place_of};
+use vtl_tree::{Component, Role, Structure, SubItem, place_of};
 
 /// An operator between two operands. It fails only if memory runs out.
 pub fn between(
@@ -128,7 +127,7 @@ pub(crate) fn chosen(
 {
     let columns = condition.columns(alloc)?;
     let identifiers = condition.identifiers(alloc)?;
-    let name = name_of_first(alloc, &measures(alloc, condition)?)?;
+    let name = name_of_first(alloc, &condition.of_role(alloc, Role::Measure)?)?;
     writer.column_at(identifiers.len(), columns.len(), &name)
 }
 

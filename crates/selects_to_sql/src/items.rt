@@ -12,13 +12,12 @@ ghost use Rattle.rules_to_sql.specs.ToSql.{to_sql};
 ghost use Rattle.selects_to_sql.specs.Items.{calculated_item, for_each_two, measured_item, renamed_item, own_item, own_items};
 ghost use Rattle.selects_to_sql.specs.Queries.{item_as, of_one};
 
-use crate::components::measures;
 use crate::writer::Writer;
 use sql_tree::{Constant, Item, ItemValue, SqlExpr};
 use std::alloc::{AllocError, Global};
 use vtl_text::Txt;
 use vtl_tree::{
-    CalcItem, CalcValue, CompExpr, Component, MeasureOp, Structure, copied, push_column,
+    CalcItem, CalcValue, CompExpr, Component, MeasureOp, Role, Structure, copied, push_column,
 };
 
 /// Adds an item. It fails only if memory runs out.
@@ -251,8 +250,8 @@ pub(crate) fn measured_items(
     ensures { IfOk result (λ v. map item_tree v.items ≡ for_each_two renamed_item (identifiers_of s.now) (identifiers_of s.now) ++ for_each_two (measured_item writer.now (measure_tree op.now) (columns_of a.now)) (measures_of a.now) (measures_of s.now)) }
 {
     let columns = a.columns(alloc)?;
-    let ours = measures(alloc, a)?;
-    let made = measures(alloc, s)?;
+    let ours = a.of_role(alloc, Role::Measure)?;
+    let made = s.of_role(alloc, Role::Measure)?;
     let mut items = identifier_items(alloc, writer, s)?;
     push_all_measured(alloc, writer, &mut items, op, &columns, &ours, &made)?;
     Ok(items)

@@ -8,7 +8,6 @@
 //! Begin with specs/Queries.antt, Tables.antt and Means.antt, then `queries.rt` and `draft.rt`.
 #![tactic(auto)]
 
-mod components;
 mod conditions;
 mod draft;
 mod groups;
@@ -19,7 +18,6 @@ mod pair_queries;
 mod queries;
 mod writer;
 
-pub use components::measures;
 pub use conditions::{all_of, between, when};
 pub use draft::Draft;
 pub use groups::{aggregate, group_columns, group_of, grouped, has_rows};

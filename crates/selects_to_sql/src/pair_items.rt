@@ -9,14 +9,13 @@ ghost use Rattle.sql_tree.specs.View.{expr_tree, item_tree};
 ghost use Rattle.selects_to_sql.specs.Items.{for_each_two};
 ghost use Rattle.selects_to_sql.specs.PairItems.{between_places, lead_item, namesake, namesake_item, second_item};
 
-use crate::components::measures;
 use crate::items::push_item;
 use crate::writer::Writer;
 use sql_tree::{Item, SqlExpr};
 use std::alloc::{AllocError, Global};
 use vtl_cell::{Kind, ScalarOp};
 use vtl_text::Txt;
-use vtl_tree::{CompExpr, Component, Structure, place_of};
+use vtl_tree::{CompExpr, Component, Role, Structure, place_of};
 
 // A column at a place. What kind its values have does not show in SQL.
 fn column_at(place: usize, name: &Txt) -> Result<CompExpr, AllocError>
@@ -184,8 +183,8 @@ pub(crate) fn paired_items(
 ) -> Result<Vec<Item>, AllocError>
     ensures { IfOk result (λ v. map item_tree v.items ≡ map (lead_item (shown columns.now)) (identifiers_of s.now) ++ for_each_two (namesake_item writer.now operator.op operator.left_leads (shown columns.now)) (measures_of a.now) (measures_of s.now)) }
 {
-    let ours = measures(alloc, a)?;
-    let made = measures(alloc, s)?;
+    let ours = a.of_role(alloc, Role::Measure)?;
+    let made = s.of_role(alloc, Role::Measure)?;
     let mut items = identifier_items(alloc, writer, columns, s)?;
     push_namesakes(alloc, writer, &mut items, operator, columns, &ours, &made)?;
     Ok(items)
@@ -201,7 +200,7 @@ pub(crate) fn chosen_items(
 ) -> Result<Vec<Item>, AllocError>
     ensures { IfOk result (λ v. map item_tree v.items ≡ map (lead_item (shown columns.now)) (identifiers_of s.now) ++ map second_item (measures_of s.now)) }
 {
-    let made = measures(alloc, s)?;
+    let made = s.of_role(alloc, Role::Measure)?;
     let mut items = identifier_items(alloc, writer, columns, s)?;
     push_second(writer, &mut items, &made)?;
     Ok(items)

@@ -2,9 +2,8 @@
 ghost use Rattle.std.specs.Prelude.{◌≡◌, ◌++◌, ◌∷◌, [], map, IfOk};
 ghost use Rattle.std.specs.Option.{option_map};
 ghost use Rattle.vtl_tree.specs.Shown.{shown};
-ghost use Rattle.vtl_tree.specs.Structure.{columns_of, names_of};
-ghost use Rattle.vtl_tree.specs.Names.{is_among};
-ghost use Rattle.vtl_tree.specs.Columns.{common_identifiers, identifiers_of};
+ghost use Rattle.vtl_tree.specs.Structure.{columns_of};
+ghost use Rattle.vtl_tree.specs.Columns.{identifiers_of};
 ghost use Rattle.sql_tree.specs.View.{expr_tree, item_tree, query_tree};
 ghost use Rattle.vtl_to_sql.specs.Existences.{retained_matches, shown_matches};
 ghost use Rattle.selects_to_sql.specs.NamedItems.{own_columns};
@@ -17,38 +16,7 @@ use sql_tree::{Constant, Item, Query, SqlExpr};
 use std::alloc::{AllocError, Global};
 use vtl_syntax::Retain;
 use vtl_text::Txt;
-use vtl_tree::{Component, Structure};
-
-// Whether a column has this name.
-fn is_named(name: &Txt, columns: &[&Component]) -> bool
-    ensures { result ≡ is_among name.now (names_of (shown columns.now)) }
-{
-    for column in columns {
-        if column.name == *name {
-            return true;
-        }
-    }
-    false
-}
-
-// The identifiers of the second structure that the first one has too.
-fn common_identifiers<'b>(
-    alloc: Global,
-    a: &Structure,
-    b: &'b Structure,
-) -> Result<Vec<&'b Component>, AllocError>
-    ensures { IfOk result (λ v. shown v.items ≡ common_identifiers a.now b.now) }
-{
-    let own = a.identifiers(alloc)?;
-    let theirs = b.identifiers(alloc)?;
-    let mut common = Vec::new(alloc);
-    for identifier in theirs.as_slice() {
-        if is_named(&identifier.name, &own) {
-            common.push(*identifier)?;
-        }
-    }
-    Ok(common)
-}
+use vtl_tree::{Component, Structure, common_identifiers};
 
 // The identifiers of a result and an answer, as its columns.
 fn answered_items(

@@ -4,7 +4,7 @@ use Rattle.std.specs.Str.{chars}
 use Rattle.std.proofs.lemmas.Fmt.{IsAscii-decimal}
 use Rattle.std.proofs.lemmas.Result.{IfOk-weaker}
 use Rattle.std.proofs.lemmas.Str.{chars-IsAscii}
-use Rattle.groups_to_sql.proofs.windows.count_digits.Goals as goal
+use Rattle.groups_to_sql.proofs.window_frames.count_digits.Goals as goal
 
 characters : (bytes : List ℕ) (n : ℕ) → n < 2 ^ 64 → bytes ≡ decimal n → chars bytes ≡ decimal n
 characters bytes n small is = ap chars is ∙ chars-IsAscii (decimal n) (IsAscii-decimal n small)

@@ -4,7 +4,7 @@ use Rattle.std.proofs.lemmas.Str.{chars-nil}
 use Rattle.rules_to_sql.specs.ToSql.{column_of}
 use Rattle.selects_to_sql.specs.Queries.{first_alias}
 use Rattle.groups_to_sql.specs.Windowed.{argument_of}
-use Rattle.groups_to_sql.proofs.windows.argument.Goals as goal
+use Rattle.groups_to_sql.proofs.window_calls.argument.Goals as goal
 
 pub returns-in_ok-new-in-None : goal.returns-in_ok-new-in-None
 returns-in_ok-new-in-None c =
