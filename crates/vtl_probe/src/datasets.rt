@@ -11,14 +11,12 @@ use vtl_decimal::Profile;
 use vtl_rows::Table;
 use vtl_tree::{Structure, Structures};
 
-const STRUCTURES: CaseErr = CaseErr::Unfit("no structures file of one data set");
-
 // The text of the data set that is read, or the first fault.
 pub(crate) fn rewritten(alloc: Global, row: &Row) -> Result<String, CaseErr> {
     let profile = profile(row.field(0), row.field(1))?;
     match read_structures(alloc, row.field(2).as_bytes()) {
         Ok(structures) => one_read(alloc, &structures, row.field(3), &profile),
-        Err(StructErr::Structure { .. }) => Err(STRUCTURES),
+        Err(StructErr::Structure { .. }) => Err(CaseErr::Structures),
         Err(StructErr::OutOfMemory) => Err(CaseErr::OutOfMemory),
     }
 }
@@ -32,7 +30,7 @@ fn one_read(
     if structures.len() == 1 {
         read(alloc, structures.at(0).1, text.as_bytes(), profile)
     } else {
-        Err(STRUCTURES)
+        Err(CaseErr::Structures)
     }
 }
 

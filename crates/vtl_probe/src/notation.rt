@@ -9,10 +9,10 @@ pub(crate) fn profile(scale: &str, rounding: &str) -> Result<Profile, CaseErr> {
         "half_up" => Rounding::HalfUp,
         "half_even" => Rounding::HalfEven,
         "down" => Rounding::Down,
-        _ => return Err(CaseErr::Unfit("no rounding")),
+        _ => return Err(CaseErr::Rounding),
     };
-    let scale: u8 = scale.parse().ok().ok_or(CaseErr::Unfit("no scale"))?;
-    Profile::new(scale, rounding).ok_or(CaseErr::Unfit("no scale"))
+    let scale: u8 = scale.parse().ok().ok_or(CaseErr::Scale)?;
+    Profile::new(scale, rounding).ok_or(CaseErr::Scale)
 }
 
 // Kinds have the words of the structures file, and null has its own.
@@ -25,7 +25,7 @@ fn kind(word: &str) -> Result<Kind, CaseErr> {
         "string" => Kind::Text,
         "date" => Kind::Day,
         "time_period" => Kind::Period,
-        _ => return Err(CaseErr::Unfit("no kind")),
+        _ => return Err(CaseErr::Kind),
     })
 }
 
@@ -50,16 +50,12 @@ pub(crate) fn cell(
 ) -> Result<Cell, CaseErr> {
     match kind(word)? {
         Kind::Null => Ok(Cell::Null),
-        Kind::Int => Ok(Cell::Int(text.parse().ok().ok_or(CaseErr::Unfit("no number"))?)),
-        other => read_cell(alloc, other, text, profile)?.ok_or(CaseErr::Unfit(
-            "no value of the kind",
-        )),
+        Kind::Int => Ok(Cell::Int(text.parse().ok().ok_or(CaseErr::Number)?)),
+        other => read_cell(alloc, other, text, profile)?.ok_or(CaseErr::Value),
     }
 }
 
 // What was written, which is UTF-8 where the writer is right.
 pub(crate) fn text_of(bytes: Vec<u8>) -> Result<String, CaseErr> {
-    String::from_utf8(bytes)
-        .ok()
-        .ok_or(CaseErr::Unfit("what was written is not UTF-8"))
+    String::from_utf8(bytes).ok().ok_or(CaseErr::Text)
 }

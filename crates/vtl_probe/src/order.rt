@@ -40,12 +40,8 @@ fn is_before(low: &Cell, high: &Cell) -> bool {
 
 // The period this many periods later.
 pub(crate) fn shifted(alloc: Global, row: &Row) -> Result<String, CaseErr> {
-    let period = read_period(row.field(0)).ok_or(CaseErr::Unfit("no period"))?;
-    let by: i64 = row
-        .field(1)
-        .parse()
-        .ok()
-        .ok_or(CaseErr::Unfit("no number"))?;
+    let period = read_period(row.field(0)).ok_or(CaseErr::Period)?;
+    let by: i64 = row.field(1).parse().ok().ok_or(CaseErr::Number)?;
     let Some(later) = shift(period, by) else {
         return Ok(String::from_str(alloc, "none")?);
     };

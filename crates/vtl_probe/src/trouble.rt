@@ -42,14 +42,28 @@ impl<'a> From<AllocError> for Trouble<'a> {
 // Why nothing comes of a case: a part of it is not written as its table requires, or memory ran out.
 #[derive(Clone, Copy)]
 pub(crate) enum CaseErr {
-    Unfit(&'static str),
+    Scale,
+    Rounding,
+    Kind,
+    Value,
+    Number,
+    Period,
+    Text,
+    Structures,
     OutOfMemory,
 }
 
 impl CaseErr {
     pub(crate) fn why(self) -> &'static str {
         match self {
-            CaseErr::Unfit(why) => why,
+            CaseErr::Scale => "no scale",
+            CaseErr::Rounding => "no rounding",
+            CaseErr::Kind => "no kind",
+            CaseErr::Value => "no value of the kind",
+            CaseErr::Number => "no number",
+            CaseErr::Period => "no period",
+            CaseErr::Text => "what was written is not UTF-8",
+            CaseErr::Structures => "no structures file of one data set",
             CaseErr::OutOfMemory => "no memory",
         }
     }
