@@ -1,0 +1,17 @@
+-- Places, each empty or holding a value.
+use Rattle.std.specs.Prelude.{◌≡◌, ℕ, ◌+◌, ◌≤◌, List, [], ◌∷◌, map, length, take, drop, get_or, Option, Some, None}
+
+module _ {X : Type 0} where
+  -- the values that the places hold, in their order
+  abbrev pub values : List (Option X) → List X
+  values [] = []
+  values (Some x ∷ cs) = x ∷ values cs
+  values (None ∷ cs) = values cs
+
+  -- the place of this number holds a value
+  abbrev pub IsFilled : List (Option X) → ℕ → Type 0
+  IsFilled cs i = (x : X) × (get_or cs i None ≡ Some x)
+
+  -- the n places from the i-th on hold values
+  abbrev pub IsRun : List (Option X) → ℕ → ℕ → Type 0
+  IsRun cs i n = (i + n ≤ length cs) × ((xs : List X) × (take n (drop i cs) ≡ map Some xs))
