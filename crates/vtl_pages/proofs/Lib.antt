@@ -1,3 +1,4 @@
+pub mod Claimed
 pub mod Lending
 pub mod Opened
 pub mod Rows
