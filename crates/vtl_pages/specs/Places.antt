@@ -1,5 +1,5 @@
 -- Places, each empty or holding a value.
-use Rattle.std.specs.Prelude.{◌≡◌, ℕ, ◌+◌, ◌≤◌, List, [], ◌∷◌, map, length, take, drop, get_or, Option, Some, None}
+use Rattle.std.specs.Prelude.{◌≡◌, ℕ, ◌+◌, ◌<◌, ◌≤◌, List, [], ◌∷◌, map, length, take, drop, get_or, Option, Some, None}
 
 module _ {X : Type 0} where
   -- the values that the places hold, in their order
@@ -15,3 +15,8 @@ module _ {X : Type 0} where
   -- the n places from the i-th on hold values
   abbrev pub IsRun : List (Option X) → ℕ → ℕ → Type 0
   IsRun cs i n = (i + n ≤ length cs) × ((xs : List X) × (take n (drop i cs) ≡ map Some xs))
+
+  -- the first n places hold values, and no other does
+  pub record IsFilledTo (cs : List (Option X)) (n : ℕ) : Type 0 where
+    pub full : (i : ℕ) → i < n → IsFilled cs i
+    pub free : (i : ℕ) → n ≤ i → get_or cs i None ≡ None
