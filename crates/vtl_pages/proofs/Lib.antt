@@ -1,7 +1,9 @@
 pub mod Claimed
 pub mod Emptied
 pub mod Joins
+pub mod Lays
 pub mod Lending
 pub mod Opened
 pub mod Rows
+pub mod Runs
 pub mod Spots

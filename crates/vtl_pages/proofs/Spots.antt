@@ -75,3 +75,13 @@ module _ {X : Type 0} (bs : List (List (Option X))) (first step : ℕ) (some : 0
   grown cs b n s e count is all =
       ap (λ l. stored l first step) (ap joined all ∙ joined-append bs b ∙ (λ i. joined bs ++ (is ∙ ap (λ m. replicate m None) count) i))
       ∙ ap (λ (t : Stored X). stored (t.places ++ replicate (next_size s) None) t.first t.step) e
+
+module _ {X : Type 0} where
+  pub places_seen : {s t : Stored X} → s ≡ t → s.places ≡ t.places
+  places_seen e = ap (λ (s : Stored X). s.places) e
+
+  pub first_seen : {s t : Stored X} → s ≡ t → s.first ≡ t.first
+  first_seen e = ap (λ (s : Stored X). s.first) e
+
+  pub step_seen : {s t : Stored X} → s ≡ t → s.step ≡ t.step
+  step_seen e = ap (λ (s : Stored X). s.step) e
