@@ -1,12 +1,13 @@
 -- Items that stand in front in some places: they are found, one is added, one is taken, and two change places.
-use Rattle.std.proofs.Common.{◌≡◌, ◌≢◌, ℕ, zero, suc, ◌+◌, ◌-◌, ◌<◌, ◌≤◌, List, [], ◌∷◌, ◌++◌, map, length, take, drop, set, get_or, replicate, Option, Some, None, refl, sym, ap, ◌∙◌, subst, arith, length-append, length-drop, length-set, append_assoc, append-nil, get_or-set_other}
+use Rattle.std.proofs.Common.{◌≡◌, ◌≢◌, ℕ, zero, suc, ◌+◌, ◌-◌, ◌<◌, ◌≤◌, List, [], ◌∷◌, ◌++◌, map, length, take, drop, set, get_or, replicate, Option, Some, None, refl, sym, ap, ◌∙◌, subst, arith, length-append, length-drop, length-set, append_assoc, append-nil, get_or-set_other, take-append-drop, drop-cons, drop_of_length-le}
 use Rattle.std.proofs.lemmas.List.{length-map, length-replicate, get_or_append_left, get_or-append_right, get_or-map, set-append_left, set-set, set_comm, map-set, drop-append-le, take-append-le, take-map, drop-map, replicate-append-replicate}
 use Rattle.std.proofs.lemmas.List.Edits.{swap_is, length-swap}
 use Rattle.std.specs.List.{swap}
 use Rattle.vtl_pages.specs.Laid.{laid, IsLaid}
 use Rattle.vtl_pages.specs.Paged.{Paged, paged}
-use Rattle.vtl_pages.specs.Places.{values, IsFilled, IsFilledTo, IsRun}
+use Rattle.vtl_pages.specs.Places.{values, put_all, IsFilled, IsFilledTo, IsRun}
 use Rattle.vtl_pages.proofs.Emptied.{get-none}
+use Rattle.vtl_pages.proofs.Puts.{set-put_all}
 
 module _ {X : Type 0} where
   pub values-map : (xs : List X) → values (map Some xs) ≡ xs
@@ -77,6 +78,16 @@ module _ {X : Type 0} where
       ∙ take-append-le k (drop i (map Some xs)) (replicate n None) (omega (arith, length-drop i (map Some xs)))
       ∙ ap (take k) (drop-map Some i xs) ∙ take-map Some k (drop i xs)
 
+  -- values are put behind items
+  put_all-laid : (xs vs : List X) (n m : ℕ) → n ≡ length vs + m → put_all (laid xs n) (length xs) vs ≡ laid (xs ++ vs) m
+  put_all-laid xs [] n m e = (let same : n ≡ m = omega arith in ap (λ k. laid xs k) same) ∙ ap (λ l. laid l m) (sym (append-nil xs))
+  put_all-laid xs (v ∷ vs) n m e =
+      let more : suc (length xs) ≡ length (xs ++ v ∷ []) = omega (arith, length-append xs (v ∷ [])) in
+      set-put_all (laid xs n) (length xs) (suc (length xs)) (Some v) vs (omega arith)
+      ∙ ap (λ l. put_all l (suc (length xs)) vs) (put-laid xs n (length vs + m) v (omega arith))
+      ∙ ap (λ k. put_all (laid (xs ++ v ∷ []) (length vs + m)) k vs) more
+      ∙ put_all-laid (xs ++ v ∷ []) vs (length vs + m) m refl ∙ ap (λ l. laid l m) (append_assoc xs (v ∷ []) vs)
+
   pub none_laid : (cs : List (Option X)) → cs ≡ [] → IsLaid cs 0 0 × (values cs ≡ [])
   unfolding laid
   none_laid cs e = (record { count = sym (ap (λ (l : List (Option X)). length (values l)) e); within = omega arith; places = e ∙ sym (ap (λ (l : List (Option X)). laid (values l) 0) e) }, ap values e)
@@ -119,6 +130,12 @@ module _ {X : Type 0} where
         let count = h.count in let more = length-append xs (v ∷ []) in
         laid_out ds (xs ++ v ∷ []) (n + 1) room (room - (n + 1)) (omega arith) (omega arith) (is ∙ (λ i. set (h.places i) (count i) (Some v)) ∙ put-laid xs (room - n) (room - (n + 1)) v (omega arith))
 
+  -- some values are put behind the items
+    pub all_pushed : (ds : List (Option X)) (vs : List X) (more : ℕ) → more ≡ length vs → n + more ≤ room → ds ≡ put_all cs n vs → IsLaid ds (n + more) room × (values ds ≡ xs ++ vs)
+    all_pushed ds vs more long fit is =
+        let count = h.count in let all = length-append xs vs in
+        laid_out ds (xs ++ vs) (n + more) room (room - (n + more)) (omega arith) (omega arith) (is ∙ (λ i. put_all (h.places i) (count i) vs) ∙ put_all-laid xs vs (room - n) (room - (n + more)) (omega arith))
+
     -- the last item is taken
     pub popped : (ds : List (Option X)) (ys : List X) (v : X) (m : ℕ) → xs ≡ ys ++ v ∷ [] → n ≡ m + 1 → ds ≡ set cs m None → IsLaid ds m room × (values ds ≡ ys)
     popped ds ys v m e one is =
@@ -147,6 +164,13 @@ module _ {X : Type 0} where
         laid_out ds (swap xs i j) n room (room - n) (h.count ∙ sym (length-swap xs i j)) (omega arith)
         (is ∙ moved ∙ ap (λ l. set (set l i (Some y)) j (Some x)) h.places ∙ ap (λ l. set l j (Some x)) (set-laid xs (room - n) i y li)
         ∙ set-laid (set xs i y) (room - n) j x (omega (arith, length-set xs i y)) ∙ (λ k. laid (set (set xs i (y_is k)) j (x_is k)) (room - n)) ∙ ap (λ l. laid l (room - n)) (swap_is xs i j x li lj))
+
+  -- a list is its items but the last, and then the last
+  pub last_split : (ys : List X) (m : ℕ) (x : X) → length ys ≡ m + 1 → x ≡ get_or ys m x → ys ≡ take m ys ++ x ∷ []
+  last_split ys m x long is = sym (take-append-drop m ys) ∙ ap (λ l. take m ys ++ l) (drop-cons ys m x (omega arith) ∙ (λ i. sym is i ∷ rest i))
+    where
+      rest : drop (suc m) ys ≡ []
+      rest = drop_of_length-le ys {i = suc m} (omega arith)
 
   pub items_seen : {p q : Paged X} → p ≡ q → p.items ≡ q.items
   items_seen e = ap (λ (p : Paged X). p.items) e

@@ -4,6 +4,7 @@ pub mod Joins
 pub mod Lays
 pub mod Lending
 pub mod Opened
+pub mod Puts
 pub mod Rows
 pub mod Runs
 pub mod Spots

@@ -30,32 +30,30 @@ module _ {X : Type 0} (s : Stored X) (room width front runs shift : ℕ) (h : Ha
       let rest : i % width ≡ place % width = ap (λ n. n % width) same ∙ add-mul-mod_self_right place (front + q * runs) width in
       subst (λ n. place + k ≤ n) (sym h.step) (within_runs width runs place k h.wide (subst (λ n. place < n) h.step lt) (subst (λ n. n + k ≤ width) rest fit))
 
-  pub front_fits : (r : ℕ) → r < front → r * width + width ≤ s.first
-  front_fits r lt = subst (λ n. r * width + width ≤ n) (sym h.first) (row_fits r width front width lt (omega arith))
+  -- where a place is by the numbers of runs, it is by the sizes of the blocks
+  pub spot_same : (block place i : ℕ) → spot (front * width) (runs * width) block place ≡ i → spot s.first s.step block place ≡ i
+  spot_same block place i e = (λ k. spot (h.first k) (h.step k) block place) ∙ e
 
-  some_runs : 0 < runs
-  some_runs = subst (λ n. 0 < n) (sym h.power) (pow_pos shift)
+  pub size_same : (block : ℕ) → block_size s.first s.step block ≡ block_size (front * width) (runs * width) block
+  size_same block = λ k. block_size (h.first k) (h.step k) block
 
+module _ (width front runs shift : ℕ) (power : runs ≡ 2 ^ shift) where
   masked : (r : ℕ) → bit_and r (runs - 1) ≡ r % runs
-  masked r = subst (λ n. bit_and r (n - 1) ≡ r % n) (sym h.power) (and_mask r shift)
+  masked r = subst (λ n. bit_and r (n - 1) ≡ r % n) (sym power) (and_mask r shift)
 
-  pub later_fits : (r : ℕ) → bit_and r (runs - 1) * width + width ≤ s.step
-  later_fits r = subst (λ n. bit_and r (runs - 1) * width + width ≤ n) (sym h.step)
-      (row_fits (bit_and r (runs - 1)) width runs width (subst (λ n. n < runs) (sym (masked r)) (mod_below r runs some_runs)) (omega arith))
-
-  pub later_spot : (r : ℕ) → front ≤ r → spot s.first s.step ((r - front) / 2 ^ shift + 1) (bit_and (r - front) (runs - 1) * width) ≡ r * width
+  pub later_spot : (r : ℕ) → front ≤ r → spot (front * width) (runs * width) ((r - front) / 2 ^ shift + 1) (bit_and (r - front) (runs - 1) * width) ≡ r * width
   later_spot r le =
-      let k = r - front in let first = h.first in
+      let k = r - front in
       let cut : k / runs * runs + k % runs ≡ k = div-add-mod' k runs in
       let parts : (k / runs * runs + k % runs) * width ≡ k / runs * runs * width + k % runs * width = add-mul (k / runs * runs) (k % runs) width in
       let turned : k / runs * runs * width ≡ k / runs * (runs * width) = mul_assoc (k / runs) runs width in
       let whole : (front + k) * width ≡ front * width + k * width = add-mul front k width in
       let all : front + k ≡ r = omega arith in
-      let block : k / 2 ^ shift * s.step ≡ k / runs * (runs * width) = (λ i. k / (sym h.power i) * h.step i) in
+      let block : k / 2 ^ shift * (runs * width) ≡ k / runs * (runs * width) = (λ i. k / (sym power i) * (runs * width)) in
       let place : bit_and k (runs - 1) * width ≡ k % runs * width = ap (λ n. n * width) (masked k) in
       let later : k * width ≡ k / runs * (runs * width) + k % runs * width = ap (λ n. n * width) (sym cut) ∙ parts ∙ ap (λ n. n + k % runs * width) turned in
       let goal_is : front * width + k * width ≡ r * width = sym whole ∙ ap (λ n. n * width) all in
-      let number : spot s.first s.step (k / 2 ^ shift + 1) (bit_and k (runs - 1) * width) ≡ s.first + k / 2 ^ shift * s.step + bit_and k (runs - 1) * width = at_later s.first s.step (k / 2 ^ shift) (bit_and k (runs - 1) * width) in
+      let number = at_later (front * width) (runs * width) (k / 2 ^ shift) (bit_and k (runs - 1) * width) in
       omega arith
 
 pub some_of : (n w : ℕ) → 0 < n * w → 0 < n

@@ -3,7 +3,9 @@ use Rattle.std.proofs.Common.{◌≡◌, ◌≢◌, ℕ, zero, suc, ◌+◌, ◌
 use Rattle.std.proofs.lemmas.List.{get_or_default, length-replicate}
 use Rattle.vtl_pages.specs.Joined.{joined, HaveSizes, start_of}
 use Rattle.vtl_pages.specs.Stored.{Stored, stored, block_size, block_start, if_none, next_size, spot}
+use Rattle.vtl_pages.specs.Places.{IsFree, put_all}
 use Rattle.vtl_pages.proofs.Joins.{length-joined, joined-append, list_there, size_of, get-joined, set-joined, run-joined, sizes-set, sizes-append}
+use Rattle.vtl_pages.proofs.Puts.{joined-put_all, length-put_all}
 
 even_start : (step k : ℕ) → start_of (λ j. step) k ≡ k * step
 even_start step zero = sym (zero-mul step)
@@ -55,6 +57,22 @@ module _ {X : Type 0} (bs : List (List (Option X))) (first step : ℕ) (sized : 
       (λ k o v b b' lt low is is'. ap (λ l. stored l first step)
       (ap (λ (l : List (Option X)). joined (set bs k l)) (is' ∙ ap (λ (l : List (Option X)). set l o v) (is ∙ get_or_default bs k b [] lt))
       ∙ set-joined (block_size first step) bs k o v sized lt low ∙ ap (λ i. set (joined bs) i v) (at k o)))
+
+  pub free_in : (s : Stored X) → Sees s → (k o n : ℕ) (b : List (Option X)) → k < length bs → o + n ≤ block_size s.first s.step k → b ≡ get_or bs k b → IsFree s.places (spot s.first s.step k o) n → IsFree b o n
+  free_in s e k o n b lt fit is free j from below =
+      sym (same_place s e k j b lt (omega arith) is) ∙ free (spot s.first s.step k j) (omega arith) (omega arith)
+
+  pub all_sized : (s : Stored X) → Sees s → (k o : ℕ) (xs : List X) (b b' : List (Option X)) → k < length bs → b ≡ get_or bs k b → b' ≡ put_all b o xs → HaveSizes (block_size first step) (set bs k b')
+  all_sized s e k o xs b b' lt is is' =
+      sizes-set (block_size first step) bs k b' sized (ap length is' ∙ length-put_all b o xs ∙ ap length (is ∙ get_or_default bs k b [] lt) ∙ size_of (block_size first step) bs k sized lt)
+
+  pub all_put : (s : Stored X) → Sees s → (k o : ℕ) (xs : List X) (b b' : List (Option X)) → k < length bs → o + length xs ≤ block_size s.first s.step k → b ≡ get_or bs k b → b' ≡ put_all b o xs
+      → stored (joined (set bs k b')) first step ≡ stored (put_all s.places (spot s.first s.step k o) xs) s.first s.step
+  all_put s e = subst (λ (s : Stored X). (k o : ℕ) (xs : List X) (b b' : List (Option X)) → k < length bs → o + length xs ≤ block_size s.first s.step k → b ≡ get_or bs k b → b' ≡ put_all b o xs
+      → stored (joined (set bs k b')) first step ≡ stored (put_all s.places (spot s.first s.step k o) xs) s.first s.step) e
+      (λ k o xs b b' lt fit is is'. ap (λ l. stored l first step)
+      (ap (λ (l : List (Option X)). joined (set bs k l)) (is' ∙ ap (λ (l : List (Option X)). put_all l o xs) (is ∙ get_or_default bs k b [] lt))
+      ∙ joined-put_all (block_size first step) bs k o xs sized lt fit ∙ ap (λ i. put_all (joined bs) i xs) (at k o)))
 
 module _ {X : Type 0} (bs : List (List (Option X))) (first step : ℕ) (some : 0 < first) (sized : HaveSizes (block_size first step) bs) where
   -- the size of the next block, by whether one is there

@@ -1,5 +1,5 @@
 -- Places, each empty or holding a value.
-use Rattle.std.specs.Prelude.{◌≡◌, ℕ, ◌+◌, ◌<◌, ◌≤◌, List, [], ◌∷◌, map, length, take, drop, get_or, Option, Some, None}
+use Rattle.std.specs.Prelude.{◌≡◌, ℕ, suc, ◌+◌, ◌<◌, ◌≤◌, slice_set, List, [], ◌∷◌, map, length, take, drop, get_or, Option, Some, None}
 
 module _ {X : Type 0} where
   -- the values that the places hold, in their order
@@ -20,3 +20,12 @@ module _ {X : Type 0} where
   pub record IsFilledTo (cs : List (Option X)) (n : ℕ) : Type 0 where
     pub full : (i : ℕ) → i < n → IsFilled cs i
     pub free : (i : ℕ) → n ≤ i → get_or cs i None ≡ None
+
+  -- the values in the places from the i-th on
+  abbrev pub put_all : List (Option X) → ℕ → List X → List (Option X)
+  put_all cs i [] = cs
+  put_all cs i (x ∷ xs) = slice_set (put_all cs (suc i) xs) i (Some x)
+
+  -- none of the n places from the i-th on holds a value
+  abbrev pub IsFree : List (Option X) → ℕ → ℕ → Type 0
+  IsFree cs i n = (j : ℕ) → i ≤ j → j < i + n → get_or cs j None ≡ None

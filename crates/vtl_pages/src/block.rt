@@ -1,7 +1,7 @@
 //! One block: places side by side that never move, each empty or holding a value. A contract sees the list of the
 //! places.
-ghost use Rattle.std.specs.Prelude.{◌≡◌, ◌<◌, ◌≤◌, None, Some, length, map, take, drop, get_or, slice_set, replicate, IfOk};
-ghost use Rattle.vtl_pages.specs.Places.{IsFilled, IsRun, IsFilledTo};
+ghost use Rattle.std.specs.Prelude.{◌≡◌, ◌+◌, ◌^◌, ◌<◌, ◌≤◌, [], None, Some, length, map, take, drop, get_or, slice_set, replicate, IfOk};
+ghost use Rattle.vtl_pages.specs.Places.{IsFilled, IsRun, IsFilledTo, IsFree, put_all};
 
 use crate::cells::{Cells, Claim, Start, allocate, release};
 use std::alloc::{AllocError, Global};
@@ -75,6 +75,19 @@ impl<T> Block<T> {
         ensures { self.new ≡ slice_set self.old place (Some value) }
     {
         self.cells.put(self.start, place, value);
+    }
+
+    // Moves all values of a list into empty places side by side. The list is empty then.
+    pub(crate) fn put_all(&mut self, from: usize, values: &mut Vec<T>)
+        requires there { from + length values.old.items ≤ length self.old }
+        requires few { from + length values.old.items < 2 ^ 64 }
+        requires free { IsFree self.old from (length values.old.items) }
+        ensures places { self.new ≡ put_all self.old from values.old.items }
+        ensures values { values.new.items ≡ [] }
+    {
+        while let Some(value) = values.pop() {
+            self.put(from + values.len(), value);
+        }
     }
 
     // Moves the value out of a place, which is empty then.

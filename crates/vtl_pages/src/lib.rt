@@ -3,6 +3,7 @@
 
 mod block;
 mod cells;
+mod moving;
 mod pages;
 mod store;
 

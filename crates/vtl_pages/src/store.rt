@@ -1,7 +1,7 @@
 //! Blocks, the first small and all others of one size, as one list of places. A place is named by its block and its
 //! number in there.
-ghost use Rattle.std.specs.Prelude.{◌≡◌, ℕ, ◌+◌, ◌<◌, ◌≤◌, ◌++◌, [], None, Some, length, map, take, drop, get_or, slice_set, replicate, OnOk, OnErr};
-ghost use Rattle.vtl_pages.specs.Places.{IsFilled, IsRun, IsFilledTo};
+ghost use Rattle.std.specs.Prelude.{◌≡◌, ℕ, ◌+◌, ◌^◌, ◌<◌, ◌≤◌, ◌++◌, [], None, Some, length, map, take, drop, get_or, slice_set, replicate, OnOk, OnErr};
+ghost use Rattle.vtl_pages.specs.Places.{IsFilled, IsRun, IsFilledTo, IsFree, put_all};
 ghost use Rattle.vtl_pages.specs.Stored.{Stored, stored, next_size, block_size, spot};
 
 use crate::block::Block;
@@ -81,6 +81,20 @@ impl<T> Store<T> {
         block.put(place, value);
     }
 
+    // Moves all values of a list into empty places of one block, side by side. The list is empty then.
+    pub(crate) fn put_all(&mut self, block: usize, from: usize, values: &mut Vec<T>)
+        requires some { 0 < length values.old.items }
+        requires few { from + length values.old.items < 2 ^ 64 }
+        requires in_block { from + length values.old.items ≤ block_size self.old.first self.old.step block }
+        requires there { spot self.old.first self.old.step block from + length values.old.items ≤ length self.old.places }
+        requires free { IsFree self.old.places (spot self.old.first self.old.step block from) (length values.old.items) }
+        ensures places { self.new ≡ stored (put_all self.old.places (spot self.old.first self.old.step block from) values.old.items) self.old.first self.old.step }
+        ensures values { values.new.items ≡ [] }
+    {
+        let block = &mut self.blocks[block];
+        block.put_all(from, values);
+    }
+
     // Moves the value out of a place, which is empty then.
     pub(crate) fn take(&mut self, block: usize, place: usize) -> T
         requires in_block { place < block_size self.old.first self.old.step block }
@@ -112,7 +126,7 @@ impl<T> Store<T> {
     }
 
     // The block in which the place of a number stands, and its number in there.
-    fn find(&self, i: usize) -> (usize, usize)
+    pub(crate) fn find(&self, i: usize) -> (usize, usize)
         ensures spot { spot self.now.first self.now.step result.0 result.1 ≡ i }
         ensures in_block { result.1 < block_size self.now.first self.now.step result.0 }
     {
