@@ -98,6 +98,10 @@ module _ {X : Type 0} where
       let items : values cs ≡ xs = ap values is ∙ values-laid xs spare in let left : room - n ≡ spare = omega arith in
       (record { count = count ∙ sym (ap length items); within = omega arith; places = is ∙ (λ i. laid (sym items i) (sym left i)) }, items)
 
+  pub all_empty_laid : (cs : List (Option X)) (room : ℕ) → cs ≡ replicate room None → IsLaid cs 0 room × (values cs ≡ [])
+  unfolding laid
+  all_empty_laid cs room e = laid_out cs [] 0 room room refl (omega arith) e
+
   module _ (cs : List (Option X)) (n room : ℕ) (h : IsLaid cs n room) where
     abbrev xs : List X
     xs = values cs

@@ -3,6 +3,7 @@ pub mod Emptied
 pub mod Joins
 pub mod Lays
 pub mod Lending
+pub mod Moved
 pub mod Opened
 pub mod Puts
 pub mod Rows

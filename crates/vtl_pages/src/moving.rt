@@ -1,9 +1,10 @@
 //! Runs of pages: each is found by a shift and a mask, and moved as a whole.
-ghost use Rattle.std.specs.Prelude.{◌≡◌, ◌+◌, ◌-◌, ◌*◌, ◌%◌, ◌^◌, ◌<◌, ◌≤◌, ◌++◌, ◌↔◌, [], length, take, drop, option_to_list, IsSome};
+ghost use Rattle.std.specs.Prelude.{◌≡◌, ◌+◌, ◌-◌, ◌*◌, ◌%◌, ◌^◌, ◌<◌, ◌≤◌, ◌++◌, ◌↔◌, [], length, take, drop, option_to_list, IsSome, OnOk, OnErr};
 ghost use Rattle.vtl_pages.specs.Paged.{paged};
 ghost use Rattle.vtl_pages.specs.Stored.{block_size, spot};
 
 use crate::pages::Pages;
+use std::alloc::AllocError;
 
 // The block of a run and the place where the run starts in there, for blocks of `front` runs first, and of 2 ^ shift
 // runs then.
@@ -58,5 +59,22 @@ impl<T> Pages<T> {
         }
         self.len -= 1;
         Some(self.store.take_at(self.len))
+    }
+
+    /// Moves all items of other pages behind these. The other pages have no items then, and keep their room.
+    ///
+    /// It fails only if memory runs out; both have their items then.
+    pub fn append(&mut self, other: &mut Pages<T>) -> Result<(), AllocError>
+        ensures ok { OnOk result ((self.new.items ≡ self.old.items ++ other.old.items) × (other.new.items ≡ [])) }
+        ensures err { OnErr result ((self.new.items ≡ self.old.items) × (other.new ≡ other.old)) }
+        ensures width { self.new.width ≡ self.old.width }
+        ensures other_width { other.new.width ≡ other.old.width }
+    {
+        let n = other.len();
+        self.reserve(n)?;
+        self.store.move_all(self.len, &mut other.store, n);
+        self.len += n;
+        other.len = 0;
+        Ok(())
     }
 }

@@ -1,7 +1,8 @@
 //! Blocks, the first small and all others of one size, as one list of places. A place is named by its block and its
 //! number in there.
 ghost use Rattle.std.specs.Prelude.{◌≡◌, ℕ, ◌+◌, ◌^◌, ◌<◌, ◌≤◌, ◌++◌, [], None, Some, length, map, take, drop, get_or, slice_set, replicate, OnOk, OnErr};
-ghost use Rattle.vtl_pages.specs.Places.{IsFilled, IsRun, IsFilledTo, IsFree, put_all};
+ghost use Rattle.vtl_pages.specs.Laid.{IsLaid};
+ghost use Rattle.vtl_pages.specs.Places.{IsFilled, IsRun, IsFilledTo, IsFree, put_all, values};
 ghost use Rattle.vtl_pages.specs.Stored.{Stored, stored, next_size, block_size, spot};
 
 use crate::block::Block;
@@ -155,6 +156,23 @@ impl<T> Store<T> {
     {
         let (block, place) = self.find(i);
         self.take(block, place)
+    }
+
+    // Moves the n values of another store, which stand in front there, into empty places side by side.
+    pub(crate) fn move_all(&mut self, at: usize, other: &mut Store<T>, n: usize)
+        requires there { at + n ≤ length self.old.places }
+        requires few { at + n < 2 ^ 64 }
+        requires free { IsFree self.old.places at n }
+        requires laid { IsLaid other.old.places n (length other.old.places) }
+        ensures places { self.new ≡ stored (put_all self.old.places at (values other.old.places)) self.old.first self.old.step }
+        ensures other { other.new ≡ stored (replicate (length other.old.places) None) other.old.first other.old.step }
+    {
+        let mut left = n;
+        while left > 0 {
+            left -= 1;
+            let value = other.take_at(left);
+            self.put_at(at + left, value);
+        }
     }
 
     // The value in the place of a number.
