@@ -1,5 +1,5 @@
 -- A block that an allocator gave is a row of empty places with the right to free it.
-use mathlib.Core.Path.{◌≡◌, refl, sym, subst}
+use mathlib.Core.Path.{refl, sym, subst}
 use Prim.Native.Nat.{ℕ, ◌*◌, ◌<◌, ◌^◌}
 use mathlib.Core.List.{List, [], ◌∷◌}
 use lib.ListN.{length, length-replicate, replicate}

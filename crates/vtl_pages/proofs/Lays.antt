@@ -1,5 +1,5 @@
 -- Items that stand in front in some places: they are found, one is added, one is taken, and two change places.
-use Rattle.std.proofs.Common.{◌≡◌, ◌≢◌, ℕ, zero, suc, ◌+◌, ◌-◌, ◌<◌, ◌≤◌, List, [], ◌∷◌, ◌++◌, map, length, take, drop, set, get_or, replicate, Option, Some, None, refl, sym, ap, ◌∙◌, subst, arith, length-append, length-drop, length-set, append_assoc, append-nil, get_or-set_other, take-append-drop, drop-cons, drop_of_length-le}
+use Rattle.std.proofs.Common.{◌≡◌, ◌≢◌, ℕ, zero, suc, ◌+◌, ◌-◌, ◌<◌, ◌≤◌, List, [], ◌∷◌, ◌++◌, map, length, take, drop, set, get_or, replicate, Option, Some, None, refl, sym, ap, ◌∙◌, arith, length-append, length-drop, length-set, append_assoc, append-nil, get_or-set_other, take-append-drop, drop-cons, drop_of_length-le}
 use Rattle.std.proofs.lemmas.List.{length-map, length-replicate, get_or_append_left, get_or-append_right, get_or-map, set-append_left, set-set, set_comm, map-set, drop-append-le, take-append-le, take-map, drop-map, replicate-append-replicate}
 use Rattle.std.proofs.lemmas.List.Edits.{swap_is, length-swap}
 use Rattle.std.specs.List.{swap}
@@ -134,7 +134,7 @@ module _ {X : Type 0} where
         let count = h.count in let more = length-append xs (v ∷ []) in
         laid_out ds (xs ++ v ∷ []) (n + 1) room (room - (n + 1)) (omega arith) (omega arith) (is ∙ (λ i. set (h.places i) (count i) (Some v)) ∙ put-laid xs (room - n) (room - (n + 1)) v (omega arith))
 
-  -- some values are put behind the items
+    -- some values are put behind the items
     pub all_pushed : (ds : List (Option X)) (vs : List X) (more : ℕ) → more ≡ length vs → n + more ≤ room → ds ≡ put_all cs n vs → IsLaid ds (n + more) room × (values ds ≡ xs ++ vs)
     all_pushed ds vs more long fit is =
         let count = h.count in let all = length-append xs vs in

@@ -1,9 +1,8 @@
 -- The values of some places are moved into others, the last one first.
-use Rattle.std.proofs.Common.{◌≡◌, ℕ, zero, suc, ◌+◌, ◌<◌, ◌≤◌, List, [], ◌∷◌, ◌++◌, length, take, set, get_or, replicate, Option, Some, None, refl, sym, ap, ◌∙◌, arith, append-nil, length-take, take_all, get_or-set_other}
+use Rattle.std.proofs.Common.{◌≡◌, ℕ, zero, suc, ◌<◌, ◌≤◌, List, [], ◌∷◌, ◌++◌, length, take, set, get_or, Option, Some, None, refl, sym, ap, ◌∙◌, arith, append-nil, length-take, take_all, get_or-set_other}
 use Rattle.vtl_pages.specs.Laid.{IsLaid}
 use Rattle.vtl_pages.specs.Places.{values, IsFilled}
-use Rattle.vtl_pages.specs.Stored.{Stored, stored}
-use Rattle.vtl_pages.proofs.Emptied.{all_empty}
+use Rattle.vtl_pages.specs.Stored.{stored}
 use Rattle.vtl_pages.proofs.Lays.{item_is, item_there}
 use Rattle.vtl_pages.proofs.Puts.{IsPutFrom}
 

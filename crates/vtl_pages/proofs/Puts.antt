@@ -1,5 +1,5 @@
 -- Values are put into places side by side, from the last one on.
-use Rattle.std.proofs.Common.{◌≡◌, ◌≢◌, ℕ, zero, suc, ◌+◌, ◌<◌, ◌≤◌, List, [], ◌∷◌, ◌++◌, length, set, get_or, Option, Some, None, refl, sym, ap, ◌∙◌, subst, arith, length-append, length-set, append_assoc, append-nil, get_or-set_other}
+use Rattle.std.proofs.Common.{◌≡◌, ℕ, suc, ◌+◌, ◌<◌, ◌≤◌, List, [], ◌∷◌, ◌++◌, length, set, get_or, Option, Some, None, refl, sym, ap, ◌∙◌, subst, arith, length-append, length-set, append_assoc, append-nil, get_or-set_other}
 use Rattle.std.proofs.lemmas.List.{get_or-set_same, set-get_or, set-set, set_comm}
 use Rattle.vtl_pages.specs.Joined.{joined, HaveSizes, start_of}
 use Rattle.vtl_pages.specs.Places.{put_all}

@@ -1,6 +1,6 @@
 -- A row of places in memory: one place or some side by side are taken out of it, put back, or seen.
-use mathlib.Core.Path.{◌≡◌, refl, sym, ap, subst, ◌∙◌}
-use Prim.Native.Nat.{ℕ, zero, suc, ◌+◌, ◌*◌, ◌<◌, ◌≤◌}
+use mathlib.Core.Path.{◌≡◌, refl, subst}
+use Prim.Native.Nat.{ℕ, zero, suc, ◌+◌, ◌*◌, ◌<◌}
 use native.Mathlib.Nat.{zero-mul, suc-mul}
 use native.Mathlib.Omega.{arith}
 use mathlib.Core.List.{List, [], ◌∷◌, map}
@@ -9,12 +9,11 @@ use seplogic.Ra.Ura.{Ura}
 use base.Fml.{Lft, Fml, ftrue, fsep, froom}
 use base.Logic.{ent, via, id⊢, mono_r, snd∗}
 use mir.Syntax.{ty_array}
-use types.Kit.{‵, ◌⊛◌, ◌$◌, ◌∵◌, !, qed, by, move, keep, use1, use2, split, frame, fsplit, fjoin, rewrite, done}
+use types.Kit.{‵, ◌⊛◌, ◌$◌, ◌∵◌, !, qed, by, move, keep, use1, split, frame, fsplit, fjoin, rewrite, done}
 use types.Logic.{Logic, sem}
 use denote.Memory.{shared_of}
 use denote.Sharing.{beside}
 use denote.Slice.{elements_shared}
-use denote.Steps.{nothing}
 use Rattle.std.specs.Prelude.{Option, Some, None}
 use Rattle.std.specs.Mem.{type_size}
 use Rattle.core.proofs.mem.Param.{El, R, el_x, elτ}

@@ -1,6 +1,6 @@
 -- A run lies within one block, which a shift and a mask find.
 use Rattle.std.proofs.Common.{◌≡◌, ℕ, zero, suc, ◌+◌, ◌-◌, ◌*◌, ◌/◌, ◌%◌, ◌^◌, ◌<◌, ◌≤◌, bit_and, sym, ap, ◌∙◌, subst, arith, zero-mul}
-use Rattle.std.proofs.lemmas.Nat.{div-add-mod', mod_below, div_below, row_fits, pow_pos, and_mask}
+use Rattle.std.proofs.lemmas.Nat.{div-add-mod', div_below, row_fits, and_mask}
 use Rattle.std.proofs.Math.Nat.{mul_assoc, add-mul, add-mul-mod_self_right}
 use Rattle.vtl_pages.specs.Laid.{HasRuns}
 use Rattle.vtl_pages.specs.Stored.{Stored, block_size, spot}

@@ -2,9 +2,9 @@
 use Rattle.std.proofs.Common.{◌≡◌, ◌≢◌, ℕ, zero, suc, ◌+◌, ◌*◌, ◌<◌, ◌≤◌, List, [], ◌∷◌, ◌++◌, length, take, drop, set, get_or, replicate, Option, None, refl, sym, ap, ◌∙◌, subst, arith, length-set, zero-mul, suc-mul}
 use Rattle.std.proofs.lemmas.List.{get_or_default, length-replicate}
 use Rattle.vtl_pages.specs.Joined.{joined, HaveSizes, start_of}
-use Rattle.vtl_pages.specs.Stored.{Stored, stored, block_size, block_start, if_none, next_size, spot}
+use Rattle.vtl_pages.specs.Stored.{Stored, stored, block_size, block_start, next_size, spot}
 use Rattle.vtl_pages.specs.Places.{IsFree, put_all}
-use Rattle.vtl_pages.proofs.Joins.{length-joined, joined-append, list_there, size_of, get-joined, set-joined, run-joined, sizes-set, sizes-append}
+use Rattle.vtl_pages.proofs.Joins.{joined-append, list_there, size_of, get-joined, set-joined, run-joined, sizes-set, sizes-append}
 use Rattle.vtl_pages.proofs.Puts.{joined-put_all, length-put_all}
 
 even_start : (step k : ℕ) → start_of (λ j. step) k ≡ k * step

@@ -89,7 +89,11 @@ pub(crate) fn release<T, A: Allocator>(
     let Cells { mark: _ } = cells;
     let Claim { mark: _ } = claim;
     unsafe {
-        alloc.deallocate(start.address as *mut u8, count * size_of::<T>(), align_of::<T>());
+        alloc.deallocate(
+            start.address as *mut u8,
+            count * size_of::<T>(),
+            align_of::<T>(),
+        );
     }
 }
 

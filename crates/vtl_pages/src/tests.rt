@@ -83,3 +83,22 @@ fn is_a_list_of_runs(rt: HostRuntime) -> Result<(), Fail> {
     assert_eq!(rt; pages.pop(), Some(6003));
     Ok(())
 }
+
+#[test]
+fn appends_other_pages(rt: HostRuntime) -> Result<(), Fail> {
+    let mut front = Pages::new(rt.alloc(), 2);
+    let mut back = Pages::new(rt.alloc(), 3);
+    for i in 0..100usize {
+        assert!(rt; front.try_push(i).is_ok());
+        assert!(rt; back.try_push(100 + i).is_ok());
+    }
+    front.append(&mut back)?;
+    assert_eq!(rt; front.len(), 200);
+    assert!(rt; back.is_empty());
+    if front.len() == 200 && front.width() == 2 {
+        assert!(rt; front.run(0) == [0, 1].as_slice());
+        assert!(rt; front.run(50) == [100, 101].as_slice());
+        assert!(rt; front.run(99) == [198, 199].as_slice());
+    }
+    Ok(())
+}

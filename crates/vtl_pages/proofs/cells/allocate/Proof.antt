@@ -3,7 +3,7 @@ use mathlib.Core.Bool.{true, false}
 use mathlib.Core.Path.{◌≡◌, refl, sym, ap, subst}
 use Prim.Native.Nat.{ℕ, ◌*◌, ◌<◌, ◌^◌}
 use native.Mathlib.Omega.{arith}
-use mathlib.Core.List.{List, [], ◌∷◌}
+use mathlib.Core.List.{[], ◌∷◌}
 use lib.Dec.{lit<}
 use lib.ListN.{replicate}
 use seplogic.Ra.Ura.{Ura}
@@ -21,7 +21,7 @@ use prog.Routine.{Routine}
 use prog.Wp.{Env, Wp, WpFn, Tables, after_seq, at_return}
 use sound.WpLaws.{WpFn-mono, fm_of}
 use types.ByLocal.{alloc_all, pass_all, free_all, look_at, get, get_in, get_tag, is, lands_as, sets, sets_last, env}
-use types.Kit.{Item, ‵, raw, ◌⊛◌, later, await, at_ret, any_q, Post as After, Sq, ◌$◌, ◌∵◌, !, prop, qed, move, keep, drop, use1, use2, split, join, frame, fsplit, fsplit3, fjoin, suffices, done}
+use types.Kit.{Item, ‵, raw, ◌⊛◌, later, await, at_ret, any_q, Post as After, Sq, ◌$◌, ◌∵◌, !, prop, qed, move, keep, drop, use1, use2, split, join, fsplit, fsplit3, fjoin, suffices, done}
 use types.Logic.{Logic}
 use types.Match.{live, vrt, in_variant}
 use types.Part.{agg, whole}
@@ -31,7 +31,7 @@ use denote.Exit.{yes}
 use denote.Laws.{Is}
 use denote.Param.{layout}
 use denote.RattleType.{RattleType, owns}
-use denote.RawPtr.{Ptr, block_ptr}
+use denote.RawPtr.{block_ptr}
 use denote.Signature.{plain, types_at}
 use denote.Steps.{heard, nothing, owned}
 use denote.Struct.Declared as Declared

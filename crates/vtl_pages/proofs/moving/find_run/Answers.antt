@@ -1,4 +1,4 @@
-use Rattle.std.proofs.Common.{◌-◌, ◌/◌, ◌*◌, ◌^◌, ◌≤◌, arith}
+use Rattle.std.proofs.Common.{◌-◌, ◌^◌, arith}
 use Rattle.std.proofs.Math.Nat.{div-le_self}
 use Rattle.vtl_pages.proofs.Runs.{later_spot}
 use Rattle.vtl_pages.proofs.moving.find_run.Goals as goal

@@ -1,5 +1,5 @@
 -- `put` writes a value over the room of an empty place.
-use mathlib.Core.Path.{◌≡◌, refl, sym, ap, subst, ◌∙◌}
+use mathlib.Core.Path.{◌≡◌, refl, sym, subst, ◌∙◌}
 use Prim.Native.Nat.{ℕ, ◌+◌, ◌*◌, ◌<◌, ◌^◌}
 use native.Mathlib.Omega.{arith}
 use mathlib.Core.List.{List, [], ◌∷◌}
@@ -19,7 +19,7 @@ use prog.Routine.{Routine}
 use prog.Wp.{Env, WpFn, Tables}
 use sound.WpLaws.{WpFn-mono}
 use types.ByLocal.{alloc_all, pass_all, free_all, look_at, get, get_in, through, sets, env, take_at, give_at}
-use types.Kit.{‵, raw, ◌⊛◌, at_ret, ◌$◌, ◌∵◌, !, qed, move, keep, drop, use1, use2, split, join, frame, rewrite, fsplit, fsplit3, fjoin, fjoin3, feq_i, suffices, done}
+use types.Kit.{‵, raw, ◌⊛◌, at_ret, ◌$◌, ◌∵◌, !, qed, move, keep, drop, use1, use2, split, join, rewrite, fsplit, fsplit3, fjoin, fjoin3, feq_i, suffices, done}
 use types.Logic.{Logic}
 use types.Part.{whole, sub}
 use types.Run.{enter, init, stop, fld, bin, size_lit, of_opd, unit_lit, assigns_last, first, blocks, exec, returns}
@@ -27,7 +27,7 @@ use denote.Builtin.{usize}
 use denote.Exit.{yes, no}
 use denote.Param.Laws.{param_laws}
 use denote.RattleType.{owns}
-use denote.RawPtr.{Ptr, block_ptr, ptr_val}
+use denote.RawPtr.{Ptr}
 use denote.Signature.{plain, types_at}
 use denote.Steps.{heard, nothing}
 use denote.Triple.Clauses.{Clauses, Ended, closing}

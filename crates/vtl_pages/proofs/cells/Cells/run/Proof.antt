@@ -3,7 +3,7 @@ use mathlib.Core.Path.{◌≡◌, refl, sym, ap, subst, ◌∙◌}
 use Prim.Native.Nat.{ℕ, ◌+◌, ◌*◌, ◌<◌, ◌^◌}
 use native.Mathlib.Omega.{arith}
 use mathlib.Core.List.{List, [], ◌∷◌}
-use lib.ListN.{length, take, drop as without, length-take, length-drop}
+use lib.ListN.{length, drop as without, length-take, length-drop}
 use seplogic.Ra.Ura.{Ura}
 use base.Fml.{fat, ftrue, flft}
 use base.Fraction.{full_share}
@@ -28,7 +28,7 @@ use denote.Exit.{yes, no}
 use denote.Param.Laws.{param_laws}
 use denote.Opens.{hide, unhide}
 use denote.RattleType.{owns}
-use denote.RawPtr.{Ptr, block_ptr, in_a_block}
+use denote.RawPtr.{Ptr, in_a_block}
 use denote.Signature.{plain, types_at}
 use denote.Slice.{elements_shared, slice_val}
 use denote.Steps.{heard, nothing}

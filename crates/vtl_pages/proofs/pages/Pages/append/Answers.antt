@@ -1,4 +1,4 @@
-use Rattle.std.proofs.Common.{◌≡◌, ◌+◌, ◌≤◌, ◌++◌, None, length, replicate, sym, ap, ◌∙◌, subst, arith}
+use Rattle.std.proofs.Common.{◌≡◌, ◌++◌, None, length, replicate, sym, ap, ◌∙◌, subst, arith}
 use Rattle.vtl_pages.specs.Laid.{IsLaid}
 use Rattle.vtl_pages.specs.Places.{values}
 use Rattle.vtl_pages.proofs.Lays.{all_empty_laid, all_pushed, free_there, items_seen, room_is, spare_seen}

@@ -1,4 +1,4 @@
-use Rattle.std.proofs.Common.{◌≡◌, ◌+◌, ◌%◌, ◌<◌, ◌≤◌, ◌++◌, length, sym, ap, ◌∙◌, subst, arith}
+use Rattle.std.proofs.Common.{◌≡◌, ◌%◌, ◌++◌, length, ap, ◌∙◌, arith}
 use Rattle.vtl_pages.specs.Places.{put_all}
 use Rattle.vtl_pages.proofs.Lays.{all_pushed, free_there, items_seen, room_is, same_paged, spare_seen, width_seen}
 use Rattle.vtl_pages.proofs.Runs.{in_one_block, still_runs}

@@ -1,6 +1,6 @@
 use Rattle.std.proofs.Common.{◌+◌, ◌*◌, ◌≤◌, length, take, drop, sym, ap, ◌∙◌, subst}
 use Rattle.vtl_pages.specs.Places.{IsRun}
-use Rattle.vtl_pages.proofs.Lays.{items_seen, run_is, run_there}
+use Rattle.vtl_pages.proofs.Lays.{run_is, run_there}
 use Rattle.vtl_pages.proofs.Runs.{spot_same}
 use Rattle.vtl_pages.proofs.pages.Pages.run.Goals as goal
 

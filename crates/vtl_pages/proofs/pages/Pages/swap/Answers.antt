@@ -1,4 +1,4 @@
-use Rattle.std.proofs.Common.{◌≡◌, ◌<◌, Some, None, get_or, set, length, sym, ap, ◌∙◌, subst}
+use Rattle.std.proofs.Common.{◌<◌, Some, None, get_or, set, length, sym, ap, ◌∙◌, subst}
 use Rattle.std.specs.List.{swap}
 use Rattle.vtl_pages.proofs.Lays.{item_there, items_seen, other_there, same_paged, spare_seen, swapped, width_seen}
 use Rattle.vtl_pages.proofs.Runs.{still_runs}

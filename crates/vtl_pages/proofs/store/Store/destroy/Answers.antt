@@ -1,4 +1,4 @@
-use Rattle.std.proofs.Common.{◌≡◌, ◌-◌, None, length, min, replicate, sym, ap, ◌∙◌, subst, arith}
+use Rattle.std.proofs.Common.{◌≡◌, ◌-◌, None, length, min, replicate, sym, ap, ◌∙◌, arith}
 use Rattle.vtl_pages.specs.Stored.{block_size}
 use Rattle.vtl_pages.proofs.Emptied.{front_sized, front_room, front_filled, last_size, last_fits, last_filled}
 use Rattle.vtl_pages.proofs.store.Store.destroy.Goals as goal

@@ -1,4 +1,4 @@
-use Rattle.std.proofs.Common.{◌≡◌, ◌-◌, ◌<◌, ◌≤◌, ◌+◌, suc, length, refl, sym, ap, ◌∙◌, arith, length-set, None}
+use Rattle.std.proofs.Common.{◌≡◌, ◌-◌, suc, length, refl, ap, ◌∙◌, arith, length-set, None}
 use Rattle.vtl_pages.specs.Places.{values}
 use Rattle.vtl_pages.proofs.Emptied.{all_empty}
 use Rattle.vtl_pages.proofs.Lays.{free_there}

@@ -1,4 +1,4 @@
-use Rattle.std.proofs.Common.{◌<◌, ◌+◌, length, sym, ◌∙◌, arith}
+use Rattle.std.proofs.Common.{◌<◌, length, arith}
 use Rattle.vtl_pages.specs.Stored.{spot}
 use Rattle.vtl_pages.proofs.Spots.{all_put, all_sized, block_long, block_there, free_in}
 use Rattle.vtl_pages.proofs.store.Store.put_all.Goals as goal
