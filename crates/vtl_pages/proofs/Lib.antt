@@ -1,0 +1,11 @@
+pub mod Claimed
+pub mod Emptied
+pub mod Joins
+pub mod Lays
+pub mod Lending
+pub mod Moved
+pub mod Opened
+pub mod Puts
+pub mod Rows
+pub mod Runs
+pub mod Spots

@@ -1,0 +1,6 @@
+pub mod Joined
+pub mod Laid
+pub mod Owned
+pub mod Paged
+pub mod Places
+pub mod Stored
