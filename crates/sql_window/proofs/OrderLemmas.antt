@@ -18,7 +18,6 @@ use Rattle.vtl_cell.proofs.Rows.{same_row-is}
 use Rattle.vtl_lists.proofs.Sorts.{Perm-sorted_by, sorted_by-from_sort}
 use Rattle.vtl_rows.specs.Keys.{agree, key_of}
 use Rattle.vtl_rows.specs.Places.{IsOrderOf, row_at}
-use Rattle.vtl_rows.specs.Tables.{cells_at}
 use Rattle.vtl_rows.specs.declared.column.SortKey.{SortKey}
 use Rattle.vtl_rows.proofs.AllColumns.{all_keys, keys_append}
 use Rattle.vtl_rows.proofs.Stable.{placed_total}

@@ -1,6 +1,6 @@
 -- The keys of a window, and values that are put back at their rows.
-use Rattle.std.proofs.Common.{All, ◌≡◌, ◌≢◌, ⊎_elim, Some, set, ℕ, zero, suc, ◌+◌, ◌-◌, ◌<◌, ◌≤◌, ◌⊎◌, inl, inr, List, [], ◌∷◌, ◌++◌, length, drop, take, get_or, map, Bool, true, false, cond, refl, sym, ap, ◌∙◌, arith, true≢false, subst, append_assoc, Ok}
-use Rattle.std.specs.Prelude.{filter, IsPermutation, Option}
+use Rattle.std.proofs.Common.{All, ◌≡◌, ◌≢◌, ⊎_elim, Some, set, ℕ, zero, suc, ◌+◌, ◌<◌, ◌≤◌, ◌⊎◌, inl, inr, List, [], ◌∷◌, ◌++◌, length, drop, take, get_or, map, refl, sym, ap, ◌∙◌, arith, subst, append_assoc, Ok}
+use Rattle.std.specs.Prelude.{IsPermutation, Option}
 use Rattle.std.specs.List.{AllByRecursion, range_with_len}
 use Rattle.std.proofs.lemmas.List.{drop_all, get_or-set_other, get_or-set_same, get_or_default, length-append, length-map, length-set, length_push, same_from_push, take_more, drop_more, map-append, take_all}
 use Rattle.std.proofs.lemmas.List.Elements.{All-from_recursion}

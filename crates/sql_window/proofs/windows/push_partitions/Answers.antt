@@ -1,4 +1,4 @@
-use Rattle.std.proofs.Common.{◌++◌, ◌≡◌, ◌≤◌, ◌<◌, [], length, get_or, map, sym, ap, subst, ◌∙◌, arith, append-nil}
+use Rattle.std.proofs.Common.{◌++◌, ◌≤◌, ◌<◌, [], length, get_or, map, sym, ap, subst, ◌∙◌, arith, append-nil}
 use Rattle.std.specs.List.{concat}
 use Rattle.std.proofs.lemmas.List.{take_all}
 use Rattle.sql_from.specs.Standing.{sight_of}
@@ -32,7 +32,7 @@ loop-i-preserved c =
     let inside : i < length found = omega (arith, c.len-i-end.ensures, c.loop-i-test.true) in
     let one = one_found cut.partition rows cut.numbers found i cut.are inside in
     let before = c.loop-i.out.items in
-    one_more (window_at v w rows) found i c.args.out.now.items before c.in_ok-push_call.new.out.items inside c.loop-i.invariant
+    one_more (window_at v w rows) found i c.args.out.now.items before c.push_call.new.out.items inside c.loop-i.invariant
     (c.in_ok-push_call.ensures ∙ ap (λ r. before ++ run_values v w.call w.over rows r) c.stretch-run.ensures
     ∙ ap (λ l. before ++ l) (stretch_values v w cut.partition c.args.order.now rows (length c.args.table.now.columns) cut.numbers (get_or found i []) cut.sorted one))
 

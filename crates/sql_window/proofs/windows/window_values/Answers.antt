@@ -1,6 +1,7 @@
 use Rattle.std.proofs.Common.{All, ◌<◌, ◌++◌, length, map, sym, ap, subst, ◌∙◌}
 use Rattle.std.specs.Prelude.{IsPermutation}
 use Rattle.std.specs.List.{AllByRecursion, concat, range_with_len}
+use Rattle.std.proofs.lemmas.List.{length-map}
 use Rattle.std.proofs.lemmas.List.FromFn.{length-range_with_len}
 use Rattle.std.proofs.lemmas.Result.{IfOk-weaker}
 use Rattle.vtl_lists.proofs.Perms.{Perm-from_IsPermutation, length-Perm}
@@ -33,9 +34,9 @@ places_by_columns-requires c =
     (subst (λ m. AllByRecursion (λ k. place_in (scope_held c.args.rows.now.rows.now.sources.sources) k.column < m) o.order) (sym wide) c.requires.order) in
     let part = c.deref.ensures.value ∙ c.in_ok-partition.ensures ∙ ap (map (partition_key scope)) c.as_slice.ensures in
     let ord = c.deref-2.ensures.value ∙ c.in_ok-order.ensures ∙ ap (map (order_key scope)) c.as_slice-2.ensures in
-    let keys = c.deref-3.ensures.value ∙ c.in_ok-keys.ensures ∙ ap (λ l. (l ++ c.deref-2.result.now) ++ tie_breakers call (length c.columns.result.now)) part
-    ∙ ap (λ l. (map (partition_key scope) o.partition ++ l) ++ tie_breakers call (length c.columns.result.now)) ord
-    ∙ ap (λ l. (map (partition_key scope) o.partition ++ map (order_key scope) o.order) ++ tie_breakers call (length l)) c.columns.ensures.columns in
+    let keys = c.deref-3.ensures.value ∙ c.in_ok-keys.ensures ∙ ap (λ l. (l ++ c.deref-2.result.now) ++ tie_breakers call (length c.columns-width.result.now)) part
+    ∙ ap (λ l. (map (partition_key scope) o.partition ++ l) ++ tie_breakers call (length c.columns-width.result.now)) ord
+    ∙ ap (λ l. (map (partition_key scope) o.partition ++ map (order_key scope) o.order) ++ tie_breakers call (length l)) c.columns-width.ensures.columns in
     subst (All (λ k. k.column < n)) (sym keys) (keys_within scope o call n partition order)
 
 pub push_partitions-requires : goal.push_partitions-requires
@@ -51,9 +52,9 @@ push_partitions-requires c =
     let o0 = map (order_key scope) o.order in
     let partition_is = c.in_ok-partition.ensures ∙ ap (map (partition_key scope)) c.as_slice.ensures in
     let order_is = c.in_ok-order.ensures ∙ ap (map (order_key scope)) c.as_slice-2.ensures in
-    let keys = c.deref-3.ensures.value ∙ c.in_ok-keys.ensures ∙ ap (λ l. (l ++ c.deref-2.result.now) ++ tie_breakers call (length c.columns.result.now)) (c.deref.ensures.value ∙ partition_is)
-    ∙ ap (λ l. (p0 ++ l) ++ tie_breakers call (length c.columns.result.now)) (c.deref-2.ensures.value ∙ order_is)
-    ∙ ap (λ l. (p0 ++ o0) ++ tie_breakers call (length l)) c.columns.ensures.columns in
+    let keys = c.deref-3.ensures.value ∙ c.in_ok-keys.ensures ∙ ap (λ l. (l ++ c.deref-2.result.now) ++ tie_breakers call (length c.columns-width.result.now)) (c.deref.ensures.value ∙ partition_is)
+    ∙ ap (λ l. (p0 ++ l) ++ tie_breakers call (length c.columns-width.result.now)) (c.deref-2.ensures.value ∙ order_is)
+    ∙ ap (λ l. (p0 ++ o0) ++ tie_breakers call (length l)) c.columns-width.ensures.columns in
     let places = c.in_ok-places.places.items in
     let found = c.in_ok-partitions.ensures ∙ ap (λ l. stretches_of l rows c.deref-4.result.now) (c.deref-5.ensures.value ∙ partition_is) ∙ ap (stretches_of p0 rows) c.deref-4.ensures.value in
     let cut : AreCut v c.args.window.now o0 rows n c.in_ok-partitions.partitions = record {
@@ -63,7 +64,7 @@ push_partitions-requires c =
         partition_is = partition_named v o.partition;
         order_is = order_named (base_held c.args.p.now sources.held) scope o.order;
         placed = subst (λ l. IsOrderOf l rows places) keys c.in_ok-places.ensures.order;
-        wide = c.columns.ensures.wide;
+        wide = c.columns-width.ensures.wide;
       };
       are = found;
     } in
@@ -76,6 +77,20 @@ put_back-requires-clause-all c =
     let all = c.in_ok-places.ensures.order.all in
     let many = sym (length-range_with_len 0 (length rows)) ∙ length-Perm (Perm-from_IsPermutation (range_with_len 0 (length rows)) places all) in
     subst (λ l. IsPermutation (range_with_len 0 (length l)) l) (sym c.deref-7.ensures.value) (subst (λ m. IsPermutation (range_with_len 0 m) places) many all)
+
+pub put_back-requires-clause-many : goal.put_back-requires-clause-many
+put_back-requires-clause-many c =
+    let v = sight_of c.args.p.now c.sources-sources.result.now in
+    let w = c.args.window.now in
+    let rows = c.table-table.result.now.rows in
+    let places = c.in_ok-places.places.items in
+    let f = window_at v w rows in
+    let p0 = map (partition_key (scope_held c.sources-sources.result.now.sources)) w.over.partition in
+    let partition_is = c.deref-5.ensures.value ∙ c.in_ok-partition.ensures ∙ ap (map (partition_key (scope_held c.sources-sources.result.now.sources))) c.as_slice.ensures in
+    let found = c.in_ok-partitions.ensures ∙ ap (λ l. stretches_of l rows c.deref-4.result.now) partition_is ∙ ap (stretches_of p0 rows) c.deref-4.ensures.value in
+    let values = c.in_ok-push_partitions.ensures ∙ ap (λ l. l ++ map f (concat c.in_ok-partitions.partitions)) c.in_ok-values.ensures.items ∙ ap (λ l. map f (concat l)) found
+    ∙ ap (map f) (joined p0 rows places ∙ sym c.deref-7.ensures.value) in
+    ap length values ∙ length-map c.deref-7.result.now f
 
 pub returns : goal.returns
 returns c =

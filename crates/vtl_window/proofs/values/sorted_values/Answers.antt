@@ -55,7 +55,7 @@ loop-i-preserved c =
     let own = subst (λ (l : List Row). IsDataSet d.structure l) c.table.ensures.points c.table.ensures.table.points in
     let f : ℕ → Outcome Cell = λ k. call_value p d call (row_at rows k) in
     let before = c.loop-i.out.items in
-    one_more f found i [] before c.in_ok-push_call.new.out.items (omega (arith, c.len-i-end.ensures, c.loop-i-test.true)) c.loop-i.invariant
+    one_more f found i [] before c.push_call.new.out.items (omega (arith, c.len-i-end.ensures, c.loop-i-test.true)) c.loop-i.invariant
     (c.in_ok-push_call.ensures ∙ ap (λ r. before ++ run_values p (columns_of d.structure) call rows r) (c.stretch-run.ensures ∙ one.is)
     ∙ ap (λ l. before ++ l) (partition_values d own call places one.start one.end one.cut p c.requires.sorted)
     ∙ ap (λ r. before ++ map f r) (sym one.is))
