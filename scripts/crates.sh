@@ -10,7 +10,7 @@
 top=$(CDPATH='' cd -- "$(dirname -- "$0")/.." && pwd) || exit 1
 cd "$top/crates" || exit 1
 # The libraries of the kit that are in use; a further one is put here.
-kit='csv indexmap jiff memchr thiserror'
+kit='core csv indexmap jiff memchr std_alloc thiserror'
 
 # The files of all crates, but for those that the tool makes.
 files() { find . -name out -prune -o \( -name '*.rt' -o -name '*.antt' \) -print; }
