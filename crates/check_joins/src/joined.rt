@@ -51,7 +51,7 @@ pub fn held_names(
     Ok(out)
 }
 
-#[tactic(auto, unfolding(crate::specs::Joins::is_shared))]
+#[tactic(auto, unfolding(vtl_tree::specs::Joins::is_shared))]
 fn is_shared(held: &[Txt], name: &Txt) -> bool
     ensures { result ≡ is_shared held.now name.now }
 {
@@ -70,7 +70,7 @@ fn marked(alloc: Global, alias: &Txt, name: &Txt) -> Result<Txt, AllocError>
     concat(alloc, with_mark(alloc, alias)?.as_str(), name.as_str())
 }
 
-#[tactic(auto, unfolding(crate::specs::Joins::joined_name))]
+#[tactic(auto, unfolding(vtl_tree::specs::Joins::joined_name))]
 fn joined_name(alloc: Global, held: &[Txt], alias: &Txt, name: &Txt) -> Result<Txt, AllocError>
     ensures { IfOk result (λ t. t ≡ joined_name held.now alias.now name.now) }
 {
