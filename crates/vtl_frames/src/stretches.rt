@@ -8,10 +8,19 @@ use vtl_rows::{SortKey, Table};
 
 /// Row numbers in an order, cut into stretches of rows that tie by keys. Where the order is one by these keys first, the
 /// stretches are the partitions.
-#[derive(Drop)]
 pub struct Stretches<'a> {
     numbers: &'a [usize],
     starts: Vec<usize>,
+}
+
+// Written out, so that an owner sees one call.
+impl Drop for Stretches<'_> {
+    fn drop(self) {
+        let Stretches {
+            numbers: _,
+            starts: _starts,
+        } = self;
+    }
 }
 
 impl<'a> Model for Stretches<'a> {

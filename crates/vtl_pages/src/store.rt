@@ -17,9 +17,8 @@ pub struct Store<T> {
 }
 
 impl<T> Model for Store<T> {
-    ghost use Rattle.vtl_pages.specs.Stored.{Stored, stored, stored_code};
+    ghost use Rattle.vtl_pages.specs.Stored.{Stored, stored, stored_code, block_size};
     ghost use Rattle.vtl_pages.specs.Joined.{joined, HaveSizes};
-    ghost use Rattle.vtl_pages.specs.Stored.{block_size};
     ghost use Rattle.std.specs.Prelude.{◌<◌};
 
     ghost Value = { Stored T };

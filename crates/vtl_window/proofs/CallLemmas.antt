@@ -11,7 +11,7 @@ use Rattle.vtl_cell.specs.Row.{Row, column_of}
 use Rattle.vtl_decimal.specs.Settings.{Settings}
 use Rattle.vtl_cell.specs.declared.cell.Cell.{Cell}
 use Rattle.vtl_cell.specs.declared.cell.Cell.TheVariants as c
-use Rattle.vtl_cell.specs.declared.Txt.{Txt}
+use Rattle.vtl_text.specs.declared.shared_text.Txt.{Txt}
 use Rattle.vtl_tree.specs.Columns.{place_of}
 use Rattle.vtl_frames.specs.Framed as frames
 use Rattle.vtl_frames.specs.Framed.{at_each}

@@ -11,7 +11,8 @@ use Rattle.vtl_tree.proofs.Faults.{join_none}
 use Rattle.vtl_meaning.specs.Aggregates.{cell_or_null}
 use Rattle.vtl_scalar.specs.Seen.{seen_of}
 use Rattle.vtl_window.specs.Analyses.{cells_by, faults_of}
-use Rattle.vtl_window.proofs.PutLemmas.{IsPutBack, all_get, begins, goes_on, put_each, taken_next}
+use Rattle.vtl_frames.proofs.ListLemmas.{all_get}
+use Rattle.vtl_window.proofs.PutLemmas.{IsPutBack, begins, goes_on, put_each, taken_next}
 use Rattle.vtl_window.proofs.putting_back.put_back.Goals as goal
 
 pub loop-place-init : goal.loop-place-init
