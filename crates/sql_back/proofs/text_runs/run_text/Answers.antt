@@ -1,9 +1,7 @@
 use Rattle.std.proofs.Common.{ap, sym, subst, ◌∙◌}
 use Rattle.sql_tree.specs.View.{script_tree}
-use Rattle.sql_engine.specs.InputTables.{AreInputsInRange, HaveInputTables, rows_given}
-use Rattle.sql_engine.specs.Runs.{Tells}
-use Rattle.sql_engine.specs.declared.orders.RowOrder.TheVariants as by
-use Rattle.sql_meaning.specs.Scripts.{script_value}
+use Rattle.sql_engine.specs.InputTables.{AreInputsInRange, HaveInputTables}
+use Rattle.sql_engine.specs.Runs.{RunsAsMade}
 use Rattle.sql_check_parts.specs.Statements.{IsTypedScript, script_settings}
 use Rattle.sql_back.proofs.EngineRuns.{run_told}
 use Rattle.sql_back.proofs.text_runs.run_text.Goals as goal
@@ -27,6 +25,8 @@ run_uncounted-requires-clause-in_range c =
 pub returns : goal.returns
 returns c script spelled =
     let same = ap script_tree c.of-checked.ensures.script ∙ c.in_ok-script.ensures.script script spelled in
-    let rows = rows_given c.args.inputs.now in
-    let told = subst (λ s. Tells by.AsMade (script_value s rows) c.args.out.now c.run_uncounted.new.out c.run_uncounted.result) same c.run_uncounted.ensures in
-    run_told (script_value script rows) c.args.out.now c.run_uncounted.new.out c.run_uncounted.result told
+    let inputs = c.args.inputs.now in
+    let before = c.args.out.now in
+    let now = c.run_uncounted.new.out in
+    let r = c.run_uncounted.result in
+    run_told script inputs before now r (subst (λ s. RunsAsMade s inputs before now r) same c.run_uncounted.ensures)
