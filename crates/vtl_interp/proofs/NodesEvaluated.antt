@@ -34,7 +34,7 @@ use Rattle.vtl_syntax.specs.declared.word_groups.Retain.{Retain}
 use Rattle.vtl_meaning.specs.AggregateShapes.{IsAggregated}
 use Rattle.vtl_sets.specs.DataSets.{data_set, with_structure}
 use Rattle.vtl_meaning.specs.Joined.{structures_of}
-use Rattle.vtl_meaning.specs.Made.{AreCombined, IsChoice, IsJoined, IsMade, IsMadeForm, IsMeasured, IsWindowed, node_structures}
+use Rattle.vtl_meaning.specs.Made.{AreCombined, IsChoice, IsJoined, IsLeft, IsMade, IsMadeForm, IsMeasured, IsWindowed, node_structures}
 use Rattle.vtl_meaning.specs.Meaning.{form_value, known_in, node_value, nodes_value, operands_value, with_operand}
 use Rattle.vtl_interp.specs.Evaluated.{Evaluates, Gives, GivesOne, GivesTwo}
 use Rattle.vtl_interp.proofs.Environments.{data_looked, known_looked}
@@ -140,6 +140,11 @@ one_given_at p env n f t d is tree g = subst (λ (x : FormTree). GivesOne p env 
 
 pub two_given_at : (p : Settings) (env : Environment) (n : Node) (f : NodeForm) (t : FormTree) (d e : DataSet) → n.form ≡ f → form_tree f ≡ t → GivesTwo p env (form_tree n.form) d e → GivesTwo p env t d e
 two_given_at p env n f t d e is tree g = subst (λ (x : FormTree). GivesTwo p env x d e) (ap form_tree is ∙ tree) g
+
+-- columns that are left are left of the data set that is given
+pub left_fits : (p : Settings) (env : Environment) (n : Node) (f : NodeForm) (t : FormTree) (a : NodeTree) (d : DataSet) → n.form ≡ f → form_tree f ≡ t → (IsMadeForm p (known_in env) n.structure t → IsLeft (structure_of a) n.structure) → IsMade p (known_in env) (node_tree n) → Gives p env a d
+    → IsLeft d.structure n.structure
+left_fits p env n f t a d is tree left made g = subst (λ (s : Structure). IsLeft s n.structure) (sym g.structure) (left (made_form p env n f t is tree made))
 
 -- what is made of a node's form holds of the data sets that its operands give
 pub two_fit : (Fits : Structure → Structure → Structure → Type 0) (p : Settings) (env : Environment) (n : Node) (f : NodeForm) (t : FormTree) (a b : NodeTree) (d e : DataSet)

@@ -9,7 +9,7 @@ use Rattle.vtl_meaning.specs.Analytics.{analytic_of}
 use Rattle.vtl_sets.specs.DataSets.{data_set, with_structure}
 use Rattle.vtl_meaning.specs.Operators.{calculated_of, left_of, measured_of, sub_of}
 use Rattle.vtl_meaning.specs.Turned.{pivot_of, unpivot_of}
-use Rattle.vtl_interp.proofs.NodesEvaluated.{aggregate_fits, analytic_fits, form_tree-Aggregate, form_tree-Analytic, form_tree-Calc, form_tree-DropNamed, form_tree-Keep, form_tree-Measures, form_tree-Member, form_tree-Pivot, form_tree-Rename, form_tree-Sub, form_tree-Unpivot, measures_fit, one_given_at, one_operand, renamed}
+use Rattle.vtl_interp.proofs.NodesEvaluated.{aggregate_fits, analytic_fits, form_tree-Aggregate, form_tree-Analytic, form_tree-Calc, form_tree-DropNamed, form_tree-Keep, form_tree-Measures, form_tree-Member, form_tree-Pivot, form_tree-Rename, form_tree-Sub, form_tree-Unpivot, left_fits, measures_fit, one_given_at, one_operand, renamed}
 use Rattle.vtl_interp.proofs.applied.made_of_one.Goals as goal
 
 pub map_measures-requires : goal.map_measures-requires
@@ -31,6 +31,15 @@ returns-in-Measures c env made g =
     (one_given_at c.args.p.now env n (form.Measures x.op x.a) (nodes.measures (measure_tree x.op) a) v x.is (form_tree-Measures x.op x.a) g)
     c.map_measures.ensures
 
+pub keep_columns-requires : goal.keep_columns-requires
+keep_columns-requires c =
+    let n = c.args.node.now in
+    let v = c.args.a in
+    let x = c.in-Member in
+    let a = node_tree x.a.value in
+    left_fits c.args.p.now c.requires.0 n (form.Member x.a x.m) (nodes.member a x.m) a v x.is (form_tree-Member x.a x.m) (λ m. m.1) c.requires.1
+    (one_given_at c.args.p.now c.requires.0 n (form.Member x.a x.m) (nodes.member a x.m) v x.is (form_tree-Member x.a x.m) c.requires.2)
+
 pub returns-in-Member : goal.returns-in-Member
 returns-in-Member c env made g =
     let n = c.args.node.now in
@@ -42,6 +51,15 @@ returns-in-Member c env made g =
     (one_given_at c.args.p.now env n (form.Member x.a x.m) (nodes.member a x.m) v x.is (form_tree-Member x.a x.m) g)
     (c.answered.ensures (data_set s (left_of v s)) c.keep_columns.ensures)
 
+pub keep_columns-requires-in-Keep : goal.keep_columns-requires-in-Keep
+keep_columns-requires-in-Keep c =
+    let n = c.args.node.now in
+    let v = c.args.a in
+    let x = c.in-Keep in
+    let a = node_tree x.a.value in
+    left_fits c.args.p.now c.requires.0 n (form.Keep x.a x.names) (nodes.keep a x.names) a v x.is (form_tree-Keep x.a x.names) (λ m. m.1) c.requires.1
+    (one_given_at c.args.p.now c.requires.0 n (form.Keep x.a x.names) (nodes.keep a x.names) v x.is (form_tree-Keep x.a x.names) c.requires.2)
+
 pub returns-in-Keep : goal.returns-in-Keep
 returns-in-Keep c env made g =
     let n = c.args.node.now in
@@ -52,6 +70,15 @@ returns-in-Keep c env made g =
     one_operand (λ d. d) c.args.p.now env n (form.Keep x.a x.names) (nodes.keep a x.names) a v (λ d. Ok (left_of d s)) c.answered-in-Keep.result x.is (form_tree-Keep x.a x.names) refl
     (one_given_at c.args.p.now env n (form.Keep x.a x.names) (nodes.keep a x.names) v x.is (form_tree-Keep x.a x.names) g)
     (c.answered-in-Keep.ensures (data_set s (left_of v s)) c.keep_columns-in-Keep.ensures)
+
+pub keep_columns-requires-in-DropNamed : goal.keep_columns-requires-in-DropNamed
+keep_columns-requires-in-DropNamed c =
+    let n = c.args.node.now in
+    let v = c.args.a in
+    let x = c.in-DropNamed in
+    let a = node_tree x.a.value in
+    left_fits c.args.p.now c.requires.0 n (form.DropNamed x.a x.names) (nodes.drop_named a x.names) a v x.is (form_tree-DropNamed x.a x.names) (λ m. m.1) c.requires.1
+    (one_given_at c.args.p.now c.requires.0 n (form.DropNamed x.a x.names) (nodes.drop_named a x.names) v x.is (form_tree-DropNamed x.a x.names) c.requires.2)
 
 pub returns-in-DropNamed : goal.returns-in-DropNamed
 returns-in-DropNamed c env made g =
