@@ -1,2 +1,3 @@
+mod Expressions
 mod Faults
 mod Groups

@@ -1,2 +1,3 @@
 pub mod Aggregates
+pub mod Expressions
 pub mod Faults
