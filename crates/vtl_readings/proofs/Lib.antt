@@ -1,3 +1,5 @@
+mod Agreeing
 mod Expressions
 mod Faults
 mod Groups
+mod Pairs
