@@ -1,5 +1,5 @@
 -- What an expression gives by its operands is its value.
-use Rattle.std.proofs.Common.{◌≡◌, List, [], ◌∷◌, Ok, Err, refl, ap, ◌∙◌}
+use Rattle.std.proofs.Common.{◌≡◌, List, Ok, Err, refl, ap, ◌∙◌}
 use Rattle.vtl_decimal.specs.Settings.{Settings}
 use Rattle.vtl_cell.specs.Outcome.{Outcome, after}
 use Rattle.vtl_cell.specs.Row.{Row}

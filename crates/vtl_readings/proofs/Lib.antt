@@ -1,4 +1,5 @@
 mod Agreeing
+mod Examples
 mod Expressions
 mod Faults
 mod Groups

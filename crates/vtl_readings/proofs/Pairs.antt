@@ -1,18 +1,16 @@
 -- An operator on two data sets at the pairs of points that agree is the one that walks over rows of two pieces.
-use Rattle.std.proofs.Common.{◌≡◌, ℕ, ◌+◌, ◌<◌, ◌≤◌, inl, inr, Bool, true, false, cond, ◌||◌, List, [], ◌∷◌, ◌++◌, length, map, None, Some, Ok, Err, refl, sym, ap, ◌∙◌, subst, arith, true≢false}
+use Rattle.std.proofs.Common.{◌≡◌, ℕ, ◌+◌, ◌≤◌, inl, inr, Bool, true, false, cond, ◌||◌, List, [], ◌∷◌, ◌++◌, length, map, None, Some, Ok, Err, refl, sym, ap, ◌∙◌, subst, arith, true≢false}
 use Rattle.std.specs.List.{AllByRecursion, flat_map, zip}
 use Rattle.std.specs.Option.{option_map_or}
 use Rattle.std.proofs.lemmas.Bool.{cases_lt}
 use Rattle.std.proofs.lemmas.List.{get_or-append-add, get_or_append_left, get_or_past, length-map, map-append}
 use Rattle.vtl_decimal.specs.Settings.{Settings}
-use Rattle.vtl_lists.specs.Perm.{Perm}
 use Rattle.vtl_lists.proofs.Perms.{Perm-flat_map, Perm-map, Perm-refl}
 use Rattle.vtl_cell.specs.Outcome.{Outcome, fault_in, faults_by, join, unless}
 use Rattle.vtl_cell.specs.Outcomes.{Same, result_of}
 use Rattle.vtl_cell.specs.Row.{Row, column_of}
 use Rattle.vtl_cell.specs.declared.cell.Cell.{Cell}
 use Rattle.vtl_cell.specs.declared.cell.Cell.TheVariants as c
-use Rattle.vtl_cell.specs.declared.kind.Kind.{Kind}
 use Rattle.vtl_cell.specs.declared.kind.Kind.TheVariants as k
 use Rattle.vtl_cell.specs.declared.operator.ScalarOp.{ScalarOp}
 use Rattle.vtl_tree.specs.Columns.{column_behind, column_named, columns_named, has_identifier, identifiers_of, kind_named, measures_of, others_of, place_of}
@@ -21,7 +19,7 @@ use Rattle.vtl_tree.specs.DataSet.{IsDataSet, is_point}
 use Rattle.vtl_tree.specs.Environment.{DataSet}
 use Rattle.vtl_tree.specs.Names.{component_of}
 use Rattle.vtl_tree.specs.Pairs.{contains}
-use Rattle.vtl_tree.specs.Structure.{columns_of, names_of, same_name}
+use Rattle.vtl_tree.specs.Structure.{columns_of, same_name}
 use Rattle.vtl_tree.specs.Value.{called, value}
 use Rattle.vtl_tree.specs.declared.structure.Component.{Component}
 use Rattle.vtl_tree.specs.declared.structure.Structure.{Structure}
@@ -37,7 +35,7 @@ use Rattle.vtl_meaning.proofs.Kept.{for_back}
 use Rattle.vtl_meaning.proofs.Places.{all_map, all_more, all_of_map, columns_split, place_here, place_later, point_append, point_length}
 use Rattle.vtl_meaning.proofs.ValueKinds.{IsOf, cell_is_of}
 use Rattle.vtl_readings.specs.Faults.{worst}
-use Rattle.vtl_readings.specs.Pairs.{PointPair, agreeing_pairs, at_pairs, identifier_at, pair_point, pair_points, two_points, value_at, values_at}
+use Rattle.vtl_readings.specs.Pairs.{PointPair, agreeing_pairs, at_pairs, identifier_at, pair_point, pair_points, two_points, values_at}
 use Rattle.vtl_readings.proofs.Agreeing.{all_pairs, pairs_by, rows_are, turned_pairs}
 use Rattle.vtl_readings.proofs.Faults.{faults_flat, faults_map, faults_same, worst_is, worst_respects}
 
