@@ -97,7 +97,8 @@ breaches() {
         BEGIN {
             vtl = "facts values tables read speak check files evaluate"
             bar(vtl, "SQL translate programs")
-            bar("facts values tables read speak check files evaluate SQL translate", "vtl_files vtl_csv vtl_status")
+            bar("facts values tables read speak check evaluate SQL translate", "vtl_files vtl_csv vtl_status")
+            bar("files", "vtl_files vtl_status")
             bar("facts values tables read speak", "check files evaluate")
             bar("check", "tables files evaluate")
             bar("SQL", "read check files evaluate vtl_meaning vtl_readings vtl_aggregate_laws")
