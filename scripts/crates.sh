@@ -97,10 +97,11 @@ breaches() {
         BEGIN {
             vtl = "facts values tables read speak check files evaluate"
             bar(vtl, "SQL translate programs")
-            bar("facts values tables read speak check files evaluate SQL translate", "vtl_files vtl_csv vtl_status")
+            bar("facts values tables read speak check evaluate SQL translate", "vtl_files vtl_csv vtl_status")
+            bar("files", "vtl_files vtl_status")
             bar("facts values tables read speak", "check files evaluate")
             bar("check", "tables files evaluate")
-            bar("SQL", "read check files evaluate vtl_meaning vtl_aggregate_laws")
+            bar("SQL", "read check files evaluate vtl_meaning vtl_readings vtl_aggregate_laws")
             bar("translate", "vtl_expr vtl_clause vtl_join vtl_combine vtl_group vtl_window vtl_interp")
         }
         /^# [a-zA-Z]+: / { layer = substr($2, 1, length($2) - 1) }

@@ -1,0 +1,6 @@
+mod Agreeing
+mod Examples
+mod Expressions
+mod Faults
+mod Groups
+mod Pairs

@@ -1,0 +1,4 @@
+pub mod Aggregates
+pub mod Expressions
+pub mod Faults
+pub mod Pairs
