@@ -5,7 +5,9 @@ pub mod Lays
 pub mod Lending
 pub mod Moved
 pub mod Opened
+pub mod Orders
 pub mod Puts
 pub mod Rows
 pub mod Runs
 pub mod Spots
+pub mod Swaps

@@ -11,6 +11,7 @@
 mod block;
 mod cells;
 mod moving;
+mod order;
 mod pages;
 mod store;
 #[cfg(test)]
