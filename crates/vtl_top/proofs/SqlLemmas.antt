@@ -23,7 +23,7 @@ use Rattle.vtl_scalar.specs.declared.run_error.RunErr.TheVariants as engine
 use Rattle.vtl_top.specs.Answered.{Came, Takes}
 use Rattle.vtl_top.specs.Expected.{fault_status, inputs_step}
 use Rattle.vtl_top.specs.Kinds.{refused, told_by}
-use Rattle.vtl_top.specs.Refusal.{IsSqlOf, SettlesBy, sql_faulted, sql_mistyped}
+use Rattle.vtl_top.specs.Refusal.{IsSqlOf, SettlesBy, faulted, sql_mistyped}
 use Rattle.vtl_top.specs.ScriptFile.{faulty, no_text, whole}
 use Rattle.vtl_top.specs.SqlInputs.{input_structures, rows_by_name}
 use Rattle.vtl_top.specs.SqlRun.{engine_step, exports_of, sql_checked_step, sql_of, sql_step, sql_typing, table_file}
@@ -111,7 +111,7 @@ pub exports_shown : {Y : Type 0} (folder : Path) (p : Settings) (view : Y → Li
 exports_shown folder p view (Ok exports) now outputs shows e = ap Ok (sym (e ∙ ap (map (table_file folder p)) shows ∙ map-map (table_file folder p) shown exports))
 exports_shown folder p view (Err fault) now outputs shows e = absurd shows
 
-pub exports_faulted : {Y : Type 0} (folder : Path) (p : Settings) (view : Y → List File) (m : Result (List Export) NamedFault) (error : RunErr) (status : Status) → FaultIs m error → status ≡ sql_faulted error → SettlesBy view (exports_of folder p m) (Err status)
+pub exports_faulted : {Y : Type 0} (folder : Path) (p : Settings) (view : Y → List File) (m : Result (List Export) NamedFault) (error : RunErr) (status : Status) → FaultIs m error → status ≡ faulted error → SettlesBy view (exports_of folder p m) (Err status)
 exports_faulted folder p view m (engine.DivZero name) status is e = inr (ap (exports_of folder p) is ∙ ap Err (sym e))
 exports_faulted folder p view m (engine.Range name) status is e = inr (ap (exports_of folder p) is ∙ ap Err (sym e))
 exports_faulted folder p view m engine.OutOfMemory status is e = inl e

@@ -9,7 +9,7 @@ use Rattle.vtl_syntax.specs.View.{script_tree}
 use Rattle.vtl_syntax.specs.declared.statements.Script.{Script}
 use Rattle.vtl_cell.specs.Row.{Row}
 use Rattle.vtl_rows.specs.Tables.{Listed}
-use Rattle.vtl_scalar.specs.declared.run_error.RunErr.{RunErr, RunErr as SqlRunErr}
+use Rattle.vtl_scalar.specs.declared.run_error.RunErr.{RunErr}
 use Rattle.vtl_scalar.specs.declared.run_error.RunErr.TheVariants as run
 use Rattle.vtl_tree.specs.declared.structure.Structure.{Structure}
 use Rattle.vtl_sets.specs.TableOf.{IsTableOf}
@@ -21,7 +21,6 @@ use Rattle.sql_parser.specs.declared.parsing.SqlErr.{SqlErr}
 use Rattle.sql_parser.specs.declared.parsing.SqlErr.TheVariants as sql
 use Rattle.sql_check.specs.declared.error.SqlTypeErr.{SqlTypeErr}
 use Rattle.sql_check.specs.declared.error.SqlTypeErr.TheVariants as typed
-use Rattle.vtl_scalar.specs.declared.run_error.RunErr.TheVariants as engine
 use Rattle.vtl_csv.specs.declared.input.InputErr.{InputErr}
 use Rattle.vtl_csv.specs.declared.input.InputErr.TheVariants as input
 use Rattle.vtl_top.specs.Expected.{points_or_fault}
@@ -49,7 +48,7 @@ abbrev pub IsTableRead : List ℕ → Structure → Result (List Row) Fault → 
 IsTableRead name s read (Ok t) = IsTableOf s t × (points_or_fault name read ≡ Ok t.rows)
 IsTableRead name s read (Err status) = (status ≡ st.Memory) ⊎ (points_or_fault name read ≡ Err status)
 
--- the status of a run that gave no tables
+-- the status of a run that gave no tables, or no exports
 abbrev pub faulted : RunErr → Status
 faulted (run.DivZero name) = st.DivZero name
 faulted (run.Range name) = st.Range name
@@ -91,12 +90,6 @@ IsSqlOf path bytes (Err status) =
 abbrev pub sql_mistyped : SqlTypeErr → Status
 sql_mistyped (typed.Mistyped statement rule) = st.SqlType statement rule
 sql_mistyped typed.OutOfMemory = st.Memory
-
--- the status of a run that gave no exports
-abbrev pub sql_faulted : SqlRunErr → Status
-sql_faulted (engine.DivZero name) = st.DivZero name
-sql_faulted (engine.Range name) = st.Range name
-sql_faulted engine.OutOfMemory = st.Memory
 
 -- what is settled, as it is seen, or want of memory
 abbrev pub SettlesBy : {A X : Type 0} → (X → A) → Result A Status → Result X Status → Type 0

@@ -83,8 +83,8 @@ fn make_outputs(
     Ok(outputs)
 }
 
-// The status of a run that gave no tables.
-fn faulted(error: RunErr) -> Status
+/// The status of a run that gave no tables, or no exports.
+pub(crate) fn faulted(error: RunErr) -> Status
     ensures { result ≡ faulted error }
 {
     match error {

@@ -10,13 +10,14 @@ ghost use Rattle.sql_engine.specs.Runs.{Runs};
 ghost use Rattle.sql_meaning.specs.Scripts.{script_value};
 ghost use Rattle.vtl_top.specs.Answered.{Takes};
 ghost use Rattle.vtl_top.specs.OutputView.{NamesPath, output_view, outputs_view};
-ghost use Rattle.vtl_top.specs.Refusal.{IsSqlOf, IsSqlOfText, SettlesBy, sql_fault_of, sql_faulted, sql_mistyped};
+ghost use Rattle.vtl_top.specs.Refusal.{IsSqlOf, IsSqlOfText, SettlesBy, sql_fault_of, sql_mistyped};
 ghost use Rattle.vtl_top.specs.RunView.{engine_view};
 ghost use Rattle.vtl_top.specs.SqlRun.{engine_step, exports_of, read_whole, sql_checked_step, sql_step, table_file};
 
 use crate::output::Output;
 use crate::reading::{file_in, read_whole_file};
 use crate::refusal::not_text;
+use crate::results::faulted;
 use crate::sql_inputs::read_sql_inputs;
 use crate::words::Engine;
 use sql_check::{SqlChecked, SqlTypeErr, check};
@@ -147,17 +148,6 @@ fn make_exports(
         outputs.push(make_export_at(alloc, folder, profile, tables, i)?)?;
     }
     Ok(outputs)
-}
-
-// The status of a run that gave no exports.
-fn faulted(error: RunErr) -> Status
-    ensures { result ≡ sql_faulted error }
-{
-    match error {
-        RunErr::DivZero(name) => Status::DivZero(name),
-        RunErr::Range(name) => Status::Range(name),
-        RunErr::OutOfMemory => Status::Memory,
-    }
 }
 
 // The run of a script, whose steps nobody counts.
