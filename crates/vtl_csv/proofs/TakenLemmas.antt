@@ -8,31 +8,30 @@ use Rattle.vtl_decimal.specs.Settings.{Settings}
 use Rattle.vtl_rows.specs.declared.column.Column.{Column}
 use Rattle.vtl_rows.specs.Flat.{IsFlat, flat_rows}
 use Rattle.vtl_rows.proofs.Flats.{IsFlat-none, IsFlat-push, length-flat_rows, rows_push}
-use Rattle.vtl_tree.specs.declared.structure.Component.{Component}
 use Rattle.vtl_sets.specs.TableOf.{column_for}
-use Rattle.vtl_csv.specs.InputFields.{Flaw, record_row}
+use Rattle.vtl_csv.specs.InputFields.{Flaw, ReadColumn, components_in, record_row}
 use Rattle.vtl_csv.specs.InputSteps.{AddsRow, on_row, taken, taken_with}
 use Rattle.vtl_csv.proofs.InputPointLemmas.{record_fits}
 
 -- a file's table has as many columns as the file
-as_wide : (xs : List Component) → length (map column_for xs) ≡ length xs
-as_wide xs = length-map xs column_for
+as_wide : (xs : List ReadColumn) → length (map column_for (components_in xs)) ≡ length xs
+as_wide xs = length-map (components_in xs) column_for ∙ length-map xs (λ x. x.component)
 
 -- the rows of flat cells, by the columns of the file or of its table
-rows_as_wide : (xs : List Component) (below : List Column) (count : ℕ) (cells : List Cell) → below ≡ map column_for xs → flat_rows (length below) count cells ≡ flat_rows (length xs) count cells
+rows_as_wide : (xs : List ReadColumn) (below : List Column) (count : ℕ) (cells : List Cell) → below ≡ map column_for (components_in xs) → flat_rows (length below) count cells ≡ flat_rows (length xs) count cells
 rows_as_wide xs below count cells e = ap (λ w. flat_rows w count cells) (ap length e ∙ as_wide xs)
 
 -- the cells are those of the rows taken so far, and with the records that are left these give what all records give
-pub record AreTaken (p : Settings) (xs : List Component) (count : ℕ) (cells : List Cell) (rest all : List Record) : Type 0 where
-  pub flat : IsFlat (map column_for xs) count cells
+pub record AreTaken (p : Settings) (xs : List ReadColumn) (count : ℕ) (cells : List Cell) (rest all : List Record) : Type 0 where
+  pub flat : IsFlat (map column_for (components_in xs)) count cells
   pub goes_on : taken_with p xs (flat_rows (length xs) count cells) rest ≡ taken_with p xs [] all
 
-pub taken_none : (p : Settings) (xs : List Component) (cells : List Cell) (all : List Record) → 0 < length xs → cells ≡ [] → AreTaken p xs 0 cells all all
+pub taken_none : (p : Settings) (xs : List ReadColumn) (cells : List Cell) (all : List Record) → 0 < length xs → cells ≡ [] → AreTaken p xs 0 cells all all
 taken_none p xs cells all some none =
-    let wide : 0 < length (map column_for xs) = let l = as_wide xs in omega (arith, l, some) in
-    record { flat = IsFlat-none (map column_for xs) cells wide none; goes_on = refl }
+    let wide : 0 < length (map column_for (components_in xs)) = let l = as_wide xs in omega (arith, l, some) in
+    record { flat = IsFlat-none (map column_for (components_in xs)) cells wide none; goes_on = refl }
 
-module _ (p : Settings) (xs : List Component) (count : ℕ) (cells : List Cell) (rest left all : List Record) (fields : Record) (are : AreTaken p xs count cells rest all) (one : rest ≡ fields ∷ left) where
+module _ (p : Settings) (xs : List ReadColumn) (count : ℕ) (cells : List Cell) (rest left all : List Record) (fields : Record) (are : AreTaken p xs count cells rest all) (one : rest ≡ fields ∷ left) where
   step : (r : Result Row Flaw) → record_row p xs count fields ≡ r → on_row (flat_rows (length xs) count cells) (λ rows. taken_with p xs rows left) r ≡ taken_with p xs [] all
   step r e =
       let before = flat_rows (length xs) count cells in
@@ -46,7 +45,7 @@ module _ (p : Settings) (xs : List Component) (count : ℕ) (cells : List Cell) 
       go : (r : Result Row Flaw) → record_row p xs count fields ≡ r → AddsRow cells after None r → AreTaken p xs (count + 1) after left all
       go (Err flaw) e h = let bad : None ≡ Some flaw = h.0 in cc
       go (Ok row) e h =
-          let below = map column_for xs in
+          let below = map column_for (components_in xs) in
           let fit = record_fits p xs count fields row below refl e in
           let more = sym (rows_as_wide xs below (count + 1) (cells ++ row) refl) ∙ rows_push below count cells row are.flat fit ∙ ap (λ rows. rows ++ row ∷ []) (rows_as_wide xs below count cells refl) in
           subst (λ l. AreTaken p xs (count + 1) l left all) (sym h.1) (record {

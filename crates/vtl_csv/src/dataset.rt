@@ -4,11 +4,12 @@ ghost use Rattle.vtl_rows.specs.Flat.{IsFlat, flat_rows};
 ghost use Rattle.vtl_tree.specs.DataSet.{AreOfProfile};
 ghost use Rattle.vtl_tree.specs.Structure.{IsStructure, key_width};
 ghost use Rattle.vtl_sets.specs.TableOf.{IsTableOf, column_for};
+ghost use Rattle.vtl_csv.specs.InputFields.{components_in};
 ghost use Rattle.vtl_csv.specs.InputFile.{Reads, dataset_rows, rows_below, rows_with};
 ghost use Rattle.vtl_csv.specs.InputSteps.{Answers, IsLayout, fault_among, fault_of, flaw_of, layout_seen, rows_outcome, taken, taken_with};
 
 use crate::fields::Fields;
-use crate::file_column::FileColumn;
+use crate::file_column::{FileColumn, file_columns};
 use crate::header::{Layout, read_layout};
 use crate::input::{Fault, Flaw, InputErr, InputKind};
 use crate::input_fields::{MOST_POINTS, fill_row};
@@ -20,6 +21,7 @@ use vtl_cell::Cell;
 use vtl_decimal::Profile;
 use vtl_rows::{Column, Table};
 use vtl_sets::table_column;
+use vtl_text::Txt;
 use vtl_tree::Structure;
 
 // So many bytes at the front of a file tell how long its lines are.
@@ -40,7 +42,7 @@ fn expected_rows(text: &[u8]) -> usize {
 
 // The columns of a file's table.
 fn columns_for(alloc: Global, file: &[FileColumn]) -> Result<Vec<Column>, AllocError>
-    ensures { IfOk result (λ columns. columns.items ≡ map column_for file.now) }
+    ensures { IfOk result (λ columns. columns.items ≡ map column_for (components_in file.now)) }
 {
     let mut columns = Vec::with_capacity(alloc, file.len())?;
     for column in file {
@@ -77,7 +79,7 @@ fn add_rows<'a>(
 ) -> Result<Ending, AllocError>
     requires some { 0 < length columns.now }
     requires none { cells.old.items ≡ [] }
-    ensures flat { IfOk result (λ e. IsFlat (map column_for columns.now) e.count cells.new.items) }
+    ensures flat { IfOk result (λ e. IsFlat (map column_for (components_in columns.now)) e.count cells.new.items) }
     ensures rows { IfOk result (λ e. taken (flat_rows (length columns.now) e.count cells.new.items) (option_map flaw_of e.flaw) ≡ taken_with profile.now columns.now [] reader.old) }
 {
     let mut pools = pools(alloc, columns.len())?;
@@ -105,7 +107,7 @@ fn take_rows<'a>(
     profile: &Profile,
 ) -> Result<(Table, Option<Flaw>), AllocError>
     requires { 0 < length columns.now }
-    ensures columns { IfOk result (λ r. r.0.columns ≡ map column_for columns.now) }
+    ensures columns { IfOk result (λ r. r.0.columns ≡ map column_for (components_in columns.now)) }
     ensures rows { IfOk result (λ r. taken r.0.rows (option_map flaw_of r.1) ≡ taken_with profile.now columns.now [] reader.old) }
 {
     let table_columns = columns_for(alloc, columns)?;
@@ -153,7 +155,7 @@ fn read_rows<'a>(
 ) -> Result<(Table, Option<Fault>), AllocError>
     requires some { 0 < length columns.now }
     requires keys { All (λ i. i < length columns.now) keys.now }
-    ensures columns { IfOk result (λ r. r.0.columns ≡ map column_for columns.now) }
+    ensures columns { IfOk result (λ r. r.0.columns ≡ map column_for (components_in columns.now)) }
     ensures rows { IfOk result (λ r. rows_outcome r.0.rows (option_map fault_of r.1) ≡ rows_with profile.now columns.now keys.now [] reader.old) }
 {
     let (table, flaw) = take_rows(alloc, columns, expected, reader, fields, profile)?;
@@ -188,6 +190,7 @@ fn key_places<'a>(
 fn read_table<'a>(
     alloc: Global,
     structure: &Structure,
+    not_null: &[Txt],
     layout: &Layout,
     expected: usize,
     reader: &mut RecordReader<'a>,
@@ -196,12 +199,13 @@ fn read_table<'a>(
 ) -> Result<Result<Table, Fault>, AllocError>
     requires structure { IsStructure structure.now }
     requires layout { IsLayout structure.now (layout_seen layout.now) }
-    ensures { IfOk result (λ r. Answers structure.now r (rows_below profile.now structure.now (layout_seen layout.now) reader.old)) }
+    ensures { IfOk result (λ r. Answers structure.now r (rows_below profile.now structure.now not_null.now (layout_seen layout.now) reader.old)) }
 {
     let keys = key_places(alloc, structure, &layout.places)?;
+    let columns = file_columns(alloc, &layout.columns, not_null)?;
     let (table, fault) = read_rows(
         alloc,
-        &layout.columns,
+        &columns,
         keys,
         expected,
         reader,
@@ -219,10 +223,11 @@ fn read_text(
     alloc: Global,
     text: &[u8],
     structure: &Structure,
+    not_null: &[Txt],
     profile: &Profile,
 ) -> Result<Result<Table, Fault>, AllocError>
     requires { IsStructure structure.now }
-    ensures { IfOk result (λ r. Answers structure.now r (dataset_rows profile.now structure.now text.now)) }
+    ensures { IfOk result (λ r. Answers structure.now r (dataset_rows profile.now structure.now not_null.now text.now)) }
 {
     let mut reader = RecordReader::new(alloc, text);
     let mut fields = Fields::new(alloc);
@@ -235,6 +240,7 @@ fn read_text(
             read_table(
                 alloc,
                 structure,
+                not_null,
                 &layout,
                 expected,
                 &mut reader,
@@ -248,20 +254,22 @@ fn read_text(
 
 /// The data set of the structure that a CSV file holds: a table of its points in the order of the file, with the
 /// components as columns, identifiers first, then measures, then attributes. Otherwise the first fault by line, and
-/// within a line in the order: too many rows, a wrong width, the fields by column, a repeat of identifiers. Integers
-/// are of the profile. It otherwise fails only if memory runs out.
+/// within a line in the order: too many rows, a wrong width, the fields by column, a repeat of identifiers. The
+/// components of the names `not_null` have no empty field. Integers are of the profile. It otherwise fails only if
+/// memory runs out.
 pub fn read_dataset(
     alloc: Global,
     text: &[u8],
     structure: &Structure,
+    not_null: &[Txt],
     profile: &Profile,
 ) -> Result<Table, InputErr>
     requires { IsStructure structure.now }
-    ensures rows { Reads structure.now result (dataset_rows profile.now structure.now text.now) }
+    ensures rows { Reads structure.now result (dataset_rows profile.now structure.now not_null.now text.now) }
     ensures points { IfOk result (λ t. IsTableOf structure.now t) }
     ensures profile { IfOk result (λ t. AreOfProfile profile.now t.rows) }
 {
-    match read_text(alloc, text, structure, profile) {
+    match read_text(alloc, text, structure, not_null, profile) {
         Ok(Ok(table)) => Ok(table),
         Ok(Err(fault)) => Err(InputErr::Fault {
             line: fault.line,

@@ -46,10 +46,10 @@ fn table_in(
     profile: &Profile,
 ) -> Result<Table, Status>
     requires { IsStructure structure.now }
-    ensures table { IsTableRead name.now structure.now (dataset_rows profile.now structure.now bytes.now) result }
+    ensures table { IsTableRead name.now structure.now (dataset_rows profile.now structure.now [] bytes.now) result }
     ensures ranges { IfOk result (λ t. AreOfProfile profile.now t.rows) }
 {
-    match read_dataset(alloc, bytes, structure, profile) {
+    match read_dataset(alloc, bytes, structure, &[], profile) {
         Ok(table) => Ok(table),
         Err(error) => Err(input_refusal(name, error)),
     }

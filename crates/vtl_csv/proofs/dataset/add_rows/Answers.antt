@@ -2,7 +2,7 @@ use Rattle.std.proofs.Common.{◌≡◌, ◌∷◌, Some, option_map, map, lengt
 use Rattle.std.specs.Bool.{OnTrue}
 use Rattle.vtl_rows.specs.Flat.{IsFlat, flat_rows}
 use Rattle.vtl_sets.specs.TableOf.{column_for}
-use Rattle.vtl_csv.specs.InputFields.{record_row}
+use Rattle.vtl_csv.specs.InputFields.{components_in, record_row}
 use Rattle.vtl_csv.specs.InputSteps.{AddsRow, flaw_of, taken}
 use Rattle.vtl_csv.proofs.TakenLemmas.{taken_more, taken_none, taken_stops}
 use Rattle.vtl_csv.proofs.dataset.add_rows.Goals as goal
@@ -35,6 +35,6 @@ returns-in-Some c =
     let stops = taken_stops c.args.profile.now xs count c.loop-pools.cells.items c.loop-pools.reader c.next.new.self c.args.reader.now c.next.new.fields c.loop-pools.invariant.taken one after flaw adds in
     let kept = c.truncate.ensures.items ∙ stops.0 in
     record {
-      flat = subst (IsFlat (map column_for xs) count) (sym kept) c.loop-pools.invariant.taken.flat;
+      flat = subst (IsFlat (map column_for (components_in xs)) count) (sym kept) c.loop-pools.invariant.taken.flat;
       rows = ap (λ cells. taken (flat_rows (length xs) count cells) (Some flaw)) kept ∙ stops.1;
     }
