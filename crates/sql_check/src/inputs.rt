@@ -1,4 +1,7 @@
 // INPUT.
+//
+// An INPUT's columns stand with its KEY first, each part in the order in which it lists them. The key is looked up in
+// a set, so that a list of many columns takes no square of time.
 ghost use Rattle.std.specs.List.{list_any};
 ghost use Rattle.std.specs.Map.{keys_of};
 ghost use Rattle.std.specs.Option.{is_none};

@@ -6,6 +6,8 @@
 //! It walks no expression, and knows nothing of VTL's structures: the kinds of both languages are in
 //! `vtl_cell`.
 //! Begin with specs/Rules.antt, then Expressions.antt, Queries.antt and Statements.antt.
+//!
+//! What has no kind counts as null: null meets every row of the table, so no rule is broken since another one is.
 #![tactic(auto)]
 
 mod columns;

@@ -1,4 +1,7 @@
 // Scripts that are typed.
+//
+// `Checked` keeps that its script is written, by a predicate on trees (`AreWritten`) that names no token, since
+// typing does not stand on the grammar. `parse` gives it, `check` asks for it.
 ghost use Rattle.std.specs.Map.{keys_of, lookup};
 ghost use Rattle.std.specs.Option.{option_copied};
 ghost use Rattle.std.specs.Prelude.{◌≡◌, IfOk, Ok, false, length, map};

@@ -1,4 +1,8 @@
 // Tables with several owners.
+//
+// A table with several owners has columns of its own above cells that are shared (`SharedTable`): what reads an input
+// holds it and copies nothing, `rename` and a `keep` of all columns share the cells below other names, and cells are
+// copied only where a table with other owners is changed.
 ghost use Rattle.std.specs.Prelude.{◌≡◌, ◌<◌, length, map, All, IfOk};
 ghost use Rattle.vtl_rows.specs.Tables.{cells_at, column_at, column_kinds};
 
