@@ -14,7 +14,7 @@ use Rattle.vtl_tree.specs.Kinds.{exp_kind}
 use Rattle.vtl_meaning.specs.Literals.{HasLiterals}
 use Rattle.vtl_meaning.specs.Made.{AreTypedOver, IsTypedOver, kinds_in as comp_kinds}
 use Rattle.sql_tree.specs.Trees as tree
-use Rattle.sql_tree.specs.Trees.{Exp, Exps, Text}
+use Rattle.sql_tree.specs.Trees.{Exp, Text}
 use Rattle.sql_check_laws.specs.Fits.{AllFit, Fits, IsSeen}
 use Rattle.sql_check_parts.specs.Expressions.{Site}
 use Rattle.sql_check_parts.specs.Kinds.{kind_in, kinds_in, operator_kind}

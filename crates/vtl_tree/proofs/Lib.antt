@@ -1,4 +1,5 @@
 pub mod ColumnPlaces
+pub mod Containing
 pub mod CountLemmas
 pub mod Faults
 pub mod LookUps
