@@ -16,7 +16,7 @@ use Rattle.vtl_syntax.specs.declared.word_groups.FunctionName.{FunctionName}
 use Rattle.vtl_syntax.specs.declared.word_groups.FunctionName.TheVariants as function
 use Rattle.vtl_syntax.specs.declared.word_groups.UnaryOp.TheVariants as sign
 use Rattle.vtl_cell.specs.Literals.{integer_written, largest_place, lies_between}
-use Rattle.vtl_tree.specs.CompExp.{CompExp, CompExps, call, column, const, aggregate}
+use Rattle.vtl_tree.specs.CompExp.{CompExp, CompExps, call, column, const, aggregate, no_comp_exps}
 use Rattle.vtl_tree.specs.View.{comp_exps_of}
 use Rattle.check_values.specs.Literals as written
 use Rattle.check_values.specs.Literals.{lies_in, literals_fit, second_passes, third_passes, valued}
