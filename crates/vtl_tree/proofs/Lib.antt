@@ -1,5 +1,6 @@
 pub mod ColumnPlaces
 pub mod CountLemmas
+pub mod DeclarationLemmas
 pub mod Faults
 pub mod LookUps
 pub mod StructuresLemmas

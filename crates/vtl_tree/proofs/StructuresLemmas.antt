@@ -38,7 +38,7 @@ all_push p (y ∷ ys) x h e =
     let parts = and_parts (p y) (list_all p ys) h in
     and_from (p y) (list_all p (ys ++ x ∷ [])) parts.0 (all_push p ys x parts.1 e)
 
-keys_push : (xs : Named) (name : List ℕ) (s : Structure) → keys_of (xs ++ (name, s) ∷ []) ≡ keys_of xs ++ name ∷ []
+pub keys_push : {T : Type 0} (xs : List (List ℕ × T)) (name : List ℕ) (s : T) → keys_of (xs ++ (name, s) ∷ []) ≡ keys_of xs ++ name ∷ []
 keys_push [] name s = refl
 keys_push (x ∷ xs) name s = ap (λ ks. x.0 ∷ ks) (keys_push xs name s)
 
