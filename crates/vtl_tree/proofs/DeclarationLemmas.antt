@@ -1,5 +1,5 @@
 -- What is held for each name, and what contracts see of it.
-use Rattle.std.proofs.Common.{◌≡◌, ℕ, Bool, true, false, cond, not, ◌&&◌, ◌||◌, List, [], ◌∷◌, ◌++◌, Option, None, Some, option_map, unwrap_or, slice_get, zero, suc, Result, Ok, Err, subst, refl, sym, ap, ◌∙◌, append_assoc}
+use Rattle.std.proofs.Common.{◌≡◌, ℕ, Bool, true, false, cond, not, ◌&&◌, ◌||◌, List, [], ◌∷◌, ◌++◌, length, Option, None, Some, option_map, unwrap_or, slice_get, zero, suc, Result, Ok, Err, subst, refl, sym, ap, ◌∙◌, append_assoc}
 use Rattle.std.specs.Cmp.Lexicographic.{nat_list_eq_equiv}
 use Rattle.std.specs.Prelude.{OnErr, OnOk}
 use Rattle.std.specs.List.{list_all, list_any}
@@ -33,6 +33,13 @@ lookup_seen test (x ∷ xs) = go (test x.0) (lookup_seen test xs)
     go : (b : Bool) → lookup test (sets_of xs) ≡ option_map (λ d. d.structure) (lookup test xs) → cond b (Some x.1.structure) (lookup test (sets_of xs)) ≡ option_map (λ d. d.structure) (cond b (Some x.1) (lookup test xs))
     go true ih = refl
     go false ih = ih
+
+pub nothing_seen : (test : List ℕ → Bool) (xs : Held) → lookup test xs ≡ None → lookup test (sets_of xs) ≡ None
+nothing_seen test xs e = lookup_seen test xs ∙ ap (option_map (λ d. d.structure)) e
+
+pub length_seen : (xs : Held) → length (sets_of xs) ≡ length xs
+length_seen [] = refl
+length_seen (x ∷ xs) = ap suc (length_seen xs)
 
 pub place_seen : (xs : Held) (i : ℕ) (name : List ℕ) (d : Declaration) → slice_get xs i ≡ Some (name, d) → slice_get (sets_of xs) i ≡ Some (name, d.structure)
 place_seen [] i name d e = cc
