@@ -14,9 +14,6 @@ use std::mem;
 use vtl_cell::Kind;
 use vtl_text::{ByName, List, Txt, is_component_name};
 
-/// The most components that a structure may have.
-pub const MAX_COMPONENTS: usize = 64;
-
 // A structure, and the names of its components that are never null.
 struct Declaration {
     structure: Structure,
