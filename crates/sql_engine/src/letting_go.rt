@@ -55,7 +55,7 @@ fn from_last(alloc: Global, tables: Tables) -> Result<Vec<(Txt, SharedTable)>, A
 {
     let mut rest = tables;
     let mut entries = Vec::with_capacity(alloc, rest.len())?;
-    while let Some(entry) = rest.pop() {
+    while let Some(entry) = rest.pop_shared() {
         entries.push(entry)?;
     }
     Ok(entries)

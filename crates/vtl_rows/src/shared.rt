@@ -40,6 +40,21 @@ impl SharedTable {
         })
     }
 
+    // A table with one owner, whose rows are copied for another one. It takes no memory.
+    pub(crate) fn holding(table: Table) -> SharedTable
+        ensures { result ≡ table }
+    {
+        SharedTable { table }
+    }
+
+    // The table itself, whose rows may have other owners. It takes no memory.
+    pub(crate) fn into_held(self) -> Table
+        ensures { result ≡ self }
+    {
+        let SharedTable { table } = self;
+        table
+    }
+
     /// One more owner of the rows. It fails only if memory runs out.
     pub fn share(&self) -> Result<SharedTable, AllocError>
         ensures { IfOk result (λ t. t ≡ self.now) }
