@@ -206,15 +206,7 @@ fn read_table<'a>(
 {
     let keys = key_places(alloc, structure, &layout.places)?;
     let columns = file_columns(alloc, &layout.columns, not_null)?;
-    let (table, fault) = read_rows(
-        alloc,
-        &columns,
-        keys,
-        expected,
-        reader,
-        fields,
-        profile,
-    )?;
+    let (table, fault) = read_rows(alloc, &columns, keys, expected, reader, fields, profile)?;
     match fault {
         Some(fault) => Ok(Err(fault)),
         None => Ok(Ok(table.into_projected(alloc, &layout.places)?)),
