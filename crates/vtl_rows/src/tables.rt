@@ -1,5 +1,5 @@
 // Tables by name.
-ghost use Rattle.std.specs.Prelude.{◌≡◌, ◌<◌, ◌++◌, [], ◌∷◌, length, None, slice_index_or, IfNone, IsSome, OnOk, OnErr};
+ghost use Rattle.std.specs.Prelude.{◌≡◌, ◌<◌, ◌++◌, [], ◌∷◌, length, None, slice_index_or, IfNone, OnOk, OnErr};
 ghost use Rattle.std.specs.Map.{set_value};
 ghost use Rattle.std.specs.Option.{option_copied, option_to_list};
 ghost use Rattle.vtl_text.specs.Texts.{same_text};
@@ -84,14 +84,15 @@ impl Tables {
         (name, shared.table())
     }
 
-    /// Puts a table in the place of the one of this name, and leaves all else. It takes no memory.
+    /// Puts a table in the place of the one of this name, and leaves all else. Where none has the name, all stay as they
+    /// are. It takes no memory.
     pub fn set(&mut self, name: &Txt, table: Table)
-        requires { IsSome (table_of name.now self.old) }
         ensures { self.new ≡ set_value (same_text name.now) self.old table }
     {
-        if let Some(place) = self.named.get_mut(name) {
-            *place = SharedTable::holding(table);
-        }
+        let Some(place) = self.named.get_mut(name) else {
+            return;
+        };
+        *place = SharedTable::holding(table);
     }
 
     /// Takes the last table, with its name, where there is one. It takes no memory.
