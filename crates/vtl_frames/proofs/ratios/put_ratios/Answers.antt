@@ -5,7 +5,7 @@ use Rattle.vtl_cell.specs.Row.{column_of}
 use Rattle.vtl_cell.specs.declared.cell.Cell.{Cell}
 use Rattle.vtl_frames.specs.Ratios.{ratio_to, total_number}
 use Rattle.vtl_frames.proofs.PlaceLemmas.{each_more}
-use Rattle.vtl_frames.proofs.ratios.push_ratios.Goals as goal
+use Rattle.vtl_frames.proofs.ratios.put_ratios.Goals as goal
 
 pub loop-place-preserved : goal.loop-place-preserved
 loop-place-preserved g c =

@@ -6,7 +6,7 @@ use Rattle.vtl_frames.specs.Framed.{end_of, framed, start_of}
 use Rattle.vtl_frames.specs.Picks.{cell_or, end_cell, end_place}
 use Rattle.vtl_frames.proofs.PickLemmas.{end_cell_is}
 use Rattle.vtl_frames.proofs.PlaceLemmas.{each_more}
-use Rattle.vtl_frames.proofs.picks.push_ends.Goals as goal
+use Rattle.vtl_frames.proofs.picks.put_ends.Goals as goal
 
 pub loop-place-preserved : goal.loop-place-preserved
 loop-place-preserved g c =

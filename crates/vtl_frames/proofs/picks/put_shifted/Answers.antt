@@ -4,7 +4,7 @@ use Rattle.vtl_cell.specs.declared.cell.Cell.{Cell}
 use Rattle.vtl_frames.specs.Picks.{cell_or, place_away, shifted}
 use Rattle.vtl_frames.proofs.PickLemmas.{shifted_is}
 use Rattle.vtl_frames.proofs.PlaceLemmas.{each_more}
-use Rattle.vtl_frames.proofs.picks.push_shifted.Goals as goal
+use Rattle.vtl_frames.proofs.picks.put_shifted.Goals as goal
 
 pub loop-place-preserved : goal.loop-place-preserved
 loop-place-preserved g c =
