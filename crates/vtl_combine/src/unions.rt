@@ -1,6 +1,7 @@
 // `union`
 ghost use Rattle.std.specs.List.{flat_map};
 ghost use Rattle.std.specs.Prelude.{◌≡◌, [], ◌∷◌, All, IfOk};
+ghost use Rattle.vtl_rows.specs.Tables.{listed};
 ghost use Rattle.vtl_tree.specs.Shown.{shown};
 ghost use Rattle.vtl_tree.specs.Structure.{IsStructure};
 ghost use Rattle.vtl_sets.specs.DataSets.{data_set};
@@ -39,7 +40,7 @@ fn united_by_keys(
     made: &Structure,
 ) -> Result<Table, AllocError>
     requires { AreCombined (structures_of (shown operands.now)) made.now }
-    ensures table { IfOk result (IsTableOf made.now) }
+    ensures table { IfOk result (λ t. IsTableOf made.now (listed t)) }
     ensures rows { IfOk result (λ t. t.rows ≡ union_of (shown operands.now) made.now) }
 {
     are_data_sets(operands);
@@ -57,7 +58,7 @@ fn united_pair(
     made: &Structure,
 ) -> Result<Table, AllocError>
     requires { IsCombined a.now.structure (b.now.structure ∷ []) made.now }
-    ensures table { IfOk result (IsTableOf made.now) }
+    ensures table { IfOk result (λ t. IsTableOf made.now (listed t)) }
     ensures rows { IfOk result (λ t. t.rows ≡ union_of (a.now ∷ b.now ∷ []) made.now) }
 {
     are_data_sets(&[a, b]);
@@ -69,7 +70,7 @@ fn united_pair(
 
 fn union_table(alloc: Global, operands: &[&DataSet], made: &Structure) -> Result<Table, AllocError>
     requires { AreCombined (structures_of (shown operands.now)) made.now }
-    ensures table { IfOk result (IsTableOf made.now) }
+    ensures table { IfOk result (λ t. IsTableOf made.now (listed t)) }
     ensures rows { IfOk result (λ t. t.rows ≡ union_of (shown operands.now) made.now) }
 {
     match operands {

@@ -1,5 +1,6 @@
 // Aggregates of data sets.
 ghost use Rattle.std.specs.Prelude.{◌≡◌, IfOk, map, option_map};
+ghost use Rattle.vtl_rows.specs.Tables.{listed};
 ghost use Rattle.vtl_meaning.specs.Aggregates.{aggregate_of};
 ghost use Rattle.vtl_meaning.specs.AggregateShapes.{IsAggregated};
 ghost use Rattle.vtl_tree.specs.Columns.{others_of};
@@ -111,7 +112,7 @@ fn aggregated_table(
     p: &Profile,
 ) -> Result<Table, ScalarErr>
     requires { IsAggregated (agg_tree spec.now) a.now.structure made.now }
-    ensures table { IfOk result (IsTableOf made.now) }
+    ensures table { IfOk result (λ t. IsTableOf made.now (listed t)) }
     ensures rows { AnswersBy (λ t. t.rows) result (aggregate_of p.now (agg_tree spec.now) a.now made.now) }
 {
     let table = a.table();
