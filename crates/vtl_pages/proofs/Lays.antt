@@ -25,7 +25,7 @@ module _ {X : Type 0} where
   pub same_items : (xs ys : List X) → map Some xs ≡ map Some ys → xs ≡ ys
   same_items xs ys e = sym (values-map xs) ∙ ap values e ∙ values-map ys
 
-  values-laid : (xs : List X) (n : ℕ) → values (laid xs n) ≡ xs
+  pub values-laid : (xs : List X) (n : ℕ) → values (laid xs n) ≡ xs
   unfolding laid
   values-laid xs n = values-front xs (replicate n None) ∙ ap (λ l. xs ++ l) (values-none n) ∙ append-nil xs
 

@@ -66,6 +66,8 @@ impl<T> Pages<T> {
     /// It fails only if memory runs out; both have their items then.
     pub fn append(&mut self, other: &mut Pages<T>) -> Result<(), AllocError>
         ensures ok { OnOk result ((self.new.items ≡ self.old.items ++ other.old.items) × (other.new.items ≡ [])) }
+        ensures spare { OnOk result (self.old.spare ≤ self.new.spare + length other.old.items) }
+        ensures other_spare { OnOk result (other.new.spare ≡ other.old.spare + length other.old.items) }
         ensures err { OnErr result ((self.new.items ≡ self.old.items) × (other.new ≡ other.old)) }
         ensures width { self.new.width ≡ self.old.width }
         ensures other_width { other.new.width ≡ other.old.width }

@@ -6,6 +6,7 @@ ghost use Rattle.vtl_pages.specs.Places.{IsFilled, IsRun, IsFilledTo, IsFree, pu
 ghost use Rattle.vtl_pages.specs.Stored.{Stored, stored, next_size, block_size, spot};
 
 use crate::block::Block;
+use crate::leaving::Leaving;
 use std::alloc::{AllocError, Global};
 use std::marker::Model;
 
@@ -192,6 +193,19 @@ impl<T> Store<T> {
     {
         let (block, place) = self.find(i);
         self.run(block, place, count)
+    }
+
+    // The values, which stand in the first places, and leave from the first one on.
+    pub(crate) fn into_leaving(self, alloc: Global, len: usize) -> Leaving<T>
+        requires { IsLaid self.places len (length self.places) }
+        ensures { result ≡ values self.places }
+    {
+        let Store {
+            blocks,
+            first,
+            step,
+        } = self;
+        Leaving::new(alloc, blocks, first, step, len)
     }
 
     // Drops the values, which stand in the first places, and gives all blocks back.
