@@ -142,8 +142,8 @@ module _ {X : Type 0} where
         (after.0, whole ∙ (λ i. first_is v value i ∷ sym after.1 i))
 
   -- blocks whose values have all left are empty
-  pub over : (bs : List (List (Option X))) (size step gone left : ℕ) → IsLeaving bs size step gone left → values (joined bs) ≡ [] → (n : ℕ) × (joined bs ≡ replicate n None)
-  over bs size step gone left h none = (gone + h.places.0, h.places.1 ∙ ap (λ l. leaving gone l h.places.0) none ∙ none_left gone h.places.0)
+  pub over : {bs : List (List (Option X))} {size step gone left : ℕ} → IsLeaving bs size step gone left → values (joined bs) ≡ [] → (n : ℕ) × (joined bs ≡ replicate n None)
+  over {gone = gone} h none = (gone + h.places.0, h.places.1 ∙ ap (λ l. leaving gone l h.places.0) none ∙ none_left gone h.places.0)
 
   -- the last of some empty blocks, which is the first one when they are turned round
   pub next_empty : (all bs : List (List (Option X))) (b : List (Option X)) (size step n : ℕ) → all ≡ bs ++ b ∷ [] → HaveSizes (block_size size step) (reverse all) → joined (reverse all) ≡ replicate n None

@@ -1,8 +1,8 @@
 -- Items at rising places of a run are kept, and so of each run.
-use Rattle.std.proofs.Common.{◌≡◌, ◌≢◌, ℕ, zero, suc, ◌+◌, ◌*◌, ◌/◌, ◌%◌, ◌<◌, ◌≤◌, inl, inr, List, [], ◌∷◌, ◌++◌, All, length, take, drop, get_or, refl, sym, ap, ◌∙◌, arith, get_or-take, get_or-drop, length-append, drop-drop, length-drop, zero-mul, suc-mul}
+use Rattle.std.proofs.Common.{◌≡◌, ◌≢◌, ℕ, zero, suc, ◌+◌, ◌*◌, ◌/◌, ◌%◌, ◌<◌, ◌≤◌, inl, inr, List, [], ◌∷◌, ◌++◌, All, length, take, drop, get_or, refl, sym, ap, ◌∙◌, subst, arith, get_or-take, get_or-drop, length-append, drop-drop, length-drop, zero-mul, suc-mul}
 use Rattle.std.proofs.lemmas.Bool.{cases_lt}
 use Rattle.std.proofs.lemmas.List.{flat_map_more, map_more}
-use Rattle.std.proofs.lemmas.Nat.{div-add-mod', row_fits}
+use Rattle.std.proofs.lemmas.Nat.{div-add-mod', div-mul-add, row_fits}
 use Rattle.std.specs.List.{flat_map}
 use Rattle.vtl_pages.specs.Chosen.{AreRising, items_at, runs}
 use Rattle.vtl_pages.specs.Ordered.{run_of}
@@ -37,8 +37,8 @@ module _ {X : Type 0} where
           ap (λ l. get_or l 0 d) (sym e ∙ h.rest) ∙ get_or-drop place all 0 d ∙ ap (λ i. get_or all i d) none ∙ sym (get_or-take width all place d low)
 
       -- the item stands at the next of the places
-      pub kept_more : (now : List X) → AreRising places → next < length places → get_or places next 0 ≡ place → now ≡ kept ++ x ∷ [] → IsKept places width all others now (place + 1) (next + 1)
-      kept_more now rising more at is = record {
+      pub kept_more : (now : List X) (after : ℕ) → AreRising places → next < length places → get_or places next 0 ≡ place → now ≡ kept ++ x ∷ [] → after ≡ next + 1 → IsKept places width all others now (place + 1) after
+      kept_more now after rising more at is one = subst (IsKept places width all others now (place + 1)) (sym one) record {
         rest = others_is;
         within = omega arith;
         ahead = λ lt. let up = rising next lt in omega arith;
@@ -48,13 +48,13 @@ module _ {X : Type 0} where
       }
 
       -- it stands at none of them
-      pub kept_same : (next < length places → get_or places next 0 ≢ place) → IsKept places width all others kept (place + 1) next
-      kept_same other = record {
+      pub kept_same : (now : List X) (after : ℕ) → (next < length places → get_or places next 0 ≢ place) → now ≡ kept → after ≡ next → IsKept places width all others now (place + 1) after
+      kept_same now after other is same = subst (IsKept places width all others now (place + 1)) (sym same) record {
         rest = others_is;
         within = h.within;
         ahead = λ lt. let least = h.ahead lt in let ne = other lt in omega arith;
-        count = h.count;
-        same = h.same;
+        count = ap length is ∙ h.count;
+        same = λ d. is ∙ h.same d;
       }
 
   -- the whole run is gone through, so each place was met
@@ -69,7 +69,8 @@ module _ {X : Type 0} where
   runs_more width zero xs = ap (λ k. take width (drop k xs) ∷ []) (sym (zero-mul width))
   runs_more width (suc n) xs =
       let turned : width + n * width ≡ suc n * width = omega (arith, suc-mul n width) in
-      ap (λ l. take width xs ∷ l) (runs_more width n (drop width xs))
+      let one : suc n + 1 ≡ suc (n + 1) = omega arith in
+      ap (λ k. runs width k xs) one ∙ ap (λ l. take width xs ∷ l) (runs_more width n (drop width xs))
       ∙ ap (λ l. take width xs ∷ runs width n (drop width xs) ++ take width l ∷ []) (drop-drop (n * width) width xs ∙ ap (λ k. drop k xs) turned)
 
   pub narrowed_more : (d : X) (places : List ℕ) (width n : ℕ) (xs : List X) → flat_map (items_at d places) (runs width n xs) ++ items_at d places (run_of width xs n) ≡ flat_map (items_at d places) (runs width (n + 1) xs)
@@ -103,3 +104,10 @@ module _ {X : Type 0} where
           count = omega (arith, ap length is, length-append now run, h.count);
           same = λ d. is ∙ (λ i. h.same d i ++ (same d ∙ ap (λ l. items_at d places (take width l)) h.rest) i) ∙ narrowed_more d places width n xs;
         }
+
+  -- all runs are narrowed, however many one says there are
+  pub narrowed_all : (places : List ℕ) (width : ℕ) (xs left now : List X) (n : ℕ) (h : IsNarrowed places width xs left now n) → 0 < width → n ≡ length xs / width → (d : X) (m : ℕ) → length xs ≡ m * width → now ≡ flat_map (items_at d places) (runs width m xs)
+  narrowed_all places width xs left now n h some over d m long =
+      let zero_more : m * width + 0 ≡ length xs = omega arith in
+      let same : n ≡ m = over ∙ ap (λ k. k / width) (sym zero_more) ∙ div-mul-add m width 0 some in
+      h.same d ∙ ap (λ k. flat_map (items_at d places) (runs width k xs)) same

@@ -40,7 +40,13 @@ impl<T> Model for Leaving<T> {
 
 impl<T> Leaving<T> {
     // The values in front in some blocks.
-    pub(crate) fn new(alloc: Global, blocks: Vec<Block<T>>, first: usize, step: usize, count: usize) -> Leaving<T>
+    pub(crate) fn new(
+        alloc: Global,
+        blocks: Vec<Block<T>>,
+        first: usize,
+        step: usize,
+        count: usize,
+    ) -> Leaving<T>
         requires first { 0 < first }
         requires step { 0 < step }
         requires sized { HaveSizes (block_size first step) blocks.items }

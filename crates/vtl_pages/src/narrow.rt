@@ -36,7 +36,12 @@ impl<T: Drop> Pages<T> {
 }
 
 // Moves the items at rising places of a run behind others, and drops the other items of the run.
-fn keep<T: Drop>(items: &mut Leaving<T>, width: usize, places: &[usize], kept: &mut Vec<T>) -> Result<(), AllocError>
+fn keep<T: Drop>(
+    items: &mut Leaving<T>,
+    width: usize,
+    places: &[usize],
+    kept: &mut Vec<T>,
+) -> Result<(), AllocError>
     requires run { width ≤ length items.old }
     requires rising { AreRising places.now }
     requires within { All (λ i. i < width) places.now }

@@ -1,11 +1,10 @@
 use Rattle.vtl_pages.proofs.Leaves.{next_empty, over}
-use Rattle.std.proofs.Common.{◌∙◌, reverse}
+use Rattle.std.proofs.Common.{◌∙◌}
 use Rattle.vtl_pages.proofs.leaving.Leaving.release.Goals as goal
 
 pub loop-block-init : goal.loop-block-init
 loop-block-init g c =
-    let s = c.self.inside in
-    record { sized = c.self.invariant.sized; empty = over (reverse s.blocks.items) s.size s.step s.gone s.left c.self.invariant (c.self.view_is ∙ c.requires) }
+    record { sized = c.self.invariant.sized; empty = over c.self.invariant (c.self.view_is ∙ c.requires) }
 
 pub release-requires : goal.release-requires
 release-requires g c =
