@@ -1,6 +1,6 @@
 -- Values leave their blocks, the first one first.
 use Rattle.std.proofs.Common.{◌≡◌, ℕ, zero, suc, ◌+◌, ◌-◌, ◌<◌, ◌≤◌, List, [], ◌∷◌, ◌++◌, length, get_or, set, replicate, reverse, Option, Some, None, refl, sym, ap, ◌∙◌, subst, arith, length-set}
-use Rattle.std.proofs.lemmas.List.{get_or_append_left, set-append_left, length-replicate, replicate-append-replicate, reverse-append, reverse-reverse}
+use Rattle.std.proofs.lemmas.List.{get_or_append_left, set-append_left, replicate-append-replicate, reverse-append}
 use Rattle.vtl_pages.specs.Joined.{joined, HaveSizes}
 use Rattle.vtl_pages.specs.Laid.{laid, IsLaid}
 use Rattle.vtl_pages.specs.Left.{leaving, IsLeaving}

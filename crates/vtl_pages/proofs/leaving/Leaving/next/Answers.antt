@@ -1,4 +1,3 @@
-use Rattle.std.proofs.Common.{arith}
 use Rattle.vtl_pages.proofs.Leaves.{filled, freed, goes, stays}
 use Rattle.vtl_pages.proofs.leaving.Leaving.next.Goals as goal
 

@@ -1,4 +1,4 @@
-use Rattle.std.proofs.Common.{length, sym, ◌∙◌, subst}
+use Rattle.std.proofs.Common.{sym, ◌∙◌, subst}
 use Rattle.vtl_pages.specs.Laid.{IsLaid}
 use Rattle.vtl_pages.proofs.Lays.{items_seen, room_is}
 use Rattle.vtl_pages.proofs.pages.Pages.into_leaving.Goals as goal
