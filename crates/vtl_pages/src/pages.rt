@@ -217,10 +217,9 @@ impl<T> Pages<T> {
         if i == j {
             return;
         }
-        let one = self.store.take_at(i);
-        let other = self.store.take_at(j);
-        self.store.put_at(i, other);
-        self.store.put_at(j, one);
+        let one = self.store.find(i);
+        let other = self.store.find(j);
+        self.store.swap(one, other);
     }
 
     // The items, which leave from the first one on.
