@@ -1,7 +1,7 @@
 -- Items that stand in front in some places: they are found, one is added, one is taken, and two change places.
-use Rattle.std.proofs.Common.{◌≡◌, ◌≢◌, ℕ, zero, suc, ◌+◌, ◌-◌, ◌<◌, ◌≤◌, List, [], ◌∷◌, ◌++◌, map, length, take, drop, set, get_or, replicate, Option, Some, None, refl, sym, ap, ◌∙◌, arith, length-append, length-drop, length-set, append_assoc, append-nil, get_or-set_other, take-append-drop, drop-cons, drop_of_length-le}
-use Rattle.std.proofs.lemmas.List.{length-map, length-replicate, get_or_append_left, get_or-append_right, get_or-map, set-append_left, set-set, set_comm, map-set, drop-append-le, take-append-le, take-map, drop-map, replicate-append-replicate}
-use Rattle.std.proofs.lemmas.List.Edits.{swap_is, length-swap}
+use Rattle.std.proofs.Common.{◌≡◌, ℕ, zero, suc, ◌+◌, ◌-◌, ◌<◌, ◌≤◌, List, [], ◌∷◌, ◌++◌, map, length, take, drop, set, get_or, replicate, Option, Some, None, refl, sym, ap, ◌∙◌, arith, length-append, length-drop, length-set, append_assoc, append-nil, take-append-drop, drop-cons, drop_of_length-le}
+use Rattle.std.proofs.lemmas.List.{length-map, length-replicate, get_or_append_left, get_or-append_right, get_or-map, set-append_left, map-set, drop-append-le, take-append-le, take-map, drop-map, replicate-append-replicate}
+use Rattle.std.proofs.lemmas.List.Edits.{swap_is}
 use Rattle.std.specs.List.{swap}
 use Rattle.vtl_pages.specs.Laid.{laid, IsLaid}
 use Rattle.vtl_pages.specs.Paged.{Paged, paged}

@@ -8,7 +8,13 @@ use std::alloc::AllocError;
 
 // The block of a run and the place where the run starts in there, for blocks of `front` runs first, and of 2 ^ shift
 // runs then.
-pub(crate) fn find_run(r: usize, width: usize, front: usize, runs: usize, shift: u32) -> (usize, usize)
+pub(crate) fn find_run(
+    r: usize,
+    width: usize,
+    front: usize,
+    runs: usize,
+    shift: u32,
+) -> (usize, usize)
     requires some { 0 < front }
     requires wide { 0 < width }
     requires bits { shift < 64 }

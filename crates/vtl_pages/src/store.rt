@@ -140,6 +140,20 @@ impl<T> Store<T> {
         (later / self.step + 1, later % self.step)
     }
 
+    // The place in front of another one. No division finds it.
+    fn before(&self, behind: (usize, usize)) -> (usize, usize)
+        requires some { 0 < spot self.now.first self.now.step behind.0 behind.1 }
+        requires in_block { behind.1 ≤ block_size self.now.first self.now.step behind.0 }
+        ensures spot { spot self.now.first self.now.step result.0 result.1 + 1 ≡ spot self.now.first self.now.step behind.0 behind.1 }
+        ensures in_block { result.1 < block_size self.now.first self.now.step result.0 }
+    {
+        if behind.1 > 0 {
+            return (behind.0, behind.1 - 1);
+        }
+        let block = behind.0 - 1;
+        (block, size_of_block(self.first, self.step, block) - 1)
+    }
+
     // Puts a value into the empty place of a number.
     pub(crate) fn put_at(&mut self, i: usize, value: T)
         requires there { i < length self.old.places }
@@ -201,11 +215,15 @@ impl<T> Store<T> {
         ensures places { self.new ≡ stored (put_all self.old.places at (values other.old.places)) self.old.first self.old.step }
         ensures other { other.new ≡ stored (replicate (length other.old.places) None) other.old.first other.old.step }
     {
+        let mut to = self.find(at + n);
+        let mut from = other.find(n);
         let mut left = n;
         while left > 0 {
             left -= 1;
-            let value = other.take_at(left);
-            self.put_at(at + left, value);
+            to = self.before(to);
+            from = other.before(from);
+            let value = other.take(from.0, from.1);
+            self.put(to.0, to.1, value);
         }
     }
 

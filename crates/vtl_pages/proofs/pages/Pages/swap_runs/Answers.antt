@@ -1,8 +1,7 @@
-use Rattle.std.proofs.Common.{◌≡◌, ◌+◌, ◌*◌, ◌≤◌, length, sym, ap, ◌∙◌, subst, arith}
+use Rattle.std.proofs.Common.{◌+◌, ◌*◌, ◌≤◌, length, sym, ap, ◌∙◌, subst, arith}
 use Rattle.vtl_pages.specs.Laid.{IsLaid}
 use Rattle.vtl_pages.specs.Ordered.{swap_all}
 use Rattle.vtl_pages.specs.Paged.{Paged}
-use Rattle.vtl_pages.specs.Places.{values}
 use Rattle.vtl_pages.proofs.Lays.{room_is, same_paged, spare_seen, width_seen}
 use Rattle.vtl_pages.proofs.Moved.{all_swapped}
 use Rattle.vtl_pages.proofs.Runs.{spot_same, still_runs}

@@ -35,7 +35,7 @@ put-requires-clause-empty g c =
     c.take-other.ensures.places ∙ ap (λ (t : Stored _). stored (set t.places (spot t.first t.step c.args.b.0 c.args.b.1) None) t.first t.step) c.take-one.ensures.places in
     ap (λ (t : Stored _). get_or t.places (spot t.first t.step c.args.a.0 c.args.a.1) None) second ∙ get_or-set_other (set cs a None) b a None None c.requires.apart ∙ emptied_at cs a
 
-pub put-requires-2-clause-in_block : goal.put-2-requires-clause-in_block
+pub put-requires-2-clause-in_block : goal.put-requires-2-clause-in_block
 put-requires-2-clause-in_block g c =
     let s = c.args.self.now in let cs = s.places in let a = spot s.first s.step c.args.a.0 c.args.a.1 in let b = spot s.first s.step c.args.b.0 c.args.b.1 in
     let second : c.take-other.new.self ≡ stored (set (set cs a None) b None) s.first s.step =
@@ -45,7 +45,7 @@ put-requires-2-clause-in_block g c =
     c.put.ensures ∙ ap (λ (t : Stored _). stored (set t.places (spot t.first t.step c.args.a.0 c.args.a.1) (Some y)) t.first t.step) second in
     subst (λ (t : Stored _). c.args.b.1 < block_size t.first t.step c.args.b.0) (sym third) c.requires.b_in_block
 
-pub put-requires-2-clause-there : goal.put-2-requires-clause-there
+pub put-requires-2-clause-there : goal.put-requires-2-clause-there
 put-requires-2-clause-there g c =
     let s = c.args.self.now in let cs = s.places in let a = spot s.first s.step c.args.a.0 c.args.a.1 in let b = spot s.first s.step c.args.b.0 c.args.b.1 in
     let second : c.take-other.new.self ≡ stored (set (set cs a None) b None) s.first s.step =
@@ -57,7 +57,7 @@ put-requires-2-clause-there g c =
     subst (λ (t : Stored _). spot t.first t.step c.args.b.0 c.args.b.1 < length t.places) (sym third)
     (subst (λ n. b < n) (sym (length-set (set (set cs a None) b None) a (Some y) ∙ length-set (set cs a None) b None ∙ length-set cs a None)) (filled_below cs b x.0 x.1))
 
-pub put-requires-2-clause-empty : goal.put-2-requires-clause-empty
+pub put-requires-2-clause-empty : goal.put-requires-2-clause-empty
 put-requires-2-clause-empty g c =
     let s = c.args.self.now in let cs = s.places in let a = spot s.first s.step c.args.a.0 c.args.a.1 in let b = spot s.first s.step c.args.b.0 c.args.b.1 in
     let second : c.take-other.new.self ≡ stored (set (set cs a None) b None) s.first s.step =

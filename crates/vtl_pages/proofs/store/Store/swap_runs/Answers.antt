@@ -3,7 +3,6 @@ use Rattle.std.specs.List.{swap}
 use Rattle.vtl_pages.specs.Ordered.{swap_all}
 use Rattle.vtl_pages.specs.Places.{IsFilled}
 use Rattle.vtl_pages.specs.Stored.{Stored, block_size, spot, stored}
-use Rattle.vtl_pages.proofs.Lays.{room_is}
 use Rattle.vtl_pages.proofs.Moved.{still_filled}
 use Rattle.vtl_pages.proofs.store.Store.swap_runs.Goals as goal
 
