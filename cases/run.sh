@@ -565,6 +565,16 @@ if wanted pages; then
         fi
     done
 fi
+# The grammars for editors, which are taken from the blocks of docs/LANGUAGE.md.
+if wanted pages; then
+    scripts/editors.sh "$made/editors"
+    if diff -r editors "$made/editors" >"$made/said"; then
+        pass
+    else
+        fail "editors: not what scripts/editors.sh writes"
+        head -n 10 "$made/said"
+    fi
+fi
 # What crates say of one another, and what keeps a merge short.
 if wanted crates; then
     scripts/crates.sh >"$made/said"
