@@ -11,6 +11,7 @@
 mod columns;
 mod existence;
 mod grouping;
+mod limits;
 mod literals;
 mod operators;
 mod rules;
@@ -22,6 +23,7 @@ mod windows;
 pub use columns::{Columns, repeats};
 pub use existence::exists;
 pub use grouping::Grouping;
+pub use limits::{MOST_COLUMNS, MOST_INPUT_COLUMNS};
 pub use literals::{constant, constant_value, list_fault, literal_value, literals_fit};
 pub use operators::{aggregate, call, case, condition_fault, operator};
 pub use rules::{SqlRule, Test, least_broken, lesser};

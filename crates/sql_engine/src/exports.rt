@@ -25,7 +25,7 @@ fn owned(alloc: Global, tables: Tables) -> Result<Owned, AllocError>
 {
     let mut rest = tables;
     let mut owned = Owned::new(alloc);
-    while let Some((name, table)) = rest.pop() {
+    while let Some((name, table)) = rest.pop_shared() {
         owned.insert(name, table)?;
     }
     Ok(owned)

@@ -11,7 +11,7 @@ use std::alloc::{AllocError, Global};
 use vtl_text::{List, Shared, Txt};
 use vtl_tree::{Component, Role, Structure};
 
-// Whether a name is one of these. An INPUT that is typed has at most 64 columns, and so its KEY as many names.
+// Whether a name is one of these. An INPUT that is typed has few columns, and so its KEY as many names.
 fn is_among(name: &Txt, names: &[Txt]) -> bool
     ensures { result ≡ is_among name.now names.now }
 {

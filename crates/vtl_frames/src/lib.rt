@@ -3,10 +3,10 @@
 //!
 //! The row numbers of a table in an order are cut into partitions ([`Stretches`]), and a column at the rows of one lends
 //! its cells ([`Lane`]). Each function puts the value at every place of the partition behind others, a fault standing
-//! for a value where there is one. The cells are lent ([`Partition`]), and none is copied but into a value. A frame moves
-//! up its partition: totals and counts are kept up as cells come and go, and the least and the greatest by a queue, so
-//! that an aggregate takes time that is linear in the partition, however long its frames are; a median alone goes
-//! through each frame.
+//! for a value where there is one, or leaves the others as they were where memory runs out. The cells are lent
+//! ([`Partition`]), and none is copied but into a value. A frame moves up its partition: totals and counts are kept up as
+//! cells come and go, and the least and the greatest by a queue, so that an aggregate takes time that is linear in the
+//! partition, however long its frames are; a median alone goes through each frame.
 //! It decides neither by which columns rows make a partition nor their order, and knows no language.
 //! Begin with specs/Framed.antt and `aggregates.rt`, then vtl_cell/specs/Frames.antt and specs/Kept.antt;
 //! specs/Stretches.antt says how partitions are cut.
@@ -27,6 +27,7 @@ mod picks;
 mod ranks;
 mod ratios;
 mod stretches;
+mod taken_back;
 mod totals;
 
 pub use aggregates::push_aggregates;

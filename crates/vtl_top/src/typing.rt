@@ -27,9 +27,9 @@ pub fn typed(
 ) -> Result<Checked, Status>
     requires written { AreWritten (script_tree script.now) }
     requires plain { has_definitions (script_tree script.now) ≡ false }
-    ensures typing { SettlesBy nodes_of (typed_or_fault (script_typed (env_over profile.now structures.now) (script_tree script.now))) result }
+    ensures typing { SettlesBy nodes_of (typed_or_fault (script_typed (env_over profile.now structures.now.sets) (script_tree script.now))) result }
     ensures script { IfOk result (λ c. c.script ≡ script.now.statements) }
-    ensures declared { IfOk result (λ c. c.declared ≡ structures.now) }
+    ensures declared { IfOk result (λ c. c.declared ≡ structures.now.sets) }
     ensures settings { IfOk result (λ c. c.settings ≡ profile.now) }
 {
     match check(alloc, script, structures, profile) {
