@@ -1,4 +1,6 @@
 // Expressions over the components of one point.
+//
+// A component is its place in the column order, with its name beside it: its value needs no search.
 ghost use Rattle.std.specs.Prelude.{◌≡◌, IfOk};
 
 use std::alloc::AllocError;
