@@ -4,6 +4,9 @@
 //! sets: each as a function on components. Every result passes one list of tests (`shaped`).
 //! It knows no expressions, no values and no syntax trees: operators come as functions on kinds.
 //! Begin with specs/Shape.antt, then Names.antt and Clauses.antt.
+//!
+//! Every result passes one list of tests (`result_tests`), also where an operator cannot break one: so that a result
+//! is a structure is one law.
 #![tactic(auto)]
 
 mod choices;

@@ -6,4 +6,7 @@
 //! alone: no code.
 //! It knows no language; which forms there are is for each grammar to say (`sql_tree`).
 //! Begin with specs/Forms.antt.
+//!
+//! A production is a value (`Form`), and each way to combine forms has its law once: a further production is a line
+//! of grammar and a line of laws, where VTL's own grammar takes a proof for each.
 #![tactic(auto)]

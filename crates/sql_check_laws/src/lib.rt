@@ -4,6 +4,9 @@
 //! Who proves something of a typed script takes it apart here and sees no list of rules. It knows trees and the
 //! definition of the rules alone: no program that checks them, no rows, nothing of VTL.
 //! Begin with specs/Fits.antt, then Selects.antt, Statements.antt and src/scripts.rt.
+//!
+//! The laws stand beside the checker, not above it: they speak of trees, so an engine that wants them needs no
+//! program that checks.
 #![tactic(auto)]
 
 mod columns;

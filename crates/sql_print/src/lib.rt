@@ -4,6 +4,8 @@
 //! layout itself is not promised.
 //! It knows no types; it is independent of `sql_parser`: neither calls the other.
 //! Begin with specs/Printed.antt, and sql_tree/specs/Printing.antt for the tokens.
+//!
+//! A tree is first written as tokens and these then as text: brackets are a matter of trees, lines one of tokens.
 #![tactic(auto)]
 
 mod expressions;

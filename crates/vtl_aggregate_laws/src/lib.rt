@@ -4,6 +4,10 @@
 //! They stand apart, so that a change of them has nothing else proved again; no crate stands on this one.
 //! It knows no script, no window and no table, and types nothing.
 //! Begin with specs/Parts.antt, proofs/Examples.antt and src/laws.rt.
+//!
+//! Totals of totals are a law beside the definitions: that an aggregate may be made group by group is what a reader
+//! asks of sums and counts, and no other proof needs it, so nothing stands on it. It holds of the whole outcome, but
+//! for sums in which a group alone leaves the range.
 #![tactic(auto)]
 
 mod laws;

@@ -4,9 +4,11 @@
 //! It stands apart from joins and from clauses since all it does goes by identifiers: points are found or told apart
 //! by them, and hardly a value is made. Look-ups and groups come from `vtl_index`, so no choice of points makes an
 //! operator slow, whatever their number and that of the operands. What is meant is defined in `vtl_meaning`; the
-//! structure of a result is passed in as typing found it.
-//! It knows no expression, no script, no statement, no file and no text format. The calls of `vtl_clause` it passes on.
-//! Begin with `rows.rt` and `retaining.rt`, then `unions.rt`.
+//! structure of a result is passed in as typing found it. It knows no expression, no script, no statement, no file
+//! and no text format. Begin with `rows.rt` and `retaining.rt`, then `unions.rt`.
+//!
+//! All of them find rows by identifiers and take them over, so they are one crate; the joins are another one, so that
+//! neither is long to prove.
 #![tactic(auto)]
 
 mod differences;

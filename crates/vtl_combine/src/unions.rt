@@ -1,4 +1,7 @@
 // `union`
+//
+// A `union` of two goes by a look-up, of more by groups: the second of two gives only the points that the first
+// lacks, so each cell is copied once; of many, each would ask all that stand before it.
 ghost use Rattle.std.specs.List.{flat_map};
 ghost use Rattle.std.specs.Prelude.{◌≡◌, [], ◌∷◌, All, IfOk};
 ghost use Rattle.vtl_tree.specs.Shown.{shown};

@@ -1,4 +1,7 @@
 // The data set that a CSV file holds.
+//
+// All cells of a file go into one list, each at once where it stays. Room for it is reserved by the lines at the
+// front of the file: a list that doubles would hold twice its cells.
 ghost use Rattle.std.specs.Prelude.{◌≡◌, ◌<◌, ◌≤◌, [], length, map, take, option_map, All, IfOk, IfSome, Ok};
 ghost use Rattle.vtl_rows.specs.Flat.{IsFlat, flat_rows};
 ghost use Rattle.vtl_tree.specs.DataSet.{AreOfProfile};

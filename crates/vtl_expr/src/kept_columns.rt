@@ -1,4 +1,7 @@
 // Some of the columns of a data set.
+//
+// `keep`, `drop` and `a#m` take the data set itself: where all columns stay in their order the table stays, and where
+// nobody else owns it the cells that stay are moved. `rename` shares its cells.
 ghost use Rattle.std.specs.Prelude.{◌≡◌, ℕ, IfOk, List};
 ghost use Rattle.vtl_tree.specs.Structure.{columns_of};
 ghost use Rattle.vtl_sets.specs.DataSets.{data_set};

@@ -1,4 +1,8 @@
 // Expressions that are evaluated at many points or over many groups.
+//
+// An expression is prepared once for a node and evaluated over lent cells (`Prepared`, `Given`): sets of constants
+// stand in order, values that stand in the point or in the expression are lent, and memory is taken for new texts
+// alone. `eval` prepares for one point.
 ghost use Rattle.std.specs.Prelude.{◌≡◌, ◌<◌, IfOk, IfSome, drop, length, map};
 ghost use Rattle.vtl_cell.specs.declared.kind.Kind.{Kind};
 ghost use Rattle.vtl_tree.specs.CompExp.{call, const};

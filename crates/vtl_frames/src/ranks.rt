@@ -1,4 +1,6 @@
 // Ranks along a partition.
+//
+// A rank is one in any order of its partition (`row_rank-Perm`), so that neither language sorts more for it.
 ghost use Rattle.std.specs.Prelude.{◌≡◌, ◌++◌, length, map, take, OnErr, OnOk};
 ghost use Rattle.vtl_frames.specs.Ranked.{AreInOrder, count_in, ranks_in};
 

@@ -1,4 +1,7 @@
 // Shares of the total of a partition.
+//
+// `ratio_to_report` looks at the value first: null for a null value whatever the total is; then the total's fault,
+// then a total of 0, then the quotient's range.
 ghost use Rattle.std.specs.Prelude.{◌≡◌, ◌^◌, ◌<◌, ◌≤◌, ◌++◌, ◌*ℤ◌, OnErr, OnOk, length, take, unsigned_abs};
 ghost use Rattle.vtl_cell.specs.Groups.{ratio_of, units_of};
 ghost use Rattle.vtl_cell.specs.Row.{column_of};

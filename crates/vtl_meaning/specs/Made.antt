@@ -62,8 +62,8 @@ abbrev pub kinds_in : CompExps → List Kind
 kinds_in no_comp_exps = []
 kinds_in (comp_exp e es) = exp_kind e ∷ kinds_in es
 
--- Each column is one of these, each constant is a value of the profile, and each operator has the kind of its row, and literals
--- where it asks for them.
+-- Each column is one of these, each constant is a value of the profile, and each operator is one that scripts spell, with the
+-- kind of its row, and with literals where it asks for them.
 abbrev mutual
   pub IsTyped : Settings → List Component → CompExp → Type 0
   IsTyped p xs (column place name kind) = IsColumnAt place name kind xs

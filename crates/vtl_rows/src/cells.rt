@@ -1,4 +1,6 @@
 // The cells of a table, which may have other owners.
+//
+// All cells of a table stand in one list, and a row is a slice of it: no list for each row is followed or freed.
 ghost use Rattle.std.specs.Prelude.{◌≡◌, ◌<◌, ◌*◌, ◌++◌, [], true, length, All, IfOk, OnOk, OnErr};
 ghost use Rattle.std.specs.List.{flat_map};
 ghost use Rattle.vtl_rows.specs.Flat.{cells_of, flat_rows, is_own};

@@ -1,4 +1,8 @@
 // Columns chosen from others, and the cells below them.
+//
+// Columns of a table that is given away are moved together in its list (`into_projected`), where its cells have no
+// other owner and the columns keep their order: nothing is copied, and no memory taken. Whoever owns a table gives
+// it.
 ghost use Rattle.std.specs.Prelude.{◌≡◌, ℕ, ◌<◌, ◌≤◌, ◌+◌, ◌*◌, ◌++◌, length, map, take, drop, All, IfOk, OnOk};
 ghost use Rattle.std.specs.Bool.{OnTrue};
 ghost use Rattle.std.specs.List.{flat_map, range_with_len};

@@ -5,6 +5,10 @@
 //! is defined here.
 //! It knows no values, no kinds and no meaning: a literal is its digits.
 //! Begin with specs/Trees.antt and specs/Depth.antt.
+//!
+//! A tree keeps every word that is written, brackets too. So the grammar needs no trees of derivation: its right side
+//! is the function that gives the tokens of a tree in front of others (`exp_onto`), and which tree may stand where is
+//! a predicate (`Fits`).
 #![tactic(auto)]
 
 mod expressions;

@@ -22,7 +22,7 @@ use Rattle.vtl_tree.specs.CompExp.{CompExp}
 use Rattle.vtl_tree.specs.Structure.{same_name}
 use Rattle.vtl_tree.specs.declared.structure.Component.{Component}
 use Rattle.vtl_tree.specs.declared.structure.Structure.{Structure}
-use Rattle.vtl_syntax.specs.Trees.{Exp, MaybeExp, Calcs, TargetsTree}
+use Rattle.vtl_syntax.specs.Trees.{Exp, Calcs, TargetsTree}
 use Rattle.vtl_syntax.specs.Written as written
 use Rattle.vtl_syntax.specs.declared.parts.Comp.{Comp}
 use Rattle.vtl_syntax.specs.declared.parts.GroupPart.{GroupPart}

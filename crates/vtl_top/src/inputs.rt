@@ -1,4 +1,7 @@
 // The data sets that are read, from their files.
+//
+// All inputs are read before any statement is carried out, in order of first use. They are let go after the run
+// (`run_over`), before the first text is made.
 ghost use Rattle.std.specs.Prelude.{◌≡◌, ◌<◌, [], None, length, map, slice_index_or, IfOk, OnOk};
 ghost use Rattle.std.specs.List.{AllByRecursion};
 ghost use Rattle.std.specs.Map.{keys_of};

@@ -1,4 +1,6 @@
 // Expressions over the components of one point.
+//
+// A component is its place in the column order, with its name beside it: its value needs no search.
 
 use vtl_cell::{AggKind, Cell, Kind, ScalarOp};
 use vtl_text::Txt;

@@ -1,0 +1,20 @@
+#!/bin/sh
+# Copies the program with its launcher, explanations and pages to PREFIX/share/vtl, and puts PREFIX/bin/vtl before them:
+# install.sh PREFIX. What is installed needs neither the checkout, nor git, nor the kit, and builds nothing.
+top=$(CDPATH='' cd -- "$(dirname -- "$0")/.." && pwd) || exit 1
+prefix=${1:?install.sh PREFIX}
+program=$top/crates/vtl/out/vtl
+if [ ! -x "$program" ]; then
+    echo 'install.sh: there is no proved program; scripts/build.sh builds it' >&2
+    exit 1
+fi
+share=$prefix/share/vtl
+mkdir -p "$prefix/bin" "$share.new" || exit 1
+(
+    cd "$top" && cp -R vtl README.md docs examples "$share.new/" && mkdir -p "$share.new/scripts" "$prefix/share/man/man1" &&
+        cp -R scripts/explain scripts/explain.sh scripts/notices.sh scripts/lint.sh scripts/infer.sh scripts/run-whole.sh "$share.new/scripts/" &&
+        cp "$program" "$share.new/program" && cp crates/vtl/out/kit "$share.new/kit"
+) || exit 1
+git -C "$top" rev-parse --short=12 HEAD >"$share.new/revision" 2>/dev/null || echo unknown >"$share.new/revision"
+rm -rf "$share" && mv "$share.new" "$share" && ln -sf ../share/vtl/vtl "$prefix/bin/vtl" || exit 1
+echo "$prefix/bin/vtl"
