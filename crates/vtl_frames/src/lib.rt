@@ -27,7 +27,6 @@ mod picks;
 mod ranks;
 mod ratios;
 mod stretches;
-mod taken_back;
 mod totals;
 
 pub use aggregates::push_aggregates;
