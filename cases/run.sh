@@ -280,10 +280,9 @@ installed() {
         fail "scripts/install.sh: $(cat "$made/said")"
         return
     fi
-    folder=$made/elsewhere
-    mkdir -p "$folder/out"
-    cp -R examples/balance/. "$folder"
-    if (cd "$folder" && "$made/prefix/bin/vtl" run script.vtl structures.csv in out && diff -r expected out) >"$made/said" 2>&1; then
+    case=examples/balance
+    laid_out
+    if (cd "$folder" && "$made/prefix/bin/vtl" run script.vtl structures.csv in out && diff -r "$top/$case/expected" out) >"$made/said" 2>&1; then
         pass
     else
         fail "an installed program: $(head -n 3 "$made/said")"
@@ -296,11 +295,9 @@ installed() {
 
 # The results of a run that are put into a folder together.
 whole() {
-    folder=$made/whole
-    rm -rf "$folder"
-    mkdir -p "$folder/out"
-    cp -R examples/balance/. "$folder"
-    if (cd "$folder" && "$top/scripts/run-whole.sh" run script.vtl structures.csv in out && diff -r expected out) >"$made/said" 2>&1 &&
+    case=examples/balance
+    laid_out
+    if (cd "$folder" && "$top/scripts/run-whole.sh" run script.vtl structures.csv in out && diff -r "$top/$case/expected" out) >"$made/said" 2>&1 &&
         [ "$(ls -d "$folder"/out*)" = "$folder/out" ]; then
         pass
     else
@@ -309,7 +306,7 @@ whole() {
     echo 'R <- nowhere;' >"$folder/script.vtl"
     (cd "$folder" && VTL_EXPLAIN=0 "$top/scripts/run-whole.sh" run script.vtl structures.csv in out) >"$made/said" 2>&1
     code=$?
-    if [ "$code" = 3 ] && diff -r "$folder/expected" "$folder/out" >/dev/null; then pass; else fail "scripts/run-whole.sh: exit code $code"; fi
+    if [ "$code" = 3 ] && diff -r "$case/expected" "$folder/out" >/dev/null; then pass; else fail "scripts/run-whole.sh: exit code $code"; fi
 }
 
 # The rows of tables on a page, as docs/sentences.tsv has them.
@@ -494,7 +491,10 @@ for folder in cases/*/; do
         depth) for file in cases/depth/*.csv; do nests syntax "$file" 1, 0,0; done ;;
         from)
             for case in cases/from/lint*/; do made_of "$top/${case%/}" "$top/vtl" lint structures.csv in; done
-            for case in cases/from/infer*/; do made_of "$top/${case%/}" "$top/vtl" infer in/*.csv; done
+            for case in cases/from/infer*/; do
+                # shellcheck disable=SC2046 # the names are parted by blanks
+                made_of "$top/${case%/}" "$top/vtl" infer $(cd "$case" && echo in/*.csv)
+            done
             for case in cases/from/sdmx_csv*/; do made_of "$top/${case%/}" "$top/scripts/from/sdmx_csv.sh" structures.csv D given.csv; done
             if command -v python3 >/dev/null; then
                 for case in cases/from/dsd*/ cases/from/json*/; do
@@ -564,6 +564,16 @@ if wanted pages; then
             head -n 10 "$made/said"
         fi
     done
+fi
+# The grammars for editors, which are taken from the blocks of docs/LANGUAGE.md.
+if wanted pages; then
+    scripts/editors.sh "$made/editors"
+    if diff -r editors "$made/editors" >"$made/said"; then
+        pass
+    else
+        fail "editors: not what scripts/editors.sh writes"
+        head -n 10 "$made/said"
+    fi
 fi
 # What crates say of one another, and what keeps a merge short.
 if wanted crates; then

@@ -33,6 +33,8 @@ esac
 ended=$(date +%s%N)
 for file in "$out"/*.csv; do
     [ -f "$file" ] && [ -n "$(find "$file" -newermt "@$((began / 1000000000))" 2>/dev/null)" ] || continue
-    printf '%s: %s rows\n' "$file" "$(rows_of "$file")"
+    rows=$(rows_of "$file")
+    [ "$rows" = 1 ] && rows='1 row' || rows="$rows rows"
+    printf '%s: %s\n' "$file" "$rows"
 done
 awk -v time="$((ended - began))" 'BEGIN { printf "%.1f s\n", time / 1e9 }'

@@ -3,15 +3,24 @@
 
 # The script with its tokens and statements.
 function take_script() {
-    if (!(script in readable)) tell("here", "the script is no file that can be read once more")
     read_grammar(page("LANGUAGE.md"))
     read_script(script)
     read_tokens()
     read_statements()
 }
 
+# Whether the script cannot be read once more, since it came by a pipe; then its status is all that is told.
+function is_gone(status) {
+    if (script in readable) return 0
+    tell("where", shown(script, 200))
+    tell("here", "the script is no file that can be read once more")
+    tell_status(status)
+    return 1
+}
+
 # `error: syntax after DONE statements at byte BYTE`
 function syntax_line(byte,    line, from, number, key) {
+    if (is_gone("Syntax")) return
     take_script()
     line = row_of(byte)
     from = byte - line_start[line] + 1
@@ -142,6 +151,7 @@ function wants(word,    node) {
 
 # `error: type in statement STATEMENT rule RULE`
 function type_line(number, rule) {
+    if (is_gone("Mistyped")) return
     take_script()
     read_structures(structures)
     gather_names(number)

@@ -2,12 +2,10 @@
 //! names, literals, windows, EXISTS.
 //!
 //! For each part the definition gives the rules that it breaks, each a test of its own; the fault is the least of them.
-//! Whatever has no kind counts as null. Tables, columns and sources by name stand here for the crates above.
-//! It walks no expression, and knows nothing of VTL's structures: the kinds of both languages are in
-//! `vtl_cell`.
+//! Whatever has no kind counts as null, which meets every row of the table: so no rule is broken since another one is.
+//! Tables, columns and sources by name stand here for the crates above.
+//! It walks no expression, and knows nothing of VTL's structures: the kinds of both languages are in `vtl_cell`.
 //! Begin with specs/Rules.antt, then Expressions.antt, Queries.antt and Statements.antt.
-//!
-//! What has no kind counts as null: null meets every row of the table, so no rule is broken since another one is.
 #![tactic(auto)]
 
 mod columns;

@@ -9,6 +9,7 @@ ghost use Rattle.std.specs.Map.{keys_of};
 ghost use Rattle.std.specs.Prelude.{◌≡◌, IfOk, reverse, true, if◌then◌else◌};
 ghost use Rattle.vtl_lists.specs.Apart.{all_apart};
 ghost use Rattle.vtl_text.specs.Texts.{same_text};
+ghost use Rattle.vtl_rows.specs.Tables.{listed};
 ghost use Rattle.sql_engine.specs.Held.{MayLetGo, let_go, without_rows};
 ghost use Rattle.sql_engine.specs.LastReads.{is_read_from};
 
@@ -20,7 +21,7 @@ use vtl_text::Txt;
 
 // A table of the same columns.
 fn without_rows(alloc: Global, table: &Table) -> Result<Table, AllocError>
-    ensures { IfOk result (λ t. t ≡ without_rows table.now) }
+    ensures { IfOk result (λ t. listed t ≡ without_rows (listed table.now)) }
 {
     let mut columns = Vec::new(alloc);
     for column in table.columns() {

@@ -4,6 +4,7 @@
 // lacks, so each cell is copied once; of many, each would ask all that stand before it.
 ghost use Rattle.std.specs.List.{flat_map};
 ghost use Rattle.std.specs.Prelude.{◌≡◌, [], ◌∷◌, All, IfOk};
+ghost use Rattle.vtl_rows.specs.Tables.{listed};
 ghost use Rattle.vtl_tree.specs.Shown.{shown};
 ghost use Rattle.vtl_tree.specs.Structure.{IsStructure};
 ghost use Rattle.vtl_sets.specs.DataSets.{data_set};
@@ -42,7 +43,7 @@ fn united_by_keys(
     made: &Structure,
 ) -> Result<Table, AllocError>
     requires { AreCombined (structures_of (shown operands.now)) made.now }
-    ensures table { IfOk result (IsTableOf made.now) }
+    ensures table { IfOk result (λ t. IsTableOf made.now (listed t)) }
     ensures rows { IfOk result (λ t. t.rows ≡ union_of (shown operands.now) made.now) }
 {
     are_data_sets(operands);
@@ -59,7 +60,7 @@ fn united_pair(
     made: &Structure,
 ) -> Result<Table, AllocError>
     requires { IsCombined a.now.structure (b.now.structure ∷ []) made.now }
-    ensures table { IfOk result (IsTableOf made.now) }
+    ensures table { IfOk result (λ t. IsTableOf made.now (listed t)) }
     ensures rows { IfOk result (λ t. t.rows ≡ union_of (a.now ∷ b.now ∷ []) made.now) }
 {
     are_data_sets(&[a, b]);
@@ -71,7 +72,7 @@ fn united_pair(
 
 fn union_table(alloc: Global, operands: &[&DataSet], made: &Structure) -> Result<Table, AllocError>
     requires { AreCombined (structures_of (shown operands.now)) made.now }
-    ensures table { IfOk result (IsTableOf made.now) }
+    ensures table { IfOk result (λ t. IsTableOf made.now (listed t)) }
     ensures rows { IfOk result (λ t. t.rows ≡ union_of (shown operands.now) made.now) }
 {
     match operands {

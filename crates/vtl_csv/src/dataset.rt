@@ -3,15 +3,16 @@
 // All cells of a file go into one list, each at once where it stays. Room for it is reserved by the lines at the
 // front of the file: a list that doubles would hold twice its cells.
 ghost use Rattle.std.specs.Prelude.{◌≡◌, ◌<◌, ◌≤◌, [], length, map, take, option_map, All, IfOk, IfSome, Ok};
-ghost use Rattle.vtl_rows.specs.Flat.{IsFlat, flat_rows};
+ghost use Rattle.vtl_rows.specs.Tables.{listed, listed_in};
 ghost use Rattle.vtl_tree.specs.DataSet.{AreOfProfile};
 ghost use Rattle.vtl_tree.specs.Structure.{IsStructure, key_width};
 ghost use Rattle.vtl_sets.specs.TableOf.{IsTableOf, column_for};
+ghost use Rattle.vtl_csv.specs.InputFields.{components_in};
 ghost use Rattle.vtl_csv.specs.InputFile.{Reads, dataset_rows, rows_below, rows_with};
 ghost use Rattle.vtl_csv.specs.InputSteps.{Answers, IsLayout, fault_among, fault_of, flaw_of, layout_seen, rows_outcome, taken, taken_with};
 
 use crate::fields::Fields;
-use crate::file_column::FileColumn;
+use crate::file_column::{FileColumn, file_columns};
 use crate::header::{Layout, read_layout};
 use crate::input::{Fault, Flaw, InputErr, InputKind};
 use crate::input_fields::{MOST_POINTS, fill_row};
@@ -19,10 +20,10 @@ use crate::records::RecordReader;
 use crate::repeats::first_repeat;
 use crate::text_pool::pools;
 use std::alloc::{AllocError, Global};
-use vtl_cell::Cell;
 use vtl_decimal::Profile;
 use vtl_rows::{Column, Table};
 use vtl_sets::table_column;
+use vtl_text::Txt;
 use vtl_tree::Structure;
 
 // So many bytes at the front of a file tell how long its lines are.
@@ -43,7 +44,7 @@ fn expected_rows(text: &[u8]) -> usize {
 
 // The columns of a file's table.
 fn columns_for(alloc: Global, file: &[FileColumn]) -> Result<Vec<Column>, AllocError>
-    ensures { IfOk result (λ columns. columns.items ≡ map column_for file.now) }
+    ensures { IfOk result (λ columns. columns.items ≡ map column_for (components_in file.now)) }
 {
     let mut columns = Vec::with_capacity(alloc, file.len())?;
     for column in file {
@@ -52,50 +53,32 @@ fn columns_for(alloc: Global, file: &[FileColumn]) -> Result<Vec<Column>, AllocE
     Ok(columns)
 }
 
-// No cells, with room for those of this many rows, where there is so much.
-fn room_for(alloc: Global, rows: usize, width: usize) -> Vec<Cell>
-    ensures { result.items ≡ [] }
-{
-    let mut cells = Vec::new(alloc);
-    // Without this room the list grows as it is filled.
-    let _has_room = cells.reserve(rows.saturating_mul(width)).is_ok();
-    cells
-}
-
-// Where the taking of rows ended: behind how many rows, and at which flaw, if at one.
-#[derive(Clone, Copy)]
-struct Ending {
-    count: usize,
-    flaw: Option<Flaw>,
-}
-
-// Puts the rows of the records that are left into a list of no cells, one row after the other, up to the first flaw.
+// Puts the rows of the records that are left into a table of no rows, up to the first flaw, which is the answer.
 fn add_rows<'a>(
     alloc: Global,
-    cells: &mut Vec<Cell>,
+    table: &mut Table,
     columns: &[FileColumn],
     reader: &mut RecordReader<'a>,
     fields: &mut Fields<'a>,
     profile: &Profile,
-) -> Result<Ending, AllocError>
-    requires some { 0 < length columns.now }
-    requires none { cells.old.items ≡ [] }
-    ensures flat { IfOk result (λ e. IsFlat (map column_for columns.now) e.count cells.new.items) }
-    ensures rows { IfOk result (λ e. taken (flat_rows (length columns.now) e.count cells.new.items) (option_map flaw_of e.flaw) ≡ taken_with profile.now columns.now [] reader.old) }
+) -> Result<Option<Flaw>, AllocError>
+    requires columns { table.old.columns ≡ map column_for (components_in columns.now) }
+    requires none { table.old.rows ≡ [] }
+    ensures columns { IfOk result (λ _. table.new.columns ≡ map column_for (components_in columns.now)) }
+    ensures rows { IfOk result (λ flaw. taken table.new.rows (option_map flaw_of flaw) ≡ taken_with profile.now columns.now [] reader.old) }
 {
     let mut pools = pools(alloc, columns.len())?;
-    let mut count = 0usize;
+    let mut cells = Vec::with_capacity(alloc, columns.len())?;
     while reader.next(fields)? {
-        match fill_row(alloc, columns, &mut pools, count, fields, profile, cells)? {
-            None => count += 1,
-            Some(flaw) => {
-                cells.truncate(count * columns.len());
-                let flaw = Some(flaw);
-                return Ok(Ending { count, flaw });
-            }
+        let count = table.len();
+        match fill_row(
+            alloc, columns, &mut pools, count, fields, profile, &mut cells,
+        )? {
+            None => table.push_moved(&mut cells)?,
+            Some(flaw) => return Ok(Some(flaw)),
         }
     }
-    Ok(Ending { count, flaw: None })
+    Ok(None)
 }
 
 // A table of the records that are left, about so many, up to the first flaw, and that flaw, if there is one.
@@ -108,14 +91,14 @@ fn take_rows<'a>(
     profile: &Profile,
 ) -> Result<(Table, Option<Flaw>), AllocError>
     requires { 0 < length columns.now }
-    ensures columns { IfOk result (λ r. r.0.columns ≡ map column_for columns.now) }
+    ensures columns { IfOk result (λ r. r.0.columns ≡ map column_for (components_in columns.now)) }
     ensures rows { IfOk result (λ r. taken r.0.rows (option_map flaw_of r.1) ≡ taken_with profile.now columns.now [] reader.old) }
 {
-    let table_columns = columns_for(alloc, columns)?;
-    let mut cells = room_for(alloc, expected, columns.len());
-    let ending = add_rows(alloc, &mut cells, columns, reader, fields, profile)?;
-    let table = Table::of_cells(table_columns, cells, ending.count);
-    Ok((table, ending.flaw))
+    let mut table = Table::new(alloc, columns_for(alloc, columns)?);
+    // Without this room the table grows as it is filled.
+    let _has_room = table.reserve_rows(expected).is_ok();
+    let flaw = add_rows(alloc, &mut table, columns, reader, fields, profile)?;
+    Ok((table, flaw))
 }
 
 // The first fault of a file with the rows of a table: the first repeat of identifiers, otherwise the flaw after the
@@ -156,7 +139,7 @@ fn read_rows<'a>(
 ) -> Result<(Table, Option<Fault>), AllocError>
     requires some { 0 < length columns.now }
     requires keys { All (λ i. i < length columns.now) keys.now }
-    ensures columns { IfOk result (λ r. r.0.columns ≡ map column_for columns.now) }
+    ensures columns { IfOk result (λ r. r.0.columns ≡ map column_for (components_in columns.now)) }
     ensures rows { IfOk result (λ r. rows_outcome r.0.rows (option_map fault_of r.1) ≡ rows_with profile.now columns.now keys.now [] reader.old) }
 {
     let (table, flaw) = take_rows(alloc, columns, expected, reader, fields, profile)?;
@@ -191,6 +174,7 @@ fn key_places<'a>(
 fn read_table<'a>(
     alloc: Global,
     structure: &Structure,
+    not_null: &[Txt],
     layout: &Layout,
     expected: usize,
     reader: &mut RecordReader<'a>,
@@ -199,18 +183,11 @@ fn read_table<'a>(
 ) -> Result<Result<Table, Fault>, AllocError>
     requires structure { IsStructure structure.now }
     requires layout { IsLayout structure.now (layout_seen layout.now) }
-    ensures { IfOk result (λ r. Answers structure.now r (rows_below profile.now structure.now (layout_seen layout.now) reader.old)) }
+    ensures { IfOk result (λ r. Answers structure.now r (rows_below profile.now structure.now not_null.now (layout_seen layout.now) reader.old)) }
 {
     let keys = key_places(alloc, structure, &layout.places)?;
-    let (table, fault) = read_rows(
-        alloc,
-        &layout.columns,
-        keys,
-        expected,
-        reader,
-        fields,
-        profile,
-    )?;
+    let columns = file_columns(alloc, &layout.columns, not_null)?;
+    let (table, fault) = read_rows(alloc, &columns, keys, expected, reader, fields, profile)?;
     match fault {
         Some(fault) => Ok(Err(fault)),
         None => Ok(Ok(table.into_projected(alloc, &layout.places)?)),
@@ -222,10 +199,11 @@ fn read_text(
     alloc: Global,
     text: &[u8],
     structure: &Structure,
+    not_null: &[Txt],
     profile: &Profile,
 ) -> Result<Result<Table, Fault>, AllocError>
     requires { IsStructure structure.now }
-    ensures { IfOk result (λ r. Answers structure.now r (dataset_rows profile.now structure.now text.now)) }
+    ensures { IfOk result (λ r. Answers structure.now r (dataset_rows profile.now structure.now not_null.now text.now)) }
 {
     let mut reader = RecordReader::new(alloc, text);
     let mut fields = Fields::new(alloc);
@@ -238,6 +216,7 @@ fn read_text(
             read_table(
                 alloc,
                 structure,
+                not_null,
                 &layout,
                 expected,
                 &mut reader,
@@ -251,20 +230,22 @@ fn read_text(
 
 /// The data set of the structure that a CSV file holds: a table of its points in the order of the file, with the
 /// components as columns, identifiers first, then measures, then attributes. Otherwise the first fault by line, and
-/// within a line in the order: too many rows, a wrong width, the fields by column, a repeat of identifiers. Integers
-/// are of the profile. It otherwise fails only if memory runs out.
+/// within a line in the order: too many rows, a wrong width, the fields by column, a repeat of identifiers. The
+/// components of the names `not_null` have no empty field. Integers are of the profile. It otherwise fails only if
+/// memory runs out.
 pub fn read_dataset(
     alloc: Global,
     text: &[u8],
     structure: &Structure,
+    not_null: &[Txt],
     profile: &Profile,
 ) -> Result<Table, InputErr>
     requires { IsStructure structure.now }
-    ensures rows { Reads structure.now result (dataset_rows profile.now structure.now text.now) }
-    ensures points { IfOk result (λ t. IsTableOf structure.now t) }
+    ensures rows { Reads structure.now (listed_in result) (dataset_rows profile.now structure.now not_null.now text.now) }
+    ensures points { IfOk result (λ t. IsTableOf structure.now (listed t)) }
     ensures profile { IfOk result (λ t. AreOfProfile profile.now t.rows) }
 {
-    match read_text(alloc, text, structure, profile) {
+    match read_text(alloc, text, structure, not_null, profile) {
         Ok(Ok(table)) => Ok(table),
         Ok(Err(fault)) => Err(InputErr::Fault {
             line: fault.line,

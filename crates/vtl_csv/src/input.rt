@@ -18,6 +18,8 @@ pub enum InputKind {
     NotText,
     /// The field of an identifier is empty.
     NullIdentifier,
+    /// The field of a not-null component is empty.
+    NotNull,
     /// A field spells no value of its component's kind.
     BadValue,
     /// A field is not among the codes of its component.

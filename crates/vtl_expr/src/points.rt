@@ -101,7 +101,7 @@ impl Points {
         ensures rows { OnOk result (self.new.table.rows ≡ self.old.table.rows ++ self.old.cells.items ∷ []) }
         ensures seen { self.new.seen ≡ self.old.seen }
     {
-        self.table.push_cells(&mut self.cells)
+        self.table.push_moved(&mut self.cells)
     }
 
     /// The table, unless a value has a fault.

@@ -74,20 +74,6 @@ impl Drop for Prepared {
     }
 }
 
-// An equal call of an aggregate, whose text is shared.
-fn shared_call(call: &AggCall) -> Result<AggCall, AllocError>
-    ensures { IfOk result (λ shared. shared ≡ call.now) }
-{
-    let component = match &call.component {
-        Some(name) => Some(name.share()?),
-        None => None,
-    };
-    Ok(AggCall {
-        kind: call.kind,
-        component,
-    })
-}
-
 /// The expression, prepared: its value at each point and over each group is that of the tree. It fails only if memory
 /// runs out.
 #[cycle(preparing)]
@@ -100,7 +86,7 @@ pub fn prepare(alloc: Global, e: &CompExpr) -> Result<Prepared, AllocError>
             name: name.share()?,
         }),
         CompExpr::Const(cell) => Ok(Prepared::Const(clone_cell(cell)?)),
-        CompExpr::Aggregate { call, .. } => Ok(Prepared::Aggregate(shared_call(call)?)),
+        CompExpr::Aggregate { call, .. } => Ok(Prepared::Aggregate(call.share()?)),
         CompExpr::Apply { op, kind, args } => {
             let args = prepare_all(alloc, args)?;
             prepared_call(alloc, *op, *kind, args)

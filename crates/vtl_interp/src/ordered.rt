@@ -2,6 +2,7 @@
 ghost use Rattle.std.specs.Prelude.{◌≡◌, ◌≢◌, ◌<◌, ◌≤◌, ◌+◌, length, true, All, Err, IfOk, OnOk};
 ghost use Rattle.vtl_check.specs.Checked.{tree_of};
 ghost use Rattle.vtl_check.specs.Transformations.{transformations};
+ghost use Rattle.vtl_rows.specs.Tables.{listed};
 ghost use Rattle.vtl_backend.specs.Inputs.{AreInRange, AreInputs};
 ghost use Rattle.vtl_backend.specs.Runs.{Runs};
 ghost use Rattle.vtl_backend.specs.Statements.{is_script_built};
@@ -88,7 +89,7 @@ fn put_sorted(
     table: &Table,
     count: usize,
 ) -> Result<(), AllocError>
-    ensures { OnOk result (IsPut name.now table.now sorted.old sorted.new) }
+    ensures { OnOk result (IsPut name.now (listed table.now) sorted.old sorted.new) }
 {
     match sorted.get(name) {
         Some(_) => Ok(()),
@@ -102,7 +103,7 @@ fn put_sorted(
 
 // The rows of a table in the order of the first columns. Rows that stand so already are shared where they can be.
 fn sorted_table(alloc: Global, table: &Table, count: usize) -> Result<Table, AllocError>
-    ensures { IfOk result (IsReordered table.now) }
+    ensures { IfOk result (λ t. IsReordered (listed table.now) (listed t)) }
 {
     let keys = first_columns(alloc, count.min(table.columns().len()))?;
     let places = table.places_by_columns(alloc, &keys)?;

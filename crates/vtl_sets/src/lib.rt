@@ -5,9 +5,6 @@
 //! `DataSet` cannot be made from any other table. What operators make of data sets is left to others.
 //! It knows no operator, no rule of typing, no script, no file and no text format.
 //! Begin with specs/TableOf, then `data_set.rt`.
-//!
-//! Data sets in tables are a crate of their own, so that evaluation and the contract of back ends know no format of
-//! files.
 #![tactic(auto)]
 
 mod columns;

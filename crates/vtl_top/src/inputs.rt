@@ -6,6 +6,7 @@ ghost use Rattle.std.specs.Prelude.{◌≡◌, ◌<◌, [], None, length, map, s
 ghost use Rattle.std.specs.List.{AllByRecursion};
 ghost use Rattle.std.specs.Map.{keys_of};
 ghost use Rattle.vtl_rows.specs.Named.{table_of};
+ghost use Rattle.vtl_rows.specs.Tables.{listed};
 ghost use Rattle.vtl_tree.specs.DataSet.{AreOfProfile};
 ghost use Rattle.vtl_tree.specs.Structure.{IsStructure};
 ghost use Rattle.vtl_csv.specs.InputFile.{dataset_rows};
@@ -49,10 +50,10 @@ fn table_in(
     profile: &Profile,
 ) -> Result<Table, Status>
     requires { IsStructure structure.now }
-    ensures table { IsTableRead name.now structure.now (dataset_rows profile.now structure.now bytes.now) result }
+    ensures table { IsTableRead name.now structure.now (dataset_rows profile.now structure.now [] bytes.now) result }
     ensures ranges { IfOk result (λ t. AreOfProfile profile.now t.rows) }
 {
-    match read_dataset(alloc, bytes, structure, profile) {
+    match read_dataset(alloc, bytes, structure, &[], profile) {
         Ok(table) => Ok(table),
         Err(error) => Err(input_refusal(name, error)),
     }
@@ -69,7 +70,7 @@ fn read_input<F: Files>(
 ) -> Result<Table, Status>
     requires { IsStructure structure.now }
     ensures takes { Takes F.Files files.old files.new (dataset_step folder.now profile.now (name.now, structure.now)) rows_in result }
-    ensures table { IfOk result (λ t. IsTableOf structure.now t) }
+    ensures table { IfOk result (λ t. IsTableOf structure.now (listed t)) }
     ensures ranges { IfOk result (λ t. AreOfProfile profile.now t.rows) }
 {
     let path = file_in(alloc, folder, name)?;

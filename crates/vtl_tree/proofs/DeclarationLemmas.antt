@@ -37,15 +37,6 @@ lookup_seen test (x ∷ xs) = go (test x.0) (lookup_seen test xs)
 pub nothing_seen : (test : List ℕ → Bool) (xs : Held) → lookup test xs ≡ None → lookup test (sets_of xs) ≡ None
 nothing_seen test xs e = lookup_seen test xs ∙ ap (option_map (λ d. d.structure)) e
 
-pub length_seen : (xs : Held) → length (sets_of xs) ≡ length xs
-length_seen [] = refl
-length_seen (x ∷ xs) = ap suc (length_seen xs)
-
-pub place_seen : (xs : Held) (i : ℕ) (name : List ℕ) (d : Declaration) → slice_get xs i ≡ Some (name, d) → slice_get (sets_of xs) i ≡ Some (name, d.structure)
-place_seen [] i name d e = cc
-place_seen (x ∷ xs) zero name d e = let same : x ≡ (name, d) = cc in ap (λ y. Some (y.0, y.1.structure)) same
-place_seen (x ∷ xs) (suc i) name d e = place_seen xs i name d e
-
 declarable_seen : (xs : Held) → list_all is_declaration xs ≡ true → list_all is_declarable_entry (sets_of xs) ≡ true
 declarable_seen [] h = refl
 declarable_seen (x ∷ xs) h =
@@ -89,30 +80,27 @@ not_false true e = cc
 
 not_listed : (xs : Held) (name : List ℕ) → list_any (same_name name) (keys_of xs) ≡ false → lookup (same_name name) (lists_of xs) ≡ None
 not_listed [] name e = refl
-not_listed (x ∷ xs) name e = go x.1.not_null
+not_listed (x ∷ xs) name e =
+    let parts = or_none (same_name name x.0) (list_any (same_name name) (keys_of xs)) e in
+    go x.1.not_null parts.0 (not_listed xs name parts.1)
   where
-    parts : (same_name name x.0 ≡ false) × (list_any (same_name name) (keys_of xs) ≡ false)
-    parts = or_none (same_name name x.0) (list_any (same_name name) (keys_of xs)) e
-
-    go : (ns : List (List ℕ)) → lookup (same_name name) (with_list x.0 ns ++ lists_of xs) ≡ None
-    go [] = not_listed xs name parts.1
-    go (n ∷ ns) = ap (λ b. cond b (Some (n ∷ ns)) (lookup (same_name name) (lists_of xs))) parts.0 ∙ not_listed xs name parts.1
+    go : (ns : List (List ℕ)) → same_name name x.0 ≡ false → lookup (same_name name) (lists_of xs) ≡ None → lookup (same_name name) (with_list x.0 ns ++ lists_of xs) ≡ None
+    go [] f ih = ih
+    go (n ∷ ns) f ih = ap (λ b. cond b (Some (n ∷ ns)) (lookup (same_name name) (lists_of xs))) f ∙ ih
 
 -- the list of a name is the one that is held for it
 pub list_found : (xs : Held) (name : List ℕ) → all_apart same_name (keys_of xs) ≡ true → not_null_of name (lists_of xs) ≡ option_map_or (λ d. d.not_null) (lookup (same_name name) xs) []
 list_found [] name h = refl
-list_found (x ∷ xs) name h = go (same_name name x.0) x.1.not_null refl refl
+list_found (x ∷ xs) name h =
+    let parts = and_parts (not (list_any (same_name x.0) (keys_of xs))) (all_apart same_name (keys_of xs)) h in
+    go (not_false (list_any (same_name x.0) (keys_of xs)) parts.0) (list_found xs name parts.1) (same_name name x.0) x.1.not_null refl refl
   where
-    parts : (not (list_any (same_name x.0) (keys_of xs)) ≡ true) × (all_apart same_name (keys_of xs) ≡ true)
-    parts = and_parts (not (list_any (same_name x.0) (keys_of xs))) (all_apart same_name (keys_of xs)) h
-
-    go : (b : Bool) (ns : List (List ℕ)) → same_name name x.0 ≡ b → x.1.not_null ≡ ns
+    go : list_any (same_name x.0) (keys_of xs) ≡ false → not_null_of name (lists_of xs) ≡ option_map_or (λ d. d.not_null) (lookup (same_name name) xs) [] → (b : Bool) (ns : List (List ℕ)) → same_name name x.0 ≡ b → x.1.not_null ≡ ns
         → not_null_of name (with_list x.0 ns ++ lists_of xs) ≡ option_map_or (λ d. d.not_null) (cond b (Some x.1) (lookup (same_name name) xs)) []
-    go true [] e q =
-        ap (λ o. unwrap_or o []) (not_listed xs name (same_any name x.0 (keys_of xs) e ∙ not_false (list_any (same_name x.0) (keys_of xs)) parts.0)) ∙ sym q
-    go true (n ∷ ns) e q = ap (λ c. unwrap_or (cond c (Some (n ∷ ns)) (lookup (same_name name) (lists_of xs))) []) e ∙ sym q
-    go false [] e q = list_found xs name parts.1
-    go false (n ∷ ns) e q = ap (λ c. unwrap_or (cond c (Some (n ∷ ns)) (lookup (same_name name) (lists_of xs))) []) e ∙ list_found xs name parts.1
+    go new ih true [] e q = ap (λ o. unwrap_or o []) (not_listed xs name (same_any name x.0 (keys_of xs) e ∙ new)) ∙ sym q
+    go new ih true (n ∷ ns) e q = ap (λ c. unwrap_or (cond c (Some (n ∷ ns)) (lookup (same_name name) (lists_of xs))) []) e ∙ sym q
+    go new ih false [] e q = ih
+    go new ih false (n ∷ ns) e q = ap (λ c. unwrap_or (cond c (Some (n ∷ ns)) (lookup (same_name name) (lists_of xs))) []) e ∙ ih
 
 -- it fits the structure of the name
 pub list_fits : (xs : Held) (name : List ℕ) (o : Option Declaration) → list_all is_declaration xs ≡ true → lookup (same_name name) xs ≡ o
@@ -124,37 +112,16 @@ list_fits xs name (Some d) h e =
 
 -- ---- one more name
 
-sets_push : (xs : Held) (name : List ℕ) (d : Declaration) → sets_of (xs ++ (name, d) ∷ []) ≡ sets_of xs ++ (name, d.structure) ∷ []
-sets_push [] name d = refl
-sets_push (x ∷ xs) name d = ap (λ l. (x.0, x.1.structure) ∷ l) (sets_push xs name d)
-
-lists_push : (xs : Held) (name : List ℕ) (d : Declaration) → lists_of (xs ++ (name, d) ∷ []) ≡ lists_of xs ++ with_list name d.not_null
-lists_push [] name d = append-nil (with_list name d.not_null)
-lists_push (x ∷ xs) name d = ap (λ l. with_list x.0 x.1.not_null ++ l) (lists_push xs name d) ∙ sym (append_assoc (with_list x.0 x.1.not_null) (lists_of xs) (with_list name d.not_null))
-
 put_are : (xs : Held) (name : List ℕ) (d : Declaration) → AreDeclarations xs → has_name name (sets_of xs) ≡ false → is_declarable d.structure ≡ true → are_not_null d.structure d.not_null ≡ true → AreDeclarations (xs ++ (name, d) ∷ [])
 put_are xs name d h e s l = record {
   all = all_push is_declaration xs (name, d) h.all (and_from (is_declarable d.structure) (are_not_null d.structure d.not_null) s l);
   distinct = ap (all_apart same_name) (keys_push xs name d) ∙ apart_push (keys_of xs) name h.distinct (ap (list_any (same_name name)) (sym (keys_seen xs)) ∙ e);
 }
 
-module _ {A E : Type 0} (xs new : Held) (name : List ℕ) (d : Declaration) where
-  pub put_leaves : (r : Result A E) → AreDeclarations xs → has_name name (sets_of xs) ≡ false → is_declarable d.structure ≡ true → are_not_null d.structure d.not_null ≡ true
-      → OnOk r (new ≡ xs ++ (name, d) ∷ []) → OnErr r (new ≡ xs) → AreDeclarations new
-  put_leaves (Ok a) h e s l put kept = subst AreDeclarations (sym put) (put_are xs name d h e s l)
-  put_leaves (Err a) h e s l put kept = subst AreDeclarations (sym kept) h
-
-  pub put_sets : (r : Result A E) → OnOk r (new ≡ xs ++ (name, d) ∷ []) → OnOk r (sets_of new ≡ sets_of xs ++ (name, d.structure) ∷ [])
-  put_sets (Ok a) put = ap sets_of put ∙ sets_push xs name d
-  put_sets (Err a) put = tt
-
-  pub put_lists : (r : Result A E) → OnOk r (new ≡ xs ++ (name, d) ∷ []) → OnOk r (lists_of new ≡ lists_of xs ++ with_list name d.not_null)
-  put_lists (Ok a) put = ap lists_of put ∙ lists_push xs name d
-  put_lists (Err a) put = tt
-
-  pub put_kept : (r : Result A E) → OnErr r (new ≡ xs) → OnErr r (declared new ≡ declared xs)
-  put_kept (Ok a) kept = tt
-  put_kept (Err a) kept = ap declared kept
+pub put_leaves : {A E : Type 0} (xs new : Held) (name : List ℕ) (d : Declaration) (r : Result A E) → AreDeclarations xs → has_name name (sets_of xs) ≡ false → is_declarable d.structure ≡ true
+    → are_not_null d.structure d.not_null ≡ true → OnOk r (new ≡ xs ++ (name, d) ∷ []) → OnErr r (new ≡ xs) → AreDeclarations new
+put_leaves xs new name d (Ok a) h e s l put kept = subst AreDeclarations (sym put) (put_are xs name d h e s l)
+put_leaves xs new name d (Err a) h e s l put kept = subst AreDeclarations (sym kept) h
 
 -- ---- one more component of a name that is there
 

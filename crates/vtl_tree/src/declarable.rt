@@ -5,8 +5,8 @@ ghost use Rattle.vtl_lists.specs.Apart.{all_apart};
 ghost use Rattle.vtl_tree.specs.Structure.{names_of, same_name};
 ghost use Rattle.vtl_tree.specs.Structures.{are_codes, codes_fit, is_declarable, is_declarable_component, is_filled, is_null_kind, is_string_identifier};
 
-use crate::structure::{Component, Role, Structure};
 use crate::limits::MAX_COMPONENTS;
+use crate::structure::{Component, Role, Structure};
 use std::alloc::{AllocError, Global};
 use vtl_cell::Kind;
 use vtl_text::{Txt, are_distinct, is_component_name};

@@ -137,7 +137,10 @@ impl Structures {
         ensures found { option_copied result ≡ lookup (same_name name.now) self.now.sets }
         ensures declarable { IfSome result (λ s. is_declarable s.now ≡ true) }
     {
-        Some(&self.by_name.get(name)?.structure)
+        match self.by_name.get(name) {
+            Some(declaration) => Some(&declaration.structure),
+            None => None,
+        }
     }
 
     /// The not-null list of a name: empty for a name without one.
