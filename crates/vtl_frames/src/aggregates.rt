@@ -6,15 +6,14 @@ ghost use Rattle.vtl_frames.specs.Kept.{is_moved};
 
 use crate::bounds::Cut;
 use crate::kept::Kept;
-use crate::medians::push_medians;
-use crate::taken_back::or_taken_back;
+use crate::medians::put_medians;
 use crate::{Frame, Partition};
 use std::alloc::{AllocError, Global};
 use vtl_cell::{AggKind, Cell};
 use vtl_decimal::{Fault, Profile};
 
 // The values of an aggregate that is kept up as its frame moves. On Err some of them may stand there.
-fn push_moved<P: Partition>(
+fn put_moved<P: Partition>(
     alloc: Global,
     out: &mut Vec<Result<Cell, Fault>>,
     cells: &P,
@@ -38,6 +37,24 @@ fn push_moved<P: Partition>(
     Ok(())
 }
 
+// Puts the value of an aggregate over the frame of each row behind other values. On Err some of them may stand there.
+fn put_aggregates<P: Partition>(
+    alloc: Global,
+    out: &mut Vec<Result<Cell, Fault>>,
+    cells: &P,
+    frame: Frame,
+    kind: AggKind,
+    p: &Profile,
+) -> Result<(), AllocError>
+    ensures ok { OnOk result (out.new.items ≡ out.old.items ++ at_each (λ i. group_value p.now kind (framed frame i (P.cells cells.now))) (P.cells cells.now)) }
+    ensures err { OnErr result (take (length out.old.items) out.new.items ≡ out.old.items) }
+{
+    match kind {
+        AggKind::Median => put_medians(alloc, out, cells, frame, p),
+        _ => put_moved(alloc, out, cells, frame, kind, p),
+    }
+}
+
 /// Puts the value of an aggregate over the frame of each row behind other values. It fails only if memory runs out; then
 /// the others are as they were.
 ///
@@ -54,9 +71,9 @@ pub fn push_aggregates<P: Partition>(
     ensures err { OnErr result (out.new.items ≡ out.old.items) }
 {
     let before = out.len();
-    let pushed = match kind {
-        AggKind::Median => push_medians(alloc, out, cells, frame, p),
-        _ => push_moved(alloc, out, cells, frame, kind, p),
-    };
-    or_taken_back(out, before, pushed)
+    let put = put_aggregates(alloc, out, cells, frame, kind, p);
+    if put.is_err() {
+        out.truncate(before);
+    }
+    put
 }

@@ -3,7 +3,7 @@
 //!
 //! The row numbers of a table in an order are cut into partitions ([`Stretches`]), and a column at the rows of one lends
 //! its cells ([`Lane`]). Each function puts the value at every place of the partition behind others, a fault standing
-//! for a value where there is one, or leaves the others as they were where memory runs out. The cells are lent
+//! for a value where there is one; where memory runs out, the others are left as they were. The cells are lent
 //! ([`Partition`]), and none is copied but into a value. A frame moves up its partition: totals and counts are kept up as
 //! cells come and go, and the least and the greatest by a queue, so that an aggregate takes time that is linear in the
 //! partition, however long its frames are; a median alone goes through each frame.
@@ -27,7 +27,6 @@ mod picks;
 mod ranks;
 mod ratios;
 mod stretches;
-mod taken_back;
 mod totals;
 
 pub use aggregates::push_aggregates;

@@ -31,7 +31,7 @@ fn median_of<P: Partition>(
 }
 
 /// Puts the median of the frame of each row behind other values. On Err some of them may stand there.
-pub(crate) fn push_medians<P: Partition>(
+pub(crate) fn put_medians<P: Partition>(
     alloc: Global,
     out: &mut Vec<Result<Cell, Fault>>,
     cells: &P,

@@ -4,7 +4,6 @@ ghost use Rattle.vtl_frames.specs.Framed.{at_each, framed};
 ghost use Rattle.vtl_frames.specs.Picks.{cell_or, end_cell, end_place, place_away, shifted};
 
 use crate::bounds::Cut;
-use crate::taken_back::or_taken_back;
 use crate::{Frame, Partition};
 use std::alloc::AllocError;
 use vtl_cell::{Cell, clone_cell};
@@ -100,7 +99,10 @@ pub fn push_ends<P: Partition>(
 {
     let before = out.len();
     let put = put_ends(out, cells, frame, end);
-    or_taken_back(out, before, put)
+    if put.is_err() {
+        out.truncate(before);
+    }
+    put
 }
 
 // Puts the cell so many places before each row, or behind it, behind other values. On Err some of them may stand there.
@@ -136,5 +138,8 @@ pub fn push_shifted<P: Partition>(
 {
     let before = out.len();
     let put = put_shifted(out, cells, shift, distance, default);
-    or_taken_back(out, before, put)
+    if put.is_err() {
+        out.truncate(before);
+    }
+    put
 }

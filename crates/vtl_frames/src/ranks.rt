@@ -4,7 +4,6 @@
 ghost use Rattle.std.specs.Prelude.{◌≡◌, ◌++◌, length, map, take, OnErr, OnOk};
 ghost use Rattle.vtl_frames.specs.Ranked.{AreInOrder, count_in, ranks_in};
 
-use crate::taken_back::or_taken_back;
 use std::alloc::{AllocError, Global};
 use vtl_cell::Cell;
 use vtl_decimal::{Fault, Profile, whole};
@@ -18,7 +17,7 @@ fn count_cell(count: usize, p: &Profile) -> Result<Cell, Fault>
 }
 
 // Puts counts behind other values. On Err some of them may stand there.
-fn push_counts(
+fn put_counts(
     out: &mut Vec<Result<Cell, Fault>>,
     counts: &[usize],
     p: &Profile,
@@ -30,6 +29,25 @@ fn push_counts(
         out.push(count_cell(*count, p))?;
     }
     Ok(())
+}
+
+// Puts the ranks of the rows of a partition behind other values; the rows stand in the order of the keys. On Err some of
+// them may stand there.
+fn put_ranks(
+    alloc: Global,
+    out: &mut Vec<Result<Cell, Fault>>,
+    table: &Table,
+    run: &[usize],
+    keys: &[SortKey],
+    p: &Profile,
+) -> Result<(), AllocError>
+    requires { AreInOrder keys.now table.now.rows run.now }
+    ensures ok { OnOk result (out.new.items ≡ out.old.items ++ ranks_in p.now keys.now table.now.rows run.now) }
+    ensures err { OnErr result (take (length out.old.items) out.new.items ≡ out.old.items) }
+{
+    let peers = table.runs(alloc, run, keys)?;
+    let ranks = ranks(alloc, &[0], &peers, run.len())?;
+    put_counts(out, &ranks, p)
 }
 
 /// Puts the ranks of the rows of a partition behind other values; the rows stand in the order of the keys. It fails only
@@ -46,9 +64,10 @@ pub fn push_ranks(
     ensures ok { OnOk result (out.new.items ≡ out.old.items ++ ranks_in p.now keys.now table.now.rows run.now) }
     ensures err { OnErr result (out.new.items ≡ out.old.items) }
 {
-    let peers = table.runs(alloc, run, keys)?;
-    let ranks = ranks(alloc, &[0], &peers, run.len())?;
     let before = out.len();
-    let pushed = push_counts(out, &ranks, p);
-    or_taken_back(out, before, pushed)
+    let put = put_ranks(alloc, out, table, run, keys, p);
+    if put.is_err() {
+        out.truncate(before);
+    }
+    put
 }

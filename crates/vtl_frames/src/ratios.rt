@@ -10,7 +10,6 @@ ghost use Rattle.vtl_frames.specs.Framed.{at_each};
 ghost use Rattle.vtl_frames.specs.Ratios.{ratio_to, total_number};
 
 use crate::Partition;
-use crate::taken_back::or_taken_back;
 use crate::totals::Totals;
 use std::alloc::AllocError;
 use vtl_agg::{quotient, unit, units};
@@ -89,5 +88,8 @@ pub fn push_ratios<P: Partition>(
 {
     let before = out.len();
     let put = put_ratios(out, cells, p);
-    or_taken_back(out, before, put)
+    if put.is_err() {
+        out.truncate(before);
+    }
+    put
 }

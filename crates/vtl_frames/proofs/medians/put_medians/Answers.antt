@@ -5,7 +5,7 @@ use Rattle.vtl_cell.specs.declared.cell.Cell.{Cell}
 use Rattle.vtl_cell.specs.declared.operator.AggKind.TheVariants.{Median}
 use Rattle.vtl_frames.specs.Framed.{end_of, framed, start_of}
 use Rattle.vtl_frames.proofs.PlaceLemmas.{each_more, framed_at}
-use Rattle.vtl_frames.proofs.medians.push_medians.Goals as goal
+use Rattle.vtl_frames.proofs.medians.put_medians.Goals as goal
 
 pub loop-place-preserved : goal.loop-place-preserved
 loop-place-preserved g c =

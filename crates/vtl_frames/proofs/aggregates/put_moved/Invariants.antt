@@ -5,7 +5,7 @@ use Rattle.vtl_frames.specs.Best.{cell_in}
 use Rattle.vtl_frames.specs.Framed.{framed, places_from}
 use Rattle.vtl_frames.specs.Kept.{Keeps}
 use Rattle.vtl_frames.proofs.PlaceLemmas.{IsBehind}
-use Rattle.vtl_frames.proofs.aggregates.push_moved.Given as goal
+use Rattle.vtl_frames.proofs.aggregates.put_moved.Given as goal
 
 abbrev pub invariant-loop-place : goal.invariant-loop-place
 invariant-loop-place g l = record {

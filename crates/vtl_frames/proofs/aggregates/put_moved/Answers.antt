@@ -5,7 +5,7 @@ use Rattle.vtl_cell.specs.declared.cell.Cell.{Cell}
 use Rattle.vtl_frames.specs.Best.{cell_in}
 use Rattle.vtl_frames.specs.Framed.{cells_at, end_of, framed, places_from, start_of}
 use Rattle.vtl_frames.proofs.PlaceLemmas.{behind_first, behind_next, each_more, end_within, framed_at, many_places, places_within}
-use Rattle.vtl_frames.proofs.aggregates.push_moved.Goals as goal
+use Rattle.vtl_frames.proofs.aggregates.put_moved.Goals as goal
 
 pub loop-place-init : goal.loop-place-init
 loop-place-init g c =
