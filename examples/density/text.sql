@@ -17,23 +17,15 @@ CREATE TABLE "density$3" AS
   SELECT "a"."Region" AS "Region", "a"."Year" AS "Year", "a"."Inhabitants" AS "Inhabitants",
     "a"."Km2" AS "Km2", "a"."Name" AS "Name", "a"."Inhabitants" / "a"."Km2" AS "Density"
   FROM "density$2" AS "a";
-CREATE TABLE "density$4" AS
-  SELECT "a"."Region" AS "Region", "a"."Year" AS "Year", "a"."Name" AS "Name",
-    "a"."Density" AS "Density"
-  FROM "density$3" AS "a";
 CREATE TABLE "density" AS
   SELECT "a"."Region" AS "Region", "a"."Year" AS "Year", "a"."Name" AS "Name",
     "a"."Density" AS "Density"
-  FROM "density$4" AS "a";
-CREATE TABLE "known$1" AS
+  FROM "density$3" AS "a";
+CREATE TABLE "known" AS
   SELECT "a$0"."Region" AS "Region", "a$0"."Year" AS "Year", "a$0"."Inhabitants" AS "Inhabitants",
     "a$1"."Km2" AS "Km2"
   FROM "population" AS "a$0"
   LEFT JOIN "area" AS "a$1" ON "a$1"."Region" = "a$0"."Region";
-CREATE TABLE "known" AS
-  SELECT "a"."Region" AS "Region", "a"."Year" AS "Year", "a"."Inhabitants" AS "Inhabitants",
-    "a"."Km2" AS "Km2"
-  FROM "known$1" AS "a";
 CREATE TABLE "no_area$1" AS
   SELECT "a"."Region" AS "Region", "a"."Year" AS "Year", "a"."Inhabitants" AS "Inhabitants",
     "a"."Km2" AS "Km2"

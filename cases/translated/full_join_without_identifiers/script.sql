@@ -19,12 +19,9 @@ CREATE TABLE "R$2" AS
   SELECT "a"."there" AS "there"
   FROM "R$1" AS "a"
   GROUP BY "a"."there";
-CREATE TABLE "R$3" AS
+CREATE TABLE "R" AS
   SELECT "a$1"."u" AS "u", "a$2"."v" AS "v"
   FROM "R$2" AS "a$0"
   LEFT JOIN "A" AS "a$1" ON TRUE
   LEFT JOIN "B" AS "a$2" ON TRUE;
-CREATE TABLE "R" AS
-  SELECT "a"."u" AS "u", "a"."v" AS "v"
-  FROM "R$3" AS "a";
 EXPORT "R";

@@ -16,10 +16,7 @@ CREATE TABLE "R$3" AS
 CREATE TABLE "R$4" AS
   SELECT "a"."k" AS "k", "a"."s" AS "s", "a"."w" AS "w"
   FROM "R$3" AS "a";
-CREATE TABLE "R$5" AS
+CREATE TABLE "R" AS
   SELECT "a"."k" AS "k", "a"."s" AS "t", "a"."w" AS "w"
   FROM "R$4" AS "a";
-CREATE TABLE "R" AS
-  SELECT "a"."k" AS "k", "a"."t" AS "t", "a"."w" AS "w"
-  FROM "R$5" AS "a";
 EXPORT "R" ORDER BY "k";

@@ -1,5 +1,5 @@
 -- The clauses, behind the parts that are expressions. The clauses of a join's body see the operands of the join.
-use Rattle.std.specs.Prelude.{ℕ, List, [], ◌∷◌, ◌++◌, Option, option_and_then, Result, Ok, map}
+use Rattle.std.specs.Prelude.{ℕ, List, [], Option, option_and_then, Result, Ok, map}
 use Rattle.std.specs.Result.{result_ok}
 use Rattle.vtl_decimal.specs.Settings.{Settings}
 use Rattle.vtl_cell.specs.Conversion.{as_kind}
@@ -18,10 +18,11 @@ use Rattle.vtl_tree.specs.Trees as nodes
 use Rattle.vtl_tree.specs.Trees.{FormTree, NodeTree, node, structure_of}
 use Rattle.vtl_tree.specs.declared.clauses.SubItem.{SubItem}
 use Rattle.vtl_lists.specs.Results.{◌>>=◌}
+use Rattle.check_faults.specs.InTurn.{in_turn}
 use Rattle.check_faults.specs.declared.rules.Rule.{Rule}
 use Rattle.vtl_tree.specs.Choices.{chosen}
 use Rattle.check_shapes.specs.Clauses.{pivot_form, rename_form, unpivot_form}
-use Rattle.check_shapes.specs.Names.{known}
+use Rattle.check_shapes.specs.Names.{known, known_name}
 use Rattle.check_shapes.specs.Shape.{shaped}
 use Rattle.vtl_tree.specs.declared.choices.Choice.{Choice}
 use Rattle.vtl_tree.specs.declared.choices.Choice.TheVariants as choice
@@ -44,12 +45,11 @@ filter_form n x = condition_in x >>= λ e. made_of (nodes.filter n e) (structure
 -- ---- `keep` and `drop`
 -- the name that a reference is, which stands for a component of the wanted role behind other names
 unfoldable pub name_known : Option Joined → Wanted → List Component → List (List ℕ) → Reference → Result (List ℕ) Rule
-name_known j w xs before r = name_written j (written_by r) >>= λ name. known w xs before name >>= λ x. Ok name
+name_known j w xs before r = name_written j (written_by r) >>= known_name w xs before
 
--- names in written order behind others, as the wanted role asks of each
-abbrev pub names_typed : Option Joined → Wanted → List Component → List (List ℕ) → List Reference → Result (List (List ℕ)) Rule
-names_typed j w xs before [] = Ok before
-names_typed j w xs before (r ∷ rs) = name_known j w xs before r >>= λ name. names_typed j w xs (before ++ name ∷ []) rs
+-- the names that references are, as the wanted role asks of each
+abbrev pub names_typed : Option Joined → Wanted → List Component → List Reference → Result (List (List ℕ)) Rule
+names_typed j w xs rs = in_turn (name_known j w xs) [] rs
 
 abbrev pub keeping_choice : Keeping → Choice
 keeping_choice (keeping.Keep rs) = choice.Keep
@@ -67,7 +67,7 @@ abbrev pub kept_of : Keeping → NodeTree → List (List ℕ) → Result NodeTre
 kept_of k n names = shaped (chosen (keeping_choice k) names (components_in n)) >>= made_of (keeping_tree k n names)
 
 unfoldable pub keeping_form : Option Joined → NodeTree → Keeping → Result NodeTree Rule
-keeping_form j n k = names_typed j wanted.Value (components_in n) [] (references_in k) >>= kept_of k n
+keeping_form j n k = names_typed j wanted.Value (components_in n) (references_in k) >>= kept_of k n
 
 -- ---- `rename`
 abbrev pub renaming_to : RenamePart → List ℕ → Renaming
@@ -80,16 +80,14 @@ old_names rs = map (λ r. r.from) rs
 unfoldable pub renaming_known : Option Joined → List Component → List (List ℕ) → RenamePart → Result Renaming Rule
 renaming_known j xs before r = name_known j wanted.Any xs before r.from >>= λ name. Ok (renaming_to r name)
 
-abbrev pub renamings_typed : Option Joined → List Component → List Renaming → List RenamePart → Result (List Renaming) Rule
-renamings_typed j xs done [] = Ok done
-renamings_typed j xs done (r ∷ rs) =
-    renaming_known j xs (old_names done) r >>= λ renaming. renamings_typed j xs (done ++ renaming ∷ []) rs
+abbrev pub renamings_typed : Option Joined → List Component → List RenamePart → Result (List Renaming) Rule
+renamings_typed j xs rs = in_turn (λ done. renaming_known j xs (old_names done)) [] rs
 
 abbrev pub renamed_of : NodeTree → List Renaming → Result NodeTree Rule
 renamed_of n rs = rename_form rs (components_in n) >>= made_of (nodes.rename n rs)
 
 unfoldable pub renaming_form : Option Joined → NodeTree → List RenamePart → Result NodeTree Rule
-renaming_form j n rs = renamings_typed j (components_in n) [] rs >>= renamed_of n
+renaming_form j n rs = renamings_typed j (components_in n) rs >>= renamed_of n
 
 -- ---- `sub`
 -- the value of a literal as one of this kind
@@ -112,16 +110,14 @@ sub_known p xs before s =
 abbrev pub sub_names : List SubItem → List (List ℕ)
 sub_names items = map (λ i. i.id) items
 
-abbrev pub subs_typed : Settings → List Component → List SubItem → List SubPart → Result (List SubItem) Rule
-subs_typed p xs done [] = Ok done
-subs_typed p xs done (s ∷ ss) =
-    sub_known p xs (sub_names done) s >>= λ item. subs_typed p xs (done ++ item ∷ []) ss
+abbrev pub subs_typed : Settings → List Component → List SubPart → Result (List SubItem) Rule
+subs_typed p xs ss = in_turn (λ done. sub_known p xs (sub_names done)) [] ss
 
 abbrev pub sub_of : NodeTree → List SubItem → Result NodeTree Rule
 sub_of n items = shaped (chosen choice.Drop (sub_names items) (components_in n)) >>= made_of (nodes.sub n items)
 
 unfoldable pub sub_form : Settings → NodeTree → List SubPart → Result NodeTree Rule
-sub_form p n ss = subs_typed p (components_in n) [] ss >>= sub_of n
+sub_form p n ss = subs_typed p (components_in n) ss >>= sub_of n
 
 -- ---- `pivot` and `unpivot`
 -- the two names of `pivot`: an identifier and a measure

@@ -1,6 +1,6 @@
 // The targets of `aggr`, once their values are typed.
 ghost use Rattle.std.specs.Option.{option_map};
-ghost use Rattle.std.specs.Prelude.{◌≡◌, IfOk, map};
+ghost use Rattle.std.specs.Prelude.{◌≡◌, IfOk, OnErr, map};
 ghost use Rattle.vtl_tree.specs.Trees as tree;
 ghost use Rattle.vtl_tree.specs.NodeView.{agg_tree, node_tree};
 ghost use Rattle.check_clauses.specs.Clauses.{made_of};
@@ -54,25 +54,12 @@ fn is_aggregate(e: &Expr) -> bool
     }
 }
 
-fn share_call(call: &AggCall) -> Result<AggCall, AllocError>
-    ensures { IfOk result (λ c. c ≡ call.now) }
-{
-    let component = match &call.component {
-        Some(name) => Some(name.share()?),
-        None => None,
-    };
-    Ok(AggCall {
-        kind: call.kind,
-        component,
-    })
-}
-
 // The call that a target is, where it is written as one.
 fn call_in(is_call: bool, e: &CompExpr) -> Result<(AggCall, Kind), TypeErr>
     ensures { Answers (λ call. call) result (call_in is_call (comp_exp_of e.now)) }
 {
     match e {
-        CompExpr::Aggregate { call, kind } if is_call => Ok((share_call(call)?, *kind)),
+        CompExpr::Aggregate { call, kind } if is_call => Ok((call.share()?, *kind)),
         _ => Err(TypeErr::Broken(Rule::AggregateMisuse)),
     }
 }
@@ -95,7 +82,7 @@ fn made_as(
 }
 
 /// One more target of `aggr` after others: it breaks `DatasetOrValue` where it is a data set, and `AggregateMisuse`
-/// where it is no aggregate call.
+/// where it is no aggregate call. If it fails, the others are left as they were.
 #[tactic(auto, unfolding(crate::specs::Targets::with_made))]
 pub fn push_made(
     done: &mut Vec<Made>,
@@ -104,7 +91,8 @@ pub fn push_made(
     call: &Expr,
     value: Typed,
 ) -> Result<(), TypeErr>
-    ensures { AnswersLeft (λ v. v.items) result done.new (with_made role component.now (expr_tree call.now) done.old.items (typed_tree value)) }
+    ensures typing { AnswersLeft (λ v. v.items) result done.new (with_made role component.now (expr_tree call.now) done.old.items (typed_tree value)) }
+    ensures err { OnErr result (done.new.items ≡ done.old.items) }
 {
     let value = value.value()?;
     let call = call_in(is_aggregate(call), &value)?;

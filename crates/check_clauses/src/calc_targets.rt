@@ -1,6 +1,6 @@
 // The targets of `calc`, once their values are typed.
 ghost use Rattle.std.specs.List.{list_any};
-ghost use Rattle.std.specs.Prelude.{◌≡◌, IfOk, map};
+ghost use Rattle.std.specs.Prelude.{◌≡◌, IfOk, OnErr, map};
 ghost use Rattle.vtl_tree.specs.NodeView.{form_tree, item_tree, node_tree, value_tree};
 ghost use Rattle.check_faults.specs.Answers.{Answers};
 ghost use Rattle.check_operators.specs.Typed.{boxed_tree};
@@ -47,14 +47,15 @@ pub fn calc_name(operand: &Node, done: &[CalcItem], component: &Comp) -> Result<
     )
 }
 
-/// One more target of `calc` after others.
+/// One more target of `calc` after others, which are left as they were if memory runs out.
 pub fn push_item(
     done: &mut Vec<CalcItem>,
     role: Option<WrittenRole>,
     component: &Comp,
     value: CalcValue,
 ) -> Result<(), TypeErr>
-    ensures { AnswersLeft items_view result done.new (with_item role component.now (items_view done.old) (value_tree value)) }
+    ensures typing { AnswersLeft items_view result done.new (with_item role component.now (items_view done.old) (value_tree value)) }
+    ensures err { OnErr result (done.new.items ≡ done.old.items) }
 {
     let target = name(component).share()?;
     done.push(CalcItem {

@@ -48,7 +48,7 @@ fn names_typed(
     components: &[Component],
     references: &[Reference],
 ) -> Result<Vec<Txt>, TypeErr>
-    ensures { Answers (λ names. names.items) result (names_typed joined.now wanted_role.Value components.now [] references.now) }
+    ensures { Answers (λ names. names.items) result (names_typed joined.now wanted_role.Value components.now references.now) }
 {
     let mut names = Vec::new(alloc);
     for reference in references {

@@ -1,5 +1,5 @@
 // The operands of a join, one after another.
-ghost use Rattle.std.specs.Prelude.{◌≡◌, map};
+ghost use Rattle.std.specs.Prelude.{◌≡◌, OnErr, map};
 ghost use Rattle.vtl_tree.specs.NodeView.{operand_tree};
 ghost use Rattle.check_faults.specs.Answers.{Answers};
 ghost use Rattle.vtl_syntax.specs.View.{expr_tree};
@@ -64,7 +64,7 @@ fn new_alias(done: &[Part], written: &Expr, alias: &Option<Txt>) -> Result<Txt, 
 }
 
 /// One more operand after others. It breaks `JoinMisuse` where it has no alias and is no plain name, and `RepeatedName`
-/// where an operand before it has its alias.
+/// where an operand before it has its alias. If it fails, the others are left as they were.
 #[tactic(auto, unfolding(crate::specs::JoinOperands::with_part))]
 pub fn push_part(
     done: &mut Vec<Part>,
@@ -72,7 +72,8 @@ pub fn push_part(
     alias: &Option<Txt>,
     operand: Typed,
 ) -> Result<(), TypeErr>
-    ensures { AnswersLeft parts_view result done.new (with_part (parts_view done.old) (expr_tree written.now) alias.now (typed_tree operand)) }
+    ensures typing { AnswersLeft parts_view result done.new (with_part (parts_view done.old) (expr_tree written.now) alias.now (typed_tree operand)) }
+    ensures err { OnErr result (done.new.items ≡ done.old.items) }
 {
     let alias = new_alias(done, written, alias)?;
     done.push(Part { operand, alias })?;

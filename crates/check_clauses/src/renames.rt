@@ -49,7 +49,7 @@ fn renamings_typed(
     components: &[Component],
     parts: &[RenamePart],
 ) -> Result<Vec<Renaming>, TypeErr>
-    ensures { Answers (λ rs. rs.items) result (renamings_typed joined.now components.now [] parts.now) }
+    ensures { Answers (λ rs. rs.items) result (renamings_typed joined.now components.now parts.now) }
 {
     let mut old_names = Vec::new(alloc);
     let mut renamings = Vec::new(alloc);

@@ -73,7 +73,7 @@ fn subs_typed(
     components: &[Component],
     parts: &[SubPart],
 ) -> Result<Vec<SubItem>, TypeErr>
-    ensures { Answers (λ items. items.items) result (subs_typed profile.now components.now [] parts.now) }
+    ensures { Answers (λ items. items.items) result (subs_typed profile.now components.now parts.now) }
 {
     let mut names = Vec::new(alloc);
     let mut items = Vec::new(alloc);

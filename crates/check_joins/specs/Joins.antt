@@ -1,10 +1,11 @@
 -- Joins: which operands go together, the joined set, and the names in it.
-use Rattle.std.specs.Prelude.{ℕ, Bool, not, ◌&&◌, ◌++◌, List, [], ◌∷◌, Option, Some, None, Result, Ok, Err, length, nat_lt, is_some}
+use Rattle.std.specs.Prelude.{ℕ, Bool, not, ◌&&◌, List, [], ◌∷◌, Option, Some, None, Result, Err, length, nat_lt, is_some, unwrap_or}
 use Rattle.std.specs.List.{list_any}
 use Rattle.vtl_syntax.specs.declared.word_groups.JoinKind.{JoinKind}
 use Rattle.vtl_tree.specs.Structure.{most_components}
 use Rattle.vtl_tree.specs.declared.structure.Structure.{Structure}
 use Rattle.vtl_lists.specs.Results.{◌>>=◌}
+use Rattle.check_faults.specs.InTurn.{in_turn}
 use Rattle.check_faults.specs.Rules.{ruled, Tests}
 use Rattle.check_faults.specs.declared.rules.Rule.{Rule}
 use Rattle.check_faults.specs.declared.rules.Rule.TheVariants as rule
@@ -21,14 +22,13 @@ using_tests os before name =
     ∷ (rule.RepeatedName, is_among name before)
     ∷ (rule.WrongRole, not (list_any (λ o. is_identifier_name o.structure.components name) os)) ∷ []
 
-abbrev pub using_behind : List Operand → List (List ℕ) → List (List ℕ) → Result (Unit {0}) Rule
-using_behind os before [] = Ok tt
-using_behind os before (name ∷ names) = ruled (using_tests os before name) (tt {0}) >>= λ u. using_behind os (before ++ name ∷ []) names
+-- the name itself, behind other names
+abbrev pub using_name : List Operand → List (List ℕ) → List ℕ → Result (List ℕ) Rule
+using_name os before name = ruled (using_tests os before name) name
 
--- the names behind `using`
-abbrev pub using_form : List Operand → Option (List (List ℕ)) → Result (Unit {0}) Rule
-using_form os None = Ok tt
-using_form os (Some names) = using_behind os [] names
+-- the names behind `using`, each behind those before it; none where there is no `using`
+abbrev pub using_form : List Operand → Option (List (List ℕ)) → Result (List (List ℕ)) Rule
+using_form os listed = in_turn (using_name os) [] (unwrap_or listed [])
 
 abbrev pub is_misused : JoinKind → Option (List (List ℕ)) → Bool
 is_misused kind listed = is_some listed && not (takes_using kind)
@@ -44,7 +44,7 @@ join_tests kind listed os =
 abbrev pub join_form : JoinKind → Option (List (List ℕ)) → List Operand → Result Structure Rule
 join_form kind listed os =
     using_form os listed
-    >>= λ u. ruled (join_tests kind (taken kind listed) os) (tt {0})
+    >>= λ names. ruled (join_tests kind (taken kind listed) os) (tt {0})
     >>= λ v. shaped (joined_components kind (held_names kind os) os)
     >>= λ s. ruled ((rule.JoinMisuse, is_misused kind listed) ∷ []) s
 

@@ -1,13 +1,13 @@
 // Joins: which operands go together.
 ghost use Rattle.std.specs.List.{list_all, list_any};
 ghost use Rattle.std.specs.Option.{option_copied};
-ghost use Rattle.std.specs.Prelude.{◌≡◌, [], false, filter, is_some};
+ghost use Rattle.std.specs.Prelude.{◌≡◌, [], false, filter, is_some, unwrap_or};
 ghost use Rattle.check_faults.specs.Answers.{Answers};
-ghost use Rattle.check_faults.specs.Rules.{ruled};
+ghost use Rattle.check_faults.specs.InTurn.{in_turn};
 ghost use Rattle.vtl_tree.specs.Choices.{is_identifier as is_id, is_identifier_name as is_id_name};
 ghost use Rattle.vtl_tree.specs.Names.{component_of as component_named, is_among as among};
 ghost use Rattle.vtl_tree.specs.Joins.{agrees, all_go_with, clashes, containing, contains_all, go_together, goes_with, is_cross, is_exactly, reference, taken, takes_using};
-ghost use Rattle.check_joins.specs.Joins.{is_misused, using_behind, using_form, using_tests};
+ghost use Rattle.check_joins.specs.Joins.{is_misused, using_form, using_name};
 
 use check_faults::{Rule, TypeErr, broken};
 use vtl_syntax::JoinKind;
@@ -188,15 +188,16 @@ fn any_identifies(operands: &[Operand], name: &Txt) -> bool
 }
 
 fn check_using_name(operands: &[Operand], before: &[Txt], name: &Txt) -> Result<(), TypeErr>
-    ensures { Answers (λ done. done) result (ruled (using_tests operands.now before.now name.now) tt) }
+    ensures { Answers (λ done. name.now) result (using_name operands.now before.now name.now) }
 {
     broken(Rule::UnknownComponent, !any_has(operands, name))?;
     broken(Rule::RepeatedName, is_among(name, before))?;
-    broken(Rule::WrongRole, !any_identifies(operands, name))
+    broken(Rule::WrongRole, !any_identifies(operands, name))?;
+    Ok(())
 }
 
 fn check_using_names(operands: &[Operand], names: &[Txt]) -> Result<(), TypeErr>
-    ensures { Answers (λ done. done) result (using_behind operands.now [] names.now) }
+    ensures { Answers (λ done. names.now) result (in_turn (using_name operands.now) [] names.now) }
 {
     for i in 0..names.len() {
         check_using_name(operands, &names[..i], &names[i])?;
@@ -216,7 +217,7 @@ fn takes_using(kind: JoinKind) -> bool
 /// The names after `using`: a name breaks `UnknownComponent` where no operand has it, `RepeatedName` where it stands
 /// there already, and `WrongRole` where it is never an identifier.
 pub(crate) fn check_using(operands: &[Operand], listed: Option<&[Txt]>) -> Result<(), TypeErr>
-    ensures { Answers (λ done. done) result (using_form operands.now (option_copied listed.entry)) }
+    ensures { Answers (λ done. unwrap_or (option_copied listed.entry) []) result (using_form operands.now (option_copied listed.entry)) }
 {
     match listed {
         Some(names) => check_using_names(operands, names),

@@ -31,10 +31,9 @@ use Rattle.vtl_tree.specs.declared.structure.Role.TheVariants as role
 use Rattle.vtl_tree.specs.declared.structure.Structure.{Structure}
 use Rattle.vtl_tree.specs.Trees as nodes
 use Rattle.vtl_tree.specs.Trees.{FormTree, ItemTree, NodeTree, ValueTree, structure_of}
-use Rattle.vtl_tree.specs.declared.clauses.SubItem.{SubItem}
 use Rattle.vtl_tree.specs.Choices.{chosen, is_identifier_name}
 use Rattle.check_shapes.specs.Clauses.{aggr_form, calc_form, pivot_form, rename_form, target_tests, unpivot_form}
-use Rattle.check_shapes.specs.Names.{known}
+use Rattle.check_shapes.specs.Names.{known, known_name}
 use Rattle.check_shapes.specs.Shape.{shaped}
 use Rattle.vtl_tree.specs.declared.choices.Choice.TheVariants as choice
 use Rattle.vtl_tree.specs.declared.names.Wanted.{Wanted}
@@ -54,7 +53,7 @@ use Rattle.check_clauses.specs.declared.targets.Made.{Made}
 use Rattle.vtl_meaning.specs.Made.{IsCalculated, IsFiltered, IsGroupCondition, IsGrouped, IsLeft, IsMade, IsPivoted, IsRenamed, IsSub, IsTyped, IsUnpivoted, IsWindowed}
 use Rattle.vtl_meaning.specs.Operators.{value_exp}
 use Rattle.vtl_meaning.specs.Reaches.{IsNearValue}
-use Rattle.vtl_meaning.specs.Shapes.{IsChosen, IsRenamedBy, IsShaped}
+use Rattle.vtl_meaning.specs.Shapes.{IsChosen, IsRenamedBy, IsShaped, tree_kind}
 use Rattle.check_laws.specs.Gives.{ArePassed, Gives}
 use Rattle.check_laws.specs.WellTyped.{IsWellTyped}
 use Rattle.check_laws.proofs.Aggregated.{AreMadeTargets, aggr-fits}
@@ -71,6 +70,7 @@ use Rattle.check_laws.proofs.Renamed.{renamed-fits}
 use Rattle.check_laws.proofs.Steps.{after, tested, then, weaker}
 use Rattle.check_laws.proofs.Tests.{not-false}
 use Rattle.check_laws.proofs.Turned.{pivot-fits, unpivot-fits}
+use Rattle.check_laws.proofs.Turns.{in-turn}
 
 pub node-gives : (env : Env) (form : FormTree) (r : Result Structure Rule) → Gives (IsMadeWith env form) r → Gives (IsMade env.settings env.known) (r >>= made_of form)
 node-gives env form (Ok s) h = h
@@ -89,19 +89,13 @@ filter-gives env j n (value e) is h =
 name-gives : (j : Option Joined) (w : Wanted) (xs : List Component) (before : List (List ℕ)) (r : Reference) → Gives (IsName w xs) (name_known j w xs before r)
 unfolding name_known
 name-gives j w xs before r =
-    after (IsName w xs) (name_written j (written_by r)) (λ name. known w xs before name >>= λ x. Ok name)
+    after (IsName w xs) (name_written j (written_by r)) (known_name w xs before)
     (λ name. then (IsNamed w xs name) (IsName w xs) (known w xs before name) (λ x. Ok name) (known-gives w xs before name) (λ x h. (x, h)))
-
-names-give : (j : Option Joined) (w : Wanted) (xs : List Component) (before : List (List ℕ)) (rs : List Reference) → AllByRecursion (IsName w xs) before → Gives (AllByRecursion (IsName w xs)) (names_typed j w xs before rs)
-names-give j w xs before [] h = h
-names-give j w xs before (r ∷ rs) h =
-    then (IsName w xs) (AllByRecursion (IsName w xs)) (name_known j w xs before r) (λ name. names_typed j w xs (before ++ name ∷ []) rs) (name-gives j w xs before r)
-    (λ name is. names-give j w xs (before ++ name ∷ []) rs (lists.appended (IsName w xs) before (name ∷ []) h (is, tt)))
 
 pub keeping-gives : (env : Env) (j : Option Joined) (n : NodeTree) (x : Keeping) → IsMade env.settings env.known n → Gives (IsMade env.settings env.known) (keeping_form j n x)
 unfolding keeping_form
 keeping-gives env j n x is =
-    then (AllByRecursion (IsName wanted.Value (components_in n))) (IsMade env.settings env.known) (names_typed j wanted.Value (components_in n) [] (references_in x)) (kept_of x n) (names-give j wanted.Value (components_in n) [] (references_in x) tt) (go x)
+    then (AllByRecursion (IsName wanted.Value (components_in n))) (IsMade env.settings env.known) (names_typed j wanted.Value (components_in n) (references_in x)) (kept_of x n) (in-turn (IsName wanted.Value (components_in n)) (name_known j wanted.Value (components_in n)) (name-gives j wanted.Value (components_in n)) (references_in x)) (go x)
   where
     shaped-n : IsShaped (structure_of n)
     shaped-n = made-shaped env.settings env.known n is
@@ -116,7 +110,7 @@ renamed-gives env n rs is = node-gives env (nodes.rename n rs) (rename_form rs (
 
 pub renaming-gives : (env : Env) (j : Option Joined) (n : NodeTree) (rs : List RenamePart) → IsMade env.settings env.known n → Gives (IsMade env.settings env.known) (renaming_form j n rs)
 unfolding renaming_form
-renaming-gives env j n rs is = after (IsMade env.settings env.known) (renamings_typed j (components_in n) [] rs) (renamed_of n) (λ done. renamed-gives env n done is)
+renaming-gives env j n rs is = after (IsMade env.settings env.known) (renamings_typed j (components_in n) rs) (renamed_of n) (λ done. renamed-gives env n done is)
 
 -- ---- `sub`
 value-gives : (p : Settings) (kind : Kind) (l : Literal) → Gives (λ v. is_of kind v ≡ true) (sub_value p kind l)
@@ -130,16 +124,10 @@ item-gives p xs before s =
     then (IsNamed wanted.Identifier xs (name_of s.component)) (IsItem xs) (known wanted.Identifier xs before (name_of s.component)) (λ x. sub_value p x.kind s.value >>= λ cell. Ok (sub_item (name_of s.component) cell)) (known-gives wanted.Identifier xs before (name_of s.component))
     (λ x named. then (λ v. is_of x.kind v ≡ true) (IsItem xs) (sub_value p x.kind s.value) (λ cell. Ok (sub_item (name_of s.component) cell)) (value-gives p x.kind s.value) (λ v is. (x, named, is)))
 
-items-give : (p : Settings) (xs : List Component) (done : List SubItem) (ss : List SubPart) → AllByRecursion (IsItem xs) done → Gives (AllByRecursion (IsItem xs)) (subs_typed p xs done ss)
-items-give p xs done [] h = h
-items-give p xs done (s ∷ ss) h =
-    then (IsItem xs) (AllByRecursion (IsItem xs)) (sub_known p xs (sub_names done) s) (λ item. subs_typed p xs (done ++ item ∷ []) ss) (item-gives p xs (sub_names done) s)
-    (λ item is. items-give p xs (done ++ item ∷ []) ss (lists.appended (IsItem xs) done (item ∷ []) h (is, tt)))
-
 pub sub-gives : (env : Env) (n : NodeTree) (ss : List SubPart) → IsMade env.settings env.known n → Gives (IsMade env.settings env.known) (sub_form env.settings n ss)
 unfolding sub_form
 sub-gives env n ss is =
-    then (AllByRecursion (IsItem (components_in n))) (IsMade env.settings env.known) (subs_typed env.settings (components_in n) [] ss) (sub_of n) (items-give env.settings (components_in n) [] ss tt)
+    then (AllByRecursion (IsItem (components_in n))) (IsMade env.settings env.known) (subs_typed env.settings (components_in n) ss) (sub_of n) (in-turn (IsItem (components_in n)) (λ done. sub_known env.settings (components_in n) (sub_names done)) (λ done. item-gives env.settings (components_in n) (sub_names done)) ss)
     (λ items h. node-gives env (nodes.sub n items) (shaped (chosen choice.Drop (sub_names items) (components_in n))) (weaker (λ s. IsShaped s × IsSub items (structure_of n) s) (IsMadeWith env (nodes.sub n items)) (shaped (chosen choice.Drop (sub_names items) (components_in n))) (λ s f. (f.0, (is, f.1))) (sub-fits items (structure_of n) (made-shaped env.settings env.known n is) h)))
 
 -- ---- `pivot` and `unpivot`
@@ -193,7 +181,8 @@ item-for p n i is plain = go i.value refl is.value plain
   where
     go : (v : ValueTree) → i.value ≡ v → IsTargetValue p n v → is_analytic_value v ≡ false → IsItemFor p (structure_of n) (target_of (components_in n)) i
     go (nodes.scalar e) s t plain = record {
-      same = ap (λ kind. record { name = i.target; role = i.role; kind = kind }) (ap (value_kind (components_in n)) s ∙ sym (ap (λ v. exp_kind (value_exp v)) s));
+      same = ap (λ kind. record { name = i.target; role = i.role; kind = kind }) (ap (value_kind (components_in n)) s ∙ sym (ap (tree_kind (components_in n)) s));
+      kind = ap (λ v. exp_kind (value_exp v)) s ∙ sym (ap (value_kind (components_in n)) s);
       role = is.role;
       typed = subst (λ v. IsTyped p (columns_in n) (value_exp v)) (sym s) t.0;
       free = is.free;

@@ -57,7 +57,7 @@ filter-up d n x h hx = then (IsUpTo d) (IsNodeUpTo d) (condition_in x) (λ e. ma
 -- ---- clauses without expressions
 pub keeping-up : (d : ℕ) (j : Option Joined) (n : NodeTree) (x : Keeping) → IsNodeUpTo d n → Gives (IsNodeUpTo d) (keeping_form j n x)
 unfolding keeping_form
-keeping-up d j n x h = after (IsNodeUpTo d) (names_typed j wanted.Value (components_in n) [] (references_in x)) (kept_of x n) (λ names. clause-up d (keeping_tree x n names) _ (made x names))
+keeping-up d j n x h = after (IsNodeUpTo d) (names_typed j wanted.Value (components_in n) (references_in x)) (kept_of x n) (λ names. clause-up d (keeping_tree x n names) _ (made x names))
   where
     made : (x : Keeping) (names : List (List ℕ)) (s : Structure) → IsNodeUpTo d (nodes.node s (keeping_tree x n names))
     made (keeping.Keep rs) names s = node-up d s (nodes.keep n names) h.some tt tt h.each
@@ -72,7 +72,7 @@ renaming-up d j n rs h = after (IsNodeUpTo d) _ _ (λ done. renamed-up d n done 
 
 pub sub-up : (d : ℕ) (p : Settings) (n : NodeTree) (ss : List SubPart) → IsNodeUpTo d n → Gives (IsNodeUpTo d) (sub_form p n ss)
 unfolding sub_form
-sub-up d p n ss h = after (IsNodeUpTo d) (subs_typed p (components_in n) [] ss) (sub_of n) (λ items. clause-up d (nodes.sub n items) _ (λ s. node-up d s _ h.some tt tt h.each))
+sub-up d p n ss h = after (IsNodeUpTo d) (subs_typed p (components_in n) ss) (sub_of n) (λ items. clause-up d (nodes.sub n items) _ (λ s. node-up d s _ h.some tt tt h.each))
 
 pub pivot-up : (d : ℕ) (id m : Comp) (n : NodeTree) → IsNodeUpTo d n → Gives (IsNodeUpTo d) (pivot_of id m n)
 unfolding pivot_of

@@ -1,5 +1,5 @@
 -- The depth of operators on whole data sets, aggregates and analytic calls: that of their operands.
-use Rattle.std.proofs.Common.{◌≤◌, ℕ, suc, Bool, true, false, cond, List, [], ◌∷◌, ◌++◌, Option, Some, None, Result, Ok, Err, arith}
+use Rattle.std.proofs.Common.{◌≤◌, ℕ, suc, Bool, true, false, cond, List, [], ◌∷◌, Option, Some, None, Result, Ok, Err, arith}
 use Rattle.std.specs.List.{AllByRecursion}
 use Rattle.std.specs.Option.{IfSome, is_some}
 use Rattle.std.specs.Prelude.{option_to_list, unwrap_or}
@@ -31,7 +31,7 @@ use Rattle.check_values.specs.Columns.{name_of}
 use Rattle.check_values.specs.Groupings.{grouping_typed}
 use Rattle.vtl_tree.specs.Kinds.{exp_kind}
 use Rattle.check_operators.specs.Places.{at_groups}
-use Rattle.check_operators.specs.Sets.{check_form, datasets_behind, datasets_in, difference_form, difference_tree, exists_form, imbalance_in, member_of, set_of, set_tree, sets_form, structures_in}
+use Rattle.check_operators.specs.Sets.{check_form, datasets_in, difference_form, difference_tree, exists_form, imbalance_in, member_of, set_of, set_tree, sets_form, structures_in}
 use Rattle.check_operators.specs.Typed.{TypedTree, value, dataset, components_in, dataset_in, made_of}
 use Rattle.check_operators.specs.declared.places.Place.{Place}
 use Rattle.check_operators.specs.declared.places.Place.TheVariants as place
@@ -42,8 +42,8 @@ use Rattle.check_groups.specs.declared.calls.Call.{Call}
 use Rattle.check_laws.specs.Depths.{argument_depth}
 use Rattle.check_laws.specs.Gives.{Gives}
 use Rattle.check_laws.proofs.DepthBounds.{AreNodesUpTo, IsNodeUpTo, IsTreeUpTo, IsUpTo, all-beside, beside, dataset-up, node-up, option-up, some-tree, tree-raised}
-use Rattle.check_laws.proofs.Lists as lists
 use Rattle.check_laws.proofs.Steps.{after, then}
+use Rattle.check_laws.proofs.Turns.{all-in-turn}
 
 -- where a data set is needed
 dataset-in-up : (d : ℕ) (x : TypedTree) → IsTreeUpTo d x → Gives (IsNodeUpTo d) (dataset_in x)
@@ -59,15 +59,9 @@ unfolding member_of
 member-up d c a h = dataset-up d (nodes.member a (name_of c)) _ (λ s. node-up d s _ h.some tt tt h.each)
 
 -- ---- set operators
-all-datasets : (d : ℕ) (done : List NodeTree) (xs : List TypedTree) → AllByRecursion (IsNodeUpTo d) done → AllByRecursion (IsTreeUpTo d) xs → Gives (AllByRecursion (IsNodeUpTo d)) (datasets_behind done xs)
-all-datasets d done [] hd h = hd
-all-datasets d done (x ∷ xs) hd h =
-    then (IsNodeUpTo d) (AllByRecursion (IsNodeUpTo d)) (dataset_in x) (λ n. datasets_behind (done ++ n ∷ []) xs) (dataset-in-up d x h.0)
-    (λ n k. all-datasets d (done ++ n ∷ []) xs (lists.appended (IsNodeUpTo d) done (n ∷ []) hd (k, tt)) h.1)
-
 pub sets-up : (d : ℕ) (f : SetOpName) (xs : List TypedTree) → 1 ≤ d → AllByRecursion (IsTreeUpTo d) xs → Gives (IsTreeUpTo d) (sets_form f xs)
 unfolding sets_form
-sets-up d f xs some h = then (AllByRecursion (IsNodeUpTo d)) (IsTreeUpTo d) (datasets_in xs) (set_of f) (all-datasets d [] xs tt h) (λ ns all. dataset-up d (set_tree f (nodes_of ns)) _ (made f ns all))
+sets-up d f xs some h = then (AllByRecursion (IsNodeUpTo d)) (IsTreeUpTo d) (datasets_in xs) (set_of f) (all-in-turn (IsTreeUpTo d) (IsNodeUpTo d) (λ done x. dataset_in x) (λ done x k. dataset-in-up d x k) [] xs tt h) (λ ns all. dataset-up d (set_tree f (nodes_of ns)) _ (made f ns all))
   where
     made : (f : SetOpName) (ns : List NodeTree) → AllByRecursion (IsNodeUpTo d) ns → (s : Structure) → IsNodeUpTo d (nodes.node s (set_tree f (nodes_of ns)))
     made set.Union ns all s = node-up d s (nodes.union (nodes_of ns)) some tt tt (all-beside d ns all)

@@ -1,5 +1,5 @@
 -- Clauses that leave some of the components: `keep`, `drop`, `sub`, and `a#m`.
-use Rattle.std.proofs.Common.{◌≡◌, ℕ, Bool, true, false, ◌||◌, not, List, [], ◌∷◌, ◌++◌, map, Option, Some, None, refl, sym, ap, ◌∙◌, subst}
+use Rattle.std.proofs.Common.{◌≡◌, ℕ, Bool, true, false, ◌||◌, not, List, [], ◌∷◌, ◌++◌, map, Option, Some, None, Ok, refl, sym, ap, ◌∙◌, subst}
 use Rattle.std.proofs.lemmas.Bool.{false≢true}
 use Rattle.std.specs.List.{AllByRecursion, filter, list_any}
 use Rattle.std.specs.Option.{option_map_or}
@@ -12,7 +12,8 @@ use Rattle.vtl_tree.specs.declared.clauses.SubItem.{SubItem}
 use Rattle.vtl_tree.specs.Choices.{chosen, is_chosen, is_identifier}
 use Rattle.check_shapes.specs.Choices.{choice_form}
 use Rattle.vtl_tree.specs.Names.{component_of, is_among, serves}
-use Rattle.check_shapes.specs.Names.{all_known, known, known_as, name_tests, names_behind}
+use Rattle.check_faults.specs.InTurn.{in_turn}
+use Rattle.check_shapes.specs.Names.{all_known, known, known_as, known_name, name_tests}
 use Rattle.check_shapes.specs.Shape.{shaped}
 use Rattle.vtl_tree.specs.declared.choices.Choice.{Choice}
 use Rattle.vtl_tree.specs.declared.choices.Choice.TheVariants as choice
@@ -89,11 +90,14 @@ drop-fits names a ia h =
     left-fits wanted.Value choice.Drop names a ia
     (lists.weaker (IsFound a.components) (λ x. is_identifier x ≡ true → is_chosen choice.Drop names x ≡ true) a.components (λ x found is. ap not (not-among a.components x found is names h)) (all-found a ia.well_formed)) h
 
-names-known : (w : Wanted) (xs : List Component) (before names : List (List ℕ)) → Gives (λ u. AllByRecursion (IsName w xs) names) (names_behind w xs before names)
+pub name-known-gives : (w : Wanted) (xs : List Component) (before : List (List ℕ)) (name : List ℕ) → Gives (λ given. IsName w xs name × (given ≡ name)) (known_name w xs before name)
+name-known-gives w xs before name = then (IsNamed w xs name) (λ given. IsName w xs name × (given ≡ name)) (known w xs before name) (λ x. Ok name) (known-gives w xs before name) (λ x is. ((x, is), refl))
+
+names-known : (w : Wanted) (xs : List Component) (before names : List (List ℕ)) → Gives (λ given. AllByRecursion (IsName w xs) names) (in_turn (known_name w xs) before names)
 names-known w xs before [] = tt
 names-known w xs before (name ∷ names) =
-    then (IsNamed w xs name) (λ u. AllByRecursion (IsName w xs) (name ∷ names)) (known w xs before name) (λ x. names_behind w xs (before ++ name ∷ []) names) (known-gives w xs before name)
-    (λ x is. weaker (λ u. AllByRecursion (IsName w xs) names) (λ u. AllByRecursion (IsName w xs) (name ∷ names)) (names_behind w xs (before ++ name ∷ []) names) (λ u h. ((x, is), h)) (names-known w xs (before ++ name ∷ []) names))
+    then (λ given. IsName w xs name × (given ≡ name)) (λ given. AllByRecursion (IsName w xs) (name ∷ names)) (known_name w xs before name) (λ given. in_turn (known_name w xs) (before ++ given ∷ []) names) (name-known-gives w xs before name)
+    (λ given is. weaker (λ all. AllByRecursion (IsName w xs) names) (λ all. AllByRecursion (IsName w xs) (name ∷ names)) (in_turn (known_name w xs) (before ++ given ∷ []) names) (λ all h. (is.0, h)) (names-known w xs (before ++ given ∷ []) names))
 
 pub member-fits : (names : List (List ℕ)) (a : Structure) → IsShaped a → Gives (λ s. IsShaped s × IsLeft a s × IsChosen wanted.Measure choice.Keep names a s) (choice_form wanted.Measure choice.Keep names a.components)
 member-fits names a ia =

@@ -39,6 +39,7 @@ pub mod Sound
 pub mod Steps
 pub mod Tests
 pub mod Turned
+pub mod Turns
 pub mod Twins
 pub mod ValueKinds
 pub mod Values

@@ -69,8 +69,8 @@ frame-near p (Some d) =
 
 window-near : (p : Settings) (columns : List Component) (o : OverPart) → Gives (λ w. is_near_window w ≡ true) (window_typed p columns o)
 window-near p columns o =
-    after Q (partition_typed columns [] (or_none o.partition)) (λ names. order_typed columns [] (or_none o.order) >>= λ keys. frame_typed p o.points >>= λ f. Ok (record { partition = names; order = keys; frame = f }))
-    (λ names. after Q (order_typed columns [] (or_none o.order)) (λ keys. frame_typed p o.points >>= λ f. Ok (record { partition = names; order = keys; frame = f }))
+    after Q (partition_typed columns (or_none o.partition)) (λ names. order_typed columns (or_none o.order) >>= λ keys. frame_typed p o.points >>= λ f. Ok (record { partition = names; order = keys; frame = f }))
+    (λ names. after Q (order_typed columns (or_none o.order)) (λ keys. frame_typed p o.points >>= λ f. Ok (record { partition = names; order = keys; frame = f }))
     (λ keys. then (λ f. option_map_or is_near_frame f true ≡ true) Q (frame_typed p o.points) (λ f. Ok (record { partition = names; order = keys; frame = f })) (frame-near p o.points) (λ f near. near)))
   where
     Q : Window → Type 0

@@ -1,5 +1,5 @@
 -- Operators on whole data sets, aggregates and analytic calls.
-use Rattle.std.proofs.Common.{◌≡◌, List, [], ◌∷◌, ◌++◌, Option, Some, None, Result, Ok, refl, sym, ap, subst}
+use Rattle.std.proofs.Common.{◌≡◌, List, [], ◌∷◌, Option, Some, None, Result, Ok, refl, sym, ap, subst}
 use Rattle.std.specs.List.{AllByRecursion}
 use Rattle.std.specs.Option.{IfSome}
 use Rattle.std.specs.Prelude.{option_to_list, unwrap_or}
@@ -24,7 +24,7 @@ use Rattle.vtl_tree.specs.declared.choices.Choice.TheVariants as choice
 use Rattle.vtl_tree.specs.declared.names.Wanted.TheVariants as wanted
 use Rattle.check_values.specs.Columns.{name_of}
 use Rattle.check_operators.specs.Places.{Env}
-use Rattle.check_operators.specs.Sets.{check_form, datasets_behind, datasets_in, difference_form, difference_tree, exists_form, imbalance_in, member_of, set_of, set_structure, set_tree, sets_form, structures_in}
+use Rattle.check_operators.specs.Sets.{check_form, datasets_in, difference_form, difference_tree, exists_form, imbalance_in, member_of, set_of, set_structure, set_tree, sets_form, structures_in}
 use Rattle.check_operators.specs.Typed.{TypedTree, value, dataset, components_in, dataset_in, made_of}
 use Rattle.check_operators.specs.declared.places.Place.{Place}
 use Rattle.check_operators.specs.declared.places.Place.TheVariants as place
@@ -39,6 +39,7 @@ use Rattle.check_laws.proofs.Lists as lists
 use Rattle.check_laws.proofs.Operators.{IsMadeWith, made-gives}
 use Rattle.check_laws.proofs.OtherForms.{check-shaped}
 use Rattle.check_laws.proofs.Steps.{then, weaker}
+use Rattle.check_laws.proofs.Turns.{all-in-turn}
 
 -- where a data set is needed
 pub dataset-gives : (env : Env) (at : Place) (x : TypedTree) → IsWellTyped env at x → Gives (IsMade env.settings env.known) (dataset_in x)
@@ -58,12 +59,6 @@ member-gives env at c a is =
     (member-fits (name_of c ∷ []) (structure_of a) (made-shaped env.settings env.known a is)))
 
 -- ---- set operators
-datasets-behind : (env : Env) (done : List NodeTree) (xs : List TypedTree) → AllByRecursion (IsMade env.settings env.known) done → AllByRecursion (IsWellTyped env place.Outside) xs → Gives (AllByRecursion (IsMade env.settings env.known)) (datasets_behind done xs)
-datasets-behind env done [] hd h = hd
-datasets-behind env done (x ∷ xs) hd h =
-    then (IsMade env.settings env.known) (AllByRecursion (IsMade env.settings env.known)) (dataset_in x) (λ n. datasets_behind (done ++ n ∷ []) xs) (dataset-gives env place.Outside x h.0)
-    (λ n is. datasets-behind env (done ++ n ∷ []) xs (lists.appended (IsMade env.settings env.known) done (n ∷ []) hd (is, tt)) h.1)
-
 all-made : (p : Settings) (known : Named) (ns : List NodeTree) → AllByRecursion (IsMade p known) ns → AreMade p known (nodes_of ns)
 all-made p known [] h = tt
 all-made p known (n ∷ ns) h = (h.0, all-made p known ns h.1)
@@ -87,7 +82,7 @@ set-structure p known (n ∷ ns) h =
 pub sets-give : (env : Env) (at : Place) (f : SetOpName) (xs : List TypedTree) → AllByRecursion (IsWellTyped env place.Outside) xs → Gives (IsWellTyped env at) (sets_form f xs)
 unfolding sets_form
 sets-give env at f xs h =
-    then (AllByRecursion (IsMade env.settings env.known)) (IsWellTyped env at) (datasets_in xs) (set_of f) (datasets-behind env [] xs tt h)
+    then (AllByRecursion (IsMade env.settings env.known)) (IsWellTyped env at) (datasets_in xs) (set_of f) (all-in-turn (IsWellTyped env place.Outside) (IsMade env.settings env.known) (λ done x. dataset_in x) (λ done x k. dataset-gives env place.Outside x k) [] xs tt h)
     (λ ns all. made-gives env at (set_tree f (nodes_of ns)) (set_structure ns) (weaker (AreCombinedOf (nodes_of ns)) (IsMadeWith env (set_tree f (nodes_of ns))) (set_structure ns) (made f ns all) (set-structure env.settings env.known ns all)))
   where
     made : (f : SetOpName) (ns : List NodeTree) → AllByRecursion (IsMade env.settings env.known) ns → (s : Structure) → AreCombinedOf (nodes_of ns) s → IsMadeWith env (set_tree f (nodes_of ns)) s

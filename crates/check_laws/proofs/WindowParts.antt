@@ -1,5 +1,5 @@
 -- The parts of analytic calls: the names of a window are columns, and an operator takes the kinds of its operand.
-use Rattle.std.proofs.Common.{◌≡◌, ℕ, Bool, true, false, cond, not, ◌||◌, List, [], ◌∷◌, ◌++◌, Option, Some, None, Ok, refl, sym, ap, ◌∙◌, subst}
+use Rattle.std.proofs.Common.{◌≡◌, ℕ, Bool, true, false, cond, not, ◌||◌, List, [], ◌∷◌, Option, Some, None, Ok, refl, sym, ap, ◌∙◌, subst}
 use Rattle.std.proofs.lemmas.Bool.{false≢true}
 use Rattle.std.specs.List.{AllByRecursion, list_any}
 use Rattle.std.specs.Option.{IfSome}
@@ -35,7 +35,7 @@ use Rattle.vtl_tree.specs.Kinds.{given_kind}
 use Rattle.vtl_cell.specs.Literals.{is_null_kind}
 use Rattle.vtl_meaning.specs.Made.{IsColumnAt, IsNamedColumn, is_suited}
 use Rattle.vtl_tree.specs.Names.{component_of}
-use Rattle.check_values.specs.Windows.{frame_alone, frame_typed, is_known, key_of, key_typed, name_form, or_none, order_typed, partition_typed, points_typed, window_typed}
+use Rattle.check_values.specs.Windows.{frame_alone, frame_typed, is_known, key_of, key_typed, name_form, or_none, order_typed, part_typed, partition_typed, points_typed, window_typed}
 use Rattle.check_values.specs.Columns.{name_of}
 use Rattle.check_values.specs.Literals.{beside_all, literal_cell, literal_kind, stands_beside, valued}
 use Rattle.vtl_tree.specs.declared.calls.AnalyticOp.{AnalyticOp}
@@ -56,6 +56,7 @@ use Rattle.check_laws.proofs.Literals.{IsCell, literal-cell, valued-gives}
 use Rattle.check_laws.proofs.Reaches.{AreNearParts, parts-near}
 use Rattle.check_laws.proofs.Steps.{after, both, tested, tested-then, then, weaker}
 use Rattle.check_laws.proofs.Tests.{not-false}
+use Rattle.check_laws.proofs.Turns.{in-turn}
 
 -- ---- the names of a window
 
@@ -77,12 +78,10 @@ name-gives : (name : List ℕ) (xs : List Component) (repeated : Bool) → Gives
 name-gives name xs repeated =
     tested (λ u. IsNamedColumn xs name) ((rule.UnknownComponent, not (is_known name xs)) ∷ (rule.RepeatedName, repeated) ∷ []) tt (λ passed. named-column name xs (not-false (is_known name xs) passed.0))
 
-partition-gives : (xs : List Component) (done : List (List ℕ)) (cs : List Comp) → AllByRecursion (IsNamedColumn xs) done → Gives (AllByRecursion (IsNamedColumn xs)) (partition_typed xs done cs)
-partition-gives xs done [] h = h
-partition-gives xs done (x ∷ cs) h =
-    then (λ u. IsNamedColumn xs (name_of x)) (AllByRecursion (IsNamedColumn xs)) (name_form (is_known (name_of x) xs) (list_any (same_name (name_of x)) done)) (λ u. partition_typed xs (done ++ name_of x ∷ []) cs)
-    (name-gives (name_of x) xs (list_any (same_name (name_of x)) done))
-    (λ u named. partition-gives xs (done ++ name_of x ∷ []) cs (lists.appended (IsNamedColumn xs) done (name_of x ∷ []) h (named, tt)))
+part-gives : (xs : List Component) (before : List (List ℕ)) (c : Comp) → Gives (IsNamedColumn xs) (part_typed xs before c)
+part-gives xs before c =
+    then (λ u. IsNamedColumn xs (name_of c)) (IsNamedColumn xs) (name_form (is_known (name_of c) xs) (list_any (same_name (name_of c)) before)) (λ u. Ok (name_of c))
+    (name-gives (name_of c) xs (list_any (same_name (name_of c)) before)) (λ u named. named)
 
 abbrev IsNamedKey : List Component → OrderKey → Type 0
 IsNamedKey xs key = IsNamedColumn xs key.component
@@ -92,22 +91,16 @@ key-gives xs done o =
     then (λ u. IsNamedColumn xs (name_of o.component)) (IsNamedKey xs) (name_form (is_known (name_of o.component) xs) (list_any (λ x. same_name (name_of o.component) x.component) done)) (λ u. Ok (key_of o))
     (name-gives (name_of o.component) xs (list_any (λ x. same_name (name_of o.component) x.component) done)) (λ u named. named)
 
-order-gives : (xs : List Component) (done : List OrderKey) (os : List OrderPart) → AllByRecursion (IsNamedKey xs) done → Gives (AllByRecursion (IsNamedKey xs)) (order_typed xs done os)
-order-gives xs done [] h = h
-order-gives xs done (o ∷ os) h =
-    then (IsNamedKey xs) (AllByRecursion (IsNamedKey xs)) (key_typed xs done o) (λ key. order_typed xs (done ++ key ∷ []) os) (key-gives xs done o)
-    (λ key named. order-gives xs (done ++ key ∷ []) os (lists.appended (IsNamedKey xs) done (key ∷ []) h (named, tt)))
-
 -- the names of a window are columns
 abbrev pub HasNames : List Component → Window → Type 0
 HasNames xs w = AllByRecursion (IsNamedColumn xs) w.partition × AllByRecursion (IsNamedKey xs) w.order
 
 pub window-named : (p : Settings) (xs : List Component) (o : OverPart) → Gives (HasNames xs) (window_typed p xs o)
 window-named p xs o =
-    then (AllByRecursion (IsNamedColumn xs)) (HasNames xs) (partition_typed xs [] (or_none o.partition)) (λ names. order_typed xs [] (or_none o.order) >>= λ keys. frame_typed p o.points >>= λ f. Ok (record { partition = names; order = keys; frame = f }))
-    (partition-gives xs [] (or_none o.partition) tt)
-    (λ names h. then (AllByRecursion (IsNamedKey xs)) (HasNames xs) (order_typed xs [] (or_none o.order)) (λ keys. frame_typed p o.points >>= λ f. Ok (record { partition = names; order = keys; frame = f }))
-    (order-gives xs [] (or_none o.order) tt)
+    then (AllByRecursion (IsNamedColumn xs)) (HasNames xs) (partition_typed xs (or_none o.partition)) (λ names. order_typed xs (or_none o.order) >>= λ keys. frame_typed p o.points >>= λ f. Ok (record { partition = names; order = keys; frame = f }))
+    (in-turn (IsNamedColumn xs) (part_typed xs) (part-gives xs) (or_none o.partition))
+    (λ names h. then (AllByRecursion (IsNamedKey xs)) (HasNames xs) (order_typed xs (or_none o.order)) (λ keys. frame_typed p o.points >>= λ f. Ok (record { partition = names; order = keys; frame = f }))
+    (in-turn (IsNamedKey xs) (key_typed xs) (key-gives xs) (or_none o.order))
     (λ keys g. after (HasNames xs) (frame_typed p o.points) (λ f. Ok (record { partition = names; order = keys; frame = f })) (λ f. (h, g))))
 
 -- ---- the operator of a call

@@ -1,5 +1,5 @@
 -- Operators on whole data sets.
-use Rattle.std.specs.Prelude.{ℕ, List, [], ◌∷◌, ◌++◌, Option, Some, None, Result, Ok, Err, map, ℤ, option_to_list, unwrap_or}
+use Rattle.std.specs.Prelude.{ℕ, List, [], ◌∷◌, Option, Some, None, Result, Ok, Err, map, ℤ, option_to_list, unwrap_or}
 use Rattle.vtl_decimal.specs.Settings.{Settings}
 use Rattle.vtl_syntax.specs.declared.parts.ErrorPart.{ErrorPart}
 use Rattle.vtl_syntax.specs.declared.word_groups.BasicOut.{BasicOut}
@@ -15,6 +15,7 @@ use Rattle.vtl_tree.specs.declared.structure.Structure.{Structure}
 use Rattle.vtl_tree.specs.Trees.{FormTree, NodeTree, NodeTrees, nodes_of, structure_of, member, union, intersect, set_diff, sym_diff, exists_in, check, maybe_node}
 use Rattle.vtl_tree.specs.declared.specifications.CheckSpec.{CheckSpec}
 use Rattle.vtl_lists.specs.Results.{◌>>=◌}
+use Rattle.check_faults.specs.InTurn.{in_turn}
 use Rattle.check_faults.specs.declared.rules.Rule.{Rule}
 use Rattle.check_faults.specs.declared.rules.Rule.TheVariants as rule
 use Rattle.check_shapes.specs.Choices.{choice_form}
@@ -25,13 +26,9 @@ use Rattle.check_values.specs.Columns.{name_of}
 use Rattle.vtl_cell.specs.Literals.{integer_written}
 use Rattle.check_operators.specs.Typed.{TypedTree, components_in, dataset_in, made_of}
 
--- operands that all have to be data sets, behind those that are done
-abbrev pub datasets_behind : List NodeTree → List TypedTree → Result (List NodeTree) Rule
-datasets_behind done [] = Ok done
-datasets_behind done (x ∷ xs) = dataset_in x >>= λ n. datasets_behind (done ++ n ∷ []) xs
-
+-- operands that all have to be data sets
 abbrev pub datasets_in : List TypedTree → Result (List NodeTree) Rule
-datasets_in xs = datasets_behind [] xs
+datasets_in xs = in_turn (λ done x. dataset_in x) [] xs
 
 abbrev pub structures_in : List NodeTree → List Structure
 structures_in ns = map structure_of ns

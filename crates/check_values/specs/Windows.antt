@@ -1,5 +1,5 @@
 -- The windows of analytic calls, over the components of an operand.
-use Rattle.std.specs.Prelude.{ℕ, ℤ, pos, unsigned_abs, Bool, true, false, not, ◌&&◌, List, [], ◌∷◌, ◌++◌, Option, Some, None, Result, Ok, Err, if◌then◌else◌}
+use Rattle.std.specs.Prelude.{ℕ, ℤ, pos, unsigned_abs, Bool, true, false, not, ◌&&◌, List, [], ◌∷◌, Option, Some, None, Result, Ok, Err, if◌then◌else◌}
 use Rattle.std.specs.Int.RustNames.{int_le}
 use Rattle.std.specs.List.{list_any}
 use Rattle.vtl_decimal.specs.Settings.{Settings}
@@ -23,6 +23,7 @@ use Rattle.vtl_tree.specs.declared.calls.Window.{Window}
 use Rattle.check_values.specs.Columns.{name_of}
 use Rattle.vtl_cell.specs.Literals.{integer_written, longest_reach}
 use Rattle.vtl_lists.specs.Results.{◌>>=◌}
+use Rattle.check_faults.specs.InTurn.{in_turn}
 use Rattle.check_faults.specs.Rules.{ruled}
 use Rattle.check_faults.specs.declared.rules.Rule.{Rule}
 use Rattle.check_faults.specs.declared.rules.Rule.TheVariants as rule
@@ -34,10 +35,13 @@ is_known name columns = list_any (λ x. same_name x.name name) columns
 abbrev pub name_form : (known repeated : Bool) → Result (Unit {0}) Rule
 name_form known repeated = ruled ((rule.UnknownComponent, not known) ∷ (rule.RepeatedName, repeated) ∷ []) (tt {0})
 
--- the names of `partition by`, behind those that are done
-abbrev pub partition_typed : List Component → List (List ℕ) → List Comp → Result (List (List ℕ)) Rule
-partition_typed columns done [] = Ok done
-partition_typed columns done (c ∷ cs) = name_form (is_known (name_of c) columns) (list_any (same_name (name_of c)) done) >>= λ u. partition_typed columns (done ++ name_of c ∷ []) cs
+-- a name of `partition by`, behind others
+abbrev pub part_typed : List Component → List (List ℕ) → Comp → Result (List ℕ) Rule
+part_typed columns before c = name_form (is_known (name_of c) columns) (list_any (same_name (name_of c)) before) >>= λ u. Ok (name_of c)
+
+-- the names of `partition by`
+abbrev pub partition_typed : List Component → List Comp → Result (List (List ℕ)) Rule
+partition_typed columns cs = in_turn (part_typed columns) [] cs
 
 abbrev pub is_falling : Option Direction → Bool
 is_falling (Some direction.Descending) = true
@@ -51,10 +55,9 @@ key_of o = record { component = name_of o.component; falling = is_falling o.dire
 abbrev pub key_typed : List Component → List OrderKey → OrderPart → Result OrderKey Rule
 key_typed columns done o = name_form (is_known (name_of o.component) columns) (list_any (λ x. same_name (name_of o.component) x.component) done) >>= λ u. Ok (key_of o)
 
--- the keys of `order by`, behind those that are done
-abbrev pub order_typed : List Component → List OrderKey → List OrderPart → Result (List OrderKey) Rule
-order_typed columns done [] = Ok done
-order_typed columns done (o ∷ os) = key_typed columns done o >>= λ key. order_typed columns (done ++ key ∷ []) os
+-- the keys of `order by`
+abbrev pub order_typed : List Component → List OrderPart → Result (List OrderKey) Rule
+order_typed columns os = in_turn (key_typed columns) [] os
 
 -- a number of points that digits write, no farther than a frame or an offset may reach
 abbrev pub points_in : Option ℤ → Result ℕ Rule
@@ -92,4 +95,4 @@ frame_alone p o = frame_typed p o.points >>= λ f. Ok (record { partition = []; 
 -- a window: its partition, its order and its frame
 abbrev pub window_typed : Settings → List Component → OverPart → Result Window Rule
 window_typed p columns o =
-    partition_typed columns [] (or_none o.partition) >>= λ names. order_typed columns [] (or_none o.order) >>= λ keys. frame_typed p o.points >>= λ f. Ok (record { partition = names; order = keys; frame = f })
+    partition_typed columns (or_none o.partition) >>= λ names. order_typed columns (or_none o.order) >>= λ keys. frame_typed p o.points >>= λ f. Ok (record { partition = names; order = keys; frame = f })

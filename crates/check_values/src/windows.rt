@@ -61,7 +61,7 @@ fn named(known: bool, repeated: bool) -> Result<(), TypeErr>
 }
 
 fn partition(alloc: Global, columns: &[Component], parts: &[Comp]) -> Result<List<Txt>, TypeErr>
-    ensures { Answers (λ names. names) result (partition_typed columns.now [] parts.now) }
+    ensures { Answers (λ names. names) result (partition_typed columns.now parts.now) }
 {
     let mut names = Vec::new(alloc);
     for part in parts {
@@ -110,7 +110,7 @@ fn order(
     columns: &[Component],
     parts: &[OrderPart],
 ) -> Result<List<OrderKey>, TypeErr>
-    ensures { Answers (λ keys. keys) result (order_typed columns.now [] parts.now) }
+    ensures { Answers (λ keys. keys) result (order_typed columns.now parts.now) }
 {
     let mut keys = Vec::new(alloc);
     for part in parts {

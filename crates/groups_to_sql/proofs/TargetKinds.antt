@@ -1,5 +1,5 @@
 -- A column of a typed `calc` that a target makes has the kind of the target's value.
-use Rattle.std.proofs.Common.{◌≡◌, Bool, true, false, not, cond, List, [], ◌∷◌, ◌++◌, map, Option, Some, None, refl, ap, sym, ◌∙◌, subst, true≢false}
+use Rattle.std.proofs.Common.{◌≡◌, Bool, true, false, cond, List, [], ◌∷◌, ◌++◌, map, Option, Some, None, refl, ap, sym, ◌∙◌, subst, true≢false}
 use Rattle.std.specs.Prelude.{option_map}
 use Rattle.std.specs.List.{AllByRecursion, filter}
 use Rattle.std.specs.Option.{is_none}
@@ -12,7 +12,8 @@ use Rattle.vtl_tree.specs.ClauseShapes as clauses
 use Rattle.vtl_tree.specs.ClauseShapes.{calculated, is_new, retargeted, target_component}
 use Rattle.vtl_tree.specs.Names.{component_of}
 use Rattle.vtl_meaning.specs.Analytics.{item_named}
-use Rattle.vtl_meaning.specs.AnalyticShapes.{analyzed_components, target_of, tree_kind}
+use Rattle.vtl_meaning.specs.AnalyticShapes.{analyzed_components}
+use Rattle.vtl_meaning.specs.Shapes.{target_of, tree_kind}
 use Rattle.vtl_tree.specs.Trees as nodes
 use Rattle.vtl_tree.specs.Trees.{ItemTree}
 use Rattle.vtl_tree.specs.declared.targets.Target.{Target}

@@ -14,7 +14,7 @@ use Rattle.vtl_tree.specs.Columns.{common_identifiers, has_identifier, column_be
 use Rattle.vtl_meaning.specs.Made.{attributes_of}
 use Rattle.vtl_meaning.proofs.Places.{same_name-refl}
 use Rattle.sql_tree.specs.Trees as tree
-use Rattle.sql_tree.specs.Trees.{Exp, JoinTree, QueryTree, Text}
+use Rattle.sql_tree.specs.Trees.{Text}
 use Rattle.sql_tree.specs.declared.word_groups.JoinKind.{JoinKind}
 use Rattle.sql_tree.specs.declared.word_groups.JoinKind.TheVariants as joining
 use Rattle.rules_to_sql.specs.ToSql.{Naming, column_of, to_sql}

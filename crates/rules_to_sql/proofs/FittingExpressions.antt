@@ -14,7 +14,7 @@ use Rattle.vtl_tree.specs.Kinds.{exp_kind}
 use Rattle.vtl_meaning.specs.Literals.{HasLiterals}
 use Rattle.vtl_meaning.specs.Made.{AreTypedOver, IsTypedOver, kinds_in as comp_kinds}
 use Rattle.sql_tree.specs.Trees as tree
-use Rattle.sql_tree.specs.Trees.{Exp, Exps, Text}
+use Rattle.sql_tree.specs.Trees.{Exp, Text}
 use Rattle.sql_check_laws.specs.Fits.{AllFit, Fits, IsSeen}
 use Rattle.sql_check_parts.specs.Expressions.{Site}
 use Rattle.sql_check_parts.specs.Kinds.{kind_in, kinds_in, operator_kind}
@@ -74,7 +74,7 @@ module _ (here : Site) (group : Option Grouping) (at : Naming) (low : here.setti
       expression_fits (comp.const v) i w = constant_fits here group low v w i
       expression_fits (comp.call o kind args) i w =
           let held = operands_held o args i.2 w in
-          call_fits o args kind (form_of o args kind i.0) i.2 i.1 held (kinds_stay p at s columns aggregates known given args i.1) (expressions_fit args i.1 held)
+          call_fits o args kind (form_of o args kind i.2 i.0) i.2 i.1 held (kinds_stay p at s columns aggregates known given args i.1) (expressions_fit args i.1 held)
       expression_fits (comp.aggregate a kind) i w = fit a kind i
 
       expressions_fit : (es : CompExps) → AreTypedOver p columns aggregates es → AllHoldValues es → AllFit here group (all_to_sql p at es)

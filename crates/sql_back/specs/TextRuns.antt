@@ -5,7 +5,7 @@ use Rattle.vtl_rows.specs.Named.{NamedTables}
 use Rattle.sql_tree.specs.Texts.{IsScript}
 use Rattle.sql_tree.specs.Trees.{ScriptTree}
 use Rattle.sql_engine.specs.InputTables.{AreInputsInRange, HaveInputTables, rows_given}
-use Rattle.sql_engine.specs.Runs.{ShowsAs, ShowsMeaning}
+use Rattle.sql_engine.specs.Runs.{ShowsMeaning}
 use Rattle.sql_meaning.specs.Scripts.{Export, NamedFault, script_value}
 use Rattle.sql_check_parts.specs.Statements.{IsTypedScript, script_settings}
 use Rattle.vtl_scalar.specs.declared.run_error.RunErr.{RunErr}

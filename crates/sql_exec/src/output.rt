@@ -1,4 +1,11 @@
 // What the selects of a query gave so far.
+//
+// A row is put into the table only while no fault was seen. Its cells fit the columns by the kinds of its items
+// alone, whatever other rows have: the law that a typed query's rows fit says nothing where a later row has a fault.
+//
+// Each outcome is told by what it adds (`Adds`): the columns stay, its fault joins the one that was seen, and its
+// rows stand behind the others unless one was. Rows of a select and selects of a union go by the one relation and the
+// one lemma (`added_more`).
 ghost use Rattle.std.specs.Prelude.{◌≡◌, ◌<◌, ◌++◌, ◌∷◌, [], true, List, drop, length, map, None, Ok, IfErr, OnOk};
 ghost use Rattle.vtl_cell.specs.Row.{Row};
 ghost use Rattle.vtl_cell.specs.Outcome.{unless};

@@ -1,4 +1,8 @@
 // Rows of the last source, found by the cells of a row of another one.
+//
+// Keys of one other source alone: a look-up is asked with a row of that source as it lies in its table, and no cell
+// is copied. It is asked once for each row of that table (`Matches`), and not for each tuple, so that a tuple finds
+// its rows by a number.
 ghost use Rattle.std.specs.Prelude.{◌≡◌, ℕ, ◌+◌, ◌<◌, ◌≤◌, IfOk, IfSome, IsSome, length, slice_index};
 ghost use Rattle.vtl_rows.specs.Tables.{listed};
 ghost use Rattle.vtl_index.specs.Matches.{matched};

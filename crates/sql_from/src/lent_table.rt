@@ -1,4 +1,8 @@
 // The table of the only source of a select, where the rows of FROM are its rows.
+//
+// Where the rows are those of the only source, each once and in order, its table is lent (`lent_table`). That is seen
+// from the tuples, and not from how the select is written. So groups, windows and whole columns go over that table,
+// and its cells are read without the tuples.
 ghost use Rattle.std.specs.Prelude.{◌≡◌, ◌∷◌, [], length, true, IfSome};
 ghost use Rattle.vtl_rows.specs.Tables.{column_kinds, listed};
 ghost use Rattle.sql_check_parts.specs.Scopes.{row_of};

@@ -1,4 +1,7 @@
 // The sources of a select.
+//
+// Where each cell stands is a list of picks (`picks_from`), as `vtl_rows` puts rows together: the same list serves a
+// look-up by place and the table that is made at the end.
 ghost use Rattle.std.specs.List.{AllByRecursion};
 ghost use Rattle.std.specs.Option.{option_map};
 ghost use Rattle.std.specs.Prelude.{◌≡◌, ◌+◌, ◌<◌, ◌≤◌, ◌^◌, ◌++◌, ◌∷◌, [], length, map, slice_get, Some, IfOk, IfSome, OnOk};

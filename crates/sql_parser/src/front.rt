@@ -18,7 +18,7 @@ pub(crate) struct Front<'t, T> {
 }
 
 // Why a part was not read.
-#[derive(Clone, Copy, Debug, PartialEq, Eq)]
+#[derive(Clone, Copy)]
 pub(crate) enum Unread {
     // It does not stand there.
     Absent,

@@ -11,7 +11,7 @@ use sql_tree::SqlExpr;
 use std::alloc::Global;
 
 // Where an expression may stand inside another.
-#[derive(Clone, Copy, Debug, PartialEq, Eq)]
+#[derive(Clone, Copy)]
 pub(crate) enum Place {
     // Any expression.
     Whole,

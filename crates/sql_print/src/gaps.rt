@@ -124,7 +124,7 @@ fn is_sign(kind: &TokenKind) -> bool {
 pub(crate) fn is_tight(before: &TokenKind, kind: &TokenKind, prefix: bool) -> bool
     ensures { result ≡ true → (kinds : List TokenKind) → IsApart (kinds ++ before.now ∷ []) (spelled kind.now) }
 {
-    is_quiet_behind(before, kind) || is_open_ended(before, prefix) || is_column(before, kind)
+    is_quiet_behind(before, kind) || is_open_ended(before, kind, prefix) || is_column(before, kind)
 }
 
 // Whether the token is a mark that continues no token, and stands right after the one before it.
@@ -141,14 +141,15 @@ fn is_quiet_behind(before: &TokenKind, kind: &TokenKind) -> bool
     }
 }
 
-// Whether no token continues the one before, and the next stands right after it.
+// Whether no token continues the one before, and the next stands right after it. Two signs are parted: in other
+// dialects `--` begins a comment.
 #[tactic(auto, using(crate::proofs::GapLaws::aparts))]
-fn is_open_ended(before: &TokenKind, prefix: bool) -> bool
+fn is_open_ended(before: &TokenKind, kind: &TokenKind, prefix: bool) -> bool
     ensures { result ≡ true → (kinds : List TokenKind) (text : List ℕ) → IsApart (kinds ++ before.now ∷ []) text }
 {
     match before {
         TokenKind::Word(Word::Open | Word::Dot) => true,
-        TokenKind::Word(Word::Plus | Word::Minus) => prefix,
+        TokenKind::Word(Word::Plus | Word::Minus) => prefix && !is_sign(kind),
         _ => false,
     }
 }

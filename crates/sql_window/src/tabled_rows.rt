@@ -1,4 +1,8 @@
 // Rows of FROM with a table of them.
+//
+// The sort is that of tables: windows go over a table of the rows of FROM (`TabledRows`), so that the sorts of
+// `vtl_rows` serve, which go by ranks and which no choice of cells makes slow. Where the table of the only source is
+// lent, no cell is copied; else a table is made, whose texts are shared.
 ghost use Rattle.std.specs.Prelude.{◌≡◌, ◌<◌, length, slice_index_or, IfOk};
 ghost use Rattle.sql_check_parts.specs.Scopes.{row_of};
 ghost use Rattle.sql_from.specs.Sources.{scope_held};

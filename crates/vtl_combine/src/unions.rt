@@ -1,4 +1,7 @@
 // `union`
+//
+// A `union` of two goes by a look-up, of more by groups: the second of two gives only the points that the first
+// lacks, so each cell is copied once; of many, each would ask all that stand before it.
 ghost use Rattle.std.specs.List.{flat_map};
 ghost use Rattle.std.specs.Prelude.{◌≡◌, [], ◌∷◌, All, IfOk};
 ghost use Rattle.vtl_rows.specs.Tables.{listed};
@@ -14,7 +17,7 @@ ghost use Rattle.vtl_combine.specs.Operands.{HasColumns};
 
 use crate::differences::reduced_rows;
 use crate::firsts::once_by_key;
-use crate::rows::{all_rows, are_data_sets, key_width};
+use crate::rows::{all_rows, are_data_sets};
 use std::alloc::{AllocError, Global};
 use vtl_rows::Table;
 use vtl_sets::{DataSet, new_table};
@@ -45,8 +48,7 @@ fn united_by_keys(
 {
     are_data_sets(operands);
     let all = all_points(alloc, operands, made)?;
-    let width = key_width(alloc, made)?;
-    once_by_key(alloc, all, width)
+    once_by_key(alloc, all, made.key_width())
 }
 
 // The points of the first of two operands, and those of the second whose identifiers the first lacks. Each cell is copied

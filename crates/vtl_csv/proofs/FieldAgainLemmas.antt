@@ -38,7 +38,7 @@ use Rattle.vtl_time.proofs.PeriodLemmas.{reads_back as period_back}
 use Rattle.vtl_cell.proofs.Rows.{split_and}
 use Rattle.vtl_cell.proofs.Texts.{day_reads_back, integer_reads_back, period_reads_back}
 use Rattle.vtl_csv.specs.declared.input.InputKind.TheVariants as i
-use Rattle.vtl_csv.specs.InputFields.{field_cell, text_cell}
+use Rattle.vtl_csv.specs.InputFields.{field_cell, read_column, text_cell}
 use Rattle.vtl_csv.specs.ReadAgain.{AreTold, IsShown, IsTold}
 use Rattle.vtl_csv.specs.StructuresFile.{is_identifier}
 
@@ -47,7 +47,7 @@ abbrev pub AreReadAgain : Settings → List Component → Row → Type 0
 AreReadAgain p [] [] = Unit {0}
 AreReadAgain p [] (v ∷ vs) = ⊥
 AreReadAgain p (x ∷ xs) [] = ⊥
-AreReadAgain p (x ∷ xs) (v ∷ vs) = (field_cell p x (text_of p v) ≡ Ok v) × AreReadAgain p xs vs
+AreReadAgain p (x ∷ xs) (v ∷ vs) = (field_cell p (read_column [] x) (text_of p v) ≡ Ok v) × AreReadAgain p xs vs
 
 -- ---- texts are UTF-8
 ascii_utf8 : (bs : List ℕ) → IsAscii bs → is_utf8 bs ≡ true
@@ -189,10 +189,10 @@ null_is (c.Text x) n = absurd (true≢false (sym n))
 null_is (c.Day x) n = absurd (true≢false (sym n))
 null_is (c.Period x) n = absurd (true≢false (sym n))
 
-field_again : (p : Settings) (x : Component) (v : Cell) → is_of x.kind v ≡ true → not (same_role x.role role.Identifier && is_null v) ≡ true → p.scale ≤ 9 → IsTold p x v → field_cell p x (text_of p v) ≡ Ok v
+field_again : (p : Settings) (x : Component) (v : Cell) → is_of x.kind v ≡ true → not (same_role x.role role.Identifier && is_null v) ≡ true → p.scale ≤ 9 → IsTold p x v → field_cell p (read_column [] x) (text_of p v) ≡ Ok v
 field_again p x v of_kind no_null few told = rw (held_utf8 p v told.held) (go (is_null v) refl)
   where
-    filled : (f : List ℕ) → f ≢ [] → reads p x.kind f ≡ Some v → text_cell p x f ≡ Ok v
+    filled : (f : List ℕ) → f ≢ [] → reads p x.kind f ≡ Some v → text_cell p (read_column [] x) f ≡ Ok v
     filled [] some e = absurd (some refl)
     filled (b ∷ bs) some e = rw (e, told.coded) refl
 
@@ -200,10 +200,10 @@ field_again p x v of_kind no_null few told = rw (held_utf8 p v told.held) (go (i
     missing true e = absurd (true≢false (sym e))
     missing false e = refl
 
-    null_again : v ≡ c.Null → text_cell p x (text_of p v) ≡ Ok v
+    null_again : v ≡ c.Null → text_cell p (read_column [] x) (text_of p v) ≡ Ok v
     null_again e = rw e (missing (is_identifier x) (ap (λ w. not (same_role x.role role.Identifier && is_null w)) (sym e) ∙ no_null))
 
-    go : (b : Bool) → is_null v ≡ b → text_cell p x (text_of p v) ≡ Ok v
+    go : (b : Bool) → is_null v ≡ b → text_cell p (read_column [] x) (text_of p v) ≡ Ok v
     go true n = null_again (null_is v n)
     go false n =
         let back = held_back p v few told.held n told.fits in

@@ -11,19 +11,18 @@ use Rattle.vtl_cell.specs.declared.cell.Cell.{Cell}
 use Rattle.vtl_cell.specs.declared.kind.Kind.{Kind}
 use Rattle.vtl_cell.specs.Reading.{reads}
 use Rattle.vtl_cell.specs.Row.{Row}
-use Rattle.vtl_tree.specs.declared.structure.Component.{Component}
 use Rattle.vtl_csv.specs.declared.input.InputKind.{InputKind}
 use Rattle.vtl_csv.specs.declared.input.InputKind.TheVariants as i
 use Rattle.vtl_csv.specs.Declarations.{text_in}
-use Rattle.vtl_csv.specs.InputFields.{at_column, coded_cell, field_cell, row_with, text_cell}
+use Rattle.vtl_csv.specs.InputFields.{ReadColumn, at_column, coded_cell, field_cell, row_with, text_cell}
 use Rattle.vtl_csv.specs.InputSteps.{AddsRow, Goes}
 use Rattle.vtl_csv.proofs.PointLemmas.{pair_at, zip_ended, zip_within}
 
 -- a field that is a text, or none
-field_text : (p : Settings) (x : Component) (f : List ℕ) → IsUtf8 f → field_cell p x f ≡ text_cell p x f
+field_text : (p : Settings) (x : ReadColumn) (f : List ℕ) → IsUtf8 f → field_cell p x f ≡ text_cell p x f
 field_text p x f h = ap (λ b. cond b (text_cell p x f) (Err i.NotText)) (is_utf8-from_IsUtf8 f h)
 
-pub field_refused : (p : Settings) (x : Component) (f : List ℕ) → ¬ (IsUtf8 f) → field_cell p x f ≡ Err i.NotText
+pub field_refused : (p : Settings) (x : ReadColumn) (f : List ℕ) → ¬ (IsUtf8 f) → field_cell p x f ≡ Err i.NotText
 field_refused p x f h = go (is_utf8 f) refl
   where
     go : (b : Bool) → is_utf8 f ≡ b → cond b (text_cell p x f) (Err i.NotText) ≡ Err i.NotText
@@ -31,22 +30,22 @@ field_refused p x f h = go (is_utf8 f) refl
     go false e = refl
 
 -- a field with no byte
-pub field_empty : (p : Settings) (x : Component) (f : List ℕ) → (length f == 0) ≡ true → text_cell p x [] ≡ field_cell p x f
+pub field_empty : (p : Settings) (x : ReadColumn) (f : List ℕ) → (length f == 0) ≡ true → text_cell p x [] ≡ field_cell p x f
 field_empty p x [] none = sym (field_text p x [] IsUtf8-nil)
 field_empty p x (b ∷ bs) none = let e : length (b ∷ bs) ≡ 0 = eqb-true (length (b ∷ bs)) 0 none in absurd (omega (arith, e))
 
 -- a field that is a text with a byte is read
-field_read : (p : Settings) (x : Component) (f : List ℕ) → 0 < length f → IsUtf8 f → field_cell p x f ≡ coded_cell x (reads p x.kind f)
+field_read : (p : Settings) (x : ReadColumn) (f : List ℕ) → 0 < length f → IsUtf8 f → field_cell p x f ≡ coded_cell x.component (reads p x.component.kind f)
 field_read p x [] some h = absurd (omega (arith, some))
 field_read p x (b ∷ bs) some h = field_text p x (b ∷ bs) h
 
 -- the value that its text stands for
-pub field_value : (p : Settings) (x : Component) (f t : List ℕ) (kind : Kind) (o : Option Cell) → 0 < length f → IsUtf8 f → t ≡ f → kind ≡ x.kind → o ≡ reads p kind t → coded_cell x o ≡ field_cell p x f
+pub field_value : (p : Settings) (x : ReadColumn) (f t : List ℕ) (kind : Kind) (o : Option Cell) → 0 < length f → IsUtf8 f → t ≡ f → kind ≡ x.component.kind → o ≡ reads p kind t → coded_cell x.component o ≡ field_cell p x f
 field_value p x f t kind o some h same of_kind e =
-    ap (coded_cell x) (e ∙ ap (λ m. reads p m t) of_kind ∙ ap (reads p x.kind) same) ∙ sym (field_read p x f some h)
+    ap (coded_cell x.component) (e ∙ ap (λ m. reads p m t) of_kind ∙ ap (reads p x.component.kind) same) ∙ sym (field_read p x f some h)
 
 -- a field of a column of texts that is none
-pub field_lost : (p : Settings) (x : Component) (f : List ℕ) → None ≡ text_in f → Err i.NotText ≡ field_cell p x f
+pub field_lost : (p : Settings) (x : ReadColumn) (f : List ℕ) → None ≡ text_in f → Err i.NotText ≡ field_cell p x f
 field_lost p x f found = go (is_utf8 f) refl found
   where
     go : (b : Bool) → is_utf8 f ≡ b → None ≡ cond b (Some (chars f)) None → Err i.NotText ≡ cond b (text_cell p x f) (Err i.NotText)
@@ -54,17 +53,17 @@ field_lost p x f found = go (is_utf8 f) refl found
     go false e q = refl
 
 -- behind other cells stand those of the first i fields of a record, whose row is that of these cells and the fields left
-pub record IsFilled (p : Settings) (pairs : List (Component × List ℕ)) (i : ℕ) (before cells : List Cell) : Type 0 where
+pub record IsFilled (p : Settings) (pairs : List (ReadColumn × List ℕ)) (i : ℕ) (before cells : List Cell) : Type 0 where
   pub row : Row
   pub stands : cells ≡ before ++ row
   pub size : length row ≡ i
   pub goes_on : row_with p row (drop i pairs) ≡ row_with p [] pairs
 
-pub filled_none : (p : Settings) (pairs : List (Component × List ℕ)) (before : List Cell) → IsFilled p pairs 0 before before
+pub filled_none : (p : Settings) (pairs : List (ReadColumn × List ℕ)) (before : List Cell) → IsFilled p pairs 0 before before
 filled_none p pairs before = record { row = []; stands = sym (append-nil before); size = refl; goes_on = refl }
 
-module _ (p : Settings) (xs : List Component) (ys : List (List ℕ)) (i : ℕ) (before cells : List Cell) (same : length ys ≡ length xs) (filled : IsFilled p (zip xs ys) i before cells) where
-  module _ (x : Component) (y : List ℕ) (h : i < length xs) (at_x : x ≡ get_or xs i x) (at_y : y ≡ get_or ys i y) where
+module _ (p : Settings) (xs : List ReadColumn) (ys : List (List ℕ)) (i : ℕ) (before cells : List Cell) (same : length ys ≡ length xs) (filled : IsFilled p (zip xs ys) i before cells) where
+  module _ (x : ReadColumn) (y : List ℕ) (h : i < length xs) (at_x : x ≡ get_or xs i x) (at_y : y ≡ get_or ys i y) where
     step : (r : Result Cell InputKind) → field_cell p x y ≡ r → row_with p [] (zip xs ys) ≡ at_column filled.row (λ longer. row_with p longer (drop (i + 1) (zip xs ys))) r
     step r e =
         let k : i < length ys = omega (arith, same, h) in

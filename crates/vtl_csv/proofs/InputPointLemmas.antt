@@ -24,7 +24,7 @@ use Rattle.vtl_sets.specs.TableOf.{column_for}
 use Rattle.vtl_sets.proofs.TableLemmas.{point_fits}
 use Rattle.vtl_csv.specs.declared.input.InputKind.{InputKind}
 use Rattle.vtl_csv.specs.declared.input.InputKind.TheVariants as i
-use Rattle.vtl_csv.specs.InputFields.{at_column, coded_cell, field_cell, is_coded, most_points, record_row, row_with, text_cell}
+use Rattle.vtl_csv.specs.InputFields.{ReadColumn, at_column, components_in, coded_cell, field_cell, is_coded, most_points, record_row, row_with, text_cell}
 use Rattle.vtl_csv.specs.StructuresFile.{is_identifier}
 
 abbrev ok_of : {X E : Type 0} → X → Result X E
@@ -75,43 +75,44 @@ coded_good p x f (Some w) v t e =
     let h = read_kind p x.kind f w t in
     subst (λ u. is_good x u ≡ true) same (value_good x w h.0 h.1)
 
-text_good : (p : Settings) (x : Component) (f : List ℕ) (v : Cell) → text_cell p x f ≡ Ok v → is_good x v ≡ true
+text_good : (p : Settings) (x : ReadColumn) (f : List ℕ) (v : Cell) → text_cell p x f ≡ Ok v → is_good x.component v ≡ true
 text_good p x [] v e =
-    let h = ok_unless (is_identifier x) (Ok c.Null) i.NullIdentifier v e in
-    subst (λ u. is_good x u ≡ true) (ok_same h.1) (null_good x h.0)
-text_good p x (b ∷ bs) v e = coded_good p x (b ∷ bs) (reads p x.kind (b ∷ bs)) v refl e
+    let h = ok_unless (is_identifier x.component) (cond x.not_null (Err i.NotNull) (Ok c.Null)) i.NullIdentifier v e in
+    let k = ok_unless x.not_null (Ok c.Null) i.NotNull v h.1 in
+    subst (λ u. is_good x.component u ≡ true) (ok_same k.1) (null_good x.component h.0)
+text_good p x (b ∷ bs) v e = coded_good p x.component (b ∷ bs) (reads p x.component.kind (b ∷ bs)) v refl e
 
-field_good : (p : Settings) (x : Component) (f : List ℕ) (v : Cell) → field_cell p x f ≡ Ok v → is_good x v ≡ true
+field_good : (p : Settings) (x : ReadColumn) (f : List ℕ) (v : Cell) → field_cell p x f ≡ Ok v → is_good x.component v ≡ true
 field_good p x f v e = text_good p x f v (ok_if (is_utf8 f) (text_cell p x f) i.NotText v e).1
 
 -- ---- a row
-row_good : (p : Settings) (xs : List (Component × List ℕ)) (row out : Row) → row_with p row xs ≡ Ok out → (more : Row) × (out ≡ row ++ more) × (is_point (map (λ x. x.0) xs) more ≡ true)
+row_good : (p : Settings) (xs : List (ReadColumn × List ℕ)) (row out : Row) → row_with p row xs ≡ Ok out → (more : Row) × (out ≡ row ++ more) × (is_point (map (λ x. x.0.component) xs) more ≡ true)
 row_good p [] row out e = ([], sym (ok_same e) ∙ sym (append-nil row), refl)
 row_good p (x ∷ xs) row out e = go (field_cell p x.0 x.1) refl (λ longer. row_good p xs longer out) e
   where
     go : (r : Result Cell InputKind) → field_cell p x.0 x.1 ≡ r
-        → ((longer : Row) → row_with p longer xs ≡ Ok out → (more : Row) × (out ≡ longer ++ more) × (is_point (map (λ x. x.0) xs) more ≡ true))
+        → ((longer : Row) → row_with p longer xs ≡ Ok out → (more : Row) × (out ≡ longer ++ more) × (is_point (map (λ x. x.0.component) xs) more ≡ true))
         → at_column row (λ longer. row_with p longer xs) r ≡ Ok out
-        → (more : Row) × (out ≡ row ++ more) × (is_point (map (λ x. x.0) (x ∷ xs)) more ≡ true)
+        → (more : Row) × (out ≡ row ++ more) × (is_point (map (λ x. x.0.component) (x ∷ xs)) more ≡ true)
     go (Err kind) t ih q = cc
     go (Ok v) t ih q =
         let g = ih (row ++ v ∷ []) q in
-        (v ∷ g.0, g.1 ∙ append_assoc row (v ∷ []) g.0, and_true (is_good x.0 v) (is_point (map (λ x. x.0) xs) g.0) (field_good p x.0 x.1 v t) g.2)
+        (v ∷ g.0, g.1 ∙ append_assoc row (v ∷ []) g.0, and_true (is_good x.0.component v) (is_point (map (λ x. x.0.component) xs) g.0) (field_good p x.0 x.1 v t) g.2)
 
-first_of_pairs : {A B : Type 0} (xs : List A) (ys : List B) → length ys ≡ length xs → map (λ p. p.0) (zip xs ys) ≡ xs
+first_of_pairs : {B : Type 0} (xs : List ReadColumn) (ys : List B) → length ys ≡ length xs → map (λ p. p.0.component) (zip xs ys) ≡ components_in xs
 first_of_pairs [] [] e = refl
 first_of_pairs [] (y ∷ ys) e = cc
 first_of_pairs (x ∷ xs) [] e = cc
-first_of_pairs (x ∷ xs) (y ∷ ys) e = ap (λ l. x ∷ l) (first_of_pairs xs ys (omega (arith, e)))
+first_of_pairs (x ∷ xs) (y ∷ ys) e = ap (λ l. x.component ∷ l) (first_of_pairs xs ys (omega (arith, e)))
 
 -- the row of a record is a point
-pub record_good : (p : Settings) (columns : List Component) (count : ℕ) (fields : List (List ℕ)) (row : Row) → record_row p columns count fields ≡ Ok row → is_point columns row ≡ true
+pub record_good : (p : Settings) (columns : List ReadColumn) (count : ℕ) (fields : List (List ℕ)) (row : Row) → record_row p columns count fields ≡ Ok row → is_point (components_in columns) row ≡ true
 record_good p columns count fields row e =
     let few = ok_unless (nat_le most_points count) (cond (length fields == length columns) (row_with p [] (zip columns fields)) (Err (min (length fields) (length columns) + 1, i.WrongWidth))) (1, i.TooManyRows) row e in
     let wide = ok_if (length fields == length columns) (row_with p [] (zip columns fields)) (min (length fields) (length columns) + 1, i.WrongWidth) row few.1 in
     let same : length fields ≡ length columns = let t = wide.0 in grind (arith, nat_tests) in
     let g = row_good p (zip columns fields) [] row wide.1 in
-    ap (is_point columns) g.1 ∙ ap (λ xs. is_point xs g.0) (sym (first_of_pairs columns fields same)) ∙ g.2
+    ap (is_point (components_in columns)) g.1 ∙ ap (λ xs. is_point xs g.0) (sym (first_of_pairs columns fields same)) ∙ g.2
 
 -- ---- the rows
 abbrev pub ArePoints : List Component → List Row → Type 0
@@ -122,5 +123,5 @@ all_more P [] x all h = (h, tt)
 all_more P (y ∷ ys) x all h = (all.0, all_more P ys x all.1 h)
 
 -- ---- a row fits a table of the columns
-pub record_fits : (p : Settings) (columns : List Component) (count : ℕ) (fields : List (List ℕ)) (row : Row) (below : List Column) → below ≡ map column_for columns → record_row p columns count fields ≡ Ok row → fits below row ≡ true
-record_fits p columns count fields row below e h = ap (λ cs. fits cs row) e ∙ point_fits columns row (record_good p columns count fields row h)
+pub record_fits : (p : Settings) (columns : List ReadColumn) (count : ℕ) (fields : List (List ℕ)) (row : Row) (below : List Column) → below ≡ map column_for (components_in columns) → record_row p columns count fields ≡ Ok row → fits below row ≡ true
+record_fits p columns count fields row below e h = ap (λ cs. fits cs row) e ∙ point_fits (components_in columns) row (record_good p columns count fields row h)

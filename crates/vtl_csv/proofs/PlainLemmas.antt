@@ -6,7 +6,7 @@ use Rattle.std.specs.Option.{is_some}
 use Rattle.std.specs.Str.{is_utf8}
 use Rattle.std.proofs.lemmas.List.{length-map, map-append}
 use Rattle.std.proofs.lemmas.Slice.Eq.{bytes_eq-Decides}
-use Rattle.vtl_lists.specs.Aliases.{Bytes, Field, Record}
+use Rattle.vtl_lists.specs.Aliases.{Bytes, Field, Name, Record}
 use Rattle.vtl_lists.specs.Results.{◌>>=◌}
 use Rattle.vtl_decimal.specs.Settings.{Settings}
 use Rattle.vtl_lists.specs.Apart.{all_apart}
@@ -26,7 +26,7 @@ use Rattle.vtl_tree.specs.Structure.{IsStructure, columns_of, key_width, same_na
 use Rattle.vtl_sets.specs.TableOf.{column_for, table_columns}
 use Rattle.vtl_csv.specs.declared.input.InputKind.{InputKind}
 use Rattle.vtl_csv.specs.declared.input.InputKind.TheVariants as i
-use Rattle.vtl_csv.specs.InputFields.{at_column, coded_cell, field_cell, is_coded, most_points, record_row, row_with, text_cell}
+use Rattle.vtl_csv.specs.InputFields.{ReadColumn, at_column, coded_cell, field_cell, is_coded, most_points, read_column, read_columns, record_row, row_with, text_cell}
 use Rattle.vtl_csv.specs.InputFile.{Fault, Layout, columns_with, dataset_rows, layout_of, named_by, newly_named, of_header, place_from, place_in, rows_below, rows_in_records, rows_with, unless_repeated}
 use Rattle.vtl_csv.specs.Plain.{plain, plain_columns}
 use Rattle.vtl_csv.specs.StructuresFile.{◌at_line◌, is_identifier, records_in}
@@ -121,38 +121,46 @@ coded_cell_plain : (x : Component) (o : Option Cell) → coded_cell x o ≡ code
 coded_cell_plain x None = refl
 coded_cell_plain x (Some v) = ap (λ b. cond b (Ok v) (Err i.NotInCodes)) (coded_plain x v)
 
-text_plain : (p : Settings) (x : Component) (f : Field) → text_cell p x f ≡ text_cell p (plain x) f
-text_plain p x [] = ap (λ b. cond b (Err i.NullIdentifier) (Ok c.Null)) (sym (identifier_plain x))
-text_plain p x (b ∷ bs) = coded_cell_plain x (reads p x.kind (b ∷ bs))
+-- a column of a file with its plain component
+abbrev plain_read : ReadColumn → ReadColumn
+plain_read x = record { component = plain x.component; not_null = x.not_null }
 
-field_plain : (p : Settings) (x : Component) (f : Field) → field_cell p x f ≡ field_cell p (plain x) f
+reads_plain : (not_null : List Name) (xs : List Component) → map plain_read (read_columns not_null xs) ≡ read_columns not_null (map plain xs)
+reads_plain not_null [] = refl
+reads_plain not_null (x ∷ xs) = ap (λ l. read_column not_null (plain x) ∷ l) (reads_plain not_null xs)
+
+text_plain : (p : Settings) (x : ReadColumn) (f : Field) → text_cell p x f ≡ text_cell p (plain_read x) f
+text_plain p x [] = ap (λ b. cond b (Err i.NullIdentifier) (cond x.not_null (Err i.NotNull) (Ok c.Null))) (sym (identifier_plain x.component))
+text_plain p x (b ∷ bs) = coded_cell_plain x.component (reads p x.component.kind (b ∷ bs))
+
+field_plain : (p : Settings) (x : ReadColumn) (f : Field) → field_cell p x f ≡ field_cell p (plain_read x) f
 field_plain p x f = ap (λ r. cond (is_utf8 f) r (Err i.NotText)) (text_plain p x f)
 
-row_plain : (p : Settings) (columns : List Component) (fields : Record) (row : Row) → row_with p row (zip columns fields) ≡ row_with p row (zip (map plain columns) fields)
+row_plain : (p : Settings) (columns : List ReadColumn) (fields : Record) (row : Row) → row_with p row (zip columns fields) ≡ row_with p row (zip (map plain_read columns) fields)
 row_plain p [] fields row = refl
 row_plain p (x ∷ columns) [] row = refl
 row_plain p (x ∷ columns) (f ∷ fields) row =
     ap (at_column row (λ longer. row_with p longer (zip columns fields))) (field_plain p x f)
-    ∙ go (field_cell p (plain x) f) (λ longer. row_plain p columns fields longer)
+    ∙ go (field_cell p (plain_read x) f) (λ longer. row_plain p columns fields longer)
   where
-    go : (r : Result Cell InputKind) → ((longer : Row) → row_with p longer (zip columns fields) ≡ row_with p longer (zip (map plain columns) fields))
-        → at_column row (λ longer. row_with p longer (zip columns fields)) r ≡ at_column row (λ longer. row_with p longer (zip (map plain columns) fields)) r
+    go : (r : Result Cell InputKind) → ((longer : Row) → row_with p longer (zip columns fields) ≡ row_with p longer (zip (map plain_read columns) fields))
+        → at_column row (λ longer. row_with p longer (zip columns fields)) r ≡ at_column row (λ longer. row_with p longer (zip (map plain_read columns) fields)) r
     go (Err kind) ih = refl
     go (Ok v) ih = ih (row ++ v ∷ [])
 
-record_plain : (p : Settings) (columns : List Component) (count : ℕ) (fields : Record) → record_row p columns count fields ≡ record_row p (map plain columns) count fields
+record_plain : (p : Settings) (columns : List ReadColumn) (count : ℕ) (fields : Record) → record_row p columns count fields ≡ record_row p (map plain_read columns) count fields
 record_plain p columns count fields =
     ap (λ r. cond (nat_le most_points count) (Err (1, i.TooManyRows)) (cond (length fields == length columns) r (Err (min (length fields) (length columns) + 1, i.WrongWidth)))) (row_plain p columns fields [])
-    ∙ ap (λ n. cond (nat_le most_points count) (Err (1, i.TooManyRows)) (cond (length fields == n) (row_with p [] (zip (map plain columns) fields)) (Err (min (length fields) n + 1, i.WrongWidth)))) (sym (length-map columns plain))
+    ∙ ap (λ n. cond (nat_le most_points count) (Err (1, i.TooManyRows)) (cond (length fields == n) (row_with p [] (zip (map plain_read columns) fields)) (Err (min (length fields) n + 1, i.WrongWidth)))) (sym (length-map columns plain_read))
 
-rows_plain : (p : Settings) (columns : List Component) (keys : List ℕ) (rest : List Record) (before : List Row) → rows_with p columns keys before rest ≡ rows_with p (map plain columns) keys before rest
+rows_plain : (p : Settings) (columns : List ReadColumn) (keys : List ℕ) (rest : List Record) (before : List Row) → rows_with p columns keys before rest ≡ rows_with p (map plain_read columns) keys before rest
 rows_plain p columns keys [] before = refl
 rows_plain p columns keys (fields ∷ rest) before =
     ap (λ r. (r >>= unless_repeated keys before) at_line (length before + 2) >>= λ rows. rows_with p columns keys rows rest) (record_plain p columns (length before) fields)
-    ∙ go ((record_row p (map plain columns) (length before) fields >>= unless_repeated keys before) at_line (length before + 2)) (λ rows. rows_plain p columns keys rest rows)
+    ∙ go ((record_row p (map plain_read columns) (length before) fields >>= unless_repeated keys before) at_line (length before + 2)) (λ rows. rows_plain p columns keys rest rows)
   where
-    go : (r : Result (List Row) Fault) → ((rows : List Row) → rows_with p columns keys rows rest ≡ rows_with p (map plain columns) keys rows rest)
-        → (r >>= λ rows. rows_with p columns keys rows rest) ≡ (r >>= λ rows. rows_with p (map plain columns) keys rows rest)
+    go : (r : Result (List Row) Fault) → ((rows : List Row) → rows_with p columns keys rows rest ≡ rows_with p (map plain_read columns) keys rows rest)
+        → (r >>= λ rows. rows_with p columns keys rows rest) ≡ (r >>= λ rows. rows_with p (map plain_read columns) keys rows rest)
     go (Err fault) ih = refl
     go (Ok rows) ih = ih rows
 
@@ -187,12 +195,12 @@ placed all columns = ok_or (each_some (place_in columns) all) (length columns + 
 abbrev layout_in : List Component → Record → Result Layout ℕ
 layout_in all fields = columns_with all [] fields >>= placed all
 
-abbrev rows_under : Settings → ℕ → List Record → Layout → Result (List Row) Fault
-rows_under p count rest layout = rows_with p layout.columns (take count layout.places) [] rest >>= λ rows. Ok (map (cells_at layout.places) rows)
+abbrev rows_under : Settings → List Name → ℕ → List Record → Layout → Result (List Row) Fault
+rows_under p not_null count rest layout = rows_with p (read_columns not_null layout.columns) (take count layout.places) [] rest >>= λ rows. Ok (map (cells_at layout.places) rows)
 
-abbrev rows_by : Settings → ℕ → List Component → List Record → Result (List Row) Fault
-rows_by p count all [] = Err (1, (1, i.BadHeader))
-rows_by p count all (header ∷ rest) = of_header (layout_in all header) >>= rows_under p count rest
+abbrev rows_by : Settings → List Name → ℕ → List Component → List Record → Result (List Row) Fault
+rows_by p not_null count all [] = Err (1, (1, i.BadHeader))
+rows_by p not_null count all (header ∷ rest) = of_header (layout_in all header) >>= rows_under p not_null count rest
 
 placed_plain : (all columns : List Component) → plain_laid (placed all columns) ≡ placed (map plain all) (map plain columns)
 placed_plain all columns =
@@ -213,22 +221,25 @@ module _ (s : Structure) (ok : IsStructure s) where
       go (Err column) = refl
       go (Ok columns) = placed_plain (columns_of s) columns
 
-  records_plain : (p : Settings) (records : List Record) → rows_in_records p s records ≡ rows_by p (key_width s) (plain_columns s) records
-  records_plain p [] = refl
-  records_plain p (header ∷ rest) = go (layout_of s header) ∙ ap (λ r. of_header r >>= rows_under p (key_width s) rest) (layout_plain header)
+  records_plain : (p : Settings) (not_null : List Name) (records : List Record) → rows_in_records p s not_null records ≡ rows_by p not_null (key_width s) (plain_columns s) records
+  records_plain p not_null [] = refl
+  records_plain p not_null (header ∷ rest) = go (layout_of s header) ∙ ap (λ r. of_header r >>= rows_under p not_null (key_width s) rest) (layout_plain header)
     where
-      go : (r : Result Layout ℕ) → (of_header r >>= λ layout. rows_below p s layout rest) ≡ (of_header (plain_laid r) >>= rows_under p (key_width s) rest)
+      go : (r : Result Layout ℕ) → (of_header r >>= λ layout. rows_below p s not_null layout rest) ≡ (of_header (plain_laid r) >>= rows_under p not_null (key_width s) rest)
       go (Err column) = refl
-      go (Ok layout) = ap (λ r. r >>= λ rows. Ok (map (cells_at layout.places) rows)) (rows_plain p layout.columns (take (key_width s) layout.places) rest [])
+      go (Ok layout) =
+          let keys = take (key_width s) layout.places in
+          ap (λ r. r >>= λ rows. Ok (map (cells_at layout.places) rows))
+          (rows_plain p (read_columns not_null layout.columns) keys rest [] ∙ ap (λ columns. rows_with p columns keys [] rest) (reads_plain not_null layout.columns))
 
 -- ---- two structures with the same plain columns
-pub plain_rows_same : (p : Settings) (s t : Structure) (text : Bytes) → IsStructure s → IsStructure t → plain_columns s ≡ plain_columns t → dataset_rows p s text ≡ dataset_rows p t text
-plain_rows_same p s t text ok good e =
+pub plain_rows_same : (p : Settings) (s t : Structure) (not_null : List Name) (text : Bytes) → IsStructure s → IsStructure t → plain_columns s ≡ plain_columns t → dataset_rows p s not_null text ≡ dataset_rows p t not_null text
+plain_rows_same p s t not_null text ok good e =
     let counts : key_width s ≡ key_width t = key_count s ∙ ap (λ (xs : List Component). length (filter (λ x. same_role x.role role.Identifier) xs)) e ∙ sym (key_count t) in
-    records_plain s ok p (records_in text)
-    ∙ ap (λ all. rows_by p (key_width s) all (records_in text)) e
-    ∙ ap (λ n. rows_by p n (plain_columns t) (records_in text)) counts
-    ∙ sym (records_plain t good p (records_in text))
+    records_plain s ok p not_null (records_in text)
+    ∙ ap (λ all. rows_by p not_null (key_width s) all (records_in text)) e
+    ∙ ap (λ n. rows_by p not_null n (plain_columns t) (records_in text)) counts
+    ∙ sym (records_plain t good p not_null (records_in text))
 
 columns_below : (xs : List Component) → map column_for xs ≡ map column_for (map plain xs)
 columns_below [] = refl

@@ -23,7 +23,7 @@ use Rattle.vtl_tree.specs.DataSet.{AreOfProfile}
 use Rattle.vtl_tree.specs.declared.structure.Component.{Component}
 use Rattle.vtl_csv.specs.declared.input.InputKind.{InputKind}
 use Rattle.vtl_csv.specs.declared.input.InputKind.TheVariants as i
-use Rattle.vtl_csv.specs.InputFields.{at_column, coded_cell, field_cell, is_coded, most_points, record_row, row_with, text_cell}
+use Rattle.vtl_csv.specs.InputFields.{ReadColumn, at_column, coded_cell, field_cell, is_coded, most_points, record_row, row_with, text_cell}
 use Rattle.vtl_csv.specs.StructuresFile.{is_identifier}
 use Rattle.vtl_csv.proofs.InputPointLemmas.{all_more, ok_if, ok_same, ok_unless}
 
@@ -71,15 +71,17 @@ coded_fits : (p : Settings) (x : Component) (f : List ℕ) (o : Option Cell) (v 
 coded_fits p x f None v t e = cc
 coded_fits p x f (Some w) v t e = subst (IsOfProfile p) (ok_same (ok_if (is_coded x w) (Ok w) i.NotInCodes v e).1) (value_fits p x.kind f w t)
 
-text_fits : (p : Settings) (x : Component) (f : List ℕ) (v : Cell) → text_cell p x f ≡ Ok v → IsOfProfile p v
-text_fits p x [] v e = subst (IsOfProfile p) (ok_same (ok_unless (is_identifier x) (Ok c.Null) i.NullIdentifier v e).1) tt
-text_fits p x (b ∷ bs) v e = coded_fits p x (b ∷ bs) (reads p x.kind (b ∷ bs)) v refl e
+text_fits : (p : Settings) (x : ReadColumn) (f : List ℕ) (v : Cell) → text_cell p x f ≡ Ok v → IsOfProfile p v
+text_fits p x [] v e =
+    let h = ok_unless (is_identifier x.component) (cond x.not_null (Err i.NotNull) (Ok c.Null)) i.NullIdentifier v e in
+    subst (IsOfProfile p) (ok_same (ok_unless x.not_null (Ok c.Null) i.NotNull v h.1).1) tt
+text_fits p x (b ∷ bs) v e = coded_fits p x.component (b ∷ bs) (reads p x.component.kind (b ∷ bs)) v refl e
 
-field_fits : (p : Settings) (x : Component) (f : List ℕ) (v : Cell) → field_cell p x f ≡ Ok v → IsOfProfile p v
+field_fits : (p : Settings) (x : ReadColumn) (f : List ℕ) (v : Cell) → field_cell p x f ≡ Ok v → IsOfProfile p v
 field_fits p x f v e = text_fits p x f v (ok_if (is_utf8 f) (text_cell p x f) i.NotText v e).1
 
 -- ---- a row
-row_fits : (p : Settings) (xs : List (Component × List ℕ)) (row out : Row) → AllByRecursion (IsOfProfile p) row → row_with p row xs ≡ Ok out → AllByRecursion (IsOfProfile p) out
+row_fits : (p : Settings) (xs : List (ReadColumn × List ℕ)) (row out : Row) → AllByRecursion (IsOfProfile p) row → row_with p row xs ≡ Ok out → AllByRecursion (IsOfProfile p) out
 row_fits p [] row out all e = subst (AllByRecursion (IsOfProfile p)) (ok_same e) all
 row_fits p (x ∷ xs) row out all e = go (field_cell p x.0 x.1) refl (λ longer. row_fits p xs longer out) e
   where
@@ -89,7 +91,7 @@ row_fits p (x ∷ xs) row out all e = go (field_cell p x.0 x.1) refl (λ longer.
     go (Err kind) t ih q = cc
     go (Ok v) t ih q = ih (row ++ v ∷ []) (all_more (IsOfProfile p) row v all (field_fits p x.0 x.1 v t)) q
 
-pub record_of_profile : (p : Settings) (columns : List Component) (count : ℕ) (fields : List (List ℕ)) (row : Row) → record_row p columns count fields ≡ Ok row → AllByRecursion (IsOfProfile p) row
+pub record_of_profile : (p : Settings) (columns : List ReadColumn) (count : ℕ) (fields : List (List ℕ)) (row : Row) → record_row p columns count fields ≡ Ok row → AllByRecursion (IsOfProfile p) row
 record_of_profile p columns count fields row e =
     let few = ok_unless (nat_le most_points count) (cond (length fields == length columns) (row_with p [] (zip columns fields)) (Err (min (length fields) (length columns) + 1, i.WrongWidth))) (1, i.TooManyRows) row e in
     let wide = ok_if (length fields == length columns) (row_with p [] (zip columns fields)) (min (length fields) (length columns) + 1, i.WrongWidth) row few.1 in

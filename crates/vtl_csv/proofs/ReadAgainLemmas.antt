@@ -31,7 +31,7 @@ use Rattle.vtl_tree.specs.declared.structure.Role.{Role}
 use Rattle.vtl_tree.specs.declared.structure.Role.TheVariants as role
 use Rattle.vtl_tree.specs.declared.structure.Structure.{Structure}
 use Rattle.vtl_tree.specs.declared.structure.Component.{Component}
-use Rattle.vtl_csv.specs.InputFields.{most_points, record_row, row_with}
+use Rattle.vtl_csv.specs.InputFields.{most_points, read_column, read_columns, record_row, row_with}
 use Rattle.vtl_csv.specs.CsvText.{csv_of, header_of}
 use Rattle.vtl_csv.specs.InputFile.{Layout, columns_with, dataset_rows, is_repeat, layout_of, named_by, of_header, place_from, place_in, places_in, rows_below, rows_in_records, rows_with}
 use Rattle.vtl_csv.specs.StructuresFile.{records_in}
@@ -69,7 +69,7 @@ module _ {X : Type 0} (same : X → X → Bool) (turn : (x y : X) → same x y �
 
 -- ---- rows
 -- the fields of a row that are read again give the row
-pub row_again : (p : Settings) (before : Row) (columns : List Component) (r : Row) → AreReadAgain p columns r → row_with p before (zip columns (map (text_of p) r)) ≡ Ok (before ++ r)
+pub row_again : (p : Settings) (before : Row) (columns : List Component) (r : Row) → AreReadAgain p columns r → row_with p before (zip (read_columns [] columns) (map (text_of p) r)) ≡ Ok (before ++ r)
 row_again p before [] [] all = ap Ok (sym (append-nil before))
 row_again p before [] (v ∷ vs) all = absurd all
 row_again p before (x ∷ xs) [] all = absurd all
@@ -82,10 +82,10 @@ again_wide p (x ∷ xs) [] all = absurd all
 again_wide p (x ∷ xs) (v ∷ vs) all = let e = again_wide p xs vs all.1 in omega (arith, e)
 
 -- a record of such a row, behind fewer rows than a file may hold
-record_again : (p : Settings) (columns : List Component) (count : ℕ) (r : Row) → count < most_points → AreReadAgain p columns r → record_row p columns count (map (text_of p) r) ≡ Ok r
+record_again : (p : Settings) (columns : List Component) (count : ℕ) (r : Row) → count < most_points → AreReadAgain p columns r → record_row p (read_columns [] columns) count (map (text_of p) r) ≡ Ok r
 record_again p columns count r few all =
-    let e : length (map (text_of p) r) ≡ length columns = length-map r (text_of p) ∙ again_wide p columns r all in
-    rw (lt-leb most_points count few, eq-eqb (length (map (text_of p) r)) (length columns) e) (row_again p [] columns r all)
+    let e : length (map (text_of p) r) ≡ length (read_columns [] columns) = length-map r (text_of p) ∙ again_wide p columns r all ∙ sym (length-map columns (read_column [])) in
+    rw (lt-leb most_points count few, eq-eqb (length (map (text_of p) r)) (length (read_columns [] columns)) e) (row_again p [] columns r all)
 
 -- the identifiers at the first places are the first cells
 first_cells : (n k : ℕ) (r : Row) → length r ≡ n → cells_at (take k (range_with_len 0 n)) r ≡ take k r
@@ -111,7 +111,7 @@ module _ (p : Settings) (columns : List Component) (k : ℕ) where
   wide_front (x ∷ xs) ys all = (all.0, wide_front xs ys all.1)
 
   rows_again : (before rest : List Row) → AllByRecursion (AreReadAgain p columns) (before ++ rest) → all_apart (same_key k) (before ++ rest) ≡ true → length (before ++ rest) ≤ most_points
-      → rows_with p columns keys before (map (map (text_of p)) rest) ≡ Ok (before ++ rest)
+      → rows_with p (read_columns [] columns) keys before (map (map (text_of p)) rest) ≡ Ok (before ++ rest)
   rows_again before [] all apart few = ap Ok (sym (append-nil before))
   rows_again before (r ∷ rest) all apart few =
       let l = length-append before (r ∷ rest) in
@@ -350,9 +350,9 @@ module _ (p : Settings) (s : Structure) (points : List Row) (is : IsDataSet s po
   unmarked : strip_bom (csv_of p s points) ≡ csv_of p s points
   unmarked = header_unmarked (columns_of s) (flat_map (row_text default_writer) (map (map (text_of p)) rows)) (some_column s is.well_formed) reads.unmarked
 
-  pub read_again : dataset_rows p s (csv_of p s points) ≡ Ok rows
+  pub read_again : dataset_rows p s [] (csv_of p s points) ≡ Ok rows
   read_again =
-      ap (rows_in_records p s) (records_again written unmarked written_back)
-      ∙ ap (λ r. of_header r >>= λ layout. rows_below p s layout (map (map (text_of p)) rows)) (layout_again s is.well_formed)
+      ap (rows_in_records p s []) (records_again written unmarked written_back)
+      ∙ ap (λ r. of_header r >>= λ layout. rows_below p s [] layout (map (map (text_of p)) rows)) (layout_again s is.well_formed)
       ∙ ap (λ r. r >>= λ read. Ok (map (cells_at (range_with_len 0 (length (columns_of s)))) read)) (rows_again p (columns_of s) (key_width s) [] rows rows_read rows_apart rows_few)
       ∙ ap Ok whole_again

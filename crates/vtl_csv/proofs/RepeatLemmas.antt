@@ -8,9 +8,8 @@ use Rattle.vtl_lists.specs.Apart.{all_apart}
 use Rattle.vtl_cell.specs.Row.{Row}
 use Rattle.vtl_rows.specs.Keys.{FindsRepeat, IsFirstSame, agree, apart}
 use Rattle.vtl_rows.proofs.Firsts.{apart_front, apart_push}
-use Rattle.vtl_tree.specs.declared.structure.Component.{Component}
 use Rattle.vtl_csv.specs.declared.input.InputKind.TheVariants as i
-use Rattle.vtl_csv.specs.InputFields.{Flaw, record_row}
+use Rattle.vtl_csv.specs.InputFields.{Flaw, ReadColumn, record_row}
 use Rattle.vtl_csv.specs.InputFile.{Fault, is_repeat, rows_with, unless_repeated}
 use Rattle.vtl_csv.specs.InputSteps.{Taken, fault_among, on_row, rows_outcome, taken, taken_with}
 use Rattle.vtl_csv.specs.StructuresFile.{◌at_line◌}
@@ -52,7 +51,7 @@ apart_shorter same xs more n h e =
     apart_front same xs (drop (length xs) (take n (xs ++ more))) (ap (all_apart same) (sym split) ∙ e)
 
 -- ---- what is taken
-module _ (p : Settings) (columns : List Component) where
+module _ (p : Settings) (columns : List ReadColumn) where
   -- it begins with what stood before
   grows : (rest : List (List (List ℕ))) (before : List Row) → (more : List Row) × ((taken_with p columns before rest).rows ≡ before ++ more)
   grows [] before = ([], sym (append-nil before))

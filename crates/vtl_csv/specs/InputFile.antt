@@ -3,7 +3,7 @@
 use Rattle.std.specs.Prelude.{ℕ, ◌+◌, ◌≡◌, Bool, List, [], ◌∷◌, ◌++◌, map, take, length, encode_utf8_all, Option, None, Some, ok_or, Result, Ok, Err, if◌then◌else◌}
 use Rattle.std.specs.List.{list_any}
 use Rattle.std.specs.Option.{is_some}
-use Rattle.vtl_lists.specs.Aliases.{Bytes, Field, Record}
+use Rattle.vtl_lists.specs.Aliases.{Bytes, Field, Name, Record}
 use Rattle.vtl_lists.specs.Results.{◌>>=◌}
 use Rattle.vtl_decimal.specs.Settings.{Settings}
 use Rattle.vtl_lists.specs.Each.{each_some}
@@ -17,7 +17,7 @@ use Rattle.vtl_sets.specs.TableOf.{table_columns}
 use Rattle.vtl_csv.specs.declared.input.InputErr.{InputErr}
 use Rattle.vtl_csv.specs.declared.input.InputErr.TheVariants as e
 use Rattle.vtl_csv.specs.declared.input.InputKind.TheVariants as i
-use Rattle.vtl_csv.specs.InputFields.{Flaw, record_row}
+use Rattle.vtl_csv.specs.InputFields.{Flaw, ReadColumn, read_columns, record_row}
 use Rattle.vtl_csv.specs.StructuresFile.{◌at_line◌, records_in}
 
 -- the component of which a field is the name
@@ -77,25 +77,26 @@ unless_repeated keys before row = if is_repeat keys before row then Err (1, i.Du
 
 -- the rows before and then those of these records, or the first line that has a flaw with its first flaw; the records stand
 -- on the lines behind the header and those rows
-abbrev pub rows_with : Settings → List Component → List ℕ → List Row → List Record → Result (List Row) Fault
+abbrev pub rows_with : Settings → List ReadColumn → List ℕ → List Row → List Record → Result (List Row) Fault
 rows_with p columns keys before [] = Ok before
 rows_with p columns keys before (fields ∷ rest) =
     (record_row p columns (length before) fields >>= unless_repeated keys before) at_line (length before + 2)
     >>= λ rows. rows_with p columns keys rows rest
 
 -- the rows of these records below a header with this layout, the cells of each in column order
-abbrev pub rows_below : Settings → Structure → Layout → List Record → Result (List Row) Fault
-rows_below p s layout rest =
-    rows_with p layout.columns (take (key_width s) layout.places) [] rest
+abbrev pub rows_below : Settings → Structure → List Name → Layout → List Record → Result (List Row) Fault
+rows_below p s not_null layout rest =
+    rows_with p (read_columns not_null layout.columns) (take (key_width s) layout.places) [] rest
     >>= λ rows. Ok (map (cells_at layout.places) rows)
 
-abbrev pub rows_in_records : Settings → Structure → List Record → Result (List Row) Fault
-rows_in_records p s [] = Err (1, (1, i.BadHeader))
-rows_in_records p s (header ∷ rest) = of_header (layout_of s header) >>= λ layout. rows_below p s layout rest
+abbrev pub rows_in_records : Settings → Structure → List Name → List Record → Result (List Row) Fault
+rows_in_records p s not_null [] = Err (1, (1, i.BadHeader))
+rows_in_records p s not_null (header ∷ rest) = of_header (layout_of s header) >>= λ layout. rows_below p s not_null layout rest
 
--- the rows that a CSV file holds of a data set of the structure, or its first fault
-abbrev pub dataset_rows : Settings → Structure → Bytes → Result (List Row) Fault
-dataset_rows p s text = rows_in_records p s (records_in text)
+-- the rows that a CSV file holds of a data set of the structure whose components of these names are not-null, or its first
+-- fault
+abbrev pub dataset_rows : Settings → Structure → List Name → Bytes → Result (List Row) Fault
+dataset_rows p s not_null text = rows_in_records p s not_null (records_in text)
 
 -- a table of the structure with the rows, or the fault; want of memory may come instead
 abbrev pub Reads : Structure → Result Listed InputErr → Result (List Row) Fault → Type 0

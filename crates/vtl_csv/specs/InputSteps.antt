@@ -1,11 +1,13 @@
 -- The steps by which a CSV file of a data set is read: what each leaves, and how its answer is seen.
 use Rattle.std.specs.Prelude.{ℕ, ◌+◌, ◌≡◌, List, [], ◌∷◌, ◌++◌, length, take, Option, Some, None, Result, Ok, Err}
+use Rattle.std.specs.Borrow.{Bor}
 use Rattle.std.specs.Global.{Vec}
 use Rattle.vtl_lists.specs.Aliases.{Record}
 use Rattle.vtl_decimal.specs.Settings.{Settings}
 use Rattle.vtl_cell.specs.Row.{Row}
 use Rattle.vtl_cell.specs.declared.cell.Cell.{Cell}
 use Rattle.vtl_rows.specs.Tables.{Tabled}
+use Rattle.vtl_tree.specs.Shown.{shown}
 use Rattle.vtl_tree.specs.declared.structure.Component.{Component}
 use Rattle.vtl_tree.specs.declared.structure.Structure.{Structure}
 use Rattle.vtl_sets.specs.TableOf.{table_columns}
@@ -14,7 +16,7 @@ use Rattle.vtl_csv.specs.declared.input.Fault.{Fault as FaultFields}
 use Rattle.vtl_csv.specs.declared.input.Flaw.{Flaw as FlawFields}
 use Rattle.vtl_csv.specs.declared.input.InputKind.{InputKind}
 use Rattle.vtl_csv.specs.declared.input.InputKind.TheVariants as i
-use Rattle.vtl_csv.specs.InputFields.{Flaw, record_row}
+use Rattle.vtl_csv.specs.InputFields.{Flaw, ReadColumn, record_row}
 use Rattle.vtl_csv.specs.InputFile.{Fault, Layout, layout_of}
 
 abbrev pub flaw_of : FlawFields → Flaw
@@ -34,12 +36,12 @@ AddsRow before after flaw (Ok row) = (flaw ≡ None) × (after ≡ before ++ row
 AddsRow before after flaw (Err what) = (flaw ≡ Some what) × (take (length before) after ≡ before)
 
 -- the columns of a header, or a column
-abbrev pub columns_answer : Result (Vec Component) ℕ → Result (List Component) ℕ
-columns_answer (Ok columns) = Ok columns.items
+abbrev pub columns_answer : Result (Vec (Bor Component)) ℕ → Result (List Component) ℕ
+columns_answer (Ok columns) = Ok (shown columns.items)
 columns_answer (Err column) = Err column
 
 abbrev pub layout_seen : LayoutFields → Layout
-layout_seen l = record { columns = l.columns.items; places = l.places.items }
+layout_seen l = record { columns = shown l.columns.items; places = l.places.items }
 
 abbrev pub layout_answer : Result LayoutFields ℕ → Result Layout ℕ
 layout_answer (Ok layout) = Ok (layout_seen layout)
@@ -63,7 +65,7 @@ on_row before go_on (Err flaw) = taken before (Some flaw)
 on_row before go_on (Ok row) = go_on (before ++ row ∷ [])
 
 -- the rows before and then those of these records up to the first flaw, whatever identifiers repeat
-abbrev pub taken_with : Settings → List Component → List Row → List Record → Taken
+abbrev pub taken_with : Settings → List ReadColumn → List Row → List Record → Taken
 taken_with p columns before [] = taken before None
 taken_with p columns before (fields ∷ rest) = on_row before (λ rows. taken_with p columns rows rest) (record_row p columns (length before) fields)
 

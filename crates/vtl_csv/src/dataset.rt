@@ -1,14 +1,18 @@
 // The data set that a CSV file holds.
+//
+// All cells of a file go into one list, each at once where it stays. Room for it is reserved by the lines at the
+// front of the file: a list that doubles would hold twice its cells.
 ghost use Rattle.std.specs.Prelude.{◌≡◌, ◌<◌, ◌≤◌, [], length, map, take, option_map, All, IfOk, IfSome, Ok};
 ghost use Rattle.vtl_rows.specs.Tables.{listed, listed_in};
 ghost use Rattle.vtl_tree.specs.DataSet.{AreOfProfile};
 ghost use Rattle.vtl_tree.specs.Structure.{IsStructure, key_width};
 ghost use Rattle.vtl_sets.specs.TableOf.{IsTableOf, column_for};
+ghost use Rattle.vtl_csv.specs.InputFields.{components_in};
 ghost use Rattle.vtl_csv.specs.InputFile.{Reads, dataset_rows, rows_below, rows_with};
 ghost use Rattle.vtl_csv.specs.InputSteps.{Answers, IsLayout, fault_among, fault_of, flaw_of, layout_seen, rows_outcome, taken, taken_with};
 
 use crate::fields::Fields;
-use crate::file_column::FileColumn;
+use crate::file_column::{FileColumn, file_columns};
 use crate::header::{Layout, read_layout};
 use crate::input::{Fault, Flaw, InputErr, InputKind};
 use crate::input_fields::{MOST_POINTS, fill_row};
@@ -19,6 +23,7 @@ use std::alloc::{AllocError, Global};
 use vtl_decimal::Profile;
 use vtl_rows::{Column, Table};
 use vtl_sets::table_column;
+use vtl_text::Txt;
 use vtl_tree::Structure;
 
 // So many bytes at the front of a file tell how long its lines are.
@@ -39,7 +44,7 @@ fn expected_rows(text: &[u8]) -> usize {
 
 // The columns of a file's table.
 fn columns_for(alloc: Global, file: &[FileColumn]) -> Result<Vec<Column>, AllocError>
-    ensures { IfOk result (λ columns. columns.items ≡ map column_for file.now) }
+    ensures { IfOk result (λ columns. columns.items ≡ map column_for (components_in file.now)) }
 {
     let mut columns = Vec::with_capacity(alloc, file.len())?;
     for column in file {
@@ -57,9 +62,9 @@ fn add_rows<'a>(
     fields: &mut Fields<'a>,
     profile: &Profile,
 ) -> Result<Option<Flaw>, AllocError>
-    requires columns { table.old.columns ≡ map column_for columns.now }
+    requires columns { table.old.columns ≡ map column_for (components_in columns.now) }
     requires none { table.old.rows ≡ [] }
-    ensures columns { IfOk result (λ _. table.new.columns ≡ map column_for columns.now) }
+    ensures columns { IfOk result (λ _. table.new.columns ≡ map column_for (components_in columns.now)) }
     ensures rows { IfOk result (λ flaw. taken table.new.rows (option_map flaw_of flaw) ≡ taken_with profile.now columns.now [] reader.old) }
 {
     let mut pools = pools(alloc, columns.len())?;
@@ -86,7 +91,7 @@ fn take_rows<'a>(
     profile: &Profile,
 ) -> Result<(Table, Option<Flaw>), AllocError>
     requires { 0 < length columns.now }
-    ensures columns { IfOk result (λ r. r.0.columns ≡ map column_for columns.now) }
+    ensures columns { IfOk result (λ r. r.0.columns ≡ map column_for (components_in columns.now)) }
     ensures rows { IfOk result (λ r. taken r.0.rows (option_map flaw_of r.1) ≡ taken_with profile.now columns.now [] reader.old) }
 {
     let mut table = Table::new(alloc, columns_for(alloc, columns)?);
@@ -134,7 +139,7 @@ fn read_rows<'a>(
 ) -> Result<(Table, Option<Fault>), AllocError>
     requires some { 0 < length columns.now }
     requires keys { All (λ i. i < length columns.now) keys.now }
-    ensures columns { IfOk result (λ r. r.0.columns ≡ map column_for columns.now) }
+    ensures columns { IfOk result (λ r. r.0.columns ≡ map column_for (components_in columns.now)) }
     ensures rows { IfOk result (λ r. rows_outcome r.0.rows (option_map fault_of r.1) ≡ rows_with profile.now columns.now keys.now [] reader.old) }
 {
     let (table, flaw) = take_rows(alloc, columns, expected, reader, fields, profile)?;
@@ -169,6 +174,7 @@ fn key_places<'a>(
 fn read_table<'a>(
     alloc: Global,
     structure: &Structure,
+    not_null: &[Txt],
     layout: &Layout,
     expected: usize,
     reader: &mut RecordReader<'a>,
@@ -177,18 +183,11 @@ fn read_table<'a>(
 ) -> Result<Result<Table, Fault>, AllocError>
     requires structure { IsStructure structure.now }
     requires layout { IsLayout structure.now (layout_seen layout.now) }
-    ensures { IfOk result (λ r. Answers structure.now r (rows_below profile.now structure.now (layout_seen layout.now) reader.old)) }
+    ensures { IfOk result (λ r. Answers structure.now r (rows_below profile.now structure.now not_null.now (layout_seen layout.now) reader.old)) }
 {
     let keys = key_places(alloc, structure, &layout.places)?;
-    let (table, fault) = read_rows(
-        alloc,
-        &layout.columns,
-        keys,
-        expected,
-        reader,
-        fields,
-        profile,
-    )?;
+    let columns = file_columns(alloc, &layout.columns, not_null)?;
+    let (table, fault) = read_rows(alloc, &columns, keys, expected, reader, fields, profile)?;
     match fault {
         Some(fault) => Ok(Err(fault)),
         None => Ok(Ok(table.into_projected(alloc, &layout.places)?)),
@@ -200,10 +199,11 @@ fn read_text(
     alloc: Global,
     text: &[u8],
     structure: &Structure,
+    not_null: &[Txt],
     profile: &Profile,
 ) -> Result<Result<Table, Fault>, AllocError>
     requires { IsStructure structure.now }
-    ensures { IfOk result (λ r. Answers structure.now r (dataset_rows profile.now structure.now text.now)) }
+    ensures { IfOk result (λ r. Answers structure.now r (dataset_rows profile.now structure.now not_null.now text.now)) }
 {
     let mut reader = RecordReader::new(alloc, text);
     let mut fields = Fields::new(alloc);
@@ -216,6 +216,7 @@ fn read_text(
             read_table(
                 alloc,
                 structure,
+                not_null,
                 &layout,
                 expected,
                 &mut reader,
@@ -229,20 +230,22 @@ fn read_text(
 
 /// The data set of the structure that a CSV file holds: a table of its points in the order of the file, with the
 /// components as columns, identifiers first, then measures, then attributes. Otherwise the first fault by line, and
-/// within a line in the order: too many rows, a wrong width, the fields by column, a repeat of identifiers. Integers
-/// are of the profile. It otherwise fails only if memory runs out.
+/// within a line in the order: too many rows, a wrong width, the fields by column, a repeat of identifiers. The
+/// components of the names `not_null` have no empty field. Integers are of the profile. It otherwise fails only if
+/// memory runs out.
 pub fn read_dataset(
     alloc: Global,
     text: &[u8],
     structure: &Structure,
+    not_null: &[Txt],
     profile: &Profile,
 ) -> Result<Table, InputErr>
     requires { IsStructure structure.now }
-    ensures rows { Reads structure.now (listed_in result) (dataset_rows profile.now structure.now text.now) }
+    ensures rows { Reads structure.now (listed_in result) (dataset_rows profile.now structure.now not_null.now text.now) }
     ensures points { IfOk result (λ t. IsTableOf structure.now (listed t)) }
     ensures profile { IfOk result (λ t. AreOfProfile profile.now t.rows) }
 {
-    match read_text(alloc, text, structure, profile) {
+    match read_text(alloc, text, structure, not_null, profile) {
         Ok(Ok(table)) => Ok(table),
         Ok(Err(fault)) => Err(InputErr::Fault {
             line: fault.line,

@@ -7,7 +7,6 @@ ghost use Rattle.vtl_csv.specs.InputFile.{columns_with, layout_of, named_by, new
 ghost use Rattle.vtl_csv.specs.InputSteps.{columns_answer, layout_answer};
 
 use crate::fields::Fields;
-use crate::file_column::FileColumn;
 use crate::reading::{column, is_same_text};
 use std::alloc::{AllocError, Global};
 use vtl_tree::{Component, Structure};
@@ -15,7 +14,7 @@ use vtl_tree::{Component, Structure};
 // The columns of a file, and the place among them of each component in column order.
 #[derive(Drop)]
 pub struct Layout<'a> {
-    pub columns: Vec<FileColumn<'a>>,
+    pub columns: Vec<&'a Component>,
     pub places: Vec<usize>,
 }
 
@@ -32,11 +31,11 @@ fn named_by<'a>(components: &'a [Component], field: &[u8]) -> Option<&'a Compone
 }
 
 // Whether a field is the name of one of the columns.
-fn is_named(columns: &[FileColumn], field: &[u8]) -> bool
-    ensures { result ≡ is_some (named_by columns.now field.now) }
+fn is_named(columns: &[&Component], field: &[u8]) -> bool
+    ensures { result ≡ is_some (named_by (shown columns.now) field.now) }
 {
     for i in 0..columns.len() {
-        if is_same_text(&columns[i].component().name, field) {
+        if is_same_text(&column(columns, i).name, field) {
             return true;
         }
     }
@@ -46,10 +45,10 @@ fn is_named(columns: &[FileColumn], field: &[u8]) -> bool
 // The component that a field names, if no field of these columns names it.
 fn newly_named<'a>(
     components: &'a [Component],
-    before: &[FileColumn],
+    before: &[&Component],
     field: &[u8],
 ) -> Option<&'a Component>
-    ensures { option_map (λ x. x.now) result ≡ newly_named components.now before.now field.now }
+    ensures { option_map (λ x. x.now) result ≡ newly_named components.now (shown before.now) field.now }
 {
     if is_named(before, field) {
         None
@@ -64,13 +63,13 @@ fn columns<'a>(
     alloc: Global,
     components: &'a [Component],
     fields: &Fields,
-) -> Result<Result<Vec<FileColumn<'a>>, u64>, AllocError>
+) -> Result<Result<Vec<&'a Component>, u64>, AllocError>
     ensures { IfOk result (λ r. columns_answer r ≡ columns_with components.now [] fields.now) }
 {
     let mut columns = Vec::new(alloc);
     for i in 0..fields.len() {
         match newly_named(components, &columns, fields.field(i)) {
-            Some(component) => columns.push(FileColumn::new(alloc, component)?)?,
+            Some(component) => columns.push(component)?,
             None => return Ok(Err(i as u64 + 1)),
         }
     }
@@ -78,11 +77,11 @@ fn columns<'a>(
 }
 
 // The place of a component among the columns of a file.
-fn place_in(columns: &[FileColumn], component: &Component) -> Option<usize>
-    ensures { result ≡ place_in columns.now component.now }
+fn place_in(columns: &[&Component], component: &Component) -> Option<usize>
+    ensures { result ≡ place_in (shown columns.now) component.now }
 {
     for i in 0..columns.len() {
-        if component.name == columns[i].component().name {
+        if component.name == column(columns, i).name {
             return Some(i);
         }
     }
@@ -92,10 +91,10 @@ fn place_in(columns: &[FileColumn], component: &Component) -> Option<usize>
 // The places of components among the columns of a file, or none where one is missing.
 fn places(
     alloc: Global,
-    columns: &[FileColumn],
+    columns: &[&Component],
     components: &[&Component],
 ) -> Result<Option<Vec<usize>>, AllocError>
-    ensures { IfOk result (λ o. option_map (λ v. v.items) o ≡ each_some (place_in columns.now) (shown components.now)) }
+    ensures { IfOk result (λ o. option_map (λ v. v.items) o ≡ each_some (place_in (shown columns.now)) (shown components.now)) }
 {
     let mut places = Vec::with_capacity(alloc, components.len())?;
     for i in 0..components.len() {

@@ -1,4 +1,6 @@
 // What is wrong with a CSV file of a data set.
+//
+// A fault names the column of the file, not of the structure, since a user looks into the file.
 
 use std::alloc::AllocError;
 use thiserror::Error;
@@ -16,6 +18,8 @@ pub enum InputKind {
     NotText,
     /// The field of an identifier is empty.
     NullIdentifier,
+    /// The field of a not-null component is empty.
+    NotNull,
     /// A field spells no value of its component's kind.
     BadValue,
     /// A field is not among the codes of its component.

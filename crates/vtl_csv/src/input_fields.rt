@@ -3,7 +3,7 @@ ghost use Rattle.std.specs.Prelude.{◌≡◌, ◌<◌, [], IfOk, Some, Ok, Err,
 ghost use Rattle.vtl_decimal.specs.Settings.{Settings};
 ghost use Rattle.vtl_cell.specs.declared.cell.Cell.TheVariants as cell;
 ghost use Rattle.vtl_cell.specs.declared.kind.Kind.TheVariants as kind;
-ghost use Rattle.vtl_csv.specs.InputFields.{coded_cell, field_cell, record_row, row_with};
+ghost use Rattle.vtl_csv.specs.InputFields.{coded_cell, empty_cell, field_cell, record_row, row_with};
 ghost use Rattle.vtl_csv.specs.InputSteps.{AddsRow, Goes, flaw_of};
 ghost use Rattle.vtl_csv.specs.StructuresFile.{is_identifier};
 ghost use Rattle.vtl_csv.specs.declared.input.InputKind.TheVariants as input;
@@ -32,12 +32,13 @@ fn push_cell(cells: &mut Vec<Cell>, cell: Cell) -> Result<Option<InputKind>, All
     Ok(None)
 }
 
-// Puts the cell of an empty field behind others: null, which no identifier is.
+// Puts the cell of an empty field behind others: null, which no identifier is and no not-null component.
 fn push_empty(column: &FileColumn, cells: &mut Vec<Cell>) -> Result<Option<InputKind>, AllocError>
-    ensures { IfOk result (λ flaw. Goes cells.old.items cells.new.items flaw (if is_identifier column.now then Err input.NullIdentifier else Ok cell.Null)) }
+    ensures { IfOk result (λ flaw. Goes cells.old.items cells.new.items flaw (empty_cell column.now)) }
 {
     match column.component().role {
         Role::Identifier => Ok(Some(InputKind::NullIdentifier)),
+        Role::Measure | Role::Attribute if column.is_not_null() => Ok(Some(InputKind::NotNull)),
         Role::Measure | Role::Attribute => push_cell(cells, Cell::Null),
     }
 }
@@ -48,7 +49,7 @@ fn push_coded(
     cell: Cell,
     cells: &mut Vec<Cell>,
 ) -> Result<Option<InputKind>, AllocError>
-    ensures { IfOk result (λ flaw. Goes cells.old.items cells.new.items flaw (coded_cell column.now (Some cell))) }
+    ensures { IfOk result (λ flaw. Goes cells.old.items cells.new.items flaw (coded_cell column.now.component (Some cell))) }
 {
     if column.is_coded(&cell) {
         push_cell(cells, cell)
@@ -87,7 +88,7 @@ fn push_integer(
     cells: &mut Vec<Cell>,
 ) -> Result<Option<InputKind>, AllocError>
     requires some { 0 < length field.now }
-    requires integers { column.now.kind ≡ kind.Int }
+    requires integers { column.now.component.kind ≡ kind.Int }
     ensures { IfOk result (λ flaw. Goes cells.old.items cells.new.items flaw (field_cell profile.now column.now field.now)) }
 {
     match plain_integer(field, profile) {
@@ -106,7 +107,7 @@ fn push_text(
     cells: &mut Vec<Cell>,
 ) -> Result<Option<InputKind>, AllocError>
     requires some { 0 < length field.now }
-    requires texts { column.now.kind ≡ kind.Text }
+    requires texts { column.now.component.kind ≡ kind.Text }
     ensures { IfOk result (λ flaw. (p : Settings) → Goes cells.old.items cells.new.items flaw (field_cell p column.now field.now)) }
 {
     match pool.text(alloc, field)? {

@@ -1,5 +1,8 @@
 // Laws of the definitions of CSV texts.
-ghost use Rattle.std.specs.Prelude.{◌≡◌, ℕ, List, Ok};
+//
+// The round trip is a law on values that a program can hold (`IsHeld`); it leaves out the empty text, which is
+// written as null is.
+ghost use Rattle.std.specs.Prelude.{◌≡◌, ℕ, List, [], Ok};
 ghost use Rattle.std.specs.List.{range_with_len};
 ghost use Rattle.vtl_lists.specs.Perm.{Perm};
 ghost use Rattle.vtl_decimal.specs.Settings.{Settings};
@@ -22,7 +25,7 @@ pub fn output_rises_by_identifiers()
 
 /// The text of a data set is read back as its points, in order of their cells from the left.
 pub fn data_sets_are_read_again()
-    ensures { (p : Settings) (s : Structure) (points : List Row) → IsDataSet s points → IsReadable p s points → dataset_rows p s (csv_of p s points) ≡ Ok (sorted_by (le_by row_cmp) points) }
+    ensures { (p : Settings) (s : Structure) (points : List Row) → IsDataSet s points → IsReadable p s points → dataset_rows p s [] (csv_of p s points) ≡ Ok (sorted_by (le_by row_cmp) points) }
 {}
 
 /// The text of a data set does not depend on the order of its points.

@@ -1,4 +1,6 @@
 // The CSV text of a table.
+//
+// Rows are written where they lie, by places in order: a sorted copy would take as much memory as the table.
 ghost use Rattle.std.specs.Prelude.{◌≡◌, ◌<◌, ◌++◌, ◌∷◌, [], length, map, All, IfOk, OnOk};
 ghost use Rattle.std.specs.List.{range_with_len};
 ghost use Rattle.csv.specs.Records.{fields_of, partial_of};

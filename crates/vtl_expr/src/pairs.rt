@@ -1,4 +1,10 @@
 // An operator on the measures of two data sets.
+//
+// A pair of points is one row in two pieces: an operator on two operands is an operator on one, over the cells of one
+// row followed by those of its partner, and no such row is built.
+//
+// The operand that leads is chosen once (`Lead`): both sides, the pairs and the expressions follow from it, so a pair
+// has one walk and one proof for both ways.
 ghost use Rattle.std.specs.List.{flat_map};
 ghost use Rattle.std.specs.Prelude.{◌≡◌, ◌<◌, ◌++◌, true, cond, map, Some, IfOk, IfErr, OnOk};
 ghost use Rattle.vtl_cell.specs.Outcome.{faults_by, join};

@@ -1,4 +1,7 @@
 // Aggregates of data sets.
+//
+// One walk over the groups: the condition, then the columns where it keeps the group, with one joined fault. That
+// this is the condition at all groups and then the columns at those that are kept is list calculus (`faults_apart`).
 ghost use Rattle.std.specs.Prelude.{◌≡◌, IfOk, map, option_map};
 ghost use Rattle.vtl_rows.specs.Tables.{listed};
 ghost use Rattle.vtl_meaning.specs.Aggregates.{aggregate_of};

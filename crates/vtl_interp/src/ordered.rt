@@ -1,5 +1,7 @@
 // Scripts over tables that are let go then, and tables with their rows in the order of their identifiers.
-ghost use Rattle.std.specs.Prelude.{◌≡◌, ◌≢◌, ◌<◌, length, true, All, Err, IfOk, OnOk};
+ghost use Rattle.std.specs.Prelude.{◌≡◌, ◌≢◌, ◌<◌, ◌≤◌, ◌+◌, length, true, All, Err, IfOk, OnOk};
+ghost use Rattle.vtl_check.specs.Checked.{tree_of};
+ghost use Rattle.vtl_check.specs.Transformations.{transformations};
 ghost use Rattle.vtl_rows.specs.Tables.{listed};
 ghost use Rattle.vtl_backend.specs.Inputs.{AreInRange, AreInputs};
 ghost use Rattle.vtl_backend.specs.Runs.{Runs};
@@ -35,6 +37,8 @@ pub fn run_over<B: Backend>(
     requires built { is_script_built script.now ≡ true }
     ensures run { Runs script.now inputs out.old out.new result }
     ensures told { result ≢ Err RunErr.OutOfMemory → B.told back.new script.now }
+    ensures work { B.work back.old ≤ B.work back.new }
+    ensures few { B.work back.new ≤ B.work back.old + length (transformations (tree_of script.now)) }
 {
     let windowed = have_window(script.nodes());
     let ready = prepared(alloc, script, inputs, windowed)?;
@@ -63,17 +67,17 @@ fn in_order(alloc: Global, script: &Checked, inputs: &Inputs) -> Result<Inputs, 
     let mut sorted = Tables::new(alloc);
     for i in 0..inputs.len() {
         let (name, table) = inputs.at(i);
-        let count = number_of_identifiers(alloc, script, name)?;
+        let count = number_of_identifiers(script, name);
         put_sorted(alloc, &mut sorted, name, table, count)?;
     }
     Ok(sorted)
 }
 
 // How many identifiers the data set of a name has; none where the script knows no such data set.
-fn number_of_identifiers(alloc: Global, script: &Checked, name: &Txt) -> Result<usize, AllocError> {
+fn number_of_identifiers(script: &Checked, name: &Txt) -> usize {
     match script.structure(name) {
-        Some(structure) => Ok(structure.key_width()),
-        None => Ok(0),
+        Some(structure) => structure.key_width(),
+        None => 0,
     }
 }
 

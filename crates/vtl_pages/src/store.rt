@@ -1,11 +1,14 @@
 //! Blocks, the first small and all others of one size, as one list of places. A place is named by its block and its
 //! number in there.
-ghost use Rattle.std.specs.Prelude.{◌≡◌, ℕ, ◌+◌, ◌^◌, ◌<◌, ◌≤◌, ◌++◌, [], None, Some, length, map, take, drop, get_or, slice_set, replicate, OnOk, OnErr};
+ghost use Rattle.std.specs.Prelude.{◌≡◌, ◌≢◌, ℕ, ◌+◌, ◌^◌, ◌<◌, ◌≤◌, ◌++◌, [], None, Some, length, map, take, drop, get_or, slice_set, replicate, OnOk, OnErr};
+ghost use Rattle.std.specs.List.{swap};
 ghost use Rattle.vtl_pages.specs.Laid.{IsLaid};
+ghost use Rattle.vtl_pages.specs.Ordered.{swap_all};
 ghost use Rattle.vtl_pages.specs.Places.{IsFilled, IsRun, IsFilledTo, IsFree, put_all, values};
 ghost use Rattle.vtl_pages.specs.Stored.{Stored, stored, next_size, block_size, spot};
 
 use crate::block::Block;
+use crate::leaving::Leaving;
 use std::alloc::{AllocError, Global};
 use std::marker::Model;
 
@@ -137,6 +140,20 @@ impl<T> Store<T> {
         (later / self.step + 1, later % self.step)
     }
 
+    // The place in front of another one. No division finds it.
+    fn before(&self, behind: (usize, usize)) -> (usize, usize)
+        requires some { 0 < spot self.now.first self.now.step behind.0 behind.1 }
+        requires in_block { behind.1 ≤ block_size self.now.first self.now.step behind.0 }
+        ensures spot { spot self.now.first self.now.step result.0 result.1 + 1 ≡ spot self.now.first self.now.step behind.0 behind.1 }
+        ensures in_block { result.1 < block_size self.now.first self.now.step result.0 }
+    {
+        if behind.1 > 0 {
+            return (behind.0, behind.1 - 1);
+        }
+        let block = behind.0 - 1;
+        (block, size_of_block(self.first, self.step, block) - 1)
+    }
+
     // Puts a value into the empty place of a number.
     pub(crate) fn put_at(&mut self, i: usize, value: T)
         requires there { i < length self.old.places }
@@ -157,6 +174,38 @@ impl<T> Store<T> {
         self.take(block, place)
     }
 
+    // Each of two values comes to the place of the other.
+    pub(crate) fn swap(&mut self, a: (usize, usize), b: (usize, usize))
+        requires a_in_block { a.1 < block_size self.old.first self.old.step a.0 }
+        requires b_in_block { b.1 < block_size self.old.first self.old.step b.0 }
+        requires apart { spot self.old.first self.old.step a.0 a.1 ≢ spot self.old.first self.old.step b.0 b.1 }
+        requires a_filled { IsFilled self.old.places (spot self.old.first self.old.step a.0 a.1) }
+        requires b_filled { IsFilled self.old.places (spot self.old.first self.old.step b.0 b.1) }
+        ensures { self.new ≡ stored (swap self.old.places (spot self.old.first self.old.step a.0 a.1) (spot self.old.first self.old.step b.0 b.1)) self.old.first self.old.step }
+    {
+        let one = self.take(a.0, a.1);
+        let other = self.take(b.0, b.1);
+        self.put(a.0, a.1, other);
+        self.put(b.0, b.1, one);
+    }
+
+    // Some values side by side in one block, and as many elsewhere, come to the places of the others. The values stand
+    // in the first places.
+    pub(crate) fn swap_runs(&mut self, a: (usize, usize), b: (usize, usize), count: usize)
+        requires a_in_block { a.1 + count ≤ block_size self.old.first self.old.step a.0 }
+        requires b_in_block { b.1 + count ≤ block_size self.old.first self.old.step b.0 }
+        requires apart { spot self.old.first self.old.step a.0 a.1 ≢ spot self.old.first self.old.step b.0 b.1 }
+        requires few { length (values self.old.places) < 2 ^ 64 }
+        requires laid { IsLaid self.old.places (length (values self.old.places)) (length self.old.places) }
+        requires a_there { spot self.old.first self.old.step a.0 a.1 + count ≤ length (values self.old.places) }
+        requires b_there { spot self.old.first self.old.step b.0 b.1 + count ≤ length (values self.old.places) }
+        ensures { self.new ≡ stored (swap_all self.old.places (spot self.old.first self.old.step a.0 a.1) (spot self.old.first self.old.step b.0 b.1) count) self.old.first self.old.step }
+    {
+        for k in 0..count {
+            self.swap((a.0, a.1 + k), (b.0, b.1 + k));
+        }
+    }
+
     // Moves the n values of another store, which stand in front there, into empty places side by side.
     pub(crate) fn move_all(&mut self, at: usize, other: &mut Store<T>, n: usize)
         requires there { at + n ≤ length self.old.places }
@@ -166,11 +215,15 @@ impl<T> Store<T> {
         ensures places { self.new ≡ stored (put_all self.old.places at (values other.old.places)) self.old.first self.old.step }
         ensures other { other.new ≡ stored (replicate (length other.old.places) None) other.old.first other.old.step }
     {
+        let mut to = self.find(at + n);
+        let mut from = other.find(n);
         let mut left = n;
         while left > 0 {
             left -= 1;
-            let value = other.take_at(left);
-            self.put_at(at + left, value);
+            to = self.before(to);
+            from = other.before(from);
+            let value = other.take(from.0, from.1);
+            self.put(to.0, to.1, value);
         }
     }
 
@@ -192,6 +245,19 @@ impl<T> Store<T> {
     {
         let (block, place) = self.find(i);
         self.run(block, place, count)
+    }
+
+    // The values, which stand in the first places, and leave from the first one on.
+    pub(crate) fn into_leaving(self, alloc: Global, len: usize) -> Leaving<T>
+        requires { IsLaid self.places len (length self.places) }
+        ensures { result ≡ values self.places }
+    {
+        let Store {
+            blocks,
+            first,
+            step,
+        } = self;
+        Leaving::new(alloc, blocks, first, step, len)
     }
 
     // Drops the values, which stand in the first places, and gives all blocks back.

@@ -43,7 +43,7 @@ fn read(
 ) -> Result<String, CaseErr>
     requires { IsStructure structure.now }
 {
-    match read_dataset(alloc, text, structure, profile) {
+    match read_dataset(alloc, text, structure, &[], profile) {
         Ok(table) => written(alloc, &table, structure, profile),
         Err(error) => fault(alloc, error),
     }

@@ -1,34 +1,41 @@
 // How tables write profiles, kinds and values.
 use crate::trouble::CaseErr;
+use crate::words::looked_up;
 use std::alloc::Global;
 use vtl_cell::{Cell, Kind, read_cell};
 use vtl_decimal::{Profile, Rounding};
 
 pub(crate) fn profile(scale: &str, rounding: &str) -> Result<Profile, CaseErr> {
-    let rounding = match rounding {
-        "half_up" => Rounding::HalfUp,
-        "half_even" => Rounding::HalfEven,
-        "down" => Rounding::Down,
-        _ => return Err(CaseErr::Rounding),
-    };
+    let roundings = [
+        ("half_up", Rounding::HalfUp),
+        ("half_even", Rounding::HalfEven),
+        ("down", Rounding::Down),
+    ];
+    let rounding = looked_up(rounding, &roundings).ok_or(CaseErr::Rounding)?;
     let scale: u8 = scale.parse().ok().ok_or(CaseErr::Scale)?;
     Profile::new(scale, rounding).ok_or(CaseErr::Scale)
 }
 
-// Kinds have the words of the structures file, and null has its own.
+const KINDS: [Kind; 7] = [
+    Kind::Null,
+    Kind::Bool,
+    Kind::Int,
+    Kind::Num,
+    Kind::Text,
+    Kind::Day,
+    Kind::Period,
+];
+
 fn kind(word: &str) -> Result<Kind, CaseErr> {
-    Ok(match word {
-        "null" => Kind::Null,
-        "boolean" => Kind::Bool,
-        "integer" => Kind::Int,
-        "number" => Kind::Num,
-        "string" => Kind::Text,
-        "date" => Kind::Day,
-        "time_period" => Kind::Period,
-        _ => return Err(CaseErr::Kind),
-    })
+    for kind in &KINDS {
+        if kind_word(*kind) == word {
+            return Ok(*kind);
+        }
+    }
+    Err(CaseErr::Kind)
 }
 
+// Kinds have the words of the structures file, and null has its own.
 pub(crate) fn kind_word(kind: Kind) -> &'static str {
     match kind {
         Kind::Null => "null",

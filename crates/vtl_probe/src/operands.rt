@@ -56,11 +56,6 @@ pub(crate) fn pairs() -> [Pair; 16] {
     ]
 }
 
-// The numbers that are written: the left ones of the pairs.
-pub(crate) fn numbers() -> [Dec; 16] {
-    pairs().map(|pair| pair.left)
-}
-
 // Texts of numbers, some with more digits than are kept.
 pub(crate) static TEXTS: [&str; 16] = [
     "0",

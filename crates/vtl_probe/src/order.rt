@@ -21,7 +21,10 @@ pub(crate) fn ordered(alloc: Global, row: &Row) -> Result<String, CaseErr> {
 fn fault_of_order(low: &Cell, high: &Cell) -> &'static str {
     if !is_itself(low) || !is_itself(high) {
         "a value that is not equal to itself"
-    } else if !is_before(low, high) {
+    } else if compare(low, high) != Ordering::Less
+        || compare(high, low) != Ordering::Greater
+        || is_same(low, high)
+    {
         "another order"
     } else {
         ""
@@ -30,12 +33,6 @@ fn fault_of_order(low: &Cell, high: &Cell) -> &'static str {
 
 fn is_itself(cell: &Cell) -> bool {
     is_same(cell, cell) && compare(cell, cell) == Ordering::Equal
-}
-
-fn is_before(low: &Cell, high: &Cell) -> bool {
-    compare(low, high) == Ordering::Less
-        && compare(high, low) == Ordering::Greater
-        && !is_same(low, high)
 }
 
 // The period this many periods later.

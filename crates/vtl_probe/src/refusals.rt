@@ -7,7 +7,6 @@ use vtl_csv::StructErr;
 use vtl_files::MemSink;
 use vtl_parser::ParseErr;
 use vtl_status::{Status, tell};
-use vtl_text::Txt;
 
 pub(crate) fn of_text(alloc: Global, error: ParseErr) -> Result<Report, AllocError> {
     match error {
@@ -30,10 +29,6 @@ pub(crate) fn of_types(alloc: Global, error: CheckErr) -> Result<Report, AllocEr
         }
         CheckErr::OutOfMemory => Err(AllocError),
     }
-}
-
-pub(crate) fn of_rulesets(alloc: Global) -> Result<Report, AllocError> {
-    answered(alloc, &Status::Unbuilt(Txt::new(alloc, "rulesets")?))
 }
 
 // That nothing is refused.

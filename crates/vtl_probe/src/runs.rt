@@ -1,7 +1,7 @@
 // The runs, and their checksums.
 ghost use Rattle.std.specs.Prelude.{◌≡◌, length, pos, IfOk, OnErr};
 
-use crate::operands::{SIZE, TEXTS, numbers, pairs};
+use crate::operands::{Pair, SIZE, TEXTS, pairs};
 use crate::report::Report;
 use crate::times::{Operation, Order};
 use std::alloc::{AllocError, Global};
@@ -38,20 +38,20 @@ fn sum_round<T, F: Fn(&T) -> i64>(items: &[T], count: u64, value: F) -> i64
     sum
 }
 
-// The number of bytes that are written, each number over the one before.
+// The number of bytes that are written: the left ones of the pairs, each over the one before.
 fn bytes_written(
     alloc: Global,
-    numbers: &[Dec],
+    pairs: &[Pair],
     count: u64,
     profile: &Profile,
 ) -> Result<i64, AllocError>
-    requires { length numbers.now ≡ 16 }
+    requires { length pairs.now ≡ 16 }
 {
     let mut out: Vec<u8> = Vec::with_capacity(alloc, 32)?;
     let mut sum: i64 = 0;
     for step in 0..count {
         out.clear();
-        write(numbers[(step % SIZE) as usize], profile, &mut out)?;
+        write(pairs[(step % SIZE) as usize].left, profile, &mut out)?;
         sum = sum.wrapping_add_unsigned(out.len() as u64);
     }
     Ok(sum)
@@ -74,7 +74,7 @@ fn checksum(alloc: Global, order: Order) -> Result<i64, AllocError> {
             |pair| units(div(pair.left, pair.right, &p)),
         )),
         Operation::Read => Ok(sum_round(&TEXTS, count, |text| units(read(text, &p)))),
-        Operation::Write => bytes_written(alloc, &numbers(), count, &p),
+        Operation::Write => bytes_written(alloc, &pairs(), count, &p),
     }
 }
 

@@ -2,6 +2,7 @@
 use crate::report::{Report, Tally};
 use crate::rows::Row;
 use crate::trouble::{CaseErr, Trouble};
+use crate::words::looked_up;
 use crate::{datasets, order, sql, structures, syntax, tokens, types};
 use csv::{Reader, ReaderBuilder, StringRecord};
 use std::alloc::Global;
@@ -38,20 +39,20 @@ pub(crate) enum Table {
 impl Table {
     // The table that the word names.
     pub(crate) fn named(word: &str) -> Option<Table> {
-        Some(match word {
-            "order" => Table::Order,
-            "periods" => Table::Periods,
-            "names" => Table::Names,
-            "lexed" => Table::Tokens,
-            "syntax" => Table::Syntax,
-            "sql_syntax" => Table::SqlSyntax,
-            "sql_again" => Table::SqlAgain,
-            "sql_groups" => Table::Groups,
-            "sql_types" => Table::SqlTypes,
-            "structures" => Table::Structures,
-            "datasets" => Table::Datasets,
-            _ => return None,
-        })
+        let table = [
+            ("order", Table::Order),
+            ("periods", Table::Periods),
+            ("names", Table::Names),
+            ("lexed", Table::Tokens),
+            ("syntax", Table::Syntax),
+            ("sql_syntax", Table::SqlSyntax),
+            ("sql_again", Table::SqlAgain),
+            ("sql_groups", Table::Groups),
+            ("sql_types", Table::SqlTypes),
+            ("structures", Table::Structures),
+            ("datasets", Table::Datasets),
+        ];
+        looked_up(word, &table)
     }
 
     // The header, and how many of its columns are given; the others are wanted.

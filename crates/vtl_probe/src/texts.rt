@@ -1,5 +1,6 @@
 // What is printed of a whole text.
 use crate::report::Report;
+use crate::words::looked_up;
 use crate::{sql, syntax, tokens};
 use std::alloc::{AllocError, Global};
 
@@ -19,13 +20,13 @@ pub(crate) enum View {
 impl View {
     // The view that the word names.
     pub(crate) fn named(word: &str) -> Option<View> {
-        match word {
-            "tokens" => Some(View::Tokens),
-            "tree" => Some(View::Tree),
-            "sql" => Some(View::Sql),
-            "print" => Some(View::Print),
-            _ => None,
-        }
+        let table = [
+            ("tokens", View::Tokens),
+            ("tree", View::Tree),
+            ("sql", View::Sql),
+            ("print", View::Print),
+        ];
+        looked_up(word, &table)
     }
 
     // What is seen of the text.

@@ -15,7 +15,9 @@ use vtl_check::{Checked, check, defines_rulesets};
 use vtl_csv::read_structures;
 use vtl_decimal::Profile;
 use vtl_parser::parse;
+use vtl_status::Status;
 use vtl_syntax::Script;
+use vtl_text::Txt;
 use vtl_tree::Structures;
 
 // What is reported about a script, with the exit code that `vtl` has for it.
@@ -54,7 +56,7 @@ fn with_structures(
     requires { AreWritten (script_tree script.now) }
 {
     if defines_rulesets(script) {
-        refusals::of_rulesets(alloc)
+        refusals::answered(alloc, &Status::Unbuilt(Txt::new(alloc, "rulesets")?))
     } else {
         typed(alloc, script, structures, profile)
     }

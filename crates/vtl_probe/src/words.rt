@@ -22,6 +22,16 @@ pub(crate) fn command_of(words: &[String]) -> Option<Command> {
     }
 }
 
+// What the word stands for in a table.
+pub(crate) fn looked_up<T: Copy>(word: &str, table: &[(&str, T)]) -> Option<T> {
+    for (name, value) in table {
+        if *name == word {
+            return Some(*value);
+        }
+    }
+    None
+}
+
 fn with_one<'a>(name: &str, path: &'a str) -> Option<Command<'a>> {
     match View::named(name) {
         Some(view) => Some(Command::Text { view, path }),

@@ -1,4 +1,6 @@
 // The cells of a table, which may have other owners.
+//
+// All cells of a table stand in pages, and a row is a slice of one of them: no list for each row is followed or freed.
 ghost use Rattle.std.specs.Prelude.{◌≡◌, ◌+◌, ◌*◌, ◌%◌, ◌^◌, ◌<◌, ◌≤◌, ◌++◌, [], true, length, IsPermutation, IfOk, OnOk, OnErr};
 ghost use Rattle.std.specs.List.{range_with_len};
 ghost use Rattle.vtl_pages.specs.Ordered.{runs_of};

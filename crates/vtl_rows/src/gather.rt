@@ -1,4 +1,8 @@
 // Rows gathered from one table or from several.
+//
+// Rows are put together by tuples of row numbers and a list of which cell comes from where (`gather_beside`): a
+// number past the last row is a missing part, whose cells are null without a case, since a row past the end has no
+// cells.
 ghost use Rattle.std.specs.Prelude.{◌≡◌, ◌<◌, ◌++◌, length, map, All, IfOk, OnOk};
 ghost use Rattle.vtl_rows.specs.Gathered.{picked, picked_cell, picked_kind, pieces};
 ghost use Rattle.vtl_rows.specs.Places.{row_at};

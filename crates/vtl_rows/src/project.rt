@@ -1,4 +1,7 @@
 // Columns chosen from others, and the cells below them.
+//
+// Columns of a table that is given away are moved to narrower pages (`into_projected`), where its cells have no other
+// owner and the columns keep their order: nothing is copied. Whoever owns a table gives it.
 ghost use Rattle.std.specs.Prelude.{◌≡◌, ◌<◌, ◌++◌, length, map, All, IfOk, OnOk};
 ghost use Rattle.std.specs.Bool.{OnTrue};
 ghost use Rattle.std.specs.List.{range_with_len};

@@ -1,4 +1,8 @@
 // Tables with several owners.
+//
+// A table with several owners has columns of its own above cells that are shared (`SharedTable`): what reads an input
+// holds it and copies nothing, `rename` and a `keep` of all columns share the cells below other names, and cells are
+// copied only where a table with other owners is changed.
 ghost use Rattle.std.specs.Prelude.{◌≡◌, ◌<◌, length, map, All, IfOk};
 ghost use Rattle.vtl_rows.specs.Tables.{cells_at, column_at, column_kinds, listed};
 
@@ -34,6 +38,21 @@ impl SharedTable {
         Ok(SharedTable {
             table: table.into_shared(alloc)?,
         })
+    }
+
+    // A table with one owner, whose rows are copied for another one. It takes no memory.
+    pub(crate) fn holding(table: Table) -> SharedTable
+        ensures { result ≡ table }
+    {
+        SharedTable { table }
+    }
+
+    // The table itself, whose rows may have other owners. It takes no memory.
+    pub(crate) fn into_held(self) -> Table
+        ensures { result ≡ self }
+    {
+        let SharedTable { table } = self;
+        table
     }
 
     /// One more owner of the rows. It fails only if memory runs out.

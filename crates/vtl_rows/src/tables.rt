@@ -1,6 +1,8 @@
 // Tables by name.
 ghost use Rattle.std.specs.Prelude.{◌≡◌, ◌<◌, ◌++◌, [], ◌∷◌, length, None, option_map, slice_index_or, IfNone, OnOk, OnErr};
+ghost use Rattle.std.specs.Map.{set_value};
 ghost use Rattle.std.specs.Option.{option_copied, option_to_list};
+ghost use Rattle.vtl_text.specs.Texts.{same_text};
 ghost use Rattle.vtl_rows.specs.Named.{table_of};
 ghost use Rattle.vtl_rows.specs.Tables.{listed};
 
@@ -83,8 +85,28 @@ impl Tables {
         (name, shared.table())
     }
 
+    /// Puts a table in the place of the one of this name, and leaves all else. Where none has the name, all stay as they
+    /// are. It takes no memory.
+    pub fn set(&mut self, name: &Txt, table: Table)
+        ensures { self.new ≡ set_value (same_text name.now) self.old table }
+    {
+        let Some(place) = self.named.get_mut(name) else {
+            return;
+        };
+        *place = SharedTable::holding(table);
+    }
+
     /// Takes the last table, with its name, where there is one. It takes no memory.
-    pub fn pop(&mut self) -> Option<(Txt, SharedTable)>
+    pub fn pop(&mut self) -> Option<(Txt, Table)>
+        ensures last { self.old ≡ self.new ++ option_to_list result }
+        ensures none { IfNone result (self.new ≡ []) }
+    {
+        let (name, shared) = self.pop_shared()?;
+        Some((name, shared.into_held()))
+    }
+
+    /// Takes the last table, with its name, where there is one, to be shared. It takes no memory.
+    pub fn pop_shared(&mut self) -> Option<(Txt, SharedTable)>
         ensures last { self.old ≡ self.new ++ option_to_list result }
         ensures none { IfNone result (self.new ≡ []) }
     {

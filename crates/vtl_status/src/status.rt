@@ -186,6 +186,7 @@ fn kind_name(kind: InputKind) -> &'static str
         InputKind::WrongWidth => "WrongWidth",
         InputKind::NotText => "NotText",
         InputKind::NullIdentifier => "NullIdentifier",
+        InputKind::NotNull => "NotNull",
         InputKind::BadValue => "BadValue",
         InputKind::NotInCodes => "NotInCodes",
         InputKind::DuplicateKey => "DuplicateKey",

@@ -22,7 +22,7 @@ use Rattle.vtl_tree.specs.CompExp.{CompExp}
 use Rattle.vtl_tree.specs.Structure.{same_name}
 use Rattle.vtl_tree.specs.declared.structure.Component.{Component}
 use Rattle.vtl_tree.specs.declared.structure.Structure.{Structure}
-use Rattle.vtl_syntax.specs.Trees.{Exp, MaybeExp, Calcs, TargetsTree}
+use Rattle.vtl_syntax.specs.Trees.{Exp, Calcs, TargetsTree}
 use Rattle.vtl_syntax.specs.Written as written
 use Rattle.vtl_syntax.specs.declared.parts.Comp.{Comp}
 use Rattle.vtl_syntax.specs.declared.parts.GroupPart.{GroupPart}
@@ -43,6 +43,7 @@ use Rattle.check_operators.specs.Places.{at_points, Env, at_groups}
 use Rattle.check_clauses.specs.Targets.{aggr_clause, aggr_name, aggr_tree, calc_name, call_in, is_aggregate, item_of, made_as, with_item, with_made, calc_clause, is_analytic, target_of}
 use Rattle.check_expressions.specs.Typing.{aggrs_typed, calc_value, calcs_typed, having_typed, over_operand, targets_typed, typed}
 use Rattle.check_clauses.specs.declared.targets.Made.{Made}
+use Rattle.check_faults.specs.InTurn.{in_turn}
 use Rattle.check_faults.specs.declared.rules.Rule.{Rule}
 use Rattle.check_shapes.specs.Clauses.{calc_form}
 use Rattle.vtl_tree.specs.Names.{component_of, is_among}
@@ -62,6 +63,7 @@ use Rattle.check_laws.proofs.Columns.{among-any}
 use Rattle.check_laws.proofs.Lists as lists
 use Rattle.check_laws.proofs.Literals.{IsCell, literal-cell, valued-gives}
 use Rattle.check_laws.proofs.Steps.{after, tested, then}
+use Rattle.check_laws.proofs.Turns.{all-in-turn}
 use Rattle.vtl_to_sql.proofs.AcceptedWords.{AreValues, FormHasWords, IsAt, IsColumnName, IsFilled, IsWorded, component_named, form_renamings, from_outside}
 
 module _ (p : Settings) (b : Bool) (rs : List Renaming) where
@@ -76,7 +78,7 @@ module _ (p : Settings) (b : Bool) (rs : List Renaming) where
 
   pub keeping_at : (j : Option Joined) (n : NodeTree) (x : Keeping) → IsAt p b rs n → Gives (IsAt p b rs) (keeping_form j n x)
   unfolding keeping_form
-  keeping_at j n x h = after (IsAt p b rs) (names_typed j wanted.Value (components_in n) [] (references_in x)) (kept_of x n) (λ names. clause_at (keeping_tree x n names) _ (made x names))
+  keeping_at j n x h = after (IsAt p b rs) (names_typed j wanted.Value (components_in n) (references_in x)) (kept_of x n) (λ names. clause_at (keeping_tree x n names) _ (made x names))
     where
       made : (x : Keeping) (names : List (List ℕ)) → is_built_form (keeping_tree x n names) ≡ true → FormHasWords p b (keeping_tree x n names) × (b ≡ true → form_renamings (keeping_tree x n names) ≡ rs)
       made (keeping.Keep rs) names = h
@@ -89,16 +91,11 @@ module _ (p : Settings) (b : Bool) (rs : List Renaming) where
   unfolding renaming_known
   renaming_named j xs before r h = after IsNewName (name_known j wanted.Any xs before r.from) (λ name. Ok (renaming_to r name)) (λ name. component_named r.to h.1)
 
-  renamings_named : (j : Option Joined) (xs : List Component) (done : List Renaming) (rs : List RenamePart) → AllByRecursion IsNewName done → AllByRecursion written.IsRenaming rs → Gives (AllByRecursion IsNewName) (renamings_typed j xs done rs)
-  renamings_named j xs done [] hd h = hd
-  renamings_named j xs done (r ∷ rs) hd h =
-      then IsNewName (AllByRecursion IsNewName) (renaming_known j xs (old_names done) r) (λ renaming. renamings_typed j xs (done ++ renaming ∷ []) rs) (renaming_named j xs (old_names done) r h.0)
-      (λ renaming is. renamings_named j xs (done ++ renaming ∷ []) rs (lists.appended IsNewName done (renaming ∷ []) hd (is, tt)) h.1)
-
   pub renaming_at : (j : Option Joined) (n : NodeTree) (parts : List RenamePart) → AllByRecursion written.IsRenaming parts → IsAt p b rs n → Gives (IsAt p b rs) (renaming_form j n parts)
   unfolding renaming_form
   renaming_at j n parts written h =
-      then (AllByRecursion IsNewName) (IsAt p b rs) (renamings_typed j (components_in n) [] parts) (renamed_of n) (renamings_named j (components_in n) [] parts tt written)
+      then (AllByRecursion IsNewName) (IsAt p b rs) (renamings_typed j (components_in n) parts) (renamed_of n)
+      (all-in-turn written.IsRenaming IsNewName (λ done. renaming_known j (components_in n) (old_names done)) (λ done. renaming_named j (components_in n) (old_names done)) [] parts tt written)
       (λ done named. clause_at (nodes.rename n done) _ (λ t. (inl ((h t).0, named), (h t).1)))
 
   -- ---- `calc`
@@ -202,14 +199,14 @@ module _ (p : Settings) where
     apart = ap (all_apart same_name) (map-append (λ (i : SubItem). i.id) done (i ∷ [])) ∙ apart_push (sub_names done) i.id are.apart (sym (among-any i.id (sub_names done)) ∙ is.1);
   }
 
-  items_valued : (xs : List Component) (done : List SubItem) (ss : List SubPart) → AreValues p done → Gives (AreValues p) (subs_typed p xs done ss)
+  items_valued : (xs : List Component) (done : List SubItem) (ss : List SubPart) → AreValues p done → Gives (AreValues p) (in_turn (λ done. sub_known p xs (sub_names done)) done ss)
   items_valued xs done [] are = are
   items_valued xs done (s ∷ ss) are =
-      then (IsNewItem (sub_names done)) (AreValues p) (sub_known p xs (sub_names done) s) (λ item. subs_typed p xs (done ++ item ∷ []) ss) (item_new xs (sub_names done) s)
+      then (IsNewItem (sub_names done)) (AreValues p) (sub_known p xs (sub_names done) s) (λ item. in_turn (λ done. sub_known p xs (sub_names done)) (done ++ item ∷ []) ss) (item_new xs (sub_names done) s)
       (λ item is. items_valued xs (done ++ item ∷ []) ss (one_more done item are is))
 
   pub sub_worded : (n : NodeTree) (ss : List SubPart) → IsWorded p n → Gives (IsWorded p) (sub_form p n ss)
   unfolding sub_form
   sub_worded n ss h =
-      then (AreValues p) (IsWorded p) (subs_typed p (components_in n) [] ss) (sub_of n) (items_valued (components_in n) [] ss (record { filled = tt; apart = refl }))
+      then (AreValues p) (IsWorded p) (subs_typed p (components_in n) ss) (sub_of n) (items_valued (components_in n) [] ss (record { filled = tt; apart = refl }))
       (λ items are. from_outside p _ (clause_at p false [] (nodes.sub n items) _ (λ t. ((h t, are), λ e. absurd (false≢true e)))))

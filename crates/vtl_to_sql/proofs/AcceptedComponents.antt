@@ -18,7 +18,7 @@ use Rattle.vtl_tree.specs.declared.structure.Role.TheVariants as role
 use Rattle.vtl_tree.specs.declared.structure.Structure.{Structure}
 use Rattle.vtl_meaning.specs.AggregateShapes as aggregates
 use Rattle.vtl_meaning.specs.AggregateShapes.{made_components}
-use Rattle.vtl_meaning.specs.AnalyticShapes.{analyzed_components, of_measure, target_of}
+use Rattle.vtl_meaning.specs.AnalyticShapes.{analyzed_components, of_measure}
 use Rattle.vtl_tree.specs.Columns.{identifiers_of, kind_named}
 use Rattle.vtl_meaning.specs.Shapes.{calculated_components}
 use Rattle.vtl_tree.specs.Trees as nodes
@@ -27,7 +27,7 @@ use Rattle.vtl_meaning.specs.Turned.{codes_of}
 use Rattle.vtl_tree.specs.declared.specifications.AggItems.{AggItems}
 use Rattle.vtl_tree.specs.declared.specifications.AggItems.TheVariants as items
 use Rattle.vtl_tree.specs.Choices.{chosen, is_chosen, is_identifier}
-use Rattle.vtl_tree.specs.ClauseShapes.{calculated, code_measure, first_kind, is_new, names_column, new_name, pivot_components, renamed, retargeted, target_component}
+use Rattle.vtl_tree.specs.ClauseShapes.{calculated, code_measure, is_new, new_name, pivot_components, renamed, retargeted, target_component}
 use Rattle.vtl_tree.specs.ClauseShapes as clauses
 use Rattle.vtl_tree.specs.Measures.{Gives, bool_var, given_measure, given_measures, int_var, is_measure, measures}
 use Rattle.vtl_tree.specs.Operands.{agreed, agreed_identifiers, is_coded_alike}

@@ -1,5 +1,5 @@
 -- The words of set operators, `pivot` and `unpivot`: those of their operands, and their own. `check` is not evaluated yet.
-use Rattle.std.proofs.Common.{◌≡◌, true, List, [], ◌∷◌, ◌++◌, Option, Some, None, Result, Ok, Err, refl}
+use Rattle.std.proofs.Common.{◌≡◌, true, List, [], ◌∷◌, Option, Some, None, Result, Ok, Err, refl}
 use Rattle.std.proofs.lemmas.Bool.{and_parts, false≢true}
 use Rattle.std.specs.List.{AllByRecursion, list_all}
 use Rattle.std.specs.Prelude.{ℕ, option_to_list, unwrap_or}
@@ -35,7 +35,7 @@ use Rattle.vtl_tree.specs.declared.names.Wanted.TheVariants as wanted
 use Rattle.check_values.specs.Columns.{name_of}
 use Rattle.check_clauses.specs.Clauses as clauses
 use Rattle.check_clauses.specs.Clauses.{pivot_names, pivot_of, unpivot_of}
-use Rattle.check_operators.specs.Sets.{check_form, check_spec, datasets_behind, datasets_in, difference_form, difference_tree, exists_form, imbalance_in, set_of, set_tree, sets_form, structures_in}
+use Rattle.check_operators.specs.Sets.{check_form, check_spec, datasets_in, difference_form, difference_tree, exists_form, imbalance_in, set_of, set_tree, sets_form, structures_in}
 use Rattle.check_operators.specs.Places.{Env}
 use Rattle.check_operators.specs.declared.places.Place.TheVariants as place
 use Rattle.check_expressions.specs.Typing as typing
@@ -47,24 +47,19 @@ use Rattle.check_laws.proofs.Left.{IsNamed, known-gives}
 use Rattle.check_laws.proofs.Lists as lists
 use Rattle.check_laws.proofs.Steps.{after, tested-then, then}
 use Rattle.check_laws.proofs.Tests.{not-false}
+use Rattle.check_laws.proofs.Turns.{all-in-turn}
 use Rattle.vtl_to_sql.proofs.AcceptedWords.{FormIsWorded, HasCodes, HaveWords, IsTreeWorded, IsWorded, component_named}
 use Rattle.vtl_to_sql.proofs.AcceptedOperators.{dataset_in_worded, dataset_worded}
 
 module _ (p : Settings) where
   -- ---- set operators
-  all_datasets : (done : List NodeTree) (xs : List TypedTree) → AllByRecursion (IsWorded p) done → AllByRecursion (IsTreeWorded p) xs → Gives (AllByRecursion (IsWorded p)) (datasets_behind done xs)
-  all_datasets done [] hd h = hd
-  all_datasets done (x ∷ xs) hd h =
-      then (IsWorded p) (AllByRecursion (IsWorded p)) (dataset_in x) (λ n. datasets_behind (done ++ n ∷ []) xs) (dataset_in_worded p x h.0)
-      (λ n k. all_datasets (done ++ n ∷ []) xs (lists.appended (IsWorded p) done (n ∷ []) hd (k, tt)) h.1)
-
   all_words : (ns : List NodeTree) → AllByRecursion (IsWorded p) ns → are_nodes_built (nodes_of ns) ≡ true → HaveWords p (nodes_of ns)
   all_words [] h t = tt
   all_words (n ∷ ns) h t = let both = and_parts (is_built n) (are_nodes_built (nodes_of ns)) t in (h.0 both.0, all_words ns h.1 both.1)
 
   pub sets_worded : (f : SetOpName) (xs : List TypedTree) → AllByRecursion (IsTreeWorded p) xs → Gives (IsTreeWorded p) (sets_form f xs)
   unfolding sets_form
-  sets_worded f xs h = then (AllByRecursion (IsWorded p)) (IsTreeWorded p) (datasets_in xs) (set_of f) (all_datasets [] xs tt h) (λ ns all. dataset_worded p (set_tree f (nodes_of ns)) _ (made f ns all))
+  sets_worded f xs h = then (AllByRecursion (IsWorded p)) (IsTreeWorded p) (datasets_in xs) (set_of f) (all-in-turn (IsTreeWorded p) (IsWorded p) (λ done x. dataset_in x) (λ done x k. dataset_in_worded p x k) [] xs tt h) (λ ns all. dataset_worded p (set_tree f (nodes_of ns)) _ (made f ns all))
     where
       made : (f : SetOpName) (ns : List NodeTree) → AllByRecursion (IsWorded p) ns → FormIsWorded p (set_tree f (nodes_of ns))
       made set.Union ns all = all_words ns all

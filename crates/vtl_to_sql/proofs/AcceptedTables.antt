@@ -69,7 +69,8 @@ module _ (p : Settings) (r : Text) where
     form_counted s (nodes.calc a items) k = operand_counted a k
     form_counted s (nodes.keep a names) k = operand_counted a k
     form_counted s (nodes.drop_named a names) k = operand_counted a k
-    form_counted s (nodes.rename a pairs) k = operand_counted a k
+    form_counted s (nodes.rename a []) k = made_counted a k
+    form_counted s (nodes.rename a (x ∷ xs)) k = operand_counted a k
     form_counted s (nodes.sub a items) k = operand_counted a k
     form_counted s (nodes.pivot a id m) k = operand_counted a k
     form_counted s (nodes.unpivot a id m) k = operand_counted a k

@@ -2,7 +2,7 @@
 use Rattle.vtl_to_sql.proofs.Existences.{existence_means}
 use Rattle.vtl_meaning.proofs.SetsOrders.{existence_order}
 use Rattle.sql_tree.specs.Formed.{IsName}
-use Rattle.std.proofs.Common.{◌≡◌, ◌+◌, ◌<◌, ◌^◌, ℕ, true, ◌&&◌, List, [], ◌∷◌, ◌++◌, length, Ok, Err, refl, sym, subst, arith, append-nil, length-append, ap, ◌≤◌}
+use Rattle.std.proofs.Common.{◌≡◌, ◌+◌, ◌<◌, ◌^◌, ℕ, true, ◌&&◌, List, [], ◌∷◌, ◌++◌, length, map, Ok, Err, refl, sym, subst, arith, append-nil, length-append, ap, ◌≤◌}
 use Rattle.std.specs.Prelude.{fold}
 use Rattle.std.specs.List.{AllByRecursion}
 use Rattle.std.proofs.lemmas.Bool.{and_from}
@@ -16,7 +16,9 @@ use Rattle.vtl_tree.specs.Clauses.{filter_of}
 use Rattle.vtl_tree.specs.DataSet.{IsDataSet, is_point}
 use Rattle.vtl_tree.specs.Environment.{DataSet, Environment}
 use Rattle.vtl_tree.specs.Structure.{columns_of, IsStructure, key_width}
+use Rattle.vtl_tree.specs.declared.structure.Component.{Component}
 use Rattle.vtl_tree.specs.declared.structure.Structure.{Structure}
+use Rattle.vtl_tree.specs.ClauseShapes.{renamed}
 use Rattle.vtl_tree.specs.Columns.{identifiers_of, measures_of, others_of, places_in}
 use Rattle.vtl_tree.specs.Joins as joins
 use Rattle.vtl_meaning.specs.Made.{AreMade, AreMadeOperands, IsAlternative, IsLeft, IsMade, IsMadeForm, node_structures, operands_in}
@@ -24,7 +26,7 @@ use Rattle.vtl_meaning.specs.Meaning.{AreDataSets, are_nodes_built, are_operands
 use Rattle.vtl_meaning.specs.Operators.{calculated_exps, calculated_of, choice_of, left_of, measured_exps, measured_of, pair_of, sub_of}
 use Rattle.vtl_meaning.specs.Points.{with_points}
 use Rattle.vtl_meaning.specs.Sets.{all_left_of, either_only, intersected, intersection_of, reduced, union_of, united, existence_of}
-use Rattle.vtl_meaning.specs.Shapes.{IsShaped}
+use Rattle.vtl_meaning.specs.Shapes.{IsRenamedBy, IsShaped}
 use Rattle.vtl_tree.specs.Trees as nodes
 use Rattle.vtl_tree.specs.Trees.{FormTree, NodeTree, NodeTrees, OperandTrees, structure_of}
 use Rattle.vtl_meaning.specs.Aggregates.{aggregate_of}
@@ -66,6 +68,18 @@ use Rattle.selects_to_sql.proofs.Subs.{sub_means}
 use Rattle.selects_to_sql.proofs.TwoOperands.{pair_means}
 use Rattle.groups_to_sql.proofs.Unpivots.{unpivot_means}
 use Rattle.groups_to_sql.proofs.Windowed.{analytic_means}
+
+-- ---- a naming that renames nothing
+
+abbrev of_components : List Component → Structure
+of_components xs = record { components = xs }
+
+none_renamed : (xs : List Component) → map (renamed []) xs ≡ xs
+none_renamed [] = refl
+none_renamed (x ∷ xs) = ap (λ l. x ∷ l) (none_renamed xs)
+
+same_structure : (a s : Structure) → IsRenamedBy [] a s → s ≡ a
+same_structure a s e = ap of_components (e ∙ none_renamed a.components)
 
 -- ---- what is translated is evaluated, and its columns have names
 
@@ -242,7 +256,9 @@ module _ (p : Settings) (law : Translates p) (r : Text) (word : is_word r ≡ tr
     form_gives s (nodes.member a q) m before stands apart w i n c few = left_gives s a m before c i.0 (operand_gives a m before stands apart i.0 c few) i.1 (columns_given s w n)
     form_gives s (nodes.keep a ns) m before stands apart w i n c few = left_gives s a m before c i.0 (operand_gives a m before stands apart i.0 c few) i.1 (columns_given s w n)
     form_gives s (nodes.drop_named a ns) m before stands apart w i n c few = left_gives s a m before c i.0 (operand_gives a m before stands apart i.0 c few) i.1 (columns_given s w n)
-    form_gives s (nodes.rename a pairs) m before stands apart w i n c few =
+    form_gives s (nodes.rename a []) m before stands apart w i n c few =
+        subst (λ t. NodeGives p before r m (made_of p r a m) t (node_value p env a)) (sym (same_structure (structure_of a) s i.2)) (node_gives a m before stands apart i.0 c few)
+    form_gives s (nodes.rename a (y ∷ ys)) m before stands apart w i n c few =
         subst (λ v. NodeGives p before r m (over (sources_of p r a m) (with_one (rename_query p (structure_of a) s))) s v) (after_ok_is (node_value p env a))
         (one_gives p r word before m (sources_of p r a m) (rename_query p (structure_of a) s) (structure_of a) s (node_value p env a) (λ d. Ok d) (operand_gives a m before stands apart i.0 c few)
         (λ now x d is st. means_by p now (rename_query p (structure_of a) s x) s (Ok st.rows) (Ok d) st.same (rename_means p law now x (structure_of a) st.rows st.table st.named (names_in p a c) (set_of a now x d c i.0 is st) s i.1 (columns_given s w n))))

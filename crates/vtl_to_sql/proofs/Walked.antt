@@ -1,5 +1,5 @@
 -- Expressions as trees, and the tables of several operands one behind the other.
-use Rattle.std.proofs.Common.{◌≡◌, ◌⊎◌, inl, inr, ℕ, List, [], ◌∷◌, ◌++◌, map, append_assoc, refl, rules, sym, ap, subst, ◌∙◌}
+use Rattle.std.proofs.Common.{◌≡◌, ◌⊎◌, inl, inr, ℕ, List, [], ◌∷◌, ◌++◌, map, length, ◌≤◌, arith, append_assoc, refl, rules, sym, ap, subst, ◌∙◌}
 use Rattle.std.specs.Prelude.{Box}
 use Rattle.std.specs.declared.alloc.Global.{Global}
 use Rattle.std.proofs.lemmas.List.{map-append}
@@ -17,6 +17,7 @@ use Rattle.vtl_tree.specs.NodeView.{agg_tree, analytic_tree, form_tree, item_tre
 use Rattle.vtl_tree.specs.declared.clauses.CalcItem.{CalcItem}
 use Rattle.vtl_tree.specs.declared.clauses.SubItem.{SubItem}
 use Rattle.vtl_tree.specs.declared.nodes.MeasureOp.{MeasureOp}
+use Rattle.vtl_tree.specs.declared.nodes.Node as node
 use Rattle.vtl_tree.specs.declared.nodes.Node.{Node}
 use Rattle.vtl_tree.specs.declared.nodes.NodeForm as forms
 use Rattle.vtl_tree.specs.declared.nodes.NodeForm.{NodeForm}
@@ -26,7 +27,7 @@ use Rattle.vtl_tree.specs.declared.specifications.AnalyticSpec.{AnalyticSpec}
 use Rattle.sql_tree.specs.Trees.{StatementTree, Text}
 use Rattle.selects_to_sql.specs.Tables.{create_for, Sources, and_then, over, with_one, with_two}
 use Rattle.vtl_to_sql.specs.FormQueries.{query_of_one, query_of_two}
-use Rattle.vtl_to_sql.specs.Tables.{made_of_form, sources_of}
+use Rattle.vtl_to_sql.specs.Tables.{made_of, made_of_form, sources_of}
 
 -- ---- trees of forms
 
@@ -90,7 +91,6 @@ IsOf f a =
     ((op : MeasureOp) × f ≡ form.Measures op a)
     ⊎ ((c : CompExpr) × f ≡ form.Filter a c)
     ⊎ ((items : List CalcItem) × f ≡ form.Calc a items)
-    ⊎ ((pairs : List Renaming) × f ≡ form.Rename a pairs)
     ⊎ ((values : List SubItem) × f ≡ form.Sub a values)
     ⊎ ((id : Txt) × (m : Txt) × f ≡ form.Pivot a id m)
     ⊎ ((spec : AggSpec) × f ≡ form.Aggregate a spec)
@@ -108,15 +108,31 @@ pub one_made : (p : Settings) (r : Text) (s : Structure) (f : NodeForm) (a : Box
 one_made p r s f a n (inl (op, e)) = let b = node_tree a.value in one_at p r s b n (form_tree f) (nodes.measures (measure_tree op) b) (tree_of_measures f op a e) refl
 one_made p r s f a n (inr (inl (c, e))) = let b = node_tree a.value in one_at p r s b n (form_tree f) (nodes.filter b (comp_exp_of c)) (tree_of_filter f a c e) refl
 one_made p r s f a n (inr (inr (inl (items, e)))) = let b = node_tree a.value in one_at p r s b n (form_tree f) (nodes.calc b (map item_tree items)) (tree_of_calc f a items e) refl
-one_made p r s f a n (inr (inr (inr (inl (pairs, e))))) = let b = node_tree a.value in one_at p r s b n (form_tree f) (nodes.rename b pairs) (tree_of_rename f a pairs e) refl
-one_made p r s f a n (inr (inr (inr (inr (inl (values, e)))))) = let b = node_tree a.value in one_at p r s b n (form_tree f) (nodes.sub b values) (tree_of_sub f a values e) refl
-one_made p r s f a n (inr (inr (inr (inr (inr (inl (id, m, e))))))) = let b = node_tree a.value in one_at p r s b n (form_tree f) (nodes.pivot b id m) (tree_of_pivot f a id m e) refl
-one_made p r s f a n (inr (inr (inr (inr (inr (inr (inl (spec, e)))))))) = let b = node_tree a.value in one_at p r s b n (form_tree f) (nodes.aggregate b (agg_tree spec)) (tree_of_aggregate f a spec e) refl
-one_made p r s f a n (inr (inr (inr (inr (inr (inr (inr (inl (spec, e))))))))) = let b = node_tree a.value in one_at p r s b n (form_tree f) (nodes.analytic_of b (analytic_tree spec)) (tree_of_analytic f a spec e) refl
-one_made p r s f a n (inr (inr (inr (inr (inr (inr (inr (inr (inl (id, m, e)))))))))) = let b = node_tree a.value in one_at p r s b n (form_tree f) (nodes.unpivot b id m) (tree_of_unpivot f a id m e) refl
-one_made p r s f a n (inr (inr (inr (inr (inr (inr (inr (inr (inr (inl (m, e))))))))))) = let b = node_tree a.value in one_at p r s b n (form_tree f) (nodes.member b m) (tree_of_member f a m e) refl
-one_made p r s f a n (inr (inr (inr (inr (inr (inr (inr (inr (inr (inr (inl (names, e)))))))))))) = let b = node_tree a.value in one_at p r s b n (form_tree f) (nodes.keep b names) (tree_of_keep f a names e) refl
-one_made p r s f a n (inr (inr (inr (inr (inr (inr (inr (inr (inr (inr (inr (names, e)))))))))))) = let b = node_tree a.value in one_at p r s b n (form_tree f) (nodes.drop_named b names) (tree_of_drop f a names e) refl
+one_made p r s f a n (inr (inr (inr (inl (values, e))))) = let b = node_tree a.value in one_at p r s b n (form_tree f) (nodes.sub b values) (tree_of_sub f a values e) refl
+one_made p r s f a n (inr (inr (inr (inr (inl (id, m, e)))))) = let b = node_tree a.value in one_at p r s b n (form_tree f) (nodes.pivot b id m) (tree_of_pivot f a id m e) refl
+one_made p r s f a n (inr (inr (inr (inr (inr (inl (spec, e))))))) = let b = node_tree a.value in one_at p r s b n (form_tree f) (nodes.aggregate b (agg_tree spec)) (tree_of_aggregate f a spec e) refl
+one_made p r s f a n (inr (inr (inr (inr (inr (inr (inl (spec, e)))))))) = let b = node_tree a.value in one_at p r s b n (form_tree f) (nodes.analytic_of b (analytic_tree spec)) (tree_of_analytic f a spec e) refl
+one_made p r s f a n (inr (inr (inr (inr (inr (inr (inr (inl (id, m, e))))))))) = let b = node_tree a.value in one_at p r s b n (form_tree f) (nodes.unpivot b id m) (tree_of_unpivot f a id m e) refl
+one_made p r s f a n (inr (inr (inr (inr (inr (inr (inr (inr (inl (m, e)))))))))) = let b = node_tree a.value in one_at p r s b n (form_tree f) (nodes.member b m) (tree_of_member f a m e) refl
+one_made p r s f a n (inr (inr (inr (inr (inr (inr (inr (inr (inr (inl (names, e))))))))))) = let b = node_tree a.value in one_at p r s b n (form_tree f) (nodes.keep b names) (tree_of_keep f a names e) refl
+one_made p r s f a n (inr (inr (inr (inr (inr (inr (inr (inr (inr (inr (names, e))))))))))) = let b = node_tree a.value in one_at p r s b n (form_tree f) (nodes.drop_named b names) (tree_of_drop f a names e) refl
+
+-- ---- a naming
+
+node_is : (n : Node) → node_tree n ≡ nodes.node n.structure (form_tree n.form)
+node_is n = search (rules, node.the_lemmas)
+
+-- one that renames nothing is its operand
+pub nothing_renamed : (p : Settings) (r : Text) (s : Structure) (f : NodeForm) (a : Box Node Global) (pairs : List Renaming) (n : ℕ) → f ≡ form.Rename a pairs → pairs ≡ []
+    → made_of_form p r a.value.structure (form_tree a.value.form) n ≡ made_of_form p r s (form_tree f) n
+nothing_renamed p r s f a pairs n e none =
+    let tree = tree_of_rename f a pairs e ∙ ap (nodes.rename (node_tree a.value)) none in
+    sym (ap (λ (b : NodeTree). made_of p r b n) (node_is a.value)) ∙ sym (ap (λ (t : FormTree). made_of_form p r s t n) tree)
+
+pub one_renamed : (p : Settings) (r : Text) (s : Structure) (f : NodeForm) (a : Box Node Global) (pairs : List Renaming) (n : ℕ) → f ≡ form.Rename a pairs → 1 ≤ length pairs
+    → made_of_form p r s (form_tree f) n ≡ over (sources_of p r (node_tree a.value) n) (with_one (query_of_one p (form_tree f) s))
+one_renamed p r s f a [] n e h = absurd (omega (arith, h))
+one_renamed p r s f a (x ∷ xs) n e h = let b = node_tree a.value in one_at p r s b n (form_tree f) (nodes.rename b (x ∷ xs)) (tree_of_rename f a (x ∷ xs) e) refl
 
 abbrev AreOf : NodeForm → (a b : Box Node Global) → Type 0
 AreOf f a b =

@@ -42,7 +42,9 @@ abbrev mutual
   made_of_form p r s (nodes.calc a items) n = over (sources_of p r a n) (with_one (calc_query p items (structure_of a) s))
   made_of_form p r s (nodes.keep a names) n = over (sources_of p r a n) (with_one (left_query p (structure_of a) s))
   made_of_form p r s (nodes.drop_named a names) n = over (sources_of p r a n) (with_one (left_query p (structure_of a) s))
-  made_of_form p r s (nodes.rename a pairs) n = over (sources_of p r a n) (with_one (rename_query p (structure_of a) s))
+  -- a naming that renames nothing is its operand
+  made_of_form p r s (nodes.rename a []) n = made_of p r a n
+  made_of_form p r s (nodes.rename a (x ∷ xs)) n = over (sources_of p r a n) (with_one (rename_query p (structure_of a) s))
   made_of_form p r s (nodes.sub a items) n = over (sources_of p r a n) (with_one (sub_query p items (structure_of a) s))
   made_of_form p r s (nodes.join os spec) n = join_made p r spec.kind (joins.structures_of (operands_in os)) s (operands_of p r os n)
   made_of_form p r s (nodes.union (nodes.and_node a ns)) n = combined_of p r (λ b c. union_query p b c s) s ns (structure_of a) (sources_of p r a n)

@@ -160,7 +160,6 @@ pub(crate) fn query(
         NodeForm::Measures { a, .. }
         | NodeForm::Filter { a, .. }
         | NodeForm::Calc { a, .. }
-        | NodeForm::Rename { a, .. }
         | NodeForm::Sub { a, .. }
         | NodeForm::Pivot { a, .. }
         | NodeForm::Aggregate { a, .. }
@@ -172,6 +171,14 @@ pub(crate) fn query(
             let table = source(alloc, writer, a, target, draft)?;
             query_of_one(alloc, writer, form, s, &table)
         }
+        NodeForm::Rename { a, pairs } => match pairs.as_slice() {
+            // A naming that renames nothing is its operand.
+            [] => query(alloc, writer, &a.form, &a.structure, target, draft),
+            [_, ..] => {
+                let operand = source(alloc, writer, a, target, draft)?;
+                query_of_one(alloc, writer, form, s, &operand)
+            }
+        },
         NodeForm::Pair { a, b, .. }
         | NodeForm::SetDiff { a, b }
         | NodeForm::SymDiff { a, b }

@@ -161,5 +161,5 @@ module _ (e : List ℕ × Structure) (w : IsStructure e.1) (coded : AllByRecursi
       }
 
   -- a file holds the same rows of both, or has the same fault
-  pub files_fit_alike : (p : Settings) (text : List ℕ) → dataset_rows p e.1 text ≡ dataset_rows p (structure_of (input_of e)) text
-  files_fit_alike p text = plain_rows_same p e.1 (structure_of (input_of e)) text w lawful (sym same_plain)
+  pub files_fit_alike : (p : Settings) (text : List ℕ) → dataset_rows p e.1 [] text ≡ dataset_rows p (structure_of (input_of e)) [] text
+  files_fit_alike p text = plain_rows_same p e.1 (structure_of (input_of e)) [] text w lawful (sym same_plain)

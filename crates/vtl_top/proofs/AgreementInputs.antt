@@ -46,7 +46,7 @@ then_gives step next held (Err status) f is each = (Err status, is, refl)
 -- ---- what inputs give
 module _ (folder : Path) (p : Settings) (held : Held) where
   abbrev pub points_in : List ℕ × Structure → Result (List Row) Status
-  points_in e = then_on (content (file_in folder e.0) csv_limit held) (λ bytes. points_or_fault e.0 (dataset_rows p e.1 bytes))
+  points_in e = then_on (content (file_in folder e.0) csv_limit held) (λ bytes. points_or_fault e.0 (dataset_rows p e.1 [] bytes))
 
   abbrev pub one_more_in : Environment → List ℕ × Structure → Result Environment Status
   one_more_in before e = then_on (points_in e) (λ points. Ok (with_points before e points))
@@ -57,7 +57,7 @@ module _ (folder : Path) (p : Settings) (held : Held) where
 
   points_given : (e : List ℕ × Structure) → (dataset_step folder p e).gives held (points_in e)
   points_given e =
-      then_gives (read (file_in folder e.0) csv_limit) (λ bytes. settled (points_or_fault e.0 (dataset_rows p e.1 bytes))) held (content (file_in folder e.0) csv_limit held) (λ bytes. points_or_fault e.0 (dataset_rows p e.1 bytes)) refl (λ bytes. refl)
+      then_gives (read (file_in folder e.0) csv_limit) (λ bytes. settled (points_or_fault e.0 (dataset_rows p e.1 [] bytes))) held (content (file_in folder e.0) csv_limit held) (λ bytes. points_or_fault e.0 (dataset_rows p e.1 [] bytes)) refl (λ bytes. refl)
 
   pub sets_given : (before : Environment) (es : Named) → (inputs_step folder p before es).gives held (sets_in before es)
   sets_given before [] = refl
@@ -104,10 +104,10 @@ one_more_row before now e points same =
 module _ (folder : Path) (p : Settings) (held other : Held) where
   points_alike : (e : List ℕ × Structure) → bytes_at (file_in folder e.0) other ≡ bytes_at (file_in folder e.0) held → IsDeclared e → points_in folder p held e ≡ points_in folder p other (as_input e)
   points_alike e same is =
-      ap (λ o. then_on (sized (file_in folder e.0) csv_limit o) (λ bytes. points_or_fault e.0 (dataset_rows p e.1 bytes))) (sym same)
+      ap (λ o. then_on (sized (file_in folder e.0) csv_limit o) (λ bytes. points_or_fault e.0 (dataset_rows p e.1 [] bytes))) (sym same)
       ∙ go (content (file_in folder e.0) csv_limit other)
     where
-      go : (r : Result (List ℕ) Status) → then_on r (λ bytes. points_or_fault e.0 (dataset_rows p e.1 bytes)) ≡ then_on r (λ bytes. points_or_fault e.0 (dataset_rows p (structure_of (input_of e)) bytes))
+      go : (r : Result (List ℕ) Status) → then_on r (λ bytes. points_or_fault e.0 (dataset_rows p e.1 [] bytes)) ≡ then_on r (λ bytes. points_or_fault e.0 (dataset_rows p (structure_of (input_of e)) [] bytes))
       go (Ok bytes) = ap (points_or_fault e.0) (files_fit_alike e is.lawful is.coded p bytes)
       go (Err status) = refl
 
@@ -130,18 +130,18 @@ module _ (p : Settings) where
   AreSetsOf [] [] = Unit {0}
   AreSetsOf [] (d ∷ ds) = ⊥
   AreSetsOf (e ∷ es) [] = ⊥
-  AreSetsOf (e ∷ es) (d ∷ ds) = ((rows : List Row) × (d ≡ (e.0, data_set e.1 rows)) × ((bytes : List ℕ) × (dataset_rows p e.1 bytes ≡ Ok rows))) × AreSetsOf es ds
+  AreSetsOf (e ∷ es) (d ∷ ds) = ((rows : List Row) × (d ≡ (e.0, data_set e.1 rows)) × ((bytes : List ℕ) × (dataset_rows p e.1 [] bytes ≡ Ok rows))) × AreSetsOf es ds
 
   module _ (folder : Path) (held : Held) where
-    points_from : (e : List ℕ × Structure) (rows : List Row) → points_in folder p held e ≡ Ok rows → (bytes : List ℕ) × (dataset_rows p e.1 bytes ≡ Ok rows)
+    points_from : (e : List ℕ × Structure) (rows : List Row) → points_in folder p held e ≡ Ok rows → (bytes : List ℕ) × (dataset_rows p e.1 [] bytes ≡ Ok rows)
     points_from e rows q = go (content (file_in folder e.0) csv_limit held) q
       where
         whole : (r : Result (List Row) Fault) → points_or_fault e.0 r ≡ Ok rows → r ≡ Ok rows
         whole (Ok points) i = let same : points ≡ rows = cc in ap Ok same
         whole (Err fault) i = cc
 
-        go : (r : Result (List ℕ) Status) → then_on r (λ bytes. points_or_fault e.0 (dataset_rows p e.1 bytes)) ≡ Ok rows → (bytes : List ℕ) × (dataset_rows p e.1 bytes ≡ Ok rows)
-        go (Ok bytes) i = (bytes, whole (dataset_rows p e.1 bytes) i)
+        go : (r : Result (List ℕ) Status) → then_on r (λ bytes. points_or_fault e.0 (dataset_rows p e.1 [] bytes)) ≡ Ok rows → (bytes : List ℕ) × (dataset_rows p e.1 [] bytes ≡ Ok rows)
+        go (Ok bytes) i = (bytes, whole (dataset_rows p e.1 [] bytes) i)
         go (Err status) i = cc
 
     sets_behind : (before : Environment) (es : Named) (env : Environment) → sets_in folder p held before es ≡ Ok env → (more : Environment) × (env ≡ before ++ more) × AreSetsOf es more

@@ -53,8 +53,8 @@ refused_once b status held = settled_once (cond b (Err status) (Ok tt)) held
 
 dataset_once : (folder : Path) (p : Settings) (e : List ℕ × Structure) (held : Held) → Once (dataset_step folder p e) held
 dataset_once folder p e held =
-    onward_once (read (file_in folder e.0) csv_limit) (λ bytes. settled (points_or_fault e.0 (dataset_rows p e.1 bytes))) held (read_once (file_in folder e.0) csv_limit held)
-    (λ bytes. settled_once (points_or_fault e.0 (dataset_rows p e.1 bytes)) held)
+    onward_once (read (file_in folder e.0) csv_limit) (λ bytes. settled (points_or_fault e.0 (dataset_rows p e.1 [] bytes))) held (read_once (file_in folder e.0) csv_limit held)
+    (λ bytes. settled_once (points_or_fault e.0 (dataset_rows p e.1 [] bytes)) held)
 
 inputs_once : (folder : Path) (p : Settings) (before : Environment) (inputs : Named) (held : Held) → Once (inputs_step folder p before inputs) held
 inputs_once folder p before [] held = settled_once (Ok before) held

@@ -67,8 +67,8 @@ refused_total b status held = settled_total (cond b (Err status) (Ok tt)) held
 
 dataset_total : (folder : Path) (p : Settings) (e : List ℕ × Structure) (held : Held) → Total (dataset_step folder p e) held
 dataset_total folder p e held =
-    onward_total (read (file_in folder e.0) csv_limit) (λ bytes. settled (points_or_fault e.0 (dataset_rows p e.1 bytes))) held (read_total (file_in folder e.0) csv_limit held)
-    (λ bytes. settled_total (points_or_fault e.0 (dataset_rows p e.1 bytes)) held)
+    onward_total (read (file_in folder e.0) csv_limit) (λ bytes. settled (points_or_fault e.0 (dataset_rows p e.1 [] bytes))) held (read_total (file_in folder e.0) csv_limit held)
+    (λ bytes. settled_total (points_or_fault e.0 (dataset_rows p e.1 [] bytes)) held)
 
 inputs_total : (folder : Path) (p : Settings) (before : Environment) (inputs : Named) (held : Held) → Total (inputs_step folder p before inputs) held
 inputs_total folder p before [] held = settled_total (Ok before) held

@@ -137,8 +137,8 @@ module _ (status : Status) (own : is_other (cause status) ≡ false) (held : Hel
 
   never_dataset : (folder : Path) (p : Settings) (e : List ℕ × Structure) → Never (dataset_step folder p e)
   never_dataset folder p e =
-      never_onward (read (file_in folder e.0) csv_limit) (λ bytes. settled (points_or_fault e.0 (dataset_rows p e.1 bytes))) (never_read (file_in folder e.0) csv_limit)
-      (λ bytes. never_points e.0 (dataset_rows p e.1 bytes))
+      never_onward (read (file_in folder e.0) csv_limit) (λ bytes. settled (points_or_fault e.0 (dataset_rows p e.1 [] bytes))) (never_read (file_in folder e.0) csv_limit)
+      (λ bytes. never_points e.0 (dataset_rows p e.1 [] bytes))
 
   pub never_inputs : (folder : Path) (p : Settings) (before : Environment) (inputs : Named) → Never (inputs_step folder p before inputs)
   never_inputs folder p before [] = never_ok before

@@ -74,7 +74,7 @@ points_or_fault name (Err fault) = Err (st.Input name fault.0 fault.1.0 fault.1.
 
 -- the points of the data set of this name and structure, from its file in a folder
 abbrev pub dataset_step : Path → Settings → Name × Structure → Step (List Row)
-dataset_step folder p e = read (file_in folder e.0) csv_limit >>= λ bytes. settled (points_or_fault e.0 (dataset_rows p e.1 bytes))
+dataset_step folder p e = read (file_in folder e.0) csv_limit >>= λ bytes. settled (points_or_fault e.0 (dataset_rows p e.1 [] bytes))
 
 abbrev pub data_set : Structure → List Row → DataSet
 data_set structure points = record { structure = structure; points = points }

@@ -1,4 +1,7 @@
 // The data sets that are read, from their files.
+//
+// All inputs are read before any statement is carried out, in order of first use. They are let go after the run
+// (`run_over`), before the first text is made.
 ghost use Rattle.std.specs.Prelude.{◌≡◌, ◌<◌, [], None, length, map, slice_index_or, IfOk, OnOk};
 ghost use Rattle.std.specs.List.{AllByRecursion};
 ghost use Rattle.std.specs.Map.{keys_of};
@@ -47,10 +50,10 @@ fn table_in(
     profile: &Profile,
 ) -> Result<Table, Status>
     requires { IsStructure structure.now }
-    ensures table { IsTableRead name.now structure.now (dataset_rows profile.now structure.now bytes.now) result }
+    ensures table { IsTableRead name.now structure.now (dataset_rows profile.now structure.now [] bytes.now) result }
     ensures ranges { IfOk result (λ t. AreOfProfile profile.now t.rows) }
 {
-    match read_dataset(alloc, bytes, structure, profile) {
+    match read_dataset(alloc, bytes, structure, &[], profile) {
         Ok(table) => Ok(table),
         Err(error) => Err(input_refusal(name, error)),
     }

@@ -1,7 +1,9 @@
 use Rattle.std.proofs.Common.{◌<◌, length, sym, ◌∙◌, arith}
 use Rattle.std.proofs.lemmas.List.{length-map}
+use Rattle.vtl_tree.specs.Pairs.{contains}
 use Rattle.vtl_tree.specs.Shown.{shown}
-use Rattle.joins_to_sql.proofs.References.{gives_way, shown_at, stays}
+use Rattle.vtl_tree.proofs.Containing.{contains_onward, gives_way, stays}
+use Rattle.joins_to_sql.proofs.References.{shown_at}
 use Rattle.joins_to_sql.proofs.join_operands.left_over.Goals.{then-not-contains, else-not-contains}
 use Rattle.joins_to_sql.proofs.join_operands.left_over.Goals as goal
 
@@ -23,10 +25,10 @@ loop-i-preserved c =
     elim c.if-not-contains.branch [
       | then-not-contains w ↦ record {
         before = omega (arith, w.left-is);
-        there = λ h. w.left-is ∙ gives_way ss left i a.now b.now before within is next c.loop-i.invariant.there (sym answer ∙ w.if-not-contains.true) h;
+        there = λ h. w.left-is ∙ gives_way contains contains_onward ss left i a.now b.now before within is next c.loop-i.invariant.there (sym answer ∙ w.if-not-contains.true) h;
       }
       | else-not-contains w ↦ record {
         before = omega (arith, w.left-is, before);
-        there = λ h. w.left-is ∙ stays ss left i a.now b.now before within is next c.loop-i.invariant.there (sym answer ∙ w.if-not-contains.false) h;
+        there = λ h. w.left-is ∙ stays contains contains_onward ss left i a.now b.now before within is next c.loop-i.invariant.there (sym answer ∙ w.if-not-contains.false) h;
       }
     ]

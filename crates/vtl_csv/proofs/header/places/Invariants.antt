@@ -5,4 +5,4 @@ use Rattle.vtl_csv.specs.InputFile.{place_in}
 use Rattle.vtl_csv.proofs.header.places.Given as goal
 
 abbrev pub invariant-loop-i : goal.invariant-loop-i
-invariant-loop-i l = onto l.places.items (each_some (place_in l.columns) (drop l.i (shown l.components))) ≡ each_some (place_in l.columns) (shown l.components)
+invariant-loop-i l = onto l.places.items (each_some (place_in (shown l.columns)) (drop l.i (shown l.components))) ≡ each_some (place_in (shown l.columns)) (shown l.components)

@@ -1,11 +1,11 @@
 use Rattle.std.proofs.Common.{◌<◌, length, sym, ap, ◌∙◌, arith}
-use Rattle.std.specs.List.{position_or_len}
 use Rattle.vtl_tree.specs.Pairs.{contains}
 use Rattle.vtl_tree.specs.declared.structure.Structure.{Structure}
-use Rattle.vtl_meaning.specs.Joined.{contains_all, structures_of}
+use Rattle.vtl_tree.proofs.Containing.{contains_onward, gives_way, stays}
+use Rattle.vtl_meaning.specs.Joined.{structures_of}
 use Rattle.vtl_join.specs.declared.joined.Operand.{Operand}
 use Rattle.vtl_join.specs.Joining.{sets_of}
-use Rattle.vtl_join.proofs.Referring.{gives_way, stays, structure_at, structures_many}
+use Rattle.vtl_join.proofs.Referring.{structure_at, structures_many}
 use Rattle.vtl_join.proofs.reference.containing.Goals.{then-not-contains, else-not-contains}
 use Rattle.vtl_join.proofs.reference.containing.Goals as goal
 
@@ -26,14 +26,13 @@ loop-i-preserved c =
     let own = c.structure.ensures.structure ∙ ap (λ (x : Operand). x.set.structure) (sym c.index-operands-left.is) in
     let other = c.structure-in-loop-i.ensures.structure ∙ ap (λ (x : Operand). x.set.structure) (sym c.index-operands-i.is) in
     let answer = c.contains.ensures ∙ ap (λ (x : Structure). contains x c.structure-in-loop-i.result.now) own ∙ ap (contains o.set.structure) other in
-    let some : position_or_len (contains_all ss) ss < length ss = omega (arith, many, c.requires) in
     elim c.if-not-contains.branch [
       | then-not-contains w ↦ record {
         before = omega (arith, w.left-is);
-        there = λ h. w.left-is ∙ gives_way ss some left i o.set.structure n.set.structure before within is next c.loop-i.invariant.there (sym answer ∙ w.if-not-contains.true) h;
+        there = λ h. w.left-is ∙ gives_way contains contains_onward ss left i o.set.structure n.set.structure before within is next c.loop-i.invariant.there (sym answer ∙ w.if-not-contains.true) h;
       }
       | else-not-contains w ↦ record {
         before = omega (arith, w.left-is, before);
-        there = λ h. w.left-is ∙ stays ss some left i o.set.structure n.set.structure before within is next c.loop-i.invariant.there (sym answer ∙ w.if-not-contains.false) h;
+        there = λ h. w.left-is ∙ stays contains contains_onward ss left i o.set.structure n.set.structure before within is next c.loop-i.invariant.there (sym answer ∙ w.if-not-contains.false) h;
       }
     ]
