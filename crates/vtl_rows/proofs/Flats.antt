@@ -135,3 +135,7 @@ module _ (columns : List Column) (n : ℕ) (cells : List Cell) (rows : List Row)
 -- as many rows as cells at most
 pub rows_few : (columns : List Column) (n : ℕ) (cells : List Cell) → IsFlat columns n cells → n ≤ length cells
 rows_few columns n cells flat = let up = mul-le n 1 n (length columns) (le_refl n) flat.wide in omega (arith, up, flat.whole)
+
+-- a row that stands alone in a list fits columns that are equal
+pub fits_alone : (columns other : List Column) (cells before row : List Cell) → columns ≡ other → cells ≡ before ++ row → before ≡ [] → fits other row ≡ true → fits columns cells ≡ true
+fits_alone columns other cells before row same e none fit = ap (λ cs. fits cs cells) same ∙ ap (fits other) (e ∙ ap (λ l. l ++ row) none) ∙ fit

@@ -21,21 +21,6 @@ use Rattle.vtl_rows.specs.Tables.{AllFit, Listed, column_at, column_kinds, fits,
 use Rattle.vtl_rows.proofs.Flats.{fits_wide}
 use Rattle.vtl_rows.proofs.Gathers.{cell_fits, flat_rows-flat_map, length-flat_map_wide}
 
--- ---- a row for each item, one after the other
-module _ {X : Type 0} (f : X → Row) (columns : List Column) (xs : List X) (n : ℕ) (cells : List Cell) (fit : All (λ x. fits columns (f x) ≡ true) xs) (count : n ≡ length xs) (e : cells ≡ flat_map f xs) where
-  made_wide : AllByRecursion (λ x. length (f x) ≡ length columns) xs
-  made_wide = recursion_from_All (λ x. length (f x) ≡ length columns) xs (All-weaker (λ x. fits columns (f x) ≡ true) (λ x. length (f x) ≡ length columns) (λ x h. fits_wide columns (f x) h) xs fit)
-
-  pub made_rows : flat_rows (length columns) n cells ≡ map f xs
-  made_rows = ap (λ k. flat_rows (length columns) k cells) count ∙ ap (flat_rows (length columns) (length xs)) e ∙ flat_rows-flat_map f (length columns) xs made_wide
-
-  pub made_flat : 0 < length columns → IsFlat columns n cells
-  made_flat some = record {
-    wide = some;
-    whole = ap length e ∙ length-flat_map_wide f (length columns) xs made_wide ∙ ap (λ k. k * length columns) (sym count);
-    fit = subst (AllFit columns) (sym made_rows) (All-map (λ r. fits columns r ≡ true) f xs fit);
-  }
-
 -- the rows at places of a table fit its columns
 pub rows_at_fit : (columns : List Column) (rows : List Row) (places : List ℕ) → AllFit columns rows → All (λ i. i < length rows) places → All (λ i. fits columns (row_at rows i) ≡ true) places
 rows_at_fit columns rows places fit within k d h = fit (get_or places k d) [] (within k d h)
@@ -79,14 +64,14 @@ pieces-push w n xs x some e h =
     ap (λ k. first_chunks w k (xs ++ x)) all ∙ chunks-push w n xs x e h ∙ ap (λ k. first_chunks w k xs ++ x ∷ []) before
 
 -- ---- a row for each piece
-module _ {X : Type 0} (f : List X → Row) (w : ℕ) (all : List Cell) (cells : List Cell) (xs : List X) (sofar : cells ++ flat_map f (pieces w xs) ≡ all) where
-  pub next_piece : (more : List Cell) (x rest : List X) → 0 < w → xs ≡ x ++ rest → length x ≡ w → more ≡ cells ++ f x → more ++ flat_map f (pieces w rest) ≡ all
+module _ {X : Type 0} (f : List X → Row) (w : ℕ) (all : List Row) (rows : List Row) (xs : List X) (sofar : rows ++ map f (pieces w xs) ≡ all) where
+  pub next_piece : (more : List Row) (x rest : List X) → 0 < w → xs ≡ x ++ rest → length x ≡ w → more ≡ rows ++ f x ∷ [] → more ++ map f (pieces w rest) ≡ all
   next_piece more x rest some e h put =
-      ap (λ l. l ++ flat_map f (pieces w rest)) put ∙ append_assoc cells (f x) (flat_map f (pieces w rest))
-      ∙ ap (λ ps. cells ++ flat_map f ps) (sym (ap (pieces w) e ∙ pieces-next w x rest some h)) ∙ sofar
+      ap (λ l. l ++ map f (pieces w rest)) put ∙ append_assoc rows (f x ∷ []) (map f (pieces w rest))
+      ∙ ap (λ ps. rows ++ map f ps) (sym (ap (pieces w) e ∙ pieces-next w x rest some h)) ∙ sofar
 
-  pub no_piece : length xs < w → cells ≡ all
-  no_piece h = sym (append-nil cells) ∙ ap (λ ps. cells ++ flat_map f ps) (sym (pieces-none w xs h)) ∙ sofar
+  pub no_piece : length xs < w → rows ≡ all
+  no_piece h = sym (append-nil rows) ∙ ap (λ ps. rows ++ map f ps) (sym (pieces-none w xs h)) ∙ sofar
 
 -- ---- cells that are picked from parts
 null_is_of : (kind : Kind) → is_of kind c.Null ≡ true
@@ -116,9 +101,8 @@ module _ (parts : List Listed) (all : All (λ t. AllFit t.columns t.rows) parts)
   picked_fits tuple [] = refl
   picked_fits tuple (p ∷ ps) = rw (cell_at_fits (part_at parts p.part).columns (part_at parts p.part).rows p.column (get_or tuple p.part 0) (part_fits p.part)) (picked_fits tuple ps)
 
-  pub all_picked_fit : (columns : List Column) (picks : List Pick) (tuples : List (List ℕ)) → column_kinds columns ≡ map (picked_kind parts) picks → All (λ tuple. fits columns (picked parts picks tuple) ≡ true) tuples
-  all_picked_fit columns picks tuples kinds k d h =
-      ap (λ l. fits_kinds l (picked parts picks (get_or tuples k d))) kinds ∙ picked_fits (get_or tuples k d) picks
+  pub picked_row_fits : (columns : List Column) (picks : List Pick) (tuple : List ℕ) → column_kinds columns ≡ map (picked_kind parts) picks → fits columns (picked parts picks tuple) ≡ true
+  picked_row_fits columns picks tuple kinds = ap (λ l. fits_kinds l (picked parts picks tuple)) kinds ∙ picked_fits tuple picks
 
 -- where a cell is picked there is a part
 pub some_part : (columns : List Column) (kind : Pick → Kind) (picks : List Pick) (n : ℕ) → 0 < length columns → All (λ p. p.part < n) picks → column_kinds columns ≡ map kind picks → 0 < n

@@ -100,7 +100,7 @@ cell_fits (c ∷ cs) [] e i = absurd (true≢false (sym e))
 cell_fits (c ∷ cs) (x ∷ xs) e zero = (and_parts (is_of c.kind x) (fits cs xs) e).0
 cell_fits (c ∷ cs) (x ∷ xs) e (suc i) = cell_fits cs xs (and_parts (is_of c.kind x) (fits cs xs) e).1 i
 
-chosen_fits : (columns : List Column) (places : List ℕ) (r : Row) → fits columns r ≡ true → fits (map (column_at columns) places) (cells_at places r) ≡ true
+pub chosen_fits : (columns : List Column) (places : List ℕ) (r : Row) → fits columns r ≡ true → fits (map (column_at columns) places) (cells_at places r) ≡ true
 chosen_fits columns [] r e = refl
 chosen_fits columns (i ∷ is) r e = rw (cell_fits columns r e i) (chosen_fits columns is r e)
 
