@@ -2,7 +2,7 @@
 # Times inputs that were chosen to be slow or are so by bad luck, made by hostile.py, each beside a plain one of the same
 # size, and beside itself with half the rows. The figures are printed, and nothing is asserted of them: a case is meant to
 # take at most three times the time of its plain counterpart, and at most 2.3 times that of its half. The programs are
-# those that ../vtl and scripts/build.sh vtl_probe build; hostile.sh CASE .. times these cases alone.
+# those that scripts/build.sh builds; hostile.sh CASE .. times these cases alone.
 top=$(dirname -- "$(readlink -f -- "$0")")/..
 made=$(mktemp -d) || exit 1
 trap 'rm -rf "$made"' EXIT

@@ -9,7 +9,7 @@ top=$(dirname -- "$(readlink -f -- "$0")")/..
 built=${built:-vtl}
 program=${1:-$top/crates/$built/out/$built}
 if [ ! -x "$program" ]; then
-    echo "$(basename -- "$0"): there is no program at $program; scripts/build.sh $built builds it" >&2
+    echo "$(basename -- "$0"): there is no program at $program; scripts/build.sh builds it" >&2
     exit 1
 fi
 made=$(mktemp -d) || exit 1

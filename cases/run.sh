@@ -219,6 +219,96 @@ explained() {
     fi
 }
 
+# A call of the launcher that must say a sentence, by the name of the case.
+says() {
+    sentence=$1
+    name=$2
+    shift 2
+    (cd "$folder" && "$top/vtl" "$@" >"$made/said" 2>"$made/told" </dev/null)
+    if grep -qxF -e "$sentence" "$made/told"; then
+        pass
+    else
+        fail "$name: does not say: $sentence"
+        cat "$made/said" "$made/told"
+    fi
+}
+
+# The mistakes of a table: each with a sentence that the launcher is to say. Of scripts, and of the file of a data set.
+mistakes() {
+    folder=$made/folder
+    rm -rf "$folder"
+    mkdir -p "$folder/in" "$folder/out"
+    cp "$1/structures.csv" "$folder"
+    [ ! -e "$1/script.vtl" ] || cp "$1/script.vtl" "$folder"
+    tail -n +2 "$1/mistakes.tsv" >"$made/mistakes"
+    while IFS='	' read -r text sentence; do
+        if [ -e "$1/script.vtl" ]; then
+            printf %b "$text" >"$folder/in/D.csv"
+            says "$sentence" "$1: $text" run script.vtl structures.csv in out
+        else
+            printf '%s\n' "$text" >"$folder/script.vtl"
+            says "$sentence" "$1: $text" check script.vtl structures.csv
+        fi
+    done <"$made/mistakes"
+}
+
+# What a script of scripts/ makes of given files, beside what is wanted: the folder, and the words of the call.
+made_of() {
+    case=$1
+    shift
+    (cd "$case" && "$@" >"$made/said" 2>"$made/told" </dev/null)
+    code=$?
+    wanted_code=0
+    [ ! -e "$case/code" ] || read -r wanted_code <"$case/code"
+    if [ "$code" != "$wanted_code" ]; then
+        fail "$case: exit code $code, wanted $wanted_code: $(head -n 1 "$made/said")"
+    elif ! same_bytes "$case/wanted" "$made/said"; then
+        fail "$case: made otherwise"
+        diff "$case/wanted" "$made/said"
+    elif ! same_bytes "$case/told" "$made/told"; then
+        fail "$case: other words on standard error"
+        head -n 10 "$made/told"
+    else
+        pass
+    fi
+}
+
+# What an installed program, made of this checkout and of a program, says and does.
+installed() {
+    rm -rf "$made/prefix"
+    if ! scripts/install.sh "$made/prefix" >"$made/said" || ! cmp -s "$program" "$made/prefix/share/vtl/program"; then
+        fail "scripts/install.sh: $(cat "$made/said")"
+        return
+    fi
+    case=examples/balance
+    laid_out
+    if (cd "$folder" && "$made/prefix/bin/vtl" run script.vtl structures.csv in out && diff -r "$top/$case/expected" out) >"$made/said" 2>&1; then
+        pass
+    else
+        fail "an installed program: $(head -n 3 "$made/said")"
+    fi
+    case $("$made/prefix/bin/vtl" --version) in
+        'vtl, revision '*) pass ;;
+        *) fail "an installed program has no version" ;;
+    esac
+}
+
+# The results of a run that are put into a folder together.
+whole() {
+    case=examples/balance
+    laid_out
+    if (cd "$folder" && "$top/scripts/run-whole.sh" run script.vtl structures.csv in out && diff -r "$top/$case/expected" out) >"$made/said" 2>&1 &&
+        [ "$(ls -d "$folder"/out*)" = "$folder/out" ]; then
+        pass
+    else
+        fail "scripts/run-whole.sh: $(head -n 3 "$made/said")"
+    fi
+    echo 'R <- nowhere;' >"$folder/script.vtl"
+    (cd "$folder" && VTL_EXPLAIN=0 "$top/scripts/run-whole.sh" run script.vtl structures.csv in out) >"$made/said" 2>&1
+    code=$?
+    if [ "$code" = 3 ] && diff -r "$case/expected" "$folder/out" >/dev/null; then pass; else fail "scripts/run-whole.sh: exit code $code"; fi
+}
+
 # The rows of tables on a page, as docs/sentences.tsv has them.
 rows_of() {
     awk -v table="$2" -v header="$3" -v order="$4" '
@@ -369,7 +459,9 @@ for folder in cases/*/; do
             program=$top/vtl
             VTL_EXPLAIN=1
             export VTL_EXPLAIN
-            for case in cases/explain/*/; do explained "$top/${case%/}"; done
+            for case in cases/explain/*/; do
+                if [ -e "$case/mistakes.tsv" ]; then mistakes "$top/${case%/}"; else explained "$top/${case%/}"; fi
+            done
             for file in cases/syntax/*.csv; do read_by_page syntax "$file"; done
             for file in cases/sql/syntax/*.csv; do read_by_page sql_syntax "$file"; done
             unset VTL_EXPLAIN
@@ -397,6 +489,19 @@ for folder in cases/*/; do
             ;;
         types) for file in cases/types/*.csv; do table types cases/types/structures.txt "$file"; done ;;
         depth) for file in cases/depth/*.csv; do nests syntax "$file" 1, 0,0; done ;;
+        from)
+            for case in cases/from/lint*/; do made_of "$top/${case%/}" "$top/vtl" lint structures.csv in; done
+            for case in cases/from/infer*/; do
+                # shellcheck disable=SC2046 # the names are parted by blanks
+                made_of "$top/${case%/}" "$top/vtl" infer $(cd "$case" && echo in/*.csv)
+            done
+            for case in cases/from/sdmx_csv*/; do made_of "$top/${case%/}" "$top/scripts/from/sdmx_csv.sh" structures.csv D given.csv; done
+            if command -v python3 >/dev/null; then
+                for case in cases/from/dsd*/ cases/from/json*/; do
+                    made_of "$top/${case%/}" "$top/scripts/from/structures.py" "$(cd "$case" && echo *.xml *.json | tr ' ' '\n' | grep -v '\*')"
+                done
+            fi
+            ;;
         prefix) for file in cases/prefix/*.csv; do fronts syntax "${file%.*}.vtl" "$file"; done ;;
         *) for file in "cases/$word"/*.csv; do table "$word" "$file"; done ;;
     esac
@@ -410,20 +515,23 @@ fi
 # The launcher hands its words on, and the exit code back.
 if wanted launcher && [ -x "$vtl" ]; then
     program=$top/vtl
+    VTL_EXPLAIN=0
+    export VTL_EXPLAIN
     for case in words_none no_script filter_keeps_points_above_five sql_of_a_filter sqlrun_of_a_filter; do
         run "$top/cases/run/$case"
     done
-    VTL_EXPLAIN=0
-    export VTL_EXPLAIN
-    run "$top/cases/run/no_script"
     unset VTL_EXPLAIN
     if [ "$("$program" --version | sed 's/,* .*//')" = "vtl${newline}proved" ]; then pass; else fail "vtl --version"; fi
+    program=$vtl
+    installed
+    whole
 fi
 # The pages have the sentences of which explanations are made.
 if wanted sentences; then
     compared README.md status '| status | code |' '4 3 2' '3 4 6'
     compared docs/USING.md status '| status | what to do |' 2 5
     compared docs/USING.md syntax '| a text is no script where' '2 3 4' '3 4 5'
+    compared docs/USING.md habit '| written | what it is |' '2 3 4' '3 4 5'
     compared docs/USING.md sql_syntax '| a text of the dialect is no script where' '2 3 4' '3 4 5'
     compared docs/SQL.md sql '| rule | what it asks |' '2 3 4' '3 4 5'
     compared docs/TYPES.md types '| rule | is broken where |' '2 3 4' '3 4 5'

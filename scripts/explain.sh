@@ -67,7 +67,16 @@ case $said in
         ;;
 esac
 parts=$top/scripts/explain
+# Where parts of a statement are tried.
+VTL_ROOM=
+case $said in
+    'error: type '*)
+        VTL_ROOM=$(mktemp -d)
+        trap 'rm -rf "$VTL_ROOM"' EXIT
+        ;;
+esac
 VTL_TOP=$top VTL_SAID=$said VTL_FACT=$fact VTL_NAMES=$names VTL_FILES=$(files_at_hand "$@" - - - -) LC_ALL=C
-export VTL_TOP VTL_SAID VTL_FACT VTL_NAMES VTL_FILES LC_ALL
-exec awk -f "$parts/text.awk" -f "$parts/script.awk" -f "$parts/grammar.awk" -f "$parts/records.awk" \
-    -f "$parts/sql.awk" -f "$parts/sql_lines.awk" -f "$parts/lines.awk" -f "$parts/main.awk" -- "$@"
+export VTL_TOP VTL_SAID VTL_FACT VTL_NAMES VTL_FILES VTL_ROOM LC_ALL
+awk -f "$parts/text.awk" -f "$parts/script.awk" -f "$parts/grammar.awk" -f "$parts/records.awk" \
+    -f "$parts/sql.awk" -f "$parts/sql_lines.awk" -f "$parts/narrow.awk" -f "$parts/advice.awk" -f "$parts/values.awk" \
+    -f "$parts/data.awk" -f "$parts/lines.awk" -f "$parts/main.awk" -- "$@"

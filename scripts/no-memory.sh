@@ -5,7 +5,7 @@
 # file. Prints what differs, and at the end 'N passed, M failed'. It takes a C compiler, and a minute an example.
 top=$(CDPATH='' cd -- "$(dirname -- "$0")/.." && pwd) || exit 1
 vtl=$top/crates/vtl/out/vtl
-[ -x "$vtl" ] || { echo "no-memory.sh: there is no program: scripts/build.sh vtl" >&2; exit 1; }
+[ -x "$vtl" ] || { echo "no-memory.sh: there is no program: scripts/build.sh builds it" >&2; exit 1; }
 made=$(mktemp -d) || exit 1
 trap 'rm -rf "$made"' EXIT
 passed=0

@@ -3,6 +3,7 @@
 
 # The script with its tokens and statements.
 function take_script() {
+    if (!(script in readable)) tell("here", "the script is no file that can be read once more")
     read_grammar(page("LANGUAGE.md"))
     read_script(script)
     read_tokens()
@@ -21,10 +22,16 @@ function syntax_line(byte,    line, from, number, key) {
         tell_place(key)
     } else {
         key = fault
+        habit = habit_of(character())
         tell("where", shown(script, 200) ", " place_in_words(line, from))
         tell("", text_from(line, from, 0))
     }
-    tell("broken", broken["status", "Syntax"] ": " broken["syntax", key])
+    if (habit != "" && key != "deep" && key != "long") {
+        tell("broken", broken["status", "Syntax"] ": " broken["habit", habit])
+        tell("change", change["habit", habit])
+        return
+    }
+    tell("broken", broken["status", "Syntax"] ": " broken["syntax", key] (key == "character" ? ": " character_here() : ""))
     tell("change", change["syntax", key] (meant == "" ? "" : ": is " code(meant) " meant by " code(miswritten) "?"))
 }
 
@@ -50,8 +57,52 @@ function tell_place(key) {
 function syntax_key(number) {
     if (brackets_of(number) > 127 || read_statement(first_token[number])) return "deep"
     if (steps >= most_steps) return "long"
+    habit = far <= tokens ? habit_at(far) : habit_of(character())
     if (far <= tokens) return key_at(first_token[number], far)
     return fault == "" ? "end" : fault
+}
+
+# What a user of another language is used to, or VTL has and this program does not, by the token that cannot stand where it
+# does: the longest row of docs/sentences.tsv whose words stand there.
+function habit_at(token,    key, words, count, best, found) {
+    for (key in habits) {
+        count = split(key, words, " ")
+        if (count > best && stands_at(words, count, token)) {
+            best = count
+            found = key
+        }
+    }
+    if (found == "" && symbol[token] == "INTEGER" && symbol[token - 1] == "," && symbol[token - 2] == "INTEGER") found = "1 , 5"
+    if (found == "" && symbol[token] == "(" && symbol[token - 1] == "NAME" && !is_miswritten(token - 1)) found = "function ("
+    return found
+}
+
+# Whether words, letters of either case, stand next to a token or around it.
+function stands_at(words, count, token,    from, i) {
+    for (from = token - count; from <= token; from++) {
+        for (i = 1; i <= count && tolower(token_text[from + i - 1]) == words[i]; i++) ;
+        if (i > count) return 1
+    }
+    return 0
+}
+
+function habit_of(text) { return text in habits ? text : "" }
+
+# The character at the place of the fault.
+function character(    text) {
+    text = substr(script_line[row], at, 4)
+    if (match(text, /^([\302-\337].|[\340-\357]..|[\360-\364]...)/)) return substr(text, 1, RLENGTH)
+    return substr(text, 1, 1)
+}
+
+# The character at the place of the fault in words: by its number where it is none of ASCII.
+function character_here(    text, i, number, byte) {
+    text = character()
+    if (length(text) < 2) return code(text)
+    for (i = 128; i < 256; i++) byte[sprintf("%c", i)] = i
+    number = byte[substr(text, 1, 1)] % (length(text) == 2 ? 32 : (length(text) == 3 ? 16 : 8))
+    for (i = 2; i <= length(text); i++) number = number * 64 + byte[substr(text, i, 1)] % 64
+    return sprintf("U+%04X", number) (text == "\302\240" ? ", a blank that does not break" : ", " code(text))
 }
 
 # The deepest nesting of brackets in a statement.
@@ -95,12 +146,22 @@ function type_line(number, rule) {
     read_structures(structures)
     gather_names(number)
     tell_statement(script, number)
+    narrow(number)
+    if (focus_to - focus_from < whole_to - whole_from) tell("part", code_of_focus() " at " place_of_token(focus_from))
     tell("here", names_here(number, rule))
-    tell_rule("types", rule)
+    tell_advice(rule)
+}
+
+# The narrowest part that is refused, as it stands where it stands on one line.
+function code_of_focus(    text) {
+    if (token_row[focus_from] != token_row[focus_to]) text = spelled_tokens(focus_from, focus_to)
+    else text = substr(script_line[token_row[focus_from]], token_at[focus_from], token_at[focus_to] - token_at[focus_from] + length(token_text[focus_to]) + (symbol[focus_to] == "QUOTED_NAME" ? 2 : 0))
+    sub(/ $/, "", text)
+    return "`" shown(text, 100) "`"
 }
 
 # The results of statements, and the names that the script makes: targets, new names, aliases, and codes by `pivot`.
-function gather_names(last,    number, token, component) {
+function gather_names(last,    number, token, component, has_pivot) {
     for (number = 1; number <= statements; number++) {
         token = first_token[number]
         if (!(token_text[token] in made_by)) made_by[token_text[token]] = number
@@ -111,60 +172,8 @@ function gather_names(last,    number, token, component) {
         if (symbol[token - 1] == "," && symbol[token - 3] == "unpivot") named_in[token_text[token]]
     }
     include(named_in, "bool_var int_var errorcode errorlevel imbalance")
-    for (component in codes) include(named_in, codes[component], "[|]")
-}
-
-# What is known of the names that stand in a statement, as far as it helps with the rule.
-function names_here(number, rule,    token, name, told, unknown, seen) {
-    for (token = first_token[number]; token <= last_token[number]; token++) {
-        name = token_text[token]
-        if (symbol[token] !~ /NAME$/ || name in seen) continue
-        seen[name]
-        if (token == first_token[number]) told = rule == 2 ? where_named(name, number) : ""
-        else if (rule == 1 || rule == 4) unknown = with_fact(unknown, unknown_here(name, number, rule))
-        if (token > first_token[number]) told = with_fact(told, rule == 13 ? without_codes(name, seen) : fact_of(name, rule))
-    }
-    return shown(unknown == "" ? told : unknown, 300)
-}
-
-# What helps to know of a name in a statement that breaks a rule.
-function fact_of(name, rule) {
-    if (rule == 4 && name in holders) return code(name) " is in " shown(holders[name], 80)
-    if (rule >= 6 && rule <= 8 && name in holders) return code(name) " is " (sort_of[name] ~ /^m/ ? "a " : "an ") sort_of[name]
-    if (rule == 9 && name in declared) return code(name) " has the identifiers " shown(of_role[name, "identifier"], 80)
-    if (rule == 10 && name in declared) return code(name) " has " measures_of(name)
-    return ""
-}
-
-function measures_of(set) {
-    return (set, "measure") in of_role ? "the measures " shown(of_role[set, "measure"], 80) : "no measure"
-}
-
-# A name that is declared nowhere.
-function unknown_here(name, number, rule) {
-    if (name in holders || name in named_in || name in declared) return ""
-    if (rule == 1) return name in made_by && made_by[name] < number ? "" : unknown_set(name)
-    return name in made_by ? "" : with_nearest(name, holders) " is declared nowhere"
-}
-
-function where_named(name, number) {
-    if (name in declared) return code(name) " is declared in " shown(structures, 100)
-    return made_by[name] < number ? code(name) " is the result of statement " made_by[name] : ""
-}
-
-function unknown_set(name,    other, known) {
-    if (name in made_by) return code(name) " is the result of statement " made_by[name]
-    for (other in declared) known[other]
-    for (other in made_by) known[other]
-    return with_nearest(name, known) " is declared nowhere"
-}
-
-# An identifier without codes in one of the data sets.
-function without_codes(name, sets,    set) {
-    for (set in sets) {
-        if (role[set, name] == "identifier" && codes[set, name] == "") return code(name) " has no codes in " code(set)
-    }
-    return ""
+    for (token = 1; token <= last_token[last]; token++) if (symbol[token] == "pivot") has_pivot = 1
+    if (has_pivot) for (component in codes) include(named_in, codes[component], "[|]")
 }
 
 # `error: division by zero in RESULT` and `error: out of range in RESULT`
@@ -222,73 +231,6 @@ function tell_earlier(path, number, first, second,    one, two) {
             return
         }
     }
-}
-
-# `error: input DATASET line LINE column COLUMN KIND`
-function input_line(dataset, number, column, kind,    path, named) {
-    path = inputs "/" dataset ".csv"
-    if (at_hand ~ /input /) readable[path]
-    read_declarations()
-    begin_records(path)
-    read_header()
-    named = kind != "BadHeader" && column in header ? header[column] : ""
-    if (to_record(path, number)) tell_record(path, ", field " column (named == "" ? "" : ", component " code(named)))
-    else tell("where", shown(path, 200))
-    tell("broken", kind ": " broken["input", kind])
-    tell("here", input_fact(path, dataset, number, column, kind, named))
-    tell("change", input_change(dataset, kind, named))
-}
-
-function read_header(    i) {
-    if (!next_record()) return
-    split_record()
-    headers = fields
-    for (i = 1; i <= fields; i++) header[i] = field[i]
-}
-
-# What is seen of an input's fault.
-function input_fact(path, dataset, number, column, kind, named) {
-    if (kind == "BadHeader") return header_fact(dataset)
-    if (kind == "WrongWidth") return fields " fields, and the header has " headers
-    if (kind == "NotInCodes") return quoted(field[column]) " is none of " shown(codes[dataset, named], 120)
-    if (kind == "BadValue") return quoted(field[column]) " is no " type[dataset, named]
-    if (kind == "DuplicateKey") return earlier_point(path, dataset, number)
-    return ""
-}
-
-function quoted(text) { return "`" shown(text, 60) "`" }
-
-function input_change(dataset, kind, named,    sort) {
-    sort = type[dataset, named]
-    if (sort == "integer" || sort == "number") sort = "integer, number"
-    return change["input", kind] (kind == "BadValue" ? ": " broken["type", sort] : "")
-}
-
-# The components that the header misses, and the names that are none or stand twice.
-function header_fact(dataset,    i, present, names, count, told) {
-    for (i = 1; i <= headers; i++) {
-        if (header[i] in present) told = with_fact(told, quoted(header[i]) " stands twice")
-        else if (!((dataset, header[i]) in type)) told = with_fact(told, quoted(header[i]) " is no component of " code(dataset))
-        present[header[i]]
-    }
-    count = split(declared[dataset], names, "\n")
-    for (i = 1; i < count; i++) if (!(names[i] in present)) told = with_fact(told, code(names[i]) " is missing")
-    return shown(told, 300)
-}
-
-# The first point before this one whose identifiers stand as the same texts.
-function earlier_point(path, dataset, number,    i, key, same) {
-    if (!(dataset in declared)) return ""
-    for (i = 1; i <= headers; i++) if (role[dataset, header[i]] == "identifier") key[i] = field[i]
-    begin_records(path)
-    next_record()
-    while (record_number < number - 1 && next_record()) {
-        split_record()
-        same = 1
-        for (i in key) if (field[i] != key[i]) same = 0
-        if (same) return "line " record_line " has the same identifiers: " shown(record, 80)
-    }
-    return "an earlier point has the same identifiers, written otherwise"
 }
 
 # `error: unbuilt: PATH`: the first word of a form that the README's table says is not run.

@@ -7,6 +7,7 @@ function page(name) { return top "/docs/" name }
 function read_sentences(path,    line, cell) {
     while ((getline line < path) > 0) {
         split(line, cell, "\t")
+        if (cell[1] == "habit") habits[cell[2]]
         broken[cell[1], cell[2]] = plain(cell[3])
         example[cell[1], cell[2]] = plain(cell[4])
         change[cell[1], cell[2]] = plain(cell[5])

@@ -1,4 +1,7 @@
 // The clauses `pivot` and `unpivot`.
+//
+// `pivot` asks its two names before its clause, which asks them again (`pivot_names`, `pivot_form`): `check_shapes`
+// stands below the trees.
 ghost use Rattle.check_faults.specs.Answers.{Answers};
 ghost use Rattle.check_operators.specs.Typed.{boxed_tree};
 ghost use Rattle.check_clauses.specs.Clauses.{pivot_names, pivot_of, unpivot_of};

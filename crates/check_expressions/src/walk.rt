@@ -1,4 +1,11 @@
 // The typing of expressions.
+//
+// One recursion types values and data sets (`typed`), and the place tells what names stand for. So each form has one
+// clause. An operator on data sets inside a component expression is typed as outside and then breaks rule 14; an
+// analytic call there breaks 14 itself, which is less than the 16 that it would break.
+//
+// A data set is kept in a box from the moment it is typed, and what follows it is a function that takes it and
+// finishes: a large tree beside a `?` is dear to prove.
 ghost use Rattle.std.specs.Option.{is_some, option_map};
 ghost use Rattle.std.specs.Prelude.{◌||◌, ◌∷◌, [], Bool, None, Some, map};
 ghost use Rattle.vtl_tree.specs.NodeView.{item_tree, node_tree, value_tree};

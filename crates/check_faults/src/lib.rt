@@ -7,7 +7,9 @@
 #![tactic(auto)]
 
 mod error;
+mod laws;
 mod rules;
 
 pub use error::{TypeErr, broken};
+pub use laws::in_turn_is_place_by_place;
 pub use rules::Rule;

@@ -1,4 +1,8 @@
 // Aggregates: of the measures of a data set, and of one component over groups.
+//
+// In the operand of an aggregate each component is among the grouping names (`in_aggregate`): so the one test of a
+// component that stands alone serves there too, and `count()` and aggregates inside it still know that they stand
+// over groups.
 ghost use Rattle.std.specs.Option.{option_map};
 ghost use Rattle.std.specs.Prelude.{◌≡◌, Ok, true};
 ghost use Rattle.check_faults.specs.Answers.{Answers};

@@ -1,4 +1,7 @@
 // Joins: the joined set, and the names in it.
+//
+// The reference of an inner join is the first operand that contains all others, found in one pass: an operand that
+// does not contain the next gives way to it. Clashes are looked for in it alone.
 ghost use Rattle.std.specs.Option.{option_copied};
 ghost use Rattle.std.specs.Prelude.{◌≡◌, ◌++◌, IfOk, OnOk, codes, filter};
 ghost use Rattle.vtl_tree.specs.Shown.{shown};

@@ -21,7 +21,7 @@ use Rattle.vtl_tree.specs.declared.structure.Role.{Role}
 use Rattle.vtl_tree.specs.declared.structure.Role.TheVariants as role
 use Rattle.vtl_tree.specs.declared.structure.Structure.{Structure}
 use Rattle.vtl_meaning.specs.AnalyticShapes as shapes
-use Rattle.vtl_meaning.specs.AnalyticShapes.{IsMadeBy, IsTakenItem, IsTypedAnalytic, given_of, taken, takes, tree_kind}
+use Rattle.vtl_meaning.specs.AnalyticShapes.{IsMadeBy, IsTakenItem, IsTypedAnalytic, given_of, taken, takes}
 use Rattle.vtl_tree.specs.Choices.{chosen, is_identifier_name}
 use Rattle.vtl_tree.specs.ClauseShapes.{calculated, is_new, target_component}
 use Rattle.check_shapes.specs.Clauses.{calc_form}
@@ -33,7 +33,8 @@ use Rattle.vtl_tree.specs.Measures.{any_unmet, given_measure, given_measures, is
 use Rattle.check_shapes.specs.Measures.{measured_tests}
 use Rattle.vtl_tree.specs.Names.{component_of}
 use Rattle.check_shapes.specs.Shape.{shaped}
-use Rattle.vtl_meaning.specs.Shapes.{IsShaped}
+use Rattle.vtl_meaning.specs.Shapes as meant
+use Rattle.vtl_meaning.specs.Shapes.{IsShaped, tree_kind}
 use Rattle.vtl_tree.specs.Trees as nodes
 use Rattle.vtl_tree.specs.Trees.{ItemTree, ValueTree}
 use Rattle.vtl_tree.specs.declared.calls.AnalyticCall.{AnalyticCall}
@@ -240,9 +241,9 @@ same-kind xs (nodes.analytic x) = ap (given_kind x.op) (of x.component)
     of None = refl
     of (Some name) = refl
 
-same-targets : (xs : List Component) (items : List ItemTree) → map (target_of xs) items ≡ map (shapes.target_of xs) items
+same-targets : (xs : List Component) (items : List ItemTree) → map (target_of xs) items ≡ map (meant.target_of xs) items
 same-targets xs [] = refl
-same-targets xs (i ∷ items) = ap (λ kind. record { name = i.target; role = i.role; kind = kind } ∷ map (target_of xs) items) (same-kind xs i.value) ∙ ap (λ l. shapes.target_of xs i ∷ l) (same-targets xs items)
+same-targets xs (i ∷ items) = ap (λ kind. record { name = i.target; role = i.role; kind = kind } ∷ map (target_of xs) items) (same-kind xs i.value) ∙ ap (λ l. meant.target_of xs i ∷ l) (same-targets xs items)
 
 taken-item : (p : Settings) (a : Structure) (i : ItemTree) → IsTargetItem p a i → IsTakenItem p a i
 taken-item p a i h = record { made = value-made p a i.value h.value; free = h.free; role = go (unwrap_or i.role role.Measure) refl }

@@ -66,7 +66,8 @@ items-found (i ∷ items) e = (
 -- ---- targets
 -- a value for a target, which is no identifier
 pub record IsItemFor (p : Settings) (a : Structure) (target : ItemTree → Target) (i : ItemTree) : Type 0 where
-  pub same : target i ≡ target_of i
+  pub same : target i ≡ target_of a.components i
+  pub kind : exp_kind (value_exp i.value) ≡ (target i).kind
   pub role : (r : Role) → unwrap_or (target i).role r ≡ role.Identifier → r ≡ role.Identifier
   pub typed : IsTyped p (columns_of a) (value_exp i.value)
   pub free : is_identifier_name a.components i.target ≡ false
@@ -108,7 +109,7 @@ calculated-fits p items target a ia apart names h =
             (lists.mapped Good (calculated ts) xs (lists.weaker (λ x. IsFor p (columns_of a) (column_named (columns_of a) x.name) x) (λ x. Good (calculated ts x)) xs good-old (found-columns p a ia)))
             (lists.mapped Good target_component (filter (is_new xs) ts) (lists.filtered (λ t. Good (target_component t)) (is_new xs) ts (lists.mapped (λ t. Good (target_component t)) target items (lists.joined (IsItemFor p a target) (λ i. target_named items i.target ≡ Some i) (λ i. Good (target_component (target i))) items good-new h (items-found items apart)))))));
         apart = apart;
-        shape = ap (λ l. calculated_components l xs) (map-same target target_of items (lists.weaker (IsItemFor p a target) (λ i. target i ≡ target_of i) items (λ i it. it.same) h));
+        shape = ap (λ l. calculated_components l xs) (map-same target (target_of xs) items (lists.weaker (IsItemFor p a target) (λ i. target i ≡ target_of xs i) items (λ i it. it.same) h));
       },
     ))
   where
@@ -142,7 +143,7 @@ calculated-fits p items target a ia apart names h =
     valued : (y : Component) (i : ItemTree) → target_named items y.name ≡ Some i → IsItemFor p a target i → y.kind ≡ (target i).kind → Good y
     valued y i e it k =
         let v : calculated_exp items (columns_of a) y ≡ value_exp i.value = ap (λ o. option_map_or (λ i. value_exp i.value) o (column_named (columns_of a) y.name)) e in
-        (subst (IsTyped p (columns_of a)) (sym v) it.typed, ap exp_kind v ∙ sym (ap (λ t. t.kind) it.same) ∙ sym k)
+        (subst (IsTyped p (columns_of a)) (sym v) it.typed, ap exp_kind v ∙ it.kind ∙ sym k)
 
     good-old : (x : Component) → IsFor p (columns_of a) (column_named (columns_of a) x.name) x → Good (calculated ts x)
     good-old x f = go (target_named items x.name) refl

@@ -54,7 +54,7 @@ use Rattle.check_clauses.specs.declared.targets.Made.{Made}
 use Rattle.vtl_meaning.specs.Made.{IsCalculated, IsFiltered, IsGroupCondition, IsGrouped, IsLeft, IsMade, IsPivoted, IsRenamed, IsSub, IsTyped, IsUnpivoted, IsWindowed}
 use Rattle.vtl_meaning.specs.Operators.{value_exp}
 use Rattle.vtl_meaning.specs.Reaches.{IsNearValue}
-use Rattle.vtl_meaning.specs.Shapes.{IsChosen, IsRenamedBy, IsShaped}
+use Rattle.vtl_meaning.specs.Shapes.{IsChosen, IsRenamedBy, IsShaped, tree_kind}
 use Rattle.check_laws.specs.Gives.{ArePassed, Gives}
 use Rattle.check_laws.specs.WellTyped.{IsWellTyped}
 use Rattle.check_laws.proofs.Aggregated.{AreMadeTargets, aggr-fits}
@@ -193,7 +193,8 @@ item-for p n i is plain = go i.value refl is.value plain
   where
     go : (v : ValueTree) → i.value ≡ v → IsTargetValue p n v → is_analytic_value v ≡ false → IsItemFor p (structure_of n) (target_of (components_in n)) i
     go (nodes.scalar e) s t plain = record {
-      same = ap (λ kind. record { name = i.target; role = i.role; kind = kind }) (ap (value_kind (components_in n)) s ∙ sym (ap (λ v. exp_kind (value_exp v)) s));
+      same = ap (λ kind. record { name = i.target; role = i.role; kind = kind }) (ap (value_kind (components_in n)) s ∙ sym (ap (tree_kind (components_in n)) s));
+      kind = ap (λ v. exp_kind (value_exp v)) s ∙ sym (ap (value_kind (components_in n)) s);
       role = is.role;
       typed = subst (λ v. IsTyped p (columns_in n) (value_exp v)) (sym s) t.0;
       free = is.free;

@@ -16,7 +16,7 @@ use Rattle.vtl_syntax.specs.declared.word_groups.FunctionName.{FunctionName}
 use Rattle.vtl_syntax.specs.declared.word_groups.FunctionName.TheVariants as function
 use Rattle.vtl_syntax.specs.declared.word_groups.UnaryOp.TheVariants as sign
 use Rattle.vtl_cell.specs.Literals.{integer_written, largest_place, lies_between}
-use Rattle.vtl_tree.specs.CompExp.{CompExp, CompExps, call, column, const, aggregate}
+use Rattle.vtl_tree.specs.CompExp.{CompExp, CompExps, call, column, const, aggregate, no_comp_exps}
 use Rattle.vtl_tree.specs.View.{comp_exps_of}
 use Rattle.check_values.specs.Literals as written
 use Rattle.check_values.specs.Literals.{lies_in, literals_fit, second_passes, third_passes, valued}
@@ -117,7 +117,7 @@ operands-behind env at done (tree.exp e es) = go (typed env at e) refl (λ x. op
 -- ---- the operands of functions
 -- an operator that asks for no literals
 pub any-fit : (o : ScalarOp) → ((es : CompExps) → are_literals o es ≡ true) → (xs : List TypedTree) → AreFit o xs
-any-fit o free [] = tt
+any-fit o free [] = free no_comp_exps
 any-fit o free (x ∷ xs) = free (comp_exps_of (values_in xs))
 
 pub free-gives : (o : ScalarOp) (literals : Bool) → ((es : CompExps) → are_literals o es ≡ true) → (r : Result (List TypedTree) Rule) → Gives (λ xs. literals ≡ true → AreFit o xs) r
@@ -167,11 +167,11 @@ places-fit env at low more high (tree.exp a (tree.exp i (tree.exp n es))) (x ∷
     go (dataset n) z k q = absurd k
 
 digits-fit : (env : Env) (at : Place) (o : ScalarOp) → ((es : CompExps) → are_literals o es ≡ first_passes are_digits es) → (es : Exps) (zs : List TypedTree) → AreOf env at es zs → second_passes (written.are_digits env.settings) es ≡ true → AreFit o zs
-digits-fit env at o asks es [] h l = tt
+digits-fit env at o asks es [] h l = asks no_comp_exps
 digits-fit env at o asks es (z ∷ zs) h l = asks (comp_exps_of (values_in zs)) ∙ second-fits env at (written.are_digits env.settings) are_digits (digits-give env at) es (z ∷ zs) h l
 
 substr-fits : (env : Env) (at : Place) (es : Exps) (zs : List TypedTree) → AreOf env at es zs → (second_passes (lies_in env.settings (pos 1) largest_place) es && third_passes (lies_in env.settings (pos 0) largest_place) es) ≡ true → AreFit op.Substring zs
-substr-fits env at es [] h l = tt
+substr-fits env at es [] h l = refl
 substr-fits env at es (z ∷ zs) h l =
     let both = and-true (second_passes (lies_in env.settings (pos 1) largest_place) es) (third_passes (lies_in env.settings (pos 0) largest_place) es) l in
     places-fit env at (pos 1) (pos 0) largest_place es (z ∷ zs) h both.0 both.1

@@ -111,7 +111,7 @@ values_in (dataset n ∷ xs) = values_in xs
 
 -- the operands behind the first are literals where the operator asks for them
 abbrev pub AreFit : ScalarOp → List TypedTree → Type 0
-AreFit o [] = Unit {0}
+AreFit o [] = are_literals o no_comp_exps ≡ true
 AreFit o (x ∷ xs) = are_literals o (comp_exps_of (values_in xs)) ≡ true
 
 -- these are the values behind the first operand, where that is a value, or where a data set stands before all values
@@ -159,12 +159,8 @@ fit-behind o vs [] (e ∷ es) after' h l = subst (λ es. are_literals o (comp_ex
 fit-behind o vs (n ∷ ns) [] after' h l = subst (λ es. are_literals o (comp_exps_of es) ≡ true) (sym h) l
 fit-behind o vs (n ∷ ns) (e ∷ es) after' h l = tt
 
-nothing-fits : (o : ScalarOp) → are_literals o no_comp_exps ≡ true
-nothing-fits op.Round = refl
-nothing-fits o = refl
-
 parted-fits : (o : ScalarOp) (xs : List TypedTree) → AreFit o xs → ArePartedFit o (parted no_operands xs).datasets (parted no_operands xs).before (parted no_operands xs).after
-parted-fits o [] l = nothing-fits o
+parted-fits o [] l = l
 parted-fits o (x ∷ xs) l = let all = parted no_operands (x ∷ xs) in fit-behind o (values_in xs) all.datasets all.before all.after (first-behind x xs) l
 
 -- an operator between two operands asks for no literals
@@ -174,6 +170,8 @@ binary-fits op.Truncate e es = absurd (false≢true e)
 binary-fits op.Substring e es = absurd (false≢true e)
 binary-fits op.In e es = absurd (false≢true e)
 binary-fits op.NotIn e es = absurd (false≢true e)
+binary-fits op.PeriodShift e es = absurd (false≢true e)
+binary-fits op.PeriodFrequency e es = absurd (false≢true e)
 binary-fits o e es = refl
 
 -- nor does one that takes a data set behind values
@@ -190,6 +188,8 @@ behind-fits op.Truncate n some e es = absurd (some (none n e))
 behind-fits op.Substring n some e es = absurd (some (none n e))
 behind-fits op.In n some e es = absurd (some (none n e))
 behind-fits op.NotIn n some e es = absurd (some (none n e))
+behind-fits op.PeriodShift n some e es = absurd (some (none n e))
+behind-fits op.PeriodFrequency n some e es = absurd (some (none n e))
 behind-fits o n some e es = refl
 
 measure-fits : (o : ScalarOp) (before : List CompExp) (a : NodeTree) (after' : List CompExp) → takes_dataset o (length before) ≡ true → ArePartedFit o (a ∷ []) before after' → (e : CompExp) → HasLiterals o (comp_exps_of (before ++ e ∷ after'))

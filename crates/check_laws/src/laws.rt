@@ -46,8 +46,8 @@ pub fn typed_values_are_of_their_kind()
 {}
 
 /// The nodes of a typed script: one for each transformation, whose result has a new name, and each made over what is
-/// known where its statement stands. All nodes within them have structures of 1 to 64 components with distinct names, each
-/// of a kind, and each name that is read is that of a declared data set or of an earlier result.
+/// known where its statement stands. All nodes within them have structures of as many components as they may have, with
+/// distinct names, each of a kind, and each name that is read is that of a declared data set or of an earlier result.
 pub fn typed_scripts_are_made()
     ensures made { (t : TypedScript) → AreStructures t.declared → IsTyped t → AreMadeFrom t.settings t.declared (transformations (tree_of t)) (nodes_of t) }
     ensures structures { (t : TypedScript) → AreStructures t.declared → IsTyped t → AllByRecursion (λ n. AllByRecursion (λ m. IsShaped (structure_of m)) (nodes_in n)) (nodes_of t) }

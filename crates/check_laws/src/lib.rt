@@ -6,6 +6,10 @@
 //! Neither side names the other; `vtl_backend`, which says what every back end keeps to, cites this and passes on what
 //! it names of typing.
 //! Begin with specs/WellTyped.antt and src/laws.rt.
+//!
+//! The depth of a node is that of the expressions by which its points are made (`node_depth`): those that its form
+//! holds, and the calls that an operator on data sets makes of measures. So an operator counts one, as where it was
+//! written.
 #![tactic(auto)]
 
 mod laws;

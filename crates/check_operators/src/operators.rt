@@ -1,4 +1,7 @@
 // Operators on typed operands: on values, and on each measure of data sets.
+//
+// A literal beside an operand is asked against the kinds of all its measures at the literal (`beside_kinds`), and the
+// call does not ask again: the least rule of the literal comes before what stands behind it.
 ghost use Rattle.std.specs.Prelude.{◌≡◌, ◌≢◌, ◌++◌, ◌∷◌, [], IfOk, OnOk, length, map};
 ghost use Rattle.check_faults.specs.Answers.{Answers};
 ghost use Rattle.vtl_tree.specs.CompExp.{const};

@@ -27,7 +27,8 @@ pub(crate) fn takes_literals(op: ScalarOp) -> bool
     ensures { result ≡ takes_literals op }
 {
     match op {
-        ScalarOp::Round | ScalarOp::Truncate | ScalarOp::Substring => true,
+        ScalarOp::Round | ScalarOp::Truncate => true,
+        ScalarOp::Substring | ScalarOp::PeriodShift => true,
         _ => false,
     }
 }

@@ -1,8 +1,9 @@
 -- Names of components, as an operator asks for them.
-use Rattle.std.specs.Prelude.{ℕ, not, List, [], ◌∷◌, ◌++◌, Option, Some, None, Result, Ok, Err}
+use Rattle.std.specs.Prelude.{ℕ, not, List, [], ◌∷◌, Option, Some, None, Result, Ok, Err}
 use Rattle.vtl_tree.specs.declared.structure.Role.{Role}
 use Rattle.vtl_tree.specs.declared.structure.Component.{Component}
 use Rattle.vtl_lists.specs.Results.{◌>>=◌}
+use Rattle.check_faults.specs.InTurn.{in_turn}
 use Rattle.check_faults.specs.Rules.{ruled, Tests}
 use Rattle.check_faults.specs.declared.rules.Rule.{Rule}
 use Rattle.check_faults.specs.declared.rules.Rule.TheVariants as rule
@@ -22,11 +23,10 @@ known_as w before name (Some x) = ruled (name_tests w before name x.role) x
 abbrev pub known : Wanted → List Component → List (List ℕ) → List ℕ → Result Component Rule
 known w xs before name = known_as w before name (component_of name xs)
 
--- names in written order, behind other names: the rule that the first wrong one breaks
-abbrev pub names_behind : Wanted → List Component → List (List ℕ) → List (List ℕ) → Result (Unit {0}) Rule
-names_behind w xs before [] = Ok tt
-names_behind w xs before (name ∷ names) = known w xs before name >>= λ x. names_behind w xs (before ++ name ∷ []) names
+-- the name itself, where it stands for a component behind other names
+abbrev pub known_name : Wanted → List Component → List (List ℕ) → List ℕ → Result (List ℕ) Rule
+known_name w xs before name = known w xs before name >>= λ x. Ok name
 
--- names in written order
-abbrev pub all_known : Wanted → List Component → List (List ℕ) → Result (Unit {0}) Rule
-all_known w xs names = names_behind w xs [] names
+-- these names, each behind those before it
+abbrev pub all_known : Wanted → List Component → List (List ℕ) → Result (List (List ℕ)) Rule
+all_known w xs names = in_turn (known_name w xs) [] names

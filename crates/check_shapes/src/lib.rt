@@ -1,7 +1,8 @@
 //! The structure that each operator on data sets gives, or the first type rule that its operands break.
 //!
-//! Names in lists with a wanted role, choices by names, operators on measures, clauses, operators on several data
-//! sets: each as a function on components. Every result passes one list of tests (`shaped`).
+//! Names in lists with a wanted role, choices by names, operators on measures, clauses, operators on several data sets:
+//! each as a function on components. Every result passes one list of tests (`shaped`), also where an operator cannot
+//! break one: so that a result is a structure is one law.
 //! It knows no expressions, no values and no syntax trees: operators come as functions on kinds.
 //! Begin with specs/Shape.antt, then Names.antt and Clauses.antt.
 #![tactic(auto)]

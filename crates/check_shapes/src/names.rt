@@ -27,7 +27,7 @@ pub fn known<'a>(
 
 /// Names in written order: the rule that the first wrong one breaks, as `known` says.
 pub fn check_names(wanted: Wanted, components: &[Component], names: &[Txt]) -> Result<(), TypeErr>
-    ensures { Answers (λ done. done) result (all_known wanted components.now names.now) }
+    ensures { Answers (λ done. names.now) result (all_known wanted components.now names.now) }
 {
     for i in 0..names.len() {
         known(wanted, components, &names[..i], &names[i])?;

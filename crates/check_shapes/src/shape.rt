@@ -61,7 +61,7 @@ pub fn shaped(alloc: Global, components: Vec<Component>) -> Result<Structure, Ty
     })
 }
 
-/// Components that break no rule of results are a structure: 1 to 64 components with distinct names.
+/// Components that break no rule of results are a structure: 1 to `MAX_COMPONENTS` components with distinct names.
 pub fn results_are_structures()
     ensures { (xs : List Column) (s : Columns) → shaped xs ≡ Ok s → IsStructure s }
 {}

@@ -1,4 +1,7 @@
 // The values of literals.
+//
+// What stands where an integer literal has to stand counts as an integer for rule 7: a string there breaks 8 alone,
+// and `round` of a string breaks 7 whatever its digits are.
 ghost use Rattle.std.specs.Prelude.{◌≡◌, ◌++◌, ℤ, IfOk, map};
 ghost use Rattle.vtl_syntax.specs.Trees.{exps_of};
 ghost use Rattle.vtl_syntax.specs.View.{expr_tree};

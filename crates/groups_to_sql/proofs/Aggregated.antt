@@ -28,13 +28,13 @@ use Rattle.vtl_tree.specs.declared.structure.Structure.{Structure}
 use Rattle.vtl_tuples.proofs.Lists.{map_same}
 use Rattle.vtl_tree.specs.Names.{component_of}
 use Rattle.vtl_cell.specs.AggregateKinds.{aggregate_kind}
-use Rattle.vtl_meaning.specs.Aggregates.{Condition, Made, aggregate_of, call_for, cell_or_null, condition_fault, condition_of, group_fault, group_point, is_kept, made_of}
+use Rattle.vtl_meaning.specs.Aggregates.{Condition, Made, aggregate_of, call_for, condition_fault, condition_of, group_fault, group_point, is_kept, made_of}
 use Rattle.vtl_meaning.specs.AggregateShapes.{IsMadeColumn, given_kind, given_of}
 use Rattle.vtl_tree.specs.Columns.{columns_named, identifiers_of, kind_named, others_of, place_of, places_in}
 use Rattle.vtl_meaning.specs.GroupExpressions.{aggregated}
 use Rattle.vtl_meaning.specs.Groups.{keys_by, places_named}
 use Rattle.vtl_meaning.specs.Made.{Aggregates, IsColumnAt, IsGroupCondition, IsGrouped, IsTypedInGroups}
-use Rattle.vtl_meaning.specs.Points.{with_points}
+use Rattle.vtl_meaning.specs.Points.{cell_or_null, with_points}
 use Rattle.vtl_tree.specs.Trees.{AggTree}
 use Rattle.check_laws.proofs.Columns.{at-place, kind-found}
 use Rattle.vtl_meaning.proofs.GroupLooks.{all_points, one_key}

@@ -12,7 +12,8 @@ use Rattle.vtl_tree.specs.ClauseShapes as clauses
 use Rattle.vtl_tree.specs.ClauseShapes.{calculated, is_new, retargeted, target_component}
 use Rattle.vtl_tree.specs.Names.{component_of}
 use Rattle.vtl_meaning.specs.Analytics.{item_named}
-use Rattle.vtl_meaning.specs.AnalyticShapes.{analyzed_components, target_of, tree_kind}
+use Rattle.vtl_meaning.specs.AnalyticShapes.{analyzed_components}
+use Rattle.vtl_meaning.specs.Shapes.{target_of, tree_kind}
 use Rattle.vtl_tree.specs.Trees as nodes
 use Rattle.vtl_tree.specs.Trees.{ItemTree}
 use Rattle.vtl_tree.specs.declared.targets.Target.{Target}

@@ -9,7 +9,8 @@ use Rattle.vtl_decimal.specs.Settings.{Settings}
 use Rattle.vtl_tree.specs.Structure.{columns_of, names_of}
 use Rattle.vtl_tree.specs.declared.structure.Component.{Component}
 use Rattle.vtl_tree.specs.declared.structure.Structure.{Structure}
-use Rattle.vtl_meaning.specs.Aggregates.{Made, cell_or_null, group_fault as point_fault}
+use Rattle.vtl_meaning.specs.Aggregates.{Made, group_fault as point_fault}
+use Rattle.vtl_meaning.specs.Points.{cell_or_null}
 use Rattle.vtl_meaning.specs.Analytics.{each_point, point_of}
 use Rattle.sql_check_parts.specs.Expressions.{site}
 use Rattle.sql_meaning.specs.From.{source_rows}

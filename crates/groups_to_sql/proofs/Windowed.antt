@@ -25,7 +25,8 @@ use Rattle.vtl_tree.specs.declared.structure.Structure.{Structure}
 use Rattle.vtl_tree.specs.Measures.{is_measure}
 use Rattle.vtl_tree.specs.Names.{component_of}
 use Rattle.vtl_meaning.specs.Analytics.{analytic_of, item_named, made_of, measure_call, tree_value, value_for}
-use Rattle.vtl_meaning.specs.AnalyticShapes.{IsMadeColumn, IsMadeOrStays, analyzed_components, default_in, given_of, taken, takes, tree_kind}
+use Rattle.vtl_meaning.specs.AnalyticShapes.{IsMadeColumn, IsMadeOrStays, analyzed_components, default_in, given_of, taken, takes}
+use Rattle.vtl_meaning.specs.Shapes.{tree_kind}
 use Rattle.vtl_tree.specs.Columns.{identifiers_of, others_of, place_of}
 use Rattle.sql_check_parts.specs.Expressions.{site}
 use Rattle.vtl_tree.specs.Kinds.{exp_kind, given_kind}

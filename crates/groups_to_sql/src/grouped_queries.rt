@@ -1,4 +1,8 @@
 // The query of an aggregate: a group for each tuple of the grouping identifiers.
+//
+// Without grouping identifiers a condition of `having` stands inside a CASE on MIN ( TRUE ): behind an AND it would
+// be evaluated at the group of no rows, where VTL evaluates nothing, and `1 / count()` has a fault there. With
+// grouping identifiers no group is without rows, and the condition stands as it is.
 ghost use Rattle.std.specs.Prelude.{◌≡◌, [], map, IfOk, Some};
 ghost use Rattle.std.specs.Option.{option_copied, option_map};
 ghost use Rattle.vtl_tree.specs.Structure.{columns_of};

@@ -1,4 +1,8 @@
 // The query of `pivot`: a group for each tuple of the other identifiers.
+//
+// `pivot` is one grouped select with a MAX of a CASE for each code, since a group has one value at most for each.
+// Where no identifier is left, a select of groups gives one row even over no rows; HAVING MIN ( TRUE ), which is null
+// there, keeps it out.
 ghost use Rattle.std.specs.Prelude.{◌≡◌, map, IfOk, OnOk};
 ghost use Rattle.std.specs.Option.{option_map};
 ghost use Rattle.vtl_tree.specs.Shown.{shown};

@@ -1,4 +1,8 @@
 // The order of the points that an analytic call sees.
+//
+// Where the call sees the order, the ORDER BY lists behind the listed components the identifiers that the window does
+// not name yet: SQL orders rows that tie by all columns of FROM, whose first are the identifiers, but another engine
+// has no such rule. RANK has the listed ones alone, since its ties are told by them.
 ghost use Rattle.std.specs.Prelude.{◌≡◌, ◌++◌, map, IfOk, OnOk};
 ghost use Rattle.vtl_tree.specs.Shown.{shown};
 ghost use Rattle.vtl_tree.specs.Names.{is_among};

@@ -1,4 +1,12 @@
 // The queries of a full join: the identifiers of all operands, each tuple of them once, and the operands beside these.
+//
+// A full join is left joins with a table of identifiers: those of all operands, each tuple once, in two tables of
+// their own. FULL JOINs one after the other would need an ON with a COALESCE over all operands before, which is no
+// equality of columns and grows. Where there are no identifiers the table has one column that is TRUE.
+//
+// It ties the identifiers that an operand has too (`common_identifiers`), which typing makes all of them: so the
+// definition goes by names, as the text does, and not by places, which a structure without an identifier would not
+// have.
 ghost use Rattle.std.specs.Prelude.{◌≡◌, [], List as ListOf, length, map, IfOk};
 ghost use Rattle.vtl_tree.specs.Shown.{shown};
 ghost use Rattle.vtl_tree.specs.declared.structure.Structure.{Structure as StructureOf};

@@ -1,4 +1,7 @@
 // The reader of expressions at one budget, over the reader at the next lower one.
+//
+// Expressions are read over a closure: some forty productions in a circle are methods of `Grammar<F>`, and `read`
+// alone closes the circle. A circle of forty functions would have to be proved as one.
 ghost use Rattle.std.specs.Prelude.{◌≡◌, Some};
 ghost use Rattle.vtl_grammar.specs.Faults.{kinds};
 ghost use Rattle.vtl_grammar.specs.Reading.{got};

@@ -1,4 +1,7 @@
 // Expressions at any budget.
+//
+// Depth is enforced while reading: a reader has a budget, and one unit of it goes with each level, so no input makes
+// it go deeper.
 ghost use Rattle.vtl_grammar.specs.Faults.{kinds};
 ghost use Rattle.vtl_grammar.specs.ReadExpressions.{read};
 ghost use Rattle.vtl_grammar.specs.ReadStatements.{whole_exp};

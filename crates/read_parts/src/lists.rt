@@ -1,4 +1,6 @@
 // Lists of parts, with a comma between them.
+//
+// Loops run `for _ in tokens`: they end by their form, and the definition bounds their turns in the same way.
 ghost use Rattle.std.specs.Prelude.{length};
 ghost use Rattle.vtl_grammar.specs.Faults.{kinds};
 ghost use Rattle.vtl_grammar.specs.ReadParts.{comps};

@@ -1,4 +1,7 @@
 // Words and signs that stand for one thing each.
+//
+// A group of words has one table for a reader, `x_token`; `x_at` is its mirror. A list of pairs would turn the
+// program's match into a loop over up to 41 words at each operand.
 ghost use Rattle.std.specs.Prelude.{◌≡◌, option_map};
 ghost use Rattle.vtl_grammar.specs.Faults.{kinds};
 ghost use Rattle.vtl_grammar.specs.Grammar.{Tokens};

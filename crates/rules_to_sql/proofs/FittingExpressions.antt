@@ -74,7 +74,7 @@ module _ (here : Site) (group : Option Grouping) (at : Naming) (low : here.setti
       expression_fits (comp.const v) i w = constant_fits here group low v w i
       expression_fits (comp.call o kind args) i w =
           let held = operands_held o args i.2 w in
-          call_fits o args kind (form_of o args kind i.0) i.2 i.1 held (kinds_stay p at s columns aggregates known given args i.1) (expressions_fit args i.1 held)
+          call_fits o args kind (form_of o args kind i.2 i.0) i.2 i.1 held (kinds_stay p at s columns aggregates known given args i.1) (expressions_fit args i.1 held)
       expression_fits (comp.aggregate a kind) i w = fit a kind i
 
       expressions_fit : (es : CompExps) → AreTypedOver p columns aggregates es → AllHoldValues es → AllFit here group (all_to_sql p at es)

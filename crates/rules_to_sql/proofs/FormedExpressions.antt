@@ -36,7 +36,7 @@ module _ (p : Settings) (low : p.scale ≤ 9) (at : Naming) (columns : ℕ → T
       expression_formed (comp.const v) i w = const_formed p low v w i
       expression_formed (comp.call o kind args) i w =
           let held = operands_held o args i.2 w in
-          call_formed o args kind (form_of o args kind i.0) i.2 i.1 held (expressions_formed args i.1 held)
+          call_formed o args kind (form_of o args kind i.2 i.0) i.2 i.1 held (expressions_formed args i.1 held)
       expression_formed (comp.aggregate a kind) i w = fine a kind i
 
       expressions_formed : (es : CompExps) → AreTypedOver p columns aggregates es → AllHoldValues es → EachFormed (all_to_sql p at es)

@@ -49,7 +49,7 @@ module _ (p : Settings) (at : Naming) (s : Scope) where
       pub kind_stays : (e : CompExp) → IsTypedOver p columns aggregates e → sql e ≡ exp_kind e
       kind_stays (comp.column place name kind) i = ap or_null (known place name kind i)
       kind_stays (comp.const v) i = const_kind s p v
-      kind_stays (comp.call o kind args) i = call_kind o args kind (form_of o args kind i.0) (kinds_stay args i.1)
+      kind_stays (comp.call o kind args) i = call_kind o args kind (form_of o args kind i.2 i.0) (kinds_stay args i.1)
       kind_stays (comp.aggregate a kind) i = given a kind i
 
       pub kinds_stay : (es : CompExps) → AreTypedOver p columns aggregates es → KindsStay es

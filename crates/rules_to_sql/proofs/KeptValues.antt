@@ -140,7 +140,7 @@ module _ (v : View) (r : Row) (g : List Row) (at : Naming) (cells : ℕ → Text
         value_stays (comp.const x) i w = constant_is v low x r g w i
         value_stays (comp.call o kind args) i w =
             let held = operands_held o args i.2 w in
-            call_value o args kind (form_of o args kind i.0) i.2 i.1 held (kinds_stay p at v.scope columns aggregates known given args i.1) (values_stay args i.1 held)
+            call_value o args kind (form_of o args kind i.2 i.0) i.2 i.1 held (kinds_stay p at v.scope columns aggregates known given args i.1) (values_stay args i.1 held)
         value_stays (comp.aggregate a kind) i w = made a kind i
 
         values_stay : (es : CompExps) → AreTypedOver p columns aggregates es → AllHoldValues es → ValuesStay es

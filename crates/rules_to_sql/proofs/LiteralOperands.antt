@@ -68,4 +68,5 @@ module _ (p : Settings) (at : Naming) (columns : ℕ → Text → Kind → Type 
       ap (λ x. x && is_size p (to_sql p at n)) (integer_stays 1 largest_place b parts.0 i.1.0) ∙ integer_stays 0 largest_place n parts.1 i.1.1.0
   literals_stay op.Substring no_comp_exps l i = refl
   literals_stay op.Substring (comp_exp a no_comp_exps) l i = refl
+  literals_stay op.PeriodShift args l i = cc
   literals_stay o args l i = refl

@@ -10,6 +10,7 @@ use Rattle.vtl_cell.specs.declared.operator.ScalarOp.{ScalarOp}
 use Rattle.vtl_cell.specs.declared.operator.ScalarOp.TheVariants as op
 use Rattle.vtl_tree.specs.CompExp.{CompExp, CompExps, no_comp_exps, comp_exp}
 use Rattle.vtl_tree.specs.Kinds.{exp_kind}
+use Rattle.vtl_meaning.specs.Literals.{HasLiterals}
 use Rattle.vtl_meaning.specs.Made.{kinds_in}
 use Rattle.sql_tree.specs.Formed.{is_binary, is_function, is_unary}
 use Rattle.sql_tree.specs.Trees.{Exps}
@@ -114,6 +115,7 @@ pub sql_kind : (o : ScalarOp) (kinds : List Kind) (kind : Kind) → is_short_rep
 sql_kind op.Round (g ∷ gs) kind n h = of_integers k.Num (only (k.Num ∷ k.Int ∷ []) k.Num) g gs kind ((refl, (refl, tt)), tt) h
 sql_kind op.Truncate (g ∷ gs) kind n h = of_integers k.Num (only (k.Num ∷ k.Int ∷ []) k.Num) g gs kind ((refl, (refl, tt)), tt) h
 sql_kind op.Substring (g ∷ gs) kind n h = of_integers k.Text (to (k.Text ∷ k.Int ∷ []) k.Text ∷ to (k.Text ∷ k.Int ∷ k.Int ∷ []) k.Text ∷ []) g gs kind ((refl, (refl, tt)), ((refl, (refl, (refl, tt))), tt)) h
+sql_kind op.PeriodShift (g ∷ gs) kind n h = of_integers k.Period (only (k.Period ∷ k.Int ∷ []) k.Period) g gs kind ((refl, (refl, tt)), tt) h
 sql_kind op.Replace (a ∷ b ∷ []) kind n h = cc
 sql_kind o [] kind n h = of_none o ∙ h
 sql_kind o (g ∷ gs) kind n h = kind_as_counted o g gs n (counted_as_given o gs refl) ∙ h
@@ -195,28 +197,30 @@ not_of_four true true false kind h = cc
 not_of_four true false z kind h = cc
 not_of_four false y z kind h = cc
 
-pub form_of : (o : ScalarOp) (args : CompExps) (kind : Kind) → kinds_of o (kinds_in args) ≡ Some kind → Form o args kind
-form_of op.IsNull no_comp_exps kind h = cc
-form_of op.IsNull (comp_exp a no_comp_exps) kind h = subst (Form op.IsNull (one a)) (truth_given true kind h) (tested a)
-form_of op.IsNull (comp_exp a (comp_exp b es)) kind h = cc
-form_of op.In no_comp_exps kind h = cc
-form_of op.In (comp_exp a no_comp_exps) kind h = cc
-form_of op.In (comp_exp a (comp_exp b es)) kind h =
+pub form_of : (o : ScalarOp) (args : CompExps) (kind : Kind) → HasLiterals o args → kinds_of o (kinds_in args) ≡ Some kind → Form o args kind
+form_of op.IsNull no_comp_exps kind l h = cc
+form_of op.IsNull (comp_exp a no_comp_exps) kind l h = subst (Form op.IsNull (one a)) (truth_given true kind h) (tested a)
+form_of op.IsNull (comp_exp a (comp_exp b es)) kind l h = cc
+form_of op.In no_comp_exps kind l h = cc
+form_of op.In (comp_exp a no_comp_exps) kind l h = cc
+form_of op.In (comp_exp a (comp_exp b es)) kind l h =
     let e = truth_given (is_set_of (exp_kind a) (exp_kind b ∷ kinds_in es)) kind h in
     subst (Form op.In (comp_exp a (comp_exp b es))) e (listed a b es (set_kind (exp_kind a ∷ exp_kind b ∷ kinds_in es) kind e h))
-form_of op.NotIn no_comp_exps kind h = cc
-form_of op.NotIn (comp_exp a no_comp_exps) kind h = cc
-form_of op.NotIn (comp_exp a (comp_exp b es)) kind h =
+form_of op.NotIn no_comp_exps kind l h = cc
+form_of op.NotIn (comp_exp a no_comp_exps) kind l h = cc
+form_of op.NotIn (comp_exp a (comp_exp b es)) kind l h =
     let e = truth_given (is_set_of (exp_kind a) (exp_kind b ∷ kinds_in es)) kind h in
     subst (Form op.NotIn (comp_exp a (comp_exp b es))) e (unlisted a b es (set_kind (exp_kind a ∷ exp_kind b ∷ kinds_in es) kind e h))
-form_of op.If no_comp_exps kind h = cc
-form_of op.If (comp_exp t no_comp_exps) kind h = cc
-form_of op.If (comp_exp t (comp_exp a no_comp_exps)) kind h = cc
-form_of op.If (comp_exp t (comp_exp a (comp_exp b no_comp_exps))) kind h = choice_form t a b kind (meets k.Bool (exp_kind t)) refl h
-form_of op.If (comp_exp t (comp_exp a (comp_exp b (comp_exp d es)))) kind h = cc
-form_of op.Replace no_comp_exps kind h = cc
-form_of op.Replace (comp_exp a no_comp_exps) kind h = absurd (not_of_one (meets k.Text (exp_kind a)) kind h)
-form_of op.Replace (comp_exp a (comp_exp b no_comp_exps)) kind h = short a b kind (short_kind (exp_kind a) (exp_kind b) kind h)
-form_of op.Replace (comp_exp a (comp_exp b (comp_exp d no_comp_exps))) kind h = long a b d kind (sql_kind op.Replace (exp_kind a ∷ exp_kind b ∷ exp_kind d ∷ []) kind refl h)
-form_of op.Replace (comp_exp a (comp_exp b (comp_exp d (comp_exp e es)))) kind h = absurd (not_of_four (meets k.Text (exp_kind a)) (meets k.Text (exp_kind b)) (meets k.Text (exp_kind d)) kind h)
-form_of o args kind h = placed_form o kind (λ kinds. refl) args (is_binary o) (is_unary o) refl refl (λ e f. cc) (λ ls es. refl) h
+form_of op.If no_comp_exps kind l h = cc
+form_of op.If (comp_exp t no_comp_exps) kind l h = cc
+form_of op.If (comp_exp t (comp_exp a no_comp_exps)) kind l h = cc
+form_of op.If (comp_exp t (comp_exp a (comp_exp b no_comp_exps))) kind l h = choice_form t a b kind (meets k.Bool (exp_kind t)) refl h
+form_of op.If (comp_exp t (comp_exp a (comp_exp b (comp_exp d es)))) kind l h = cc
+form_of op.Replace no_comp_exps kind l h = cc
+form_of op.Replace (comp_exp a no_comp_exps) kind l h = absurd (not_of_one (meets k.Text (exp_kind a)) kind h)
+form_of op.Replace (comp_exp a (comp_exp b no_comp_exps)) kind l h = short a b kind (short_kind (exp_kind a) (exp_kind b) kind h)
+form_of op.Replace (comp_exp a (comp_exp b (comp_exp d no_comp_exps))) kind l h = long a b d kind (sql_kind op.Replace (exp_kind a ∷ exp_kind b ∷ exp_kind d ∷ []) kind refl h)
+form_of op.Replace (comp_exp a (comp_exp b (comp_exp d (comp_exp e es)))) kind l h = absurd (not_of_four (meets k.Text (exp_kind a)) (meets k.Text (exp_kind b)) (meets k.Text (exp_kind d)) kind h)
+form_of op.PeriodShift args kind l h = cc
+form_of op.PeriodFrequency args kind l h = cc
+form_of o args kind l h = placed_form o kind (λ kinds. refl) args (is_binary o) (is_unary o) refl refl (λ e f. cc) (λ ls es. refl) h

@@ -1,4 +1,11 @@
 // Values as constants and as literals.
+//
+// That constants are values that a program holds is shown by the walk of the program (clause `held`), not by a law on
+// typing: trees of definitions have lost the invariants of numbers, days and periods. In a set only constants are
+// asked, since the walk makes literals of them and goes into nothing else.
+//
+// A number always has a point, at every scale: digits alone are an integer in SQL. A negative constant is `-` before
+// its size, since expressions have no signed constants; in a set the sign belongs to the literal.
 ghost use Rattle.std.specs.Prelude.{◌≡◌, IfOk};
 ghost use Rattle.vtl_cell.specs.Held.{IsHeld};
 ghost use Rattle.sql_tree.specs.View.{expr_tree};

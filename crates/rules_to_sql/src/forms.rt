@@ -1,4 +1,7 @@
 // How calls of operators are written.
+//
+// An operator stands where the grammar of SQL has it (`is_binary`, `is_unary` of `sql_tree`): no second table says
+// so.
 ghost use Rattle.std.specs.Prelude.{◌≡◌};
 ghost use Rattle.rules_to_sql.specs.CallForms.{HasCount, at_count, set_at, form_at};
 

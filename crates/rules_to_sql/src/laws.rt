@@ -1,4 +1,11 @@
 // Laws of translated expressions: over the points of a select's sources, and over groups of one source.
+//
+// The proofs go by the forms of typed calls (`Form` in proofs/TypedCalls.antt): how many operands an operator has,
+// and that they meet it as SQL types it, is shown once, and the laws on kinds, values, typing and forms have a line
+// for each form.
+//
+// Points and groups are one proof: typing and values are said over whatever columns and aggregates may stand
+// (`IsTypedOver`, `value_over`), and each law is an instance.
 ghost use Rattle.std.specs.Prelude.{◌≡◌, ◌≤◌, suc, List, None, Some};
 ghost use Rattle.vtl_cell.specs.Row.{Row};
 ghost use Rattle.vtl_decimal.specs.Settings.{Settings};

@@ -1,4 +1,11 @@
 // Component expressions in SQL.
+//
+// The columns that name the components are a function of place and name (`Naming`), not one alias: so the expressions
+// that VTL's meaning evaluates are items of a select as they stand, over one source and over two, and one law serves
+// every node.
+//
+// An aggregate's component is named without a place, as the typed tree has it: over groups there is one source, in
+// which a column goes by its name alone.
 ghost use Rattle.std.specs.Prelude.{◌≡◌, IfOk, false, map, true};
 ghost use Rattle.sql_tree.specs.Trees as tree;
 ghost use Rattle.sql_tree.specs.Trees.{exps_of};

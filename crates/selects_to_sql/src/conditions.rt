@@ -1,4 +1,6 @@
 // Conditions of selects.
+//
+// Conditions that hold together are chained from the left, as they are read without brackets.
 ghost use Rattle.std.specs.Prelude.{◌≡◌, length, map, IfOk};
 ghost use Rattle.sql_tree.specs.Trees.{binary, branch, case_when, constant, no_branches};
 ghost use Rattle.sql_tree.specs.View.{expr_tree};

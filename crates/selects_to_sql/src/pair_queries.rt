@@ -1,4 +1,10 @@
 // The queries of the forms of two and of three operands.
+//
+// Of a pair the operand with all identifiers is the first source, and the ON is equalities of all the other one's
+// identifiers: so a row meets one row at most, found by its key. Without identifiers the ON is TRUE.
+//
+// `if` on data sets is a UNION ALL of two selects, and the second asks for `CASE WHEN x THEN FALSE ELSE TRUE END`: a
+// null condition chooses the second operand, and NOT of null is null.
 ghost use Rattle.std.specs.Prelude.{◌≡◌, ◌∷◌, [], map, IfOk};
 ghost use Rattle.std.specs.Option.{option_map};
 ghost use Rattle.vtl_tree.specs.Shown.{shown};

@@ -1,4 +1,11 @@
 // What runs texts of scripts in SQL.
+//
+// An engine of texts may give rows in any order (`TextEngine`), and that of this repository does: the contract of a
+// back end does not see their order, and a test can hand in an engine that sorts otherwise.
+//
+// An engine tells the text that it was handed last, whatever it answered, so a back end that evaluates by itself can
+// be told from one that hands over a text. That it hands on the engine's own answer no clause can say; a proved test
+// of `vtl` shows it.
 ghost use Rattle.std.specs.Prelude.{◌≡◌, ℕ, List, Option, Some, string_bytes};
 ghost use Rattle.sql_back.specs.TextRuns.{CanRun, RunsText};
 

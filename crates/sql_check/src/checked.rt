@@ -1,4 +1,6 @@
 // Scripts that are typed.
+//
+// `SqlChecked` keeps that it is formed and typed as its invariant, so who holds one need not ask again.
 ghost use Rattle.std.specs.Prelude.{◌≡◌, IfOk};
 ghost use Rattle.sql_tree.specs.Formed.{FormedScript};
 ghost use Rattle.sql_tree.specs.View.{script_tree};

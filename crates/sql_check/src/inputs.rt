@@ -1,4 +1,7 @@
 // INPUT.
+//
+// An INPUT's columns stand with its KEY first, each part in the order in which it lists them. The key is looked up in
+// a set, so that a list of many columns takes no square of time.
 ghost use Rattle.std.specs.List.{list_any};
 ghost use Rattle.std.specs.Map.{keys_of};
 ghost use Rattle.std.specs.Option.{is_none};
@@ -11,7 +14,7 @@ ghost use Rattle.sql_check_parts.specs.Statements.{codes_fit, input_breaks, inpu
 ghost use Rattle.sql_check_parts.specs.Told.{distinct_columns};
 ghost use Rattle.sql_check.specs.Answers.{is_wanted};
 
-use sql_check_parts::{Columns, SqlRule, Tables, Test, least_broken, repeats};
+use sql_check_parts::{Columns, MOST_INPUT_COLUMNS, SqlRule, Tables, Test, least_broken, repeats};
 use sql_tree::{InputColumn, SqlInput};
 use std::alloc::{AllocError, Global};
 use vtl_cell::Kind;
@@ -189,8 +192,6 @@ fn any_misplaced(alloc: Global, key: &[Txt], columns: &[InputColumn]) -> Result<
     }
     Ok(false)
 }
-
-const MOST_INPUT_COLUMNS: usize = 64;
 
 // Whether codes stand where they may not, or there are too many columns; where there are too many, their codes are not
 // looked at.

@@ -56,7 +56,7 @@ abbrev pub AreTyped : Settings → Given → List StatementTree → Type 0
 AreTyped p given [] = Unit {0}
 AreTyped p given (s ∷ ss) = IsStatementTyped p given s × AreTyped p (after given s) ss
 
--- an input whose columns can be a structure: from 1 to 64 of different names, of kinds other than null, a key of them, and
+-- an input whose columns can be a structure: from 1 to `most_input_columns` of different names, of kinds other than null, a key of them, and
 -- codes for texts of the key alone, none of them empty or twice
 pub record IsDeclared (s : SqlInput) : Type 0 where
   pub some : 1 ≤ length (input_columns s)

@@ -1,8 +1,9 @@
 //! Typing of the SQL dialect read positively: which expressions fit, which selects, queries and statements are typed,
 //! each as a record or a product of what it asks for, with the law that this is so exactly where no rule is broken.
 //!
-//! Who proves something of a typed script takes it apart here and sees no list of rules. It knows trees and the
-//! definition of the rules alone: no program that checks them, no rows, nothing of VTL.
+//! Who proves something of a typed script takes it apart here and sees no list of rules.
+//! It knows trees and the definition of the rules alone: no program that checks them, so that an engine which wants
+//! these laws needs none, no rows, nothing of VTL.
 //! Begin with specs/Fits.antt, then Selects.antt, Statements.antt and src/scripts.rt.
 #![tactic(auto)]
 

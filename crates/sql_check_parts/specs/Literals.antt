@@ -8,7 +8,7 @@ use Rattle.vtl_cell.specs.declared.kind.Kind.{Kind}
 use Rattle.vtl_cell.specs.declared.kind.Kind.TheVariants as k
 use Rattle.vtl_cell.specs.declared.operator.ScalarOp.{ScalarOp}
 use Rattle.vtl_cell.specs.declared.operator.ScalarOp.TheVariants as op
-use Rattle.vtl_cell.specs.Literals.{integer_cell, integer_written, largest_place, lies_between, number_cell, with_sign, written}
+use Rattle.vtl_cell.specs.Literals.{integer_cell, integer_written, largest_place, lies_between, longest_reach, number_cell, with_sign, written}
 use Rattle.sql_tree.specs.Trees as tree
 use Rattle.sql_tree.specs.Trees.{Exp, Exps}
 use Rattle.sql_tree.specs.declared.parts.Numeral.{Numeral}
@@ -79,10 +79,17 @@ is_place p e = lies_between (pos 1) largest_place (integer_in p e)
 abbrev pub is_size : Settings → Exp → Bool
 is_size p e = lies_between (pos 0) largest_place (integer_in p e)
 
--- digits, before which one `-` may stand
+-- an integer of at most this size, before which one `-` may stand
+abbrev pub is_signed : Settings → ℤ → Exp → Bool
+is_signed p most (tree.unary op.Negate e) = lies_between (pos 0) most (integer_in p e)
+is_signed p most e = lies_between (pos 0) most (integer_in p e)
+
 abbrev pub are_digits : Settings → Exp → Bool
-are_digits p (tree.unary op.Negate e) = lies_between (pos 0) (pos 9) (integer_in p e)
-are_digits p e = lies_between (pos 0) (pos 9) (integer_in p e)
+are_digits p e = is_signed p (pos 9) e
+
+-- how far a period may be shifted
+abbrev pub is_shift : Settings → Exp → Bool
+is_shift p e = is_signed p longest_reach e
 
 -- whether the second operand, if there is one, passes a test
 abbrev pub second_passes : (Exp → Bool) → Exps → Bool
@@ -98,4 +105,5 @@ abbrev pub literals_fit : Settings → ScalarOp → Exps → Bool
 literals_fit p op.Round es = second_passes (are_digits p) es
 literals_fit p op.Truncate es = second_passes (are_digits p) es
 literals_fit p op.Substring es = second_passes (is_place p) es && third_passes (is_size p) es
+literals_fit p op.PeriodShift es = second_passes (is_shift p) es
 literals_fit p other es = true

@@ -17,6 +17,7 @@ use Rattle.sql_check_parts.specs.Rules.{broken}
 use Rattle.vtl_text.specs.Texts.{same_text}
 use Rattle.sql_check_parts.specs.Scopes.{Columns, Grouping, Scope, Tables, columns_of, grouping_of, is_among, is_empty, or_null, repeats, with_source}
 use Rattle.sql_check_parts.specs.Windows.{column_breaks, window_breaks, window_kind}
+use Rattle.sql_check_parts.specs.declared.limits.TheConstants.{MOST_COLUMNS}
 use Rattle.sql_check_parts.specs.declared.rules.SqlRule.{SqlRule}
 use Rattle.sql_check_parts.specs.declared.rules.SqlRule.TheVariants as rule
 
@@ -151,7 +152,7 @@ lacks_kind kind = is_null_kind (or_null kind)
 
 -- the most columns of a query
 abbrev pub most_columns : ℕ
-most_columns = 1_024
+most_columns = MOST_COLUMNS
 
 -- the selects: they have the same names, and items of one place share a kind, which is not that of null alone; there are not too
 -- many items

@@ -18,6 +18,7 @@ use Rattle.sql_tree.specs.declared.statements.SqlInput.{SqlInput}
 use Rattle.sql_check_parts.specs.Queries.{query_breaks, query_columns}
 use Rattle.sql_check_parts.specs.Rules.{broken, least}
 use Rattle.sql_check_parts.specs.Scopes.{Columns, Tables, columns_of, is_among, is_empty, repeats, value_among}
+use Rattle.sql_check_parts.specs.declared.limits.TheConstants.{MOST_INPUT_COLUMNS}
 use Rattle.sql_check_parts.specs.declared.rules.SqlRule.{SqlRule}
 use Rattle.sql_check_parts.specs.declared.rules.SqlRule.TheVariants as rule
 
@@ -72,7 +73,7 @@ is_taken tables name = is_among name (keys_of tables)
 
 -- the most columns of an input
 abbrev pub most_input_columns : ℕ
-most_input_columns = 64
+most_input_columns = MOST_INPUT_COLUMNS
 
 -- An input has a name of its own that is a word; its columns have different names, and the key is of them; codes stand where they
 -- may, and there are not too many columns.

@@ -1,4 +1,7 @@
 // The columns of tables.
+//
+// Names are found by their order (`ByName`, and a `BTreeSet` for the columns of GROUP BY), never by a hash: a text of
+// SQL has no limit of size. What GROUP BY names is a set in the definition, since nothing looks at its order.
 ghost use Rattle.std.specs.Prelude.{◌≡◌, length, zip, IfOk};
 ghost use Rattle.sql_check_parts.specs.Scopes.{repeats, value_among};
 ghost use Rattle.sql_check_parts.specs.Told.{distinct_columns};

@@ -4,7 +4,7 @@ ghost use Rattle.std.specs.Prelude.{◌≡◌, ◌∷◌, IfOk, ℤ, map};
 ghost use Rattle.sql_tree.specs.Trees.{exps_of};
 ghost use Rattle.sql_tree.specs.View.{expr_tree};
 ghost use Rattle.sql_check_parts.specs.Expressions.{constant_breaks, list_breaks};
-ghost use Rattle.sql_check_parts.specs.Literals.{are_digits, constant_kind, constant_value, has_no_value, integer_in, is_place, is_size, literal_kind, literal_value, literals_fit, numeral_kind, numeral_value, second_passes};
+ghost use Rattle.sql_check_parts.specs.Literals.{constant_kind, constant_value, has_no_value, integer_in, is_place, is_signed, is_size, literal_kind, literal_value, literals_fit, numeral_kind, numeral_value, second_passes};
 ghost use Rattle.sql_check_parts.specs.Rules.{least};
 ghost use Rattle.sql_check_parts.specs.Told.{IsTold};
 
@@ -13,8 +13,8 @@ use crate::{SqlRule, Test, Told, least_broken};
 use sql_tree::{Constant, Literal, Numeral, SqlExpr};
 use std::alloc::{AllocError, Global};
 use vtl_cell::{
-    Cell, Kind, LARGEST_PLACE, ScalarOp, integer_cell, integer_written, lies_between, number_cell,
-    with_sign, written,
+    Cell, Kind, LARGEST_PLACE, LONGEST_REACH, ScalarOp, integer_cell, integer_written,
+    lies_between, number_cell, with_sign, written,
 };
 use vtl_decimal::Profile;
 
@@ -201,24 +201,25 @@ fn is_size(profile: &Profile, e: &SqlExpr) -> bool
     lies_between(0, LARGEST_PLACE, integer_in(profile, e))
 }
 
-fn are_digits(profile: &Profile, e: &SqlExpr) -> bool
-    ensures { result ≡ are_digits profile.now (expr_tree e.now) }
+// An integer of at most this size, before which one `-` may stand.
+fn is_signed(profile: &Profile, most: i64, e: &SqlExpr) -> bool
+    ensures { result ≡ is_signed profile.now most (expr_tree e.now) }
 {
     match e {
         SqlExpr::Unary {
             op: ScalarOp::Negate,
             operand,
-        } => lies_between(0, 9, integer_in(profile, operand)),
-        _ => lies_between(0, 9, integer_in(profile, e)),
+        } => lies_between(0, most, integer_in(profile, operand)),
+        _ => lies_between(0, most, integer_in(profile, e)),
     }
 }
 
 #[tactic(auto, using(crate::proofs::FewOperands::second_short))]
-fn second_are_digits(profile: &Profile, operands: &[SqlExpr]) -> bool
-    ensures { result ≡ second_passes (are_digits profile.now) (exps_of (map expr_tree operands.now)) }
+fn second_is_signed(profile: &Profile, most: i64, operands: &[SqlExpr]) -> bool
+    ensures { result ≡ second_passes (is_signed profile.now most) (exps_of (map expr_tree operands.now)) }
 {
     match operands {
-        [_, digits, ..] => are_digits(profile, digits),
+        [_, second, ..] => is_signed(profile, most, second),
         _ => true,
     }
 }
@@ -239,7 +240,8 @@ pub fn literals_fit(profile: &Profile, function: ScalarOp, operands: &[SqlExpr])
     ensures { result ≡ literals_fit profile.now function (exps_of (map expr_tree operands.now)) }
 {
     match function {
-        ScalarOp::Round | ScalarOp::Truncate => second_are_digits(profile, operands),
+        ScalarOp::Round | ScalarOp::Truncate => second_is_signed(profile, 9, operands),
+        ScalarOp::PeriodShift => second_is_signed(profile, LONGEST_REACH, operands),
         ScalarOp::Substring => are_places(profile, operands),
         _ => true,
     }

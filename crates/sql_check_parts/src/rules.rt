@@ -1,4 +1,7 @@
 // The rules of typing, and the least of those that are broken.
+//
+// The rules that a part breaks are a list, and the fault is its least member: no order of parts is in the definition.
+// The code keeps the least alone.
 ghost use Rattle.std.specs.Prelude.{◌≡◌, [], ◌∷◌};
 ghost use Rattle.sql_check_parts.specs.Rules.{broken, least, lesser, lesser_rule, number_of};
 

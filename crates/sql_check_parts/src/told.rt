@@ -1,4 +1,7 @@
 // What is known about an expression.
+//
+// Told is what the program found out, typed is what breaks no rule: `Told`, `IsSelectTold`, `IsQueryTold` are a kind
+// or columns with the least rule.
 ghost use Rattle.std.specs.Prelude.{◌≡◌};
 ghost use Rattle.sql_check_parts.specs.Scopes.{or_null};
 

@@ -5,6 +5,9 @@
 //! the columns that a query gives are those that later statements see.
 //! It knows no statement (`sql_check` puts tables in and takes columns out), no rows, and nothing of VTL.
 //! Begin with sql_check_parts/specs/Queries.antt, then specs/Told.antt.
+//!
+//! A typed query and a whole one: typed is what one select needs to be carried out; whole has besides no column that
+//! is null alone, as a CREATE needs.
 #![tactic(auto)]
 
 mod groups;

@@ -9,12 +9,10 @@ ghost use Rattle.sql_check_parts.specs.Scopes.{or_null};
 ghost use Rattle.sql_check_queries.specs.Told.{columns_breaks, IsFirst};
 
 use crate::selects::SelectTold;
-use sql_check_parts::{SqlRule, Test, least_broken, lesser, or_null};
+use sql_check_parts::{MOST_COLUMNS, SqlRule, Test, least_broken, lesser, or_null};
 use std::alloc::{AllocError, Global};
 use vtl_cell::{Kind, is_null_kind, shared_kind};
 use vtl_text::{List, Txt};
-
-const MOST_COLUMNS: usize = 1_024;
 
 /// What is known of the first selects of a query.
 #[derive(Drop)]

@@ -1,4 +1,8 @@
 // A run of a script.
+//
+// Who writes rows sorts them: `run` sorts exports, since the command `engine` writes rows as they stand, and the back
+// end, whose results are sorted where they are written, takes them as they were made (`run_as_made`). One body serves
+// both (`RowOrder`).
 ghost use Rattle.sql_tree.specs.View.{script_tree};
 ghost use Rattle.sql_meaning.specs.Scripts.{script_value};
 ghost use Rattle.sql_engine.specs.InputTables.{AreInputsInRange, HaveInputTables, rows_given};

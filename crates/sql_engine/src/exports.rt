@@ -1,4 +1,7 @@
 // The tables that a script exports.
+//
+// Exports are given when all statements are carried out. No statement changes a table, so this is the same; and each
+// export takes the table itself, copied only where it belongs to the caller too, as the table of an INPUT does.
 ghost use Rattle.std.specs.Map.{lookup};
 ghost use Rattle.std.specs.Prelude.{◌≡◌, [], false, map, IfOk, IsSome, List, Some, ℕ};
 ghost use Rattle.vtl_text.specs.Texts.{same_text};
@@ -22,7 +25,7 @@ fn owned(alloc: Global, tables: Tables) -> Result<Owned, AllocError>
 {
     let mut rest = tables;
     let mut owned = Owned::new(alloc);
-    while let Some((name, table)) = rest.pop() {
+    while let Some((name, table)) = rest.pop_shared() {
         owned.insert(name, table)?;
     }
     Ok(owned)

@@ -1,4 +1,10 @@
 // The last statement that reads each table.
+//
+// What is read is noted in two passes, CREATEs at their places and then EXPORTs behind all statements, so the last
+// note of a name is its greatest place.
+//
+// What is noted is said of all later notes (`IsNoted`), and what is read as a condition on each name (`EachRead`):
+// then a part of a query joins the next without a lemma on lists of names.
 ghost use Rattle.std.specs.Prelude.{◌≡◌, ◌∷◌, [], IfOk, OnOk, length, map};
 ghost use Rattle.sql_tree.specs.View.{statement_tree};
 ghost use Rattle.sql_engine.specs.LastReads.{AreNoted, EachCreated, EachExported, IsNoted, IsReadFrom, LastPlaces, StaysRead, is_read_from};

@@ -1,8 +1,15 @@
 // Rows that no statement reads any more.
+//
+// A table that no later statement reads keeps its columns and loses its rows: what typing knows of the tables then
+// stays the same. That a query's value does not see these rows is a law (`queries_depend_on_what_they_read`).
+//
+// Rows are let go after each statement, and in turns where there are more than 256 tables: all tables are looked at,
+// so without turns a script would take time with the square of its statements.
 ghost use Rattle.std.specs.Map.{keys_of};
 ghost use Rattle.std.specs.Prelude.{◌≡◌, IfOk, reverse, true, if◌then◌else◌};
 ghost use Rattle.vtl_lists.specs.Apart.{all_apart};
 ghost use Rattle.vtl_text.specs.Texts.{same_text};
+ghost use Rattle.vtl_rows.specs.Tables.{listed};
 ghost use Rattle.sql_engine.specs.Held.{MayLetGo, let_go, without_rows};
 ghost use Rattle.sql_engine.specs.LastReads.{is_read_from};
 
@@ -14,7 +21,7 @@ use vtl_text::Txt;
 
 // A table of the same columns.
 fn without_rows(alloc: Global, table: &Table) -> Result<Table, AllocError>
-    ensures { IfOk result (λ t. t ≡ without_rows table.now) }
+    ensures { IfOk result (λ t. listed t ≡ without_rows (listed table.now)) }
 {
     let mut columns = Vec::new(alloc);
     for column in table.columns() {
@@ -49,7 +56,7 @@ fn from_last(alloc: Global, tables: Tables) -> Result<Vec<(Txt, SharedTable)>, A
 {
     let mut rest = tables;
     let mut entries = Vec::with_capacity(alloc, rest.len())?;
-    while let Some(entry) = rest.pop() {
+    while let Some(entry) = rest.pop_shared() {
         entries.push(entry)?;
     }
     Ok(entries)

@@ -5,6 +5,7 @@ ghost use Rattle.std.specs.Map.{keys_of};
 ghost use Rattle.vtl_cell.specs.Sorted.{rising};
 ghost use Rattle.vtl_text.specs.Texts.{same_text};
 ghost use Rattle.vtl_rows.specs.Keys.{key_of};
+ghost use Rattle.vtl_rows.specs.Tables.{listed};
 ghost use Rattle.sql_check_laws.specs.Statements.{AreNames};
 ghost use Rattle.sql_meaning.specs.Scripts.{sort_key};
 ghost use Rattle.sql_meaning.specs.Tables.{column_entry};
@@ -78,7 +79,7 @@ fn sort_keys(alloc: Global, columns: &[Column], names: &[Txt]) -> Result<Vec<Sor
 // The table with its rows in order: by listed columns, and then by all.
 fn ordered(alloc: Global, table: SharedTable, names: &[Txt]) -> Result<Table, AllocError>
     requires { AreNames (map column_entry table.columns) names.now }
-    ensures { IfOk result (λ t. t ≡ ordered_by names.now table) }
+    ensures { IfOk result (λ t. listed t ≡ ordered_by names.now table) }
 {
     let mut table = table.into_table(alloc)?;
     let keys = sort_keys(alloc, table.columns(), names)?;

@@ -1,4 +1,7 @@
 // The structure that an INPUT declares.
+//
+// What an INPUT asks of its table is its columns and that its rows fit, not that it is a data set: an engine needs no
+// more, and a table of the structure that the INPUT declares is one (`inputs_are_data_sets`).
 ghost use Rattle.std.specs.Prelude.{◌≡◌, IfOk, map};
 ghost use Rattle.sql_check_parts.specs.Scopes.{is_among};
 ghost use Rattle.sql_engine.specs.Structures.{component_of, listed_codes, role_in, structure_of};
@@ -8,7 +11,7 @@ use std::alloc::{AllocError, Global};
 use vtl_text::{List, Shared, Txt};
 use vtl_tree::{Component, Role, Structure};
 
-// Whether a name is one of these. An INPUT that is typed has at most 64 columns, and so its KEY as many names.
+// Whether a name is one of these. An INPUT that is typed has few columns, and so its KEY as many names.
 fn is_among(name: &Txt, names: &[Txt]) -> bool
     ensures { result ≡ is_among name.now names.now }
 {

@@ -4,12 +4,12 @@ use Rattle.vtl_decimal.specs.declared.number.Fault.TheVariants.{DivZero, Range}
 use Rattle.vtl_cell.specs.Outcome.{Outcome}
 use Rattle.vtl_cell.specs.Outcomes.{Same}
 use Rattle.vtl_cell.specs.Row.{Row}
-use Rattle.vtl_rows.specs.Tables.{Listed}
+use Rattle.vtl_rows.specs.Tables.{Tabled}
 use Rattle.vtl_scalar.specs.declared.error.ScalarErr.{ScalarErr}
 use Rattle.vtl_scalar.specs.declared.error.ScalarErr.TheVariants as err
 
 -- The table has these rows, each as often, in any order; or the fault is the one that is told. Of want of memory nothing is said.
-abbrev pub Gives : Outcome (List Row) → Result Listed ScalarErr → Type 0
+abbrev pub Gives : Outcome (List Row) → Result Tabled ScalarErr → Type 0
 Gives meant (Ok t) = Same meant (Ok t.rows)
 Gives meant (Err err.DivZero) = meant ≡ Err DivZero
 Gives meant (Err err.Range) = meant ≡ Err Range

@@ -1,4 +1,7 @@
 // The columns of a query.
+//
+// Typing is not asked again. Its tables hold no two columns of one name, and the program's may, so the engine finds
+// kinds by resolving (`resolve` gives them) and shares them by typing's own step (`share_kinds`).
 ghost use Rattle.std.specs.List.{AllByRecursion};
 ghost use Rattle.std.specs.Prelude.{◌≡◌, fold, length, map, zip, IfOk, OnOk};
 ghost use Rattle.sql_tree.specs.View.{item_tree, select_tree, value_tree};

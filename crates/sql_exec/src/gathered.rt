@@ -1,4 +1,9 @@
 // Items that are columns: their cells are gathered for all rows of FROM at once.
+//
+// Where all items are columns of their own kinds the cells are gathered by the row numbers of the tuples
+// (`TupleRows::gathered`), and no expression is resolved. Such items have no fault: a cell of its column's kind stays
+// as it is (`AreColumnsAt`). A column of integers below numbers goes by the loop. The gathered table takes the place
+// of one without rows, so its cells are copied once.
 ghost use Rattle.std.specs.Prelude.{◌≡◌, ◌<◌, length, map, zip, All, IfOk, IfSome, Ok, OnOk};
 ghost use Rattle.vtl_rows.specs.Tables.{cells_at, column_kinds};
 ghost use Rattle.sql_tree.specs.View.{item_tree};

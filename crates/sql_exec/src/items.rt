@@ -1,4 +1,8 @@
 // Items of a select that is not grouped, with places in place of names.
+//
+// The values of a window are made once, before the rows of its select, and lent at each row by its number; an
+// expression is evaluated at the row. So an item is one of two sources of values (`ItemValues`), and the rows go by
+// one loop.
 ghost use Rattle.std.specs.Prelude.{◌≡◌, ◌++◌, ◌∷◌, [], ℕ, map, length, zip, IfErr, IfOk, IfSome, None, Ok};
 ghost use Rattle.std.specs.List.{AllByRecursion};
 ghost use Rattle.vtl_cell.specs.Outcome.{fault_in, join};

@@ -1,5 +1,12 @@
 // What the selects of a query gave so far.
-ghost use Rattle.std.specs.Prelude.{◌≡◌, ◌<◌, ◌∷◌, [], true, List, drop, length, map, None, Ok, IfErr, OnOk};
+//
+// A row is put into the table only while no fault was seen. Its cells fit the columns by the kinds of its items
+// alone, whatever other rows have: the law that a typed query's rows fit says nothing where a later row has a fault.
+//
+// Each outcome is told by what it adds (`Adds`): the columns stay, its fault joins the one that was seen, and its
+// rows stand behind the others unless one was. Rows of a select and selects of a union go by the one relation and the
+// one lemma (`added_more`).
+ghost use Rattle.std.specs.Prelude.{◌≡◌, ◌<◌, ◌++◌, ◌∷◌, [], true, List, drop, length, map, None, Ok, IfErr, OnOk};
 ghost use Rattle.vtl_cell.specs.Row.{Row};
 ghost use Rattle.vtl_cell.specs.Outcome.{unless};
 ghost use Rattle.vtl_rows.specs.Tables.{fits};
@@ -17,6 +24,9 @@ use vtl_cell::Cell;
 use vtl_decimal::Profile;
 use vtl_rows::{Column, Table};
 use vtl_scalar::{ScalarErr, Seen};
+
+// For so many rows room is made at once.
+const ROWS_AHEAD: usize = 1024;
 
 /// A table of the rows so far, the list in which the next one is made, and the fault that was seen. Once there is one,
 /// no further rows are put into the table.
@@ -52,6 +62,20 @@ impl Output {
         }
     }
 
+    // Moves the row that is made behind the others.
+    fn push_made(&mut self) -> Result<(), AllocError>
+        requires { fits self.old.table.columns self.old.cells.items ≡ true }
+        ensures columns { self.new.table.columns ≡ self.old.table.columns }
+        ensures rows { OnOk result (self.new.table.rows ≡ self.old.table.rows ++ self.old.cells.items ∷ []) }
+        ensures seen { self.new.seen ≡ self.old.seen }
+    {
+        if self.table.spare_rows() == 0 {
+            self.table.reserve_rows(ROWS_AHEAD)?;
+        }
+        self.table.push_cells(&mut self.cells);
+        Ok(())
+    }
+
     /// Adds the row of the values of items at a row of FROM of this number.
     pub(crate) fn add_row<R: Cells>(
         &mut self,
@@ -69,7 +93,7 @@ impl Output {
         self.cells.clear();
         self.seen = push_items(alloc, &mut self.cells, self.seen, items, at, number, p)?;
         if let Seen::Nothing = self.seen {
-            self.table.push_cells(&mut self.cells)?;
+            self.push_made()?;
         }
         Ok(())
     }
@@ -89,7 +113,7 @@ impl Output {
         self.cells.clear();
         self.seen = push_across(&mut self.cells, self.seen, items, row, p)?;
         if let Seen::Nothing = self.seen {
-            self.table.push_cells(&mut self.cells)?;
+            self.push_made()?;
         }
         Ok(())
     }

@@ -1,4 +1,11 @@
 // Queries.
+//
+// The kinds of a query's columns are found before a row is made, since a select makes its values of the kinds that
+// all selects share. So each select's expressions are resolved twice, once for their kinds and once for its rows, and
+// its sources are named twice: both go with the length of the query and not with its rows.
+//
+// `exec` promises rows in any order, though it gives those of the meaning in its order: a plan that finds pairs
+// otherwise may take its place.
 ghost use Rattle.std.specs.Prelude.{◌≡◌, ◌+◌, ◌≤◌, ◌∷◌, [], true, IfOk, length, map};
 ghost use Rattle.vtl_scalar.specs.Answers.{AnswersBy};
 ghost use Rattle.sql_tree.specs.Formed.{IsQuery};

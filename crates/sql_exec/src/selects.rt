@@ -1,4 +1,8 @@
 // Selects: FROM and WHERE first, and then items or groups.
+//
+// A select of all columns of its only source, in order, shares the cells of that source's table (`whole_source`)
+// where FROM and WHERE leave all its rows: such selects give tables new names of columns, of which translation writes
+// many.
 ghost use Rattle.std.specs.List.{AllByRecursion, list_any};
 ghost use Rattle.std.specs.Prelude.{◌≡◌, ◌+◌, ◌≤◌, ◌==◌, ◌∷◌, [], filter, length, map, zip, true, false, None, IfErr, IfOk, OnOk};
 ghost use Rattle.vtl_rows.specs.Tables.{column_kinds};

@@ -1,4 +1,7 @@
 // The kinds of windows that are typed.
+//
+// The kind of a window is that of a typed one: that of LAG and LEAD is their column's, and the literal behind is not
+// asked again.
 ghost use Rattle.std.specs.Prelude.{◌≡◌, IsSome};
 ghost use Rattle.sql_check_parts.specs.Windows.{call_kind, window_kind};
 

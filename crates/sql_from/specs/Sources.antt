@@ -5,7 +5,7 @@ use Rattle.std.specs.Option.{option_map}
 use Rattle.vtl_cell.specs.declared.cell.Cell.{Cell}
 use Rattle.vtl_cell.specs.declared.cell.Cell.TheVariants.{Null}
 use Rattle.vtl_rows.specs.Named.{NamedTables, table_of}
-use Rattle.vtl_rows.specs.Tables.{Listed}
+use Rattle.vtl_rows.specs.Tables.{Listed, listed}
 use Rattle.vtl_rows.specs.declared.gather.Pick.{Pick}
 use Rattle.sql_tree.specs.Trees.{Text}
 use Rattle.sql_check_parts.specs.Scopes.{Columns, Named, Scope, numbered, value_among}
@@ -43,12 +43,12 @@ pub record AreFound (first : ℕ) (columns : Columns) (named : Named ColumnAt) :
   pub places : (name : Text) → option_map (λ c. c.place) (value_among named name) ≡ value_among (numbered first columns) name
 
 abbrev pub source_of : Text × SourceTable → Text × Listed
-source_of s = (s.0, s.1.table.now)
+source_of s = (s.0, listed s.1.table.now)
 
 -- the columns of each source are found, with places behind those of the sources before it
 abbrev pub AreSited : ℕ → Named SourceTable → Type 0
 AreSited n [] = Unit {0}
-AreSited n (s ∷ ss) = AreFound n (columns_held s.1.table.now) s.1.columns × AreSited (n + length s.1.table.now.columns) ss
+AreSited n (s ∷ ss) = AreFound n (columns_held (listed s.1.table.now)) s.1.columns × AreSited (n + length s.1.table.now.columns) ss
 
 -- each row has a cell for each column
 abbrev pub IsWide : Listed → Type 0

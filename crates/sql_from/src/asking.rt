@@ -1,4 +1,7 @@
 // Whether EXISTS is asked.
+//
+// What asks no EXISTS wants no look-ups (`asks`): that it takes no step is then read from the expression as it is
+// written.
 ghost use Rattle.std.specs.Prelude.{◌≡◌, map};
 ghost use Rattle.sql_tree.specs.Trees.{branches_of, exps_of};
 ghost use Rattle.sql_tree.specs.View.{branch_tree, expr_tree};

@@ -1,4 +1,7 @@
 // The columns of a table by name.
+//
+// Names are found as in a list (`AreFound`): of two columns of one name the first counts, so nothing is asked of a
+// table.
 ghost use Rattle.std.specs.Prelude.{◌≡◌, ◌<◌, ◌+◌, ◌^◌, length, map, unwrap_or, IfOk};
 ghost use Rattle.sql_check_parts.specs.Scopes.{numbered, value_among};
 ghost use Rattle.sql_meaning.specs.Tables.{column_entry};

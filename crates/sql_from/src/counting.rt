@@ -1,4 +1,7 @@
 // Steps that are counted in one go.
+//
+// Pairs are counted in one go, behind a join by a look-up as many as it gives, before any other join as many as it
+// tries: a loop that only counts costs nothing, and a loop that joins knows no steps.
 ghost use Rattle.std.specs.Prelude.{◌≡◌, ◌+◌, ◌*◌};
 
 use std::sync::ledger::Ledger;

@@ -1,4 +1,8 @@
 // Parts of WHERE that are tried before a join.
+//
+// A part that is tried early is tried again with all of WHERE: so a plan's rows are told without taking WHERE apart,
+// and what is tried twice is a comparison of rows that are there. `exec` gives the rows of the plan exactly, and that
+// these are the rows of the query, in any order, is used once, from what each plan keeps (`IsPlan`).
 ghost use Rattle.std.specs.Prelude.{◌≡◌, ◌+◌, ◌∷◌, [], drop, length, take, IfErr, IfOk, MatchOption};
 ghost use Rattle.sql_tree.specs.View.{expr_tree, select_tree};
 ghost use Rattle.sql_meaning.specs.Plans.{conjuncts, early_at};

@@ -1,4 +1,7 @@
 // EXISTS, by a walk over the rows of its table.
+//
+// EXISTS in an ON goes by look-ups of its own, made for the join over the sources up to it: they are wanted wherever
+// the select may look up at all, and an ON that is listed has no EXISTS.
 ghost use Rattle.std.specs.List.{list_all};
 ghost use Rattle.std.specs.Prelude.{◌≡◌, IfOk};
 ghost use Rattle.vtl_cell.specs.declared.cell.Cell.TheVariants.{Null};

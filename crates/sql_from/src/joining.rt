@@ -1,4 +1,6 @@
 // Joins of tuples with the rows of a further source, and WHERE.
+//
+// FULL reads from the tuples which rows were met, so it does not see how the pairs were found.
 ghost use Rattle.std.specs.List.{list_any};
 ghost use Rattle.std.specs.Prelude.{◌≡◌, ◌+◌, ◌<◌, ◌^◌, ◌++◌, length, map, slice_index_or, ℕ, false, IfErr, IfOk, OnOk};
 ghost use Rattle.vtl_cell.specs.Outcome.{join};

@@ -1,4 +1,8 @@
 // Partners of the key of a group in the table of EXISTS, by a look-up.
+//
+// All columns of a key count as numbers (`AsNumber`), so an integer meets a number that equals it. Over tables of the
+// profile every integer has its number; this is all that a look-up wants of the tables, and where none is wanted it
+// is not asked for.
 ghost use Rattle.std.specs.List.{AllByRecursion};
 ghost use Rattle.std.specs.Prelude.{◌≡◌, ◌<◌, ◌==◌, not, true, IfOk, IfSome, length};
 ghost use Rattle.sql_meaning.specs.Profiles.{IsLawful};

@@ -1,5 +1,10 @@
 // Rows of the last source, found by the cells of a row of another one.
+//
+// Keys of one other source alone: a look-up is asked with a row of that source as it lies in its table, and no cell
+// is copied. It is asked once for each row of that table (`Matches`), and not for each tuple, so that a tuple finds
+// its rows by a number.
 ghost use Rattle.std.specs.Prelude.{◌≡◌, ℕ, ◌+◌, ◌<◌, ◌≤◌, IfOk, IfSome, IsSome, length, slice_index};
+ghost use Rattle.vtl_rows.specs.Tables.{listed};
 ghost use Rattle.vtl_index.specs.Matches.{matched};
 ghost use Rattle.sql_tree.specs.View.{expr_tree};
 ghost use Rattle.sql_meaning.specs.Profiles.{IsLawful};
@@ -57,7 +62,7 @@ pub(crate) fn keyed<'a, L: Ledger>(
     p: &Profile,
     steps: &mut Steps<L>,
 ) -> Result<KeyLookup<'a>, AllocError>
-    ensures keyed { IfOk result (IsKeyed own.now lead table.now keys.now p.now) }
+    ensures keyed { IfOk result (IsKeyed (listed own.now) lead (listed table.now) keys.now p.now) }
     ensures steps { steps.new ≤ steps.old + (length table.now.rows + length own.now.rows) }
 {
     let columns = own_columns(alloc, keys)?;

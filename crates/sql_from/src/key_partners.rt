@@ -1,4 +1,8 @@
 // The EXISTS that are asked at groups, by look-ups that are made once.
+//
+// At a group EXISTS is asked with the key (`KeyPartners`), which holds the cells of GROUP BY as they stand: so no row
+// of FROM is read, and the columns may be of several sources. All that a look-up wants of a key is that its integers
+// are of the profile.
 ghost use Rattle.std.specs.List.{AllByRecursion};
 ghost use Rattle.std.specs.Prelude.{◌≡◌, ◌+◌, ◌<◌, IfOk, IfSome, OnOk, length};
 ghost use Rattle.sql_eval.specs.Placed.{has_partner};

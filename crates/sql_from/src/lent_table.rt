@@ -1,6 +1,10 @@
 // The table of the only source of a select, where the rows of FROM are its rows.
+//
+// Where the rows are those of the only source, each once and in order, its table is lent (`lent_table`). That is seen
+// from the tuples, and not from how the select is written. So groups, windows and whole columns go over that table,
+// and its cells are read without the tuples.
 ghost use Rattle.std.specs.Prelude.{◌≡◌, ◌∷◌, [], length, true, IfSome};
-ghost use Rattle.vtl_rows.specs.Tables.{column_kinds};
+ghost use Rattle.vtl_rows.specs.Tables.{column_kinds, listed};
 ghost use Rattle.sql_check_parts.specs.Scopes.{row_of};
 ghost use Rattle.sql_from.specs.Joins.{singles};
 ghost use Rattle.sql_from.specs.Sources.{parts_of, scope_held};
@@ -29,7 +33,7 @@ fn counts_up(tuples: &Tuples, count: usize) -> bool
 // Whether the tuples stand for the rows of this table, which is that of the only source.
 fn are_all(sources: &Sources<'_>, tuples: &Tuples, table: &Table) -> bool
     requires width { tuples.now.width ≡ length sources.now.sources }
-    requires only { parts_of sources.now.sources ≡ table.now ∷ [] }
+    requires only { parts_of sources.now.sources ≡ listed table.now ∷ [] }
     ensures { result ≡ true → table.now.rows ≡ rows_for sources.now tuples.now }
 {
     let _columns = table.columns();

@@ -1,4 +1,8 @@
 // Pairs of a tuple and a row, by a look-up.
+//
+// A look-up is right whatever is listed: the columns of its key are read from ON itself, and where ON is no
+// conjunction of equalities, or asks two sources for cells, each row is tried. So nothing is asked of the list of a
+// plan.
 ghost use Rattle.std.specs.Prelude.{◌≡◌, ◌+◌, ◌++◌, length, map, OnOk};
 ghost use Rattle.sql_from.specs.Joins.{with_number};
 ghost use Rattle.sql_from.specs.Lookups.{Finds};

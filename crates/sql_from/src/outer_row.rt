@@ -1,4 +1,7 @@
 // Rows that lend their cells.
+//
+// EXISTS asks an `OuterRow`, not `Cells`: what implements `Cells` answers EXISTS by it, and would lead back to
+// itself.
 ghost use Rattle.std.specs.Prelude.{◌≡◌};
 ghost use Rattle.vtl_cell.specs.Row.{Row, column_of};
 

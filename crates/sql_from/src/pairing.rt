@@ -1,4 +1,8 @@
 // How the rows are found that go together with a tuple.
+//
+// Pairs are found through one trait (`Pairing`), whose contract says nothing of how: each row is tried (`EachRow`),
+// or rows are looked up (`Lookup`). What is known of a look-up, that it finds the rows with which ON is true and that
+// ON has no fault (`Finds`), is a ghost member of the trait that each caller is asked for.
 ghost use Rattle.std.specs.List.{list_any};
 ghost use Rattle.std.specs.Prelude.{◌≡◌, ℕ, ◌+◌, ◌++◌, length, IfErr, IfOk};
 ghost use Rattle.vtl_cell.specs.Outcome.{faults_by, join};

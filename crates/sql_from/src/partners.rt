@@ -1,4 +1,7 @@
 // The EXISTS of a select, asked by look-ups that are made once.
+//
+// Look-ups for EXISTS are kept beside the sources (`Partners`), and found again by table and equalities: an
+// expression that is resolved once knows no tables.
 ghost use Rattle.std.specs.List.{AllByRecursion};
 ghost use Rattle.std.specs.Prelude.{◌≡◌, ◌+◌, ◌<◌, ◌++◌, ◌∷◌, [], IfOk, IfSome, length, OnOk};
 ghost use Rattle.sql_eval.specs.Placed.{has_partner};

@@ -1,4 +1,7 @@
 // Conditions at the rows of sources.
+//
+// An equality of a column and a constant is told by their two cells (`equality`) where both are texts or both
+// integers, since most conditions of a translated script ask no more; all else goes by the evaluator.
 ghost use Rattle.std.specs.Prelude.{◌≡◌, length, [], IfSome, Ok};
 ghost use Rattle.vtl_decimal.specs.Settings.{Settings};
 ghost use Rattle.sql_eval.specs.Placed.{placed_value};

@@ -1,10 +1,14 @@
 // The sources of a select.
+//
+// Where each cell stands is a list of picks (`picks_from`), as `vtl_rows` puts rows together: the same list serves a
+// look-up by place and the table that is made at the end.
 ghost use Rattle.std.specs.List.{AllByRecursion};
 ghost use Rattle.std.specs.Option.{option_map};
 ghost use Rattle.std.specs.Prelude.{◌≡◌, ◌+◌, ◌<◌, ◌≤◌, ◌^◌, ◌++◌, ◌∷◌, [], length, map, slice_get, Some, IfOk, IfSome, OnOk};
 ghost use Rattle.vtl_cell.specs.Row.{column_of};
 ghost use Rattle.vtl_cell.specs.declared.cell.Cell.TheVariants.{Null};
 ghost use Rattle.vtl_rows.specs.Places.{row_at};
+ghost use Rattle.vtl_rows.specs.Tables.{listed};
 ghost use Rattle.sql_check_parts.specs.Scopes.{found, placed};
 ghost use Rattle.sql_check_laws.specs.Selects.{IsSourceTyped};
 ghost use Rattle.sql_meaning.specs.Tables.{column_entry};
@@ -167,8 +171,8 @@ impl<'a> Sources<'a> {
     /// The table of the source at a place, which is one of the tables that the program holds.
     pub fn table(&self, i: usize) -> &'a Table
         requires { i < length self.now.sources }
-        ensures source { slice_get (parts_of self.now.sources) i ≡ Some result.now }
-        ensures held { IsHeld self.now.held result.now }
+        ensures source { slice_get (parts_of self.now.sources) i ≡ Some (listed result.now) }
+        ensures held { IsHeld self.now.held (listed result.now) }
     {
         let (_, source) = self.sources.at(i);
         source.table
@@ -205,7 +209,7 @@ impl<'a> Sources<'a> {
 
     // The tables of the sources.
     pub(crate) fn tables(&self, alloc: Global) -> Result<Vec<&'a Table>, AllocError>
-        ensures { IfOk result (λ v. map (λ t. t.now) v.items ≡ parts_of self.now.sources) }
+        ensures { IfOk result (λ v. map (λ t. listed t.now) v.items ≡ parts_of self.now.sources) }
     {
         let mut tables = Vec::with_capacity(alloc, self.len())?;
         for i in 0..self.len() {

@@ -1,4 +1,7 @@
 // Tuples of row numbers.
+//
+// The number one past a table's last row is that of a missing part. The row at it has no cells, and a cell past the
+// last one is null: so a missing part reads as nulls by itself (`part`), and tuples stay plain numbers.
 ghost use Rattle.std.specs.Prelude.{◌≡◌, ◌<◌, ◌≤◌, ◌+◌, ◌^◌, ◌++◌, [], ◌∷◌, length, take, drop, slice_index_or, IfOk, OnOk, OnErr};
 ghost use Rattle.std.specs.List.{AllByRecursion};
 ghost use Rattle.vtl_rows.specs.Gathered.{pieces};

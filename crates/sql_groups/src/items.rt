@@ -130,7 +130,7 @@ pub(crate) fn push_group<R: Cells>(
         Ok(true) => {
             cells.clear();
             let with_these = push_items(alloc, cells, seen, &select.items, at, p)?;
-            table.push_cells(cells)?;
+            table.push_moved(cells)?;
             Ok(with_these)
         }
         Ok(false) => Ok(seen),

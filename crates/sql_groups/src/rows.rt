@@ -1,4 +1,7 @@
 // The rows of all groups.
+//
+// A row is made, nulls in place of values that have a fault, whether or not a fault was seen before: so what is
+// pushed is a map over the groups, and each row fits its columns by typing alone.
 ghost use Rattle.std.specs.List.{AllByRecursion};
 ghost use Rattle.std.specs.Prelude.{◌≡◌, ◌<◌, true, ◌++◌, None, Ok};
 ghost use Rattle.vtl_cell.specs.Outcome.{after};

@@ -1,4 +1,8 @@
 // Grouped selects.
+//
+// One walk over the groups: HAVING, then the items where it keeps the group, with one joined fault. That this is
+// HAVING over all groups and then the items over those that are kept, as the meaning has it, is list calculus
+// (`one_walk`).
 ghost use Rattle.std.specs.Prelude.{◌≡◌, ◌++◌, true, Ok, map, option_map, zip};
 ghost use Rattle.vtl_cell.specs.Outcome.{after};
 ghost use Rattle.vtl_scalar.specs.Answers.{AnswersBy};

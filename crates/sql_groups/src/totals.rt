@@ -1,4 +1,6 @@
 // Aggregates of an expression over rows.
+//
+// An aggregate of a column reads its cells and evaluates nothing; where a table is lent, no tuple is read either.
 ghost use Rattle.std.specs.Prelude.{◌≡◌, ◌++◌, ◌∷◌, [], IfErr, IfOk, List, map};
 ghost use Rattle.vtl_cell.specs.Groups.{group_value};
 ghost use Rattle.vtl_cell.specs.Outcome.{after, fault_in, join, unless};

@@ -1,4 +1,7 @@
 // Tokens.
+//
+// A token has a spelling, by one function (`spelled`), which reading and writing cite; the longest token is the one
+// that leaves least of the text, so `INNERJOIN` is two keywords.
 
 use vtl_text::Txt;
 

@@ -146,6 +146,7 @@ by_operands : (p : Settings) (o : ScalarOp) (kind : Kind) (kinds : List Kind) (m
 by_operands p o kind [] ms e h = met_operands p o kind [] ms e h
 by_operands p op.Round kind (x ∷ xs) ms e h = subst (λ z. HasKind z (operated p z ms op.Round)) (only_gives (k.Num ∷ k.Int ∷ []) (x ∷ counted_kinds op.Round xs) k.Num kind e) (any_operands p op.Round k.Num ms (λ vs. scalar_is p op.Round vs refl))
 by_operands p op.Truncate kind (x ∷ xs) ms e h = subst (λ z. HasKind z (operated p z ms op.Truncate)) (only_gives (k.Num ∷ k.Int ∷ []) (x ∷ counted_kinds op.Truncate xs) k.Num kind e) (any_operands p op.Truncate k.Num ms (λ vs. scalar_is p op.Truncate vs refl))
+by_operands p op.PeriodShift kind (x ∷ xs) ms e h = subst (λ z. HasKind z (operated p z ms op.PeriodShift)) (only_gives (k.Period ∷ k.Int ∷ []) (x ∷ counted_kinds op.PeriodShift xs) k.Period kind e) (any_operands p op.PeriodShift k.Period ms (λ vs. scalar_is p op.PeriodShift vs refl))
 by_operands p op.Substring kind (x ∷ xs) ms e h = subst (λ z. HasKind z (operated p z ms op.Substring)) (text_given (two_give (k.Text ∷ k.Int ∷ []) (k.Text ∷ k.Int ∷ k.Int ∷ []) (x ∷ counted_kinds op.Substring xs) k.Text k.Text kind e)) (any_operands p op.Substring k.Text ms (λ vs. scalar_is p op.Substring vs refl))
   where
     text_given : {A : Type 0} → (A × (k.Text ≡ kind)) ⊎ (k.Text ≡ kind) → k.Text ≡ kind

@@ -1,4 +1,15 @@
 // Laws of the definitions.
+//
+// Which fault counts is said twice: by `join` along the definition, and as the worst of a list of all that is
+// evaluated (`Faults`); a law says that both agree. The list is what a reader wants to see, `join` what a proof
+// follows.
+//
+// ON is tried on every pair, also where a faulty one was found before: so what is evaluated depends on no order.
+//
+// A constant or a literal without a value, a column or a table that is not there count as null or nothing: no typed
+// script has one, and a total definition needs no proof of typing inside.
+//
+// A script makes tables and exports, statement by statement (`statements_made`): cutting it in two is an equation.
 ghost use Rattle.std.specs.Prelude.{◌≡◌, ◌⊎◌, ◌<◌, ◌≤◌, ◌+◌, ◌++◌, ◌∷◌, ℕ, List, None, Ok, Option, [], IfOk, count_by, drop, false, fold, length, map, slice_index_or, true};
 ghost use Rattle.std.specs.List.{AllByRecursion};
 ghost use Rattle.vtl_cell.specs.Kinds.{is_null};

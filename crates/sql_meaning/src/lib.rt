@@ -6,6 +6,16 @@
 //! It knows trees and their typing, cells and their operators: nothing of VTL's structures, no file, no program but the
 //! entries of plans.
 //! Begin with specs/Values.antt, then From.antt, Selects.antt, Scripts.antt and src/laws.rt.
+//!
+//! A column is found by its place, by the one look-up of typing (`found`, `placed`). What expressions see is a record
+//! of sources and places (`View`), so rows and groups have one value function.
+//!
+//! What a query rests on is a record (`Base`): two bases that differ in rows alone have the same typing by definition.
+//!
+//! Operators and CASE make their value one of the expression's kind, and an item one of the kind that the selects
+//! share: so the values that an aggregate or an order sees are of one kind, and UNION ALL only appends.
+//!
+//! Joins are one function over any three types (`joined_by`): rows here, numbers of rows in an engine.
 #![tactic(auto)]
 
 mod laws;

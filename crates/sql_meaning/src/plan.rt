@@ -1,4 +1,11 @@
 // How a query is carried out.
+//
+// Plans stand here, since their conditions speak of the meaning. The third is said of each select's rows of FROM and
+// WHERE; that whole queries stay the same follows.
+//
+// A plan stands over the tables of a run (`IsLawful`), whose integers are of the profile: beside a number an integer
+// that is not is out of range where COALESCE or CASE makes it one, so of other tables no condition could be moved
+// without a change.
 ghost use Rattle.std.specs.Prelude.{◌≡◌};
 ghost use Rattle.sql_tree.specs.View.{query_tree};
 ghost use Rattle.sql_meaning.specs.Plans.{IsPlan};

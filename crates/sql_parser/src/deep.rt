@@ -1,4 +1,7 @@
 // Lists of expressions and of the branches of CASE, with their depths.
+//
+// Each form has the bound of its depth built in, since a reader stops at it; that this is the bound of the depth is a
+// law.
 ghost use Rattle.std.specs.Prelude.{length, map};
 ghost use Rattle.grammar_forms.specs.Forms.{chain_reads, deep, deep_added, turns};
 ghost use Rattle.sql_parser.specs.Answers.{AnswersBy, item_views, kinds};

@@ -1,4 +1,6 @@
 // Windows.
+//
+// A window and an expression may begin alike: their choice is made by a call and the OVER after it (`led-law-by`).
 ghost use Rattle.std.specs.Prelude.{◌≡◌, Some};
 ghost use Rattle.grammar_forms.specs.Forms.{after, before, maybe, seq, «as»};
 ghost use Rattle.sql_lexer.specs.declared.token.Word.TheVariants as word;

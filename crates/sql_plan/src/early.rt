@@ -1,4 +1,7 @@
 // The parts of WHERE that are tried early.
+//
+// A part of WHERE is tried early once, before the first join before which it may be: each later join keeps of a row
+// all columns that the part names, so it would pass again.
 ghost use Rattle.std.specs.Prelude.{◌≡◌, ◌++◌, map, IfOk, OnOk};
 ghost use Rattle.sql_tree.specs.View.{expr_tree, select_tree};
 ghost use Rattle.sql_meaning.specs.Plans.{conjuncts, conjuncts_of};

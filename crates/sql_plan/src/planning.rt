@@ -1,4 +1,7 @@
 // The plan of a query.
+//
+// A plan lends its query: to copy a tree takes a function for each of its types, and a plan lives no longer than its
+// statement.
 ghost use Rattle.std.specs.Prelude.{◌≡◌, IfOk};
 ghost use Rattle.sql_tree.specs.View.{query_tree};
 ghost use Rattle.sql_plan.specs.Chosen.{equality_joins};

@@ -1,4 +1,8 @@
 // How far to the right the sources of a part of WHERE stand.
+//
+// How far right the sources of a part stand is one number: a part may be tried before a join exactly where that
+// number, and the first join behind the last FULL one, are not greater than the join's place. So a select takes one
+// walk of its parts and a look-up for each column, and not a test for each part and join.
 ghost use Rattle.std.specs.List.{flat_map};
 ghost use Rattle.std.specs.Prelude.{◌≡◌, map, max, option_map};
 ghost use Rattle.sql_tree.specs.Trees.{branches_of, exps_of};

@@ -21,7 +21,8 @@ fn may_fault(op: ScalarOp) -> bool
         | ScalarOp::Ceil
         | ScalarOp::Round
         | ScalarOp::Position
-        | ScalarOp::Length => true,
+        | ScalarOp::Length
+        | ScalarOp::PeriodShift => true,
         _ => false,
     }
 }

@@ -1,5 +1,8 @@
 // Tokens as text: each statement on a line, each clause of a query on a line of its own, and lists filled to a line's
 // width.
+//
+// The layout has no definition: that a gap is white space where tokens need it is proved; lines and widths are no
+// promise.
 ghost use Rattle.std.specs.Prelude.{◌≡◌, ◌+◌, ◌<◌, ◌++◌, ℕ, List, length, take, chars, string_bytes, IfOk};
 ghost use Rattle.sql_print.specs.Gaps.{Fits, WrittenAs, gap_text};
 ghost use Rattle.sql_print.specs.declared.gaps.Gap.TheVariants as gap;

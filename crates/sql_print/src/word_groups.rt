@@ -47,6 +47,7 @@ pub(crate) fn op_word(op: ScalarOp) -> Word
         ScalarOp::IsNull => Word::Is,
         ScalarOp::ValueOr => Word::Coalesce,
         ScalarOp::If => Word::Case,
+        ScalarOp::PeriodShift | ScalarOp::PeriodFrequency => Word::Period,
     }
 }
 

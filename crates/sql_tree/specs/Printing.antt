@@ -46,6 +46,7 @@ use Rattle.sql_tree.specs.declared.statements.InputColumn.{InputColumn}
 
 -- ---- words
 
+-- the shift and the frequency of a period have no word, and no script has a call of them
 abbrev pub op_word : ScalarOp → Word
 op_word op.Identity = w.Plus
 op_word op.Negate = w.Minus
@@ -83,6 +84,8 @@ op_word op.Not = w.Not
 op_word op.IsNull = w.Is
 op_word op.ValueOr = w.Coalesce
 op_word op.If = w.Case
+op_word op.PeriodShift = w.Period
+op_word op.PeriodFrequency = w.Period
 
 abbrev pub aggregate_word : AggKind → Word
 aggregate_word agg.Sum = w.Sum

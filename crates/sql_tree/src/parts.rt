@@ -1,4 +1,7 @@
 // Columns, sources and constants.
+//
+// A list that may be left out is empty where it is: no option of a list, so no ORDER BY and an empty one are one
+// tree.
 
 use vtl_text::Txt;
 

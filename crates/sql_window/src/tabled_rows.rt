@@ -1,9 +1,13 @@
 // Rows of FROM with a table of them.
+//
+// The sort is that of tables: windows go over a table of the rows of FROM (`TabledRows`), so that the sorts of
+// `vtl_rows` serve, which go by ranks and which no choice of cells makes slow. Where the table of the only source is
+// lent, no cell is copied; else a table is made, whose texts are shared.
 ghost use Rattle.std.specs.Prelude.{◌≡◌, ◌<◌, length, slice_index_or, IfOk};
 ghost use Rattle.sql_check_parts.specs.Scopes.{row_of};
 ghost use Rattle.sql_from.specs.Sources.{scope_held};
 ghost use Rattle.sql_from.specs.Standing.{rows_for};
-ghost use Rattle.sql_window.specs.TabledRows.{listed_in};
+ghost use Rattle.sql_window.specs.TabledRows.{table_in};
 
 use sql_from::{Sources, TupleRows};
 use std::alloc::{AllocError, Global};
@@ -31,7 +35,7 @@ impl Drop for RowTable<'_> {
 impl<'a> RowTable<'a> {
     // The table.
     fn table(&self) -> &Table
-        ensures { result.now ≡ listed_in self.now }
+        ensures { result.now ≡ table_in self.now }
     {
         match self {
             RowTable::Lent(table) => table,
@@ -44,8 +48,8 @@ impl<'a> RowTable<'a> {
 pub struct TabledRows<'a> {
     rows: &'a TupleRows<'a>,
     table: RowTable<'a>,
-    ghost is_wide: { length (listed_in table).columns ≡ length (row_of (scope_held rows.now.sources.sources)) },
-    ghost is_of: { (listed_in table).rows ≡ rows_for rows.now.sources rows.now.tuples },
+    ghost is_wide: { length (table_in table).columns ≡ length (row_of (scope_held rows.now.sources.sources)) },
+    ghost is_of: { (table_in table).rows ≡ rows_for rows.now.sources rows.now.tuples },
 }
 
 // Written out, so that a proof above sees one call and not the drop of each part.
@@ -60,8 +64,8 @@ impl Drop for TabledRows<'_> {
 
 // A table of these rows.
 fn row_table<'a>(alloc: Global, rows: &'a TupleRows<'a>) -> Result<RowTable<'a>, AllocError>
-    ensures wide { IfOk result (λ t. length (listed_in t).columns ≡ length (row_of (scope_held rows.now.sources.sources))) }
-    ensures rows { IfOk result (λ t. (listed_in t).rows ≡ rows_for rows.now.sources rows.now.tuples) }
+    ensures wide { IfOk result (λ t. length (table_in t).columns ≡ length (row_of (scope_held rows.now.sources.sources))) }
+    ensures rows { IfOk result (λ t. (table_in t).rows ≡ rows_for rows.now.sources rows.now.tuples) }
 {
     match rows.lent_table() {
         Some(table) => Ok(RowTable::Lent(table)),

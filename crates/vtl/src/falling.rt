@@ -1,5 +1,6 @@
 // A back end over an engine that hands back its tables in an order of its own: they are what the back end gives.
 ghost use Rattle.std.specs.Prelude.{◌≡◌, ◌<◌, length, slice_index_or, IfOk};
+ghost use Rattle.vtl_rows.specs.Tables.{listed};
 ghost use Rattle.vtl.specs.Falling.{all_falling, falling};
 
 use crate::tests::held;
@@ -63,14 +64,14 @@ fn all_falling(alloc: Global, tables: &Outputs) -> Result<Outputs, AllocError>
 // A copy of the table at a place, with its rows falling, and its name.
 fn falling_at(alloc: Global, tables: &Outputs, i: usize) -> Result<(Txt, Table), AllocError>
     requires { i < length tables.now }
-    ensures { IfOk result (λ t. t ≡ slice_index_or (all_falling tables.now) i t) }
+    ensures { IfOk result (λ t. (t.0, listed t.1) ≡ slice_index_or (all_falling tables.now) i (t.0, listed t.1)) }
 {
     let (name, table) = tables.at(i);
     Ok((name.share()?, sorted_falling(alloc, table)?))
 }
 
 fn sorted_falling(alloc: Global, table: &Table) -> Result<Table, AllocError>
-    ensures { IfOk result (λ t. t ≡ falling table.now) }
+    ensures { IfOk result (λ t. listed t ≡ falling (listed table.now)) }
 {
     // There is a first column.
     let _columns = table.columns();

@@ -1,4 +1,9 @@
 // The accumulator of an aggregate.
+//
+// Accumulators take cells of any kinds. What an aggregate gives is defined for every list of cells, and the evaluator
+// asks nothing of typing; so an accumulator keeps the total of the integers and that of the numbers apart, and puts
+// them together in units at the end. Where they do not fit in 128 bits they are out of range in any case. The median
+// keeps units.
 ghost use Rattle.std.specs.Prelude.{◌≡◌, false, IsOk, List, [], ◌∷◌, ◌++◌, OnOk, OnErr};
 ghost use Rattle.vtl_agg.specs.Added.{HasRoom, IsAdded, takes_memory};
 ghost use Rattle.vtl_cell.specs.Groups.{group_value};

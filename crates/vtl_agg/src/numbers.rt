@@ -1,4 +1,6 @@
 // Numbers from totals and quotients of any size.
+//
+// A quotient of 128 bits is rounded here alone (`quotient`), for a mean, a median and a share.
 ghost use Rattle.std.specs.Prelude.{◌≡◌, ◌^◌, ◌<◌, ◌≤◌, ◌+ℤ◌, ◌*ℤ◌, pos, unsigned_abs};
 ghost use Rattle.vtl_agg.specs.Added.{with_sign};
 ghost use Rattle.vtl_agg.specs.Quotients.{has_minus};

@@ -1,4 +1,6 @@
 // What is kept of the cells.
+//
+// The median of numbers keeps 16 bytes a value, since an integer in units may need more than 64 bits.
 ghost use Rattle.std.specs.Prelude.{◌≡◌, ◌<◌, [], true, IsOk, length, pos, OnOk, OnErr};
 ghost use Rattle.vtl_agg.specs.Added.{known_of, known_with, is_before, median_value};
 ghost use Rattle.vtl_agg.specs.States.{known, IsRoomy, is_small};

@@ -9,7 +9,8 @@ use Rattle.vtl_cell.specs.Row.{Row}
 use Rattle.vtl_cell.specs.declared.cell.Cell.{Cell}
 use Rattle.vtl_tree.specs.declared.structure.Component.{Component}
 use Rattle.vtl_tuples.proofs.Lists.{map_same}
-use Rattle.vtl_meaning.specs.Aggregates.{Condition, Made, cell_or_null, each_group, group_fault, group_point}
+use Rattle.vtl_meaning.specs.Aggregates.{Condition, Made, each_group, group_fault, group_point}
+use Rattle.vtl_meaning.specs.Points.{cell_or_null}
 use Rattle.vtl_aggregate_laws.proofs.Pieces.{filter_true}
 
 -- ---- faults

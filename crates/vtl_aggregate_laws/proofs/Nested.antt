@@ -28,7 +28,8 @@ use Rattle.vtl_tuples.proofs.Lists.{filter-map, filter_each, map-map, map_each, 
 use Rattle.vtl_tree.specs.Columns.{identifiers_of, others_of, place_of}
 use Rattle.vtl_tree.specs.Measures.{given_measure, measures}
 use Rattle.vtl_tree.specs.Names.{is_among}
-use Rattle.vtl_meaning.specs.Aggregates.{Made, aggregate_of, cell_or_null, condition_of, each_group, made_of, measure_call}
+use Rattle.vtl_meaning.specs.Aggregates.{Made, aggregate_of, condition_of, each_group, made_of, measure_call}
+use Rattle.vtl_meaning.specs.Points.{cell_or_null}
 use Rattle.vtl_meaning.specs.GroupExpressions.{aggregated}
 use Rattle.vtl_meaning.specs.Groups.{keys_by, places_named, points_with}
 use Rattle.vtl_meaning.specs.AggregateShapes.{IsAggregated, made_components, of_measure}

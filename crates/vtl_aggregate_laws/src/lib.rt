@@ -1,7 +1,9 @@
 //! The whole and its parts: what an aggregate gives of all points, told from what it gives of their groups. Laws on the
 //! definitions of `vtl_meaning`; no code.
 //!
-//! They stand apart, so that a change of them has nothing else proved again; no crate stands on this one.
+//! They stand apart: that an aggregate may be made group by group is what a reader asks of sums and counts, and no
+//! other proof needs it, so no crate stands on this one. It holds of the whole outcome, but for sums in which a group
+//! alone leaves the range.
 //! It knows no script, no window and no table, and types nothing.
 //! Begin with specs/Parts.antt, proofs/Examples.antt and src/laws.rt.
 #![tactic(auto)]

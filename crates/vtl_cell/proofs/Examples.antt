@@ -1,16 +1,21 @@
 -- What the definitions on lists give for single lists.
-use Rattle.std.proofs.Common.{◌≡◌, ℕ, pos, negsuc, true, List, [], ◌∷◌, Ok, Err, refl}
+use Rattle.std.proofs.Common.{◌≡◌, ℕ, ℤ, pos, negsuc, true, List, [], ◌∷◌, Ok, Err, refl}
 use Rattle.std.specs.declared.cmp.Ordering.TheVariants.{Equal}
 use Rattle.vtl_decimal.specs.Settings.{Settings}
 use Rattle.vtl_decimal.specs.declared.settings.Rounding.TheVariants.{HalfUp}
 use Rattle.vtl_cell.specs.declared.cell.Cell.{Cell}
-use Rattle.vtl_cell.specs.declared.cell.Cell.TheVariants.{Null, Int, Num}
+use Rattle.vtl_time.specs.Periods.{YearPart, shift_of}
+use Rattle.vtl_time.specs.declared.periods.Frequency.TheVariants.{Annual, Quarter, Month}
+use Rattle.vtl_cell.specs.declared.cell.Cell.TheVariants.{Null, Int, Num, Text, Period}
 use Rattle.vtl_cell.specs.declared.operator.AggKind.TheVariants.{Sum, Avg, Count, Min, Max, Median}
+use Rattle.vtl_cell.specs.declared.operator.ScalarOp.TheVariants.{PeriodShift, PeriodFrequency}
 use Rattle.vtl_decimal.specs.declared.number.Fault.TheVariants.{DivZero, Range}
 use Rattle.vtl_cell.specs.Groups.{group_value, count_of_points, ratio_of}
 use Rattle.vtl_cell.specs.Sorted.{Key, rising, by_keys, in_order, row_rank}
 use Rattle.vtl_cell.specs.Frames.{UnboundedPreceding, Preceding, Current, Following, UnboundedFollowing, frame_of, first_cell, last_cell, lag_of, lead_of}
+use Rattle.vtl_cell.specs.Outcome.{Outcome}
 use Rattle.vtl_cell.specs.Row.{Row}
+use Rattle.vtl_cell.specs.Scalars.{scalar_of}
 
 abbrev scale_six : Settings
 scale_six = record { scale = 6; rounding = HalfUp }
@@ -149,3 +154,64 @@ lead_has_a_place = refl
 
 lead_has_no_place : lead_of 1 (Int (pos 7)) 1 (Null ∷ Int (pos 2) ∷ []) ≡ Int (pos 7)
 lead_has_no_place = refl
+
+-- ---- periods
+abbrev third_quarter : YearPart
+third_quarter = record { frequency = Quarter; year = 2020; part = 3 }
+
+abbrev last_month : YearPart
+last_month = record { frequency = Month; year = 9999; part = 12 }
+
+abbrev first_year : YearPart
+first_year = record { frequency = Annual; year = 0; part = 1 }
+
+abbrev shift_by : Cell → ℤ → Outcome Cell
+shift_by q n = scalar_of scale_six PeriodShift (q ∷ Int n ∷ [])
+
+two_quarters_later : shift_by (Period third_quarter) (pos 2) ≡ Ok (Period (record { frequency = Quarter; year = 2021; part = 1 }))
+unfolding shift_of
+two_quarters_later = refl
+
+three_quarters_earlier : shift_by (Period third_quarter) (negsuc 2) ≡ Ok (Period (record { frequency = Quarter; year = 2019; part = 4 }))
+unfolding shift_of
+three_quarters_earlier = refl
+
+shifted_by_none : shift_by (Period last_month) (pos 0) ≡ Ok (Period last_month)
+unfolding shift_of
+shifted_by_none = refl
+
+past_the_last_year : shift_by (Period last_month) (pos 1) ≡ Err Range
+unfolding shift_of
+past_the_last_year = refl
+
+before_the_first_year : shift_by (Period first_year) (negsuc 0) ≡ Err Range
+unfolding shift_of
+before_the_first_year = refl
+
+farthest_back : shift_by (Period last_month) (negsuc 999999) ≡ Err Range
+unfolding shift_of
+farthest_back = refl
+
+too_far : shift_by (Period third_quarter) (pos 1000001) ≡ Ok Null
+too_far = refl
+
+too_far_back : shift_by (Period third_quarter) (negsuc 1000000) ≡ Ok Null
+too_far_back = refl
+
+null_shifted : shift_by Null (pos 1) ≡ Ok Null
+null_shifted = refl
+
+shifted_by_null : scalar_of scale_six PeriodShift (Period third_quarter ∷ Null ∷ []) ≡ Ok Null
+shifted_by_null = refl
+
+no_period_shifted : shift_by (Int (pos 2020)) (pos 1) ≡ Ok Null
+no_period_shifted = refl
+
+letter_of_quarter : scalar_of scale_six PeriodFrequency (Period third_quarter ∷ []) ≡ Ok (Text (81 ∷ []))
+letter_of_quarter = refl
+
+letter_of_year : scalar_of scale_six PeriodFrequency (Period first_year ∷ []) ≡ Ok (Text (65 ∷ []))
+letter_of_year = refl
+
+letter_of_null : scalar_of scale_six PeriodFrequency (Null ∷ []) ≡ Ok Null
+letter_of_null = refl

@@ -17,6 +17,7 @@ pub mod ScalarArithmetic
 pub mod ScalarChoice
 pub mod ScalarComparison
 pub mod ScalarKinds
+pub mod ScalarPeriods
 pub mod ScalarTexts
 pub mod Scalars
 pub mod Sorted

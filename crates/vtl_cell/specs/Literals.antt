@@ -42,7 +42,7 @@ lies_between low high n = option_map_or (λ n. int_le low n && int_le n high) n 
 abbrev pub largest_place : ℤ
 largest_place = pos 1_000_000_000
 
--- how far from a row a frame or an offset may reach
+-- how far from a row a frame or an offset may reach, and how far on and back a period may be shifted
 abbrev pub longest_reach : ℤ
 longest_reach = pos 1_000_000
 

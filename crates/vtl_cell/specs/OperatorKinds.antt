@@ -11,6 +11,7 @@ abbrev pub takes_literals : ScalarOp → Bool
 takes_literals op.Round = true
 takes_literals op.Truncate = true
 takes_literals op.Substring = true
+takes_literals op.PeriodShift = true
 takes_literals o = false
 
 -- the kinds of operands behind the first: what stands for an integer literal counts as one

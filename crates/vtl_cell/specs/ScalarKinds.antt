@@ -83,8 +83,8 @@ numeric_two = to (k.Int ∷ k.Int ∷ []) k.Int ∷ to (k.Num ∷ k.Num ∷ []) 
 abbrev pub only : List Kind → Kind → List Alternative
 only wanted given = to wanted given ∷ []
 
--- the kind of the operator's value, where operands of these kinds meet its row in VTL; SQL has the same rows, but that its
--- REPLACE takes exactly three operands
+-- the kind of the operator's value, where operands of these kinds meet its row; VTL and SQL have the same rows, but that
+-- REPLACE of SQL takes exactly three operands, and that neither language spells the shift and the frequency of a period
 abbrev pub kinds_of : ScalarOp → List Kind → Option Kind
 kinds_of op.Identity kinds = first_met numeric_one kinds
 kinds_of op.Negate kinds = first_met numeric_one kinds
@@ -121,5 +121,7 @@ kinds_of op.Xor kinds = first_met (only (k.Bool ∷ k.Bool ∷ []) k.Bool) kinds
 kinds_of op.Not kinds = first_met (only (k.Bool ∷ []) k.Bool) kinds
 kinds_of op.IsNull (a ∷ []) = Some k.Bool
 kinds_of op.ValueOr (a ∷ x ∷ []) = common_kind (a ∷ x ∷ [])
+kinds_of op.PeriodShift kinds = first_met (only (k.Period ∷ k.Int ∷ []) k.Period) kinds
+kinds_of op.PeriodFrequency kinds = first_met (only (k.Period ∷ []) k.Text) kinds
 kinds_of op.If (c ∷ a ∷ b ∷ []) = if meets k.Bool c then common_kind (a ∷ b ∷ []) else None
 kinds_of other kinds = None

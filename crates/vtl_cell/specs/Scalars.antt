@@ -8,6 +8,7 @@ use Rattle.vtl_cell.specs.Logic.{not_of, and_of, or_of, xor_of}
 use Rattle.vtl_cell.specs.Outcome.{Outcome, after}
 use Rattle.vtl_cell.specs.ScalarArithmetic.{pair_of, identity_of, negation_of, absolute_of, sum_of, difference_of, product_of, quotient_of, remainder_of, whole_below, whole_above, rounded_of, truncated_of}
 use Rattle.vtl_cell.specs.ScalarComparison.{compared, between_of, membership_of, truth}
+use Rattle.vtl_cell.specs.ScalarPeriods.{places_in, shifted_of, frequency_of}
 use Rattle.vtl_cell.specs.ScalarTexts.{on_text, joined_of, count_in, part_from, part_within, replaced_of, position_of, length_of}
 use Rattle.vtl_cell.specs.ScalarChoice.{truth_in, on_truth, on_truths, value_or, chosen_of}
 use Rattle.vtl_cell.specs.declared.cell.Cell.{Cell}
@@ -15,8 +16,8 @@ use Rattle.vtl_cell.specs.declared.cell.Cell.TheVariants as c
 use Rattle.vtl_cell.specs.declared.operator.ScalarOp.{ScalarOp}
 use Rattle.vtl_cell.specs.declared.operator.ScalarOp.TheVariants as op
 
--- The value is null where the operands do not meet the row: by their kinds, by their number, or by digits, a place or a
--- length outside its interval. So a null operand gives null before the operator looks at the others, as null / 0 does, but
+-- The value is null where the operands do not meet the row: by their kinds, by their number, or by digits, a place, a
+-- length or a shift outside its interval. So a null operand gives null before the operator looks at the others, as null / 0 does, but
 -- in the rows of `and`, `or`, `isnull`, `nvl` and `if`.
 
 -- the rows of one operand
@@ -32,6 +33,7 @@ unary_of p op.TrimRight a = Ok (on_text rtrim_of a)
 unary_of p op.Length a = length_of p a
 unary_of p op.Not a = Ok (on_truth not_of (truth_in a))
 unary_of p op.IsNull a = Ok (c.Bool (is_null a))
+unary_of p op.PeriodFrequency a = Ok (frequency_of a)
 unary_of p other a = Ok c.Null
 
 -- the rows of two operands
@@ -57,6 +59,7 @@ binary_of p op.And a b = Ok (on_truths and_of (truth_in a) (truth_in b))
 binary_of p op.Or a b = Ok (on_truths or_of (truth_in a) (truth_in b))
 binary_of p op.Xor a b = Ok (on_truths xor_of (truth_in a) (truth_in b))
 binary_of p op.ValueOr a x = value_or p a x
+binary_of p op.PeriodShift a n = shifted_of a (places_in n)
 binary_of p other a b = Ok c.Null
 
 -- the rows of three operands

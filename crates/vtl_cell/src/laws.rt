@@ -1,4 +1,7 @@
 // Laws of the definitions on lists of values.
+//
+// The law that hashes tell cells apart is on the writes that a hash makes, not on a hasher's result, which may
+// collide.
 ghost use Rattle.std.specs.Prelude.{◌≡◌, ◌<◌, ℕ, List, length, true, Contains};
 ghost use Rattle.std.specs.List.{AllByRecursion};
 ghost use Rattle.std.specs.Ordering.{is_le, is_ge};

@@ -8,7 +8,6 @@
 //! It knows no columns, no structures and no files: what an empty field means is for `vtl_csv` to say. It knows neither
 //! language's syntax and no rule numbers: which rule breaks is for the checkers to say.
 //! Begin with specs/Kinds.antt, Order.antt and Scalars.antt; for typing with OperatorKinds.antt and AggregateKinds.antt.
-//! It passes on the words of what cells are made of (texts, numbers, lists), so that a crate above names it alone.
 #![tactic(auto)]
 
 mod aggregate_kinds;

@@ -12,7 +12,7 @@ use vtl_text::Txt;
 /// The last place in a text that a literal may name.
 pub const LARGEST_PLACE: i64 = 1_000_000_000;
 
-/// How far from a row a frame or an offset may reach.
+/// How far from a row a frame or an offset may reach, and how far on and back a period may be shifted.
 pub const LONGEST_REACH: i64 = 1_000_000;
 
 /// The integer that digits write, where it is in range.

@@ -257,6 +257,8 @@ pub fn operator_kind(op: ScalarOp, kinds: &[Kind]) -> Option<Kind>
         ScalarOp::IsNull => tested(kinds),
         ScalarOp::ValueOr => value_or(kinds),
         ScalarOp::If => chosen(kinds),
+        ScalarOp::PeriodShift => given_if(two(Kind::Period, Kind::Int, kinds), Kind::Period),
+        ScalarOp::PeriodFrequency => given_if(one(Kind::Period, kinds), Kind::Text),
     }
 }
 
@@ -264,7 +266,8 @@ fn takes_literals(op: ScalarOp) -> bool
     ensures { result ≡ takes_literals op }
 {
     match op {
-        ScalarOp::Round | ScalarOp::Truncate | ScalarOp::Substring => true,
+        ScalarOp::Round | ScalarOp::Truncate => true,
+        ScalarOp::Substring | ScalarOp::PeriodShift => true,
         _ => false,
     }
 }

@@ -1,4 +1,7 @@
 // Scripts that are typed.
+//
+// `Checked` keeps that its script is written, by a predicate on trees (`AreWritten`) that names no token, since
+// typing does not stand on the grammar. `parse` gives it, `check` asks for it.
 ghost use Rattle.std.specs.Map.{keys_of, lookup};
 ghost use Rattle.std.specs.Option.{option_copied};
 ghost use Rattle.std.specs.Prelude.{◌≡◌, IfOk, Ok, false, length, map};
@@ -71,8 +74,8 @@ impl Checked {
         profile: &Profile,
     ) -> Result<Checked, AllocError>
         requires written { AreWritten (script_tree script.now) }
-        requires typed { IsTyped (typed_script script.now structures.now profile.now nodes.items) }
-        ensures { IfOk result (λ c. c ≡ typed_script script.now structures.now profile.now nodes.items) }
+        requires typed { IsTyped (typed_script script.now structures.now.sets profile.now nodes.items) }
+        ensures { IfOk result (λ c. c ≡ typed_script script.now structures.now.sets profile.now nodes.items) }
     {
         match parts_of(alloc, script, structures, &nodes) {
             Ok(
@@ -184,10 +187,10 @@ fn parts_of(
 ) -> Result<Parts, AllocError>
     requires { length nodes.now ≡ length (transformations (map statement_tree script.now.statements)) }
     ensures script { IfOk result (λ p. p.script.statements ≡ script.now.statements) }
-    ensures declared { IfOk result (λ p. p.declared ≡ structures.now) }
+    ensures declared { IfOk result (λ p. p.declared ≡ structures.now.sets) }
     ensures structures { IfOk result (λ p. AreStructures p.declared) }
-    ensures known { IfOk result (λ p. p.uses.known ≡ results_behind (reads structures.now (map node_tree nodes.now)) (transformations (map statement_tree script.now.statements)) (map node_tree nodes.now)) }
-    ensures inputs { IfOk result (λ p. p.uses.inputs.items ≡ keys_of (reads structures.now (map node_tree nodes.now))) }
+    ensures known { IfOk result (λ p. p.uses.known ≡ results_behind (reads structures.now.sets (map node_tree nodes.now)) (transformations (map statement_tree script.now.statements)) (map node_tree nodes.now)) }
+    ensures inputs { IfOk result (λ p. p.uses.inputs.items ≡ keys_of (reads structures.now.sets (map node_tree nodes.now))) }
     ensures outputs { IfOk result (λ p. p.uses.outputs.items ≡ outputs_in (transformations (map statement_tree script.now.statements))) }
 {
     let declared = share_structures(alloc, structures)?;
@@ -211,9 +214,9 @@ pub fn check(
 ) -> Result<Checked, CheckErr>
     requires written { AreWritten (script_tree script.now) }
     requires plain { has_definitions (script_tree script.now) ≡ false }
-    ensures typing { Checks nodes_of result (script_typed (env_over profile.now structures.now) (script_tree script.now)) }
+    ensures typing { Checks nodes_of result (script_typed (env_over profile.now structures.now.sets) (script_tree script.now)) }
     ensures script { IfOk result (λ c. c.script ≡ script.now.statements) }
-    ensures declared { IfOk result (λ c. c.declared ≡ structures.now) }
+    ensures declared { IfOk result (λ c. c.declared ≡ structures.now.sets) }
     ensures settings { IfOk result (λ c. c.settings ≡ profile.now) }
 {
     let known = share_structures(alloc, structures)?;

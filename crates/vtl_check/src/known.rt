@@ -32,10 +32,10 @@ fn put_at(
     structures: &Structures,
     i: usize,
 ) -> Result<(), AllocError>
-    requires within { i < length structures.now }
-    requires structures { AreStructures structures.now }
-    requires before { known.old ≡ take i structures.now }
-    ensures { OnOk result (known.new ≡ take (i + 1) structures.now) }
+    requires within { i < length structures.now.sets }
+    requires structures { AreStructures structures.now.sets }
+    requires before { known.old ≡ take i structures.now.sets }
+    ensures { OnOk result (known.new ≡ take (i + 1) structures.now.sets) }
 {
     let (name, structure) = structures.at(i);
     let shared = share_structure(alloc, structure)?;
@@ -47,7 +47,7 @@ pub fn share_structures(
     alloc: Global,
     structures: &Structures,
 ) -> Result<ByName<Structure>, AllocError>
-    ensures entries { IfOk result (λ known. known ≡ structures.now) }
+    ensures entries { IfOk result (λ known. known ≡ structures.now.sets) }
     ensures structures { IfOk result (λ known. AreStructures known) }
 {
     let mut known = ByName::new(alloc);

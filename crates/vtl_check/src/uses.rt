@@ -1,4 +1,8 @@
 // The data sets that a typed script reads, and those that it gives.
+//
+// A checked script holds what it reads and gives as lists that are made once. What the top call needs of a result's
+// table is asked of it by name (`Checked::structure`): the tables of a back end carry no structure, since one that
+// runs SQL has none.
 ghost use Rattle.std.specs.Map.{keys_of, lookup};
 ghost use Rattle.std.specs.Prelude.{◌≡◌, ◌++◌, IfOk, OnOk, length, map};
 ghost use Rattle.vtl_tree.specs.NodeView.{node_tree};

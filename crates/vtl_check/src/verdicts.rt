@@ -20,7 +20,7 @@ pub fn verdict(
 ) -> Result<(), CheckErr>
     requires written { AreWritten (script_tree script.now) }
     requires plain { has_definitions (script_tree script.now) ≡ false }
-    ensures { Checks (λ u. u) result (verdict (script_typed (env_over profile.now structures.now) (script_tree script.now))) }
+    ensures { Checks (λ u. u) result (verdict (script_typed (env_over profile.now structures.now.sets) (script_tree script.now))) }
 {
     match check(alloc, script, structures, profile) {
         Ok(_) => Ok(()),

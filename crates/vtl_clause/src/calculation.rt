@@ -1,6 +1,7 @@
 // `calc`
 ghost use Rattle.std.specs.Option.{option_map};
 ghost use Rattle.std.specs.Prelude.{◌≡◌, ◌++◌, ◌∷◌, [], map, IfOk, OnOk};
+ghost use Rattle.vtl_rows.specs.Tables.{listed};
 ghost use Rattle.vtl_scalar.specs.Answers.{Answers, AnswersBy};
 ghost use Rattle.vtl_tree.specs.Shown.{shown};
 ghost use Rattle.vtl_tree.specs.Structure.{columns_of};
@@ -85,7 +86,7 @@ fn calculated_table(
     p: &Profile,
 ) -> Result<Table, ScalarErr>
     requires { IsCalculated p.now (map item_tree items.now) a.now.structure made.now }
-    ensures table { IfOk result (IsTableOf made.now) }
+    ensures table { IfOk result (λ t. IsTableOf made.now (listed t)) }
     ensures rows { AnswersBy (λ t. t.rows) result (calculated_of p.now (map item_tree items.now) a.now made.now) }
 {
     let wanted = made.columns(alloc)?;

@@ -2,7 +2,7 @@
 ghost use Rattle.std.specs.Prelude.{◌≡◌, true, ◌++◌, ◌∷◌, [], Ok, IfOk, IfErr, if◌then◌else◌};
 ghost use Rattle.vtl_cell.specs.Outcome.{fault_in, join};
 ghost use Rattle.vtl_cell.specs.Outcomes.{is_true};
-ghost use Rattle.vtl_rows.specs.Tables.{fits};
+ghost use Rattle.vtl_rows.specs.Tables.{fits, listed};
 ghost use Rattle.vtl_scalar.specs.Answers.{Answers, AnswersBy};
 ghost use Rattle.vtl_tree.specs.Clauses.{filter_of};
 ghost use Rattle.vtl_tree.specs.Value.{value};
@@ -63,7 +63,7 @@ fn kept_table(
     p: &Profile,
 ) -> Result<Table, ScalarErr>
     requires { IsFiltered p.now (comp_exp_of condition.now) a.now.structure made.now }
-    ensures table { IfOk result (IsTableOf made.now) }
+    ensures table { IfOk result (λ t. IsTableOf made.now (listed t)) }
     ensures rows { AnswersBy (λ t. t.rows) result (filter_of p.now (comp_exp_of condition.now) a.now.points) }
 {
     let prepared = prepare(alloc, condition)?;

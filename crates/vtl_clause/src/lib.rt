@@ -2,10 +2,8 @@
 //! `vtl_expr::keep_columns` does.
 //!
 //! It decides which points a clause keeps and what their cells are made of. The values of expressions come from
-//! `vtl_expr`, and the structure of each result is passed in as typing found it.
-//! It knows no script, no statement, no file and no text format. What the crates of data sets above
-//! need of `vtl_expr` it passes on.
-//! Begin with `filtering.rt`.
+//! `vtl_expr`, and the structure of each result is passed in as typing found it. It knows no script, no statement, no
+//! file and no text format. Begin with `filtering.rt`.
 #![tactic(auto)]
 
 mod calculation;

@@ -1,7 +1,9 @@
 // `rename`
-ghost use Rattle.std.specs.Prelude.{◌≡◌, IfOk};
+ghost use Rattle.std.specs.Prelude.{◌≡◌, IfOk, List};
 ghost use Rattle.vtl_sets.specs.DataSets.{data_set};
 ghost use Rattle.vtl_meaning.specs.Made.{IsRenamed};
+ghost use Rattle.vtl_meaning.specs.Shapes.{IsRenamedBy};
+ghost use Rattle.vtl_tree.specs.declared.renaming.Renaming.{Renaming};
 ghost use Rattle.vtl_sets.specs.TableOf.{IsTableOf};
 
 use std::alloc::{AllocError, Global};
@@ -19,9 +21,11 @@ fn renamed_table(alloc: Global, a: &DataSet, made: &Structure) -> Result<SharedT
     Ok(table.with_columns(columns))
 }
 
-/// The same points under other names: their cells are shared, and none is copied. It fails only if memory runs out.
+/// The same points under the names that pairs of names give: their cells are shared, and none is copied. It fails only if
+/// memory runs out.
 pub fn rename(alloc: Global, a: &DataSet, made: &Structure) -> Result<DataSet, AllocError>
-    requires { IsRenamed a.now.structure made.now }
+    requires made { IsRenamed a.now.structure made.now }
+    requires pairs { (pairs : List Renaming) × IsRenamedBy pairs a.now.structure made.now }
     ensures { IfOk result (λ d. d ≡ data_set made.now a.now.points) }
 {
     let table = renamed_table(alloc, a, made)?;

@@ -2,7 +2,7 @@
 ghost use Rattle.std.specs.Prelude.{◌≡◌, true, ◌++◌, ◌∷◌, [], map, IfOk, OnOk, if◌then◌else◌};
 ghost use Rattle.vtl_cell.specs.Row.{column_of};
 ghost use Rattle.vtl_cell.specs.Order.{same_cell};
-ghost use Rattle.vtl_rows.specs.Tables.{cells_at, fits};
+ghost use Rattle.vtl_rows.specs.Tables.{cells_at, fits, listed};
 ghost use Rattle.vtl_tree.specs.Structure.{columns_of};
 ghost use Rattle.vtl_sets.specs.DataSets.{data_set};
 ghost use Rattle.vtl_meaning.specs.Made.{IsSub};
@@ -81,7 +81,7 @@ fn push_sub(
     if has_values(row, pins) {
         cells.clear();
         push_cells(cells, row, places)?;
-        out.push_cells(cells)?;
+        out.push_moved(cells)?;
     }
     Ok(())
 }
@@ -93,7 +93,7 @@ fn sub_table(
     made: &Structure,
 ) -> Result<Table, AllocError>
     requires { IsSub items.now a.now.structure made.now }
-    ensures table { IfOk result (IsTableOf made.now) }
+    ensures table { IfOk result (λ t. IsTableOf made.now (listed t)) }
     ensures rows { IfOk result (λ t. t.rows ≡ sub_of items.now a.now made.now) }
 {
     let structure = a.structure();

@@ -1,5 +1,6 @@
 // `setdiff` and `symdiff`
 ghost use Rattle.std.specs.Prelude.{◌≡◌, [], ◌∷◌, IfOk};
+ghost use Rattle.vtl_rows.specs.Tables.{listed};
 ghost use Rattle.vtl_sets.specs.DataSets.{data_set};
 ghost use Rattle.vtl_sets.specs.TableOf.{IsTableOf, table_columns};
 ghost use Rattle.vtl_meaning.specs.Made.{IsCombined};
@@ -37,7 +38,7 @@ fn difference_table(
     made: &Structure,
 ) -> Result<Table, AllocError>
     requires { IsCombined a.now.structure (b.now.structure ∷ []) made.now }
-    ensures table { IfOk result (IsTableOf made.now) }
+    ensures table { IfOk result (λ t. IsTableOf made.now (listed t)) }
     ensures rows { IfOk result (λ t. t.rows ≡ difference_of a.now b.now made.now) }
 {
     are_data_sets(&[a, b]);
@@ -66,7 +67,7 @@ fn symmetric_difference_table(
     made: &Structure,
 ) -> Result<Table, AllocError>
     requires { IsCombined a.now.structure (b.now.structure ∷ []) made.now }
-    ensures table { IfOk result (IsTableOf made.now) }
+    ensures table { IfOk result (λ t. IsTableOf made.now (listed t)) }
     ensures rows { IfOk result (λ t. t.rows ≡ symmetric_difference_of a.now b.now made.now) }
 {
     are_data_sets(&[a, b]);

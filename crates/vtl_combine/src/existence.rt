@@ -1,6 +1,6 @@
 // `exists_in`
 ghost use Rattle.std.specs.Prelude.{◌≡◌, ◌<◌, true, ◌++◌, ◌∷◌, [], IfOk, OnOk};
-ghost use Rattle.vtl_rows.specs.Tables.{cells_at, fits};
+ghost use Rattle.vtl_rows.specs.Tables.{cells_at, fits, listed};
 ghost use Rattle.vtl_sets.specs.DataSets.{data_set};
 ghost use Rattle.vtl_sets.specs.TableOf.{IsTableOf};
 ghost use Rattle.vtl_tree.specs.Columns.{common_identifiers};
@@ -55,7 +55,7 @@ fn push_answer(
         cells.clear();
         push_cells(cells, row, identifiers)?;
         cells.push(Cell::Bool(answer))?;
-        out.push_cells(cells)?;
+        out.push_moved(cells)?;
     }
     Ok(())
 }
@@ -72,7 +72,7 @@ fn existence_table<L: Ledger>(
     requires parts { blank.parts ≡ L.parts }
     requires some { 0 < L.parts }
     requires made { IsExistence a.now.structure b.now.structure made.now }
-    ensures table { IfOk result (IsTableOf made.now) }
+    ensures table { IfOk result (λ t. IsTableOf made.now (listed t)) }
     ensures rows { IfOk result (λ t. t.rows ≡ existence_of a.now b.now retain) }
 {
     let mut steps: Steps<L> = Steps::new(blank);

@@ -1,4 +1,7 @@
 // The first rows of groups.
+//
+// A look-up is asked for all rows of an operand at once (`firsts`): a list of numbers costs less than to wait for
+// memory row by row.
 ghost use Rattle.std.specs.Prelude.{◌≡◌, ◌≤◌, length, IfOk};
 ghost use Rattle.std.specs.List.{AllByRecursion};
 ghost use Rattle.vtl_cell.specs.Row.{same_key};

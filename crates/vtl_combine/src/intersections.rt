@@ -1,6 +1,7 @@
 // `intersect`
 ghost use Rattle.std.specs.List.{range_with_len};
 ghost use Rattle.std.specs.Prelude.{◌≡◌, [], ◌∷◌, filter, length, IfOk};
+ghost use Rattle.vtl_rows.specs.Tables.{listed};
 ghost use Rattle.vtl_tree.specs.Shown.{shown};
 ghost use Rattle.vtl_sets.specs.DataSets.{data_set};
 ghost use Rattle.vtl_sets.specs.TableOf.{IsTableOf};
@@ -41,7 +42,7 @@ fn intersection_table(
     made: &Structure,
 ) -> Result<Table, AllocError>
     requires { IsCombined operand.now.structure (structures_of (shown others.now)) made.now }
-    ensures table { IfOk result (IsTableOf made.now) }
+    ensures table { IfOk result (λ t. IsTableOf made.now (listed t)) }
     ensures rows { IfOk result (λ t. t.rows ≡ intersection_of (operand.now ∷ shown others.now) made.now) }
 {
     are_data_sets(&[operand]);

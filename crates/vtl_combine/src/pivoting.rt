@@ -1,6 +1,6 @@
 // `pivot`
 ghost use Rattle.std.specs.Prelude.{◌≡◌, ◌<◌, true, ◌++◌, ◌∷◌, [], map, IfOk, OnOk};
-ghost use Rattle.vtl_rows.specs.Tables.{cells_at, fits};
+ghost use Rattle.vtl_rows.specs.Tables.{cells_at, fits, listed};
 ghost use Rattle.vtl_tree.specs.Shown.{shown};
 ghost use Rattle.vtl_sets.specs.DataSets.{data_set};
 ghost use Rattle.vtl_sets.specs.TableOf.{IsTableOf};
@@ -162,7 +162,7 @@ impl<'a> CodedPoints<'a> {
         cells.clear();
         push_cells(cells, row, &self.others)?;
         self.push_values(cells, key, steps)?;
-        out.push_cells(cells)
+        out.push_moved(cells)
     }
 }
 
@@ -178,7 +178,7 @@ fn pivot_table<L: Ledger>(
     requires parts { blank.parts ≡ L.parts }
     requires some { 0 < L.parts }
     requires made { IsPivoted id.now measure.now a.now.structure made.now }
-    ensures table { IfOk result (IsTableOf made.now) }
+    ensures table { IfOk result (λ t. IsTableOf made.now (listed t)) }
     ensures rows { IfOk result (λ t. t.rows ≡ pivot_of a.now id.now measure.now) }
 {
     let mut steps: Steps<L> = Steps::new(blank);

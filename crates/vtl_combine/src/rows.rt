@@ -27,19 +27,11 @@ pub(crate) fn numbers(alloc: Global, count: usize) -> Result<Vec<usize>, AllocEr
     Ok(numbers)
 }
 
-// How many identifiers a structure has.
-pub(crate) fn key_width(alloc: Global, structure: &Structure) -> Result<usize, AllocError>
-    ensures { IfOk result (λ n. n ≡ key_width structure.now) }
-{
-    Ok(structure.key_width())
-}
-
 // The places of a structure's identifiers in its points, where they stand first.
 pub(crate) fn own_key(alloc: Global, structure: &Structure) -> Result<Vec<usize>, AllocError>
     ensures { IfOk result (λ v. v.items ≡ range_with_len 0 (key_width structure.now)) }
 {
-    let width = key_width(alloc, structure)?;
-    numbers(alloc, width)
+    numbers(alloc, structure.key_width())
 }
 
 // The row of a number, or no cells past the last one.

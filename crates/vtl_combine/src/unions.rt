@@ -1,6 +1,10 @@
 // `union`
+//
+// A `union` of two goes by a look-up, of more by groups: the second of two gives only the points that the first
+// lacks, so each cell is copied once; of many, each would ask all that stand before it.
 ghost use Rattle.std.specs.List.{flat_map};
 ghost use Rattle.std.specs.Prelude.{◌≡◌, [], ◌∷◌, All, IfOk};
+ghost use Rattle.vtl_rows.specs.Tables.{listed};
 ghost use Rattle.vtl_tree.specs.Shown.{shown};
 ghost use Rattle.vtl_tree.specs.Structure.{IsStructure};
 ghost use Rattle.vtl_sets.specs.DataSets.{data_set};
@@ -13,7 +17,7 @@ ghost use Rattle.vtl_combine.specs.Operands.{HasColumns};
 
 use crate::differences::reduced_rows;
 use crate::firsts::once_by_key;
-use crate::rows::{all_rows, are_data_sets, key_width};
+use crate::rows::{all_rows, are_data_sets};
 use std::alloc::{AllocError, Global};
 use vtl_rows::Table;
 use vtl_sets::{DataSet, new_table};
@@ -39,13 +43,12 @@ fn united_by_keys(
     made: &Structure,
 ) -> Result<Table, AllocError>
     requires { AreCombined (structures_of (shown operands.now)) made.now }
-    ensures table { IfOk result (IsTableOf made.now) }
+    ensures table { IfOk result (λ t. IsTableOf made.now (listed t)) }
     ensures rows { IfOk result (λ t. t.rows ≡ union_of (shown operands.now) made.now) }
 {
     are_data_sets(operands);
     let all = all_points(alloc, operands, made)?;
-    let width = key_width(alloc, made)?;
-    once_by_key(alloc, all, width)
+    once_by_key(alloc, all, made.key_width())
 }
 
 // The points of the first of two operands, and those of the second whose identifiers the first lacks. Each cell is copied
@@ -57,7 +60,7 @@ fn united_pair(
     made: &Structure,
 ) -> Result<Table, AllocError>
     requires { IsCombined a.now.structure (b.now.structure ∷ []) made.now }
-    ensures table { IfOk result (IsTableOf made.now) }
+    ensures table { IfOk result (λ t. IsTableOf made.now (listed t)) }
     ensures rows { IfOk result (λ t. t.rows ≡ union_of (a.now ∷ b.now ∷ []) made.now) }
 {
     are_data_sets(&[a, b]);
@@ -69,7 +72,7 @@ fn united_pair(
 
 fn union_table(alloc: Global, operands: &[&DataSet], made: &Structure) -> Result<Table, AllocError>
     requires { AreCombined (structures_of (shown operands.now)) made.now }
-    ensures table { IfOk result (IsTableOf made.now) }
+    ensures table { IfOk result (λ t. IsTableOf made.now (listed t)) }
     ensures rows { IfOk result (λ t. t.rows ≡ union_of (shown operands.now) made.now) }
 {
     match operands {

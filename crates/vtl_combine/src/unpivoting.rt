@@ -2,7 +2,7 @@
 ghost use Rattle.std.specs.List.{AllByRecursion, flat_map};
 ghost use Rattle.std.specs.Option.{option_to_list};
 ghost use Rattle.std.specs.Prelude.{◌≡◌, ℕ, true, ◌++◌, ◌∷◌, [], List, map, IfOk, IfSome, OnOk};
-ghost use Rattle.vtl_rows.specs.Tables.{cells_at, fits};
+ghost use Rattle.vtl_rows.specs.Tables.{cells_at, fits, listed};
 ghost use Rattle.vtl_tree.specs.Structure.{columns_of};
 ghost use Rattle.vtl_sets.specs.DataSets.{data_set};
 ghost use Rattle.vtl_sets.specs.TableOf.{IsTableOf};
@@ -78,7 +78,7 @@ fn push_value(
         Some(value) => {
             cells.clear();
             push_named(cells, row, identifiers, measure.name, value)?;
-            out.push_cells(cells)
+            out.push_moved(cells)
         }
     }
 }
@@ -103,7 +103,7 @@ fn push_unpivoted(
 
 fn unpivot_table(alloc: Global, a: &DataSet, made: &Structure) -> Result<Table, AllocError>
     requires { (id : List ℕ) × (measure : List ℕ) × IsUnpivoted id measure a.now.structure made.now }
-    ensures table { IfOk result (IsTableOf made.now) }
+    ensures table { IfOk result (λ t. IsTableOf made.now (listed t)) }
     ensures rows { IfOk result (λ t. t.rows ≡ unpivot_of a.now) }
 {
     let structure = a.structure();

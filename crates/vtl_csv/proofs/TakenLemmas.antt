@@ -1,67 +1,43 @@
--- Rows that are taken from the records of a file, as cells in one list.
-use Rattle.std.proofs.Common.{◌≡◌, ℕ, ◌+◌, ◌*◌, ◌<◌, List, [], ◌∷◌, ◌++◌, None, Some, Result, Ok, Err, length, map, take, arith, refl, sym, ap, ◌∙◌, subst}
-use Rattle.std.proofs.lemmas.List.{length-map}
+-- Rows that are taken from the records of a file.
+use Rattle.std.proofs.Common.{◌≡◌, ℕ, List, [], ◌∷◌, ◌++◌, None, Some, Option, Result, Ok, Err, length, map, true, refl, sym, ap, ◌∙◌, subst}
 use Rattle.vtl_lists.specs.Aliases.{Record}
 use Rattle.vtl_cell.specs.declared.cell.Cell.{Cell}
 use Rattle.vtl_cell.specs.Row.{Row}
 use Rattle.vtl_decimal.specs.Settings.{Settings}
-use Rattle.vtl_rows.specs.declared.column.Column.{Column}
-use Rattle.vtl_rows.specs.Flat.{IsFlat, flat_rows}
-use Rattle.vtl_rows.proofs.Flats.{IsFlat-none, IsFlat-push, length-flat_rows, rows_push}
+use Rattle.vtl_rows.specs.Tables.{fits}
 use Rattle.vtl_tree.specs.declared.structure.Component.{Component}
 use Rattle.vtl_sets.specs.TableOf.{column_for}
 use Rattle.vtl_csv.specs.InputFields.{Flaw, record_row}
 use Rattle.vtl_csv.specs.InputSteps.{AddsRow, on_row, taken, taken_with}
 use Rattle.vtl_csv.proofs.InputPointLemmas.{record_fits}
 
--- a file's table has as many columns as the file
-as_wide : (xs : List Component) → length (map column_for xs) ≡ length xs
-as_wide xs = length-map xs column_for
-
--- the rows of flat cells, by the columns of the file or of its table
-rows_as_wide : (xs : List Component) (below : List Column) (count : ℕ) (cells : List Cell) → below ≡ map column_for xs → flat_rows (length below) count cells ≡ flat_rows (length xs) count cells
-rows_as_wide xs below count cells e = ap (λ w. flat_rows w count cells) (ap length e ∙ as_wide xs)
-
--- the cells are those of the rows taken so far, and with the records that are left these give what all records give
-pub record AreTaken (p : Settings) (xs : List Component) (count : ℕ) (cells : List Cell) (rest all : List Record) : Type 0 where
-  pub flat : IsFlat (map column_for xs) count cells
-  pub goes_on : taken_with p xs (flat_rows (length xs) count cells) rest ≡ taken_with p xs [] all
-
-pub taken_none : (p : Settings) (xs : List Component) (cells : List Cell) (all : List Record) → 0 < length xs → cells ≡ [] → AreTaken p xs 0 cells all all
-taken_none p xs cells all some none =
-    let wide : 0 < length (map column_for xs) = let l = as_wide xs in omega (arith, l, some) in
-    record { flat = IsFlat-none (map column_for xs) cells wide none; goes_on = refl }
-
-module _ (p : Settings) (xs : List Component) (count : ℕ) (cells : List Cell) (rest left all : List Record) (fields : Record) (are : AreTaken p xs count cells rest all) (one : rest ≡ fields ∷ left) where
-  step : (r : Result Row Flaw) → record_row p xs count fields ≡ r → on_row (flat_rows (length xs) count cells) (λ rows. taken_with p xs rows left) r ≡ taken_with p xs [] all
-  step r e =
-      let before = flat_rows (length xs) count cells in
-      let met : record_row p xs (length before) fields ≡ r = ap (λ n. record_row p xs n fields) (length-flat_rows (length xs) count cells) ∙ e in
-      ap (on_row before (λ rows. taken_with p xs rows left)) (sym met) ∙ ap (taken_with p xs before) (sym one) ∙ are.goes_on
+-- the rows taken so far, with those of the records that are left, give what all records give
+module _ (p : Settings) (xs : List Component) (rows : List Row) (rest left all : List Record) (fields : Record) (are : taken_with p xs rows rest ≡ taken_with p xs [] all) (one : rest ≡ fields ∷ left) where
+  step : (r : Result Row Flaw) → record_row p xs (length rows) fields ≡ r → on_row rows (λ more. taken_with p xs more left) r ≡ taken_with p xs [] all
+  step r e = ap (on_row rows (λ more. taken_with p xs more left)) (sym e) ∙ ap (taken_with p xs rows) (sym one) ∙ are
 
   -- the record is one more row
-  pub taken_more : (after : List Cell) → AddsRow cells after None (record_row p xs count fields) → AreTaken p xs (count + 1) after left all
-  taken_more after adds = go (record_row p xs count fields) refl adds
+  pub taken_more : (after : List Cell) → AddsRow [] after None (record_row p xs (length rows) fields) → (fits (map column_for xs) after ≡ true) × (taken_with p xs (rows ++ after ∷ []) left ≡ taken_with p xs [] all)
+  taken_more after adds = go (record_row p xs (length rows) fields) refl adds
     where
-      go : (r : Result Row Flaw) → record_row p xs count fields ≡ r → AddsRow cells after None r → AreTaken p xs (count + 1) after left all
+      go : (r : Result Row Flaw) → record_row p xs (length rows) fields ≡ r → AddsRow [] after None r → (fits (map column_for xs) after ≡ true) × (taken_with p xs (rows ++ after ∷ []) left ≡ taken_with p xs [] all)
       go (Err flaw) e h = let bad : None ≡ Some flaw = h.0 in cc
       go (Ok row) e h =
-          let below = map column_for xs in
-          let fit = record_fits p xs count fields row below refl e in
-          let more = sym (rows_as_wide xs below (count + 1) (cells ++ row) refl) ∙ rows_push below count cells row are.flat fit ∙ ap (λ rows. rows ++ row ∷ []) (rows_as_wide xs below count cells refl) in
-          subst (λ l. AreTaken p xs (count + 1) l left all) (sym h.1) (record {
-            flat = IsFlat-push below count cells row are.flat fit;
-            goes_on = ap (λ rows. taken_with p xs rows left) more ∙ step (Ok row) e;
-          })
+          (subst (λ l. fits (map column_for xs) l ≡ true) (sym h.1) (record_fits p xs (length rows) fields row (map column_for xs) refl e), ap (λ l. taken_with p xs (rows ++ l ∷ []) left) h.1 ∙ step (Ok row) e)
 
-  -- the record has a flaw: no row is taken from it on, and the cells before it are still in front
-  pub taken_stops : (after : List Cell) (flaw : Flaw) → AddsRow cells after (Some flaw) (record_row p xs count fields)
-      → (take (count * length xs) after ≡ cells) × (taken (flat_rows (length xs) count cells) (Some flaw) ≡ taken_with p xs [] all)
-  taken_stops after flaw adds = go (record_row p xs count fields) refl adds
+  -- the record has a flaw: no row is taken from it on
+  pub taken_stops : (after : List Cell) (flaw : Flaw) → AddsRow [] after (Some flaw) (record_row p xs (length rows) fields) → taken rows (Some flaw) ≡ taken_with p xs [] all
+  taken_stops after flaw adds = go (record_row p xs (length rows) fields) refl adds
     where
-      go : (r : Result Row Flaw) → record_row p xs count fields ≡ r → AddsRow cells after (Some flaw) r
-          → (take (count * length xs) after ≡ cells) × (taken (flat_rows (length xs) count cells) (Some flaw) ≡ taken_with p xs [] all)
+      go : (r : Result Row Flaw) → record_row p xs (length rows) fields ≡ r → AddsRow [] after (Some flaw) r → taken rows (Some flaw) ≡ taken_with p xs [] all
       go (Ok row) e h = let bad : Some flaw ≡ None = h.0 in cc
-      go (Err other) e h =
-          let whole : count * length xs ≡ length cells = ap (λ w. count * w) (sym (as_wide xs)) ∙ sym are.flat.whole in
-          (ap (λ n. take n after) whole ∙ h.1, ap (taken (flat_rows (length xs) count cells)) h.0 ∙ step (Err other) e)
+      go (Err other) e h = ap (taken rows) h.0 ∙ step (Err other) e
+
+-- cells that a record adds to none, seen with another count and flaw that are equal
+pub adds_to_none : (p : Settings) (xs : List Component) (fields : Record) (before after : List Cell) (flaw other : Option Flaw) (count n : ℕ) → before ≡ [] → flaw ≡ other → count ≡ n
+    → AddsRow before after flaw (record_row p xs count fields)
+    → AddsRow [] after other (record_row p xs n fields)
+adds_to_none p xs fields before after flaw other count n e f k adds =
+    subst (λ l. AddsRow l after other (record_row p xs n fields)) e
+    (subst (λ o. AddsRow before after o (record_row p xs n fields)) f
+    (subst (λ m. AddsRow before after flaw (record_row p xs m fields)) k adds))

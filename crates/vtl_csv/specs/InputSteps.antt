@@ -5,7 +5,7 @@ use Rattle.vtl_lists.specs.Aliases.{Record}
 use Rattle.vtl_decimal.specs.Settings.{Settings}
 use Rattle.vtl_cell.specs.Row.{Row}
 use Rattle.vtl_cell.specs.declared.cell.Cell.{Cell}
-use Rattle.vtl_rows.specs.Tables.{Listed}
+use Rattle.vtl_rows.specs.Tables.{Tabled}
 use Rattle.vtl_tree.specs.declared.structure.Component.{Component}
 use Rattle.vtl_tree.specs.declared.structure.Structure.{Structure}
 use Rattle.vtl_sets.specs.TableOf.{table_columns}
@@ -79,6 +79,6 @@ rows_outcome rows None = Ok rows
 rows_outcome rows (Some fault) = Err fault
 
 -- a table of the structure with the rows, or the fault
-abbrev pub Answers : Structure → Result Listed FaultFields → Result (List Row) Fault → Type 0
+abbrev pub Answers : Structure → Result Tabled FaultFields → Result (List Row) Fault → Type 0
 Answers s (Ok table) what = (table.columns ≡ table_columns s) × (what ≡ Ok table.rows)
 Answers s (Err fault) what = what ≡ Err (fault_of fault)

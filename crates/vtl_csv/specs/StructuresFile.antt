@@ -8,6 +8,7 @@ use Rattle.vtl_lists.specs.Results.{◌>>=◌}
 use Rattle.vtl_tree.specs.declared.structure.Component.{Component}
 use Rattle.vtl_tree.specs.declared.structure.Role.TheVariants as r
 use Rattle.vtl_tree.specs.Structure.{same_role}
+use Rattle.vtl_tree.specs.NotNull.{Declared}
 use Rattle.vtl_tree.specs.Structures.{Named, components_of, with_component}
 use Rattle.vtl_csv.specs.declared.structures.StructErr.{StructErr}
 use Rattle.vtl_csv.specs.declared.structures.StructErr.TheVariants as e
@@ -66,9 +67,9 @@ records_in text = records default_config (strip_bom text)
 abbrev pub structures_of_file : Bytes → Result Named Fault
 structures_of_file text = lines_in (records_in text) >>= with_identifiers (drop 1 (records_in text))
 
--- an answer gives this; want of memory may come instead
-abbrev pub Gives : Result Named StructErr → Result Named Fault → Type 0
-Gives (Ok s) what = what ≡ Ok s
+-- an answer gives this, and no not-null list; want of memory may come instead
+abbrev pub Gives : Result Declared StructErr → Result Named Fault → Type 0
+Gives (Ok s) what = (what ≡ Ok s.sets) × (s.not_null ≡ [])
 Gives (Err (e.Structure line rule)) what = what ≡ Err (line, rule)
 Gives (Err e.OutOfMemory) what = Unit {0}
 

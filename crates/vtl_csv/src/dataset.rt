@@ -1,6 +1,9 @@
 // The data set that a CSV file holds.
+//
+// All cells of a file go into one list, each at once where it stays. Room for it is reserved by the lines at the
+// front of the file: a list that doubles would hold twice its cells.
 ghost use Rattle.std.specs.Prelude.{◌≡◌, ◌<◌, ◌≤◌, [], length, map, take, option_map, All, IfOk, IfSome, Ok};
-ghost use Rattle.vtl_rows.specs.Flat.{IsFlat, flat_rows};
+ghost use Rattle.vtl_rows.specs.Tables.{listed, listed_in};
 ghost use Rattle.vtl_tree.specs.DataSet.{AreOfProfile};
 ghost use Rattle.vtl_tree.specs.Structure.{IsStructure, key_width};
 ghost use Rattle.vtl_sets.specs.TableOf.{IsTableOf, column_for};
@@ -16,7 +19,6 @@ use crate::records::RecordReader;
 use crate::repeats::first_repeat;
 use crate::text_pool::pools;
 use std::alloc::{AllocError, Global};
-use vtl_cell::Cell;
 use vtl_decimal::Profile;
 use vtl_rows::{Column, Table};
 use vtl_sets::table_column;
@@ -49,50 +51,32 @@ fn columns_for(alloc: Global, file: &[FileColumn]) -> Result<Vec<Column>, AllocE
     Ok(columns)
 }
 
-// No cells, with room for those of this many rows, where there is so much.
-fn room_for(alloc: Global, rows: usize, width: usize) -> Vec<Cell>
-    ensures { result.items ≡ [] }
-{
-    let mut cells = Vec::new(alloc);
-    // Without this room the list grows as it is filled.
-    let _has_room = cells.reserve(rows.saturating_mul(width)).is_ok();
-    cells
-}
-
-// Where the taking of rows ended: behind how many rows, and at which flaw, if at one.
-#[derive(Clone, Copy)]
-struct Ending {
-    count: usize,
-    flaw: Option<Flaw>,
-}
-
-// Puts the rows of the records that are left into a list of no cells, one row after the other, up to the first flaw.
+// Puts the rows of the records that are left into a table of no rows, up to the first flaw, which is the answer.
 fn add_rows<'a>(
     alloc: Global,
-    cells: &mut Vec<Cell>,
+    table: &mut Table,
     columns: &[FileColumn],
     reader: &mut RecordReader<'a>,
     fields: &mut Fields<'a>,
     profile: &Profile,
-) -> Result<Ending, AllocError>
-    requires some { 0 < length columns.now }
-    requires none { cells.old.items ≡ [] }
-    ensures flat { IfOk result (λ e. IsFlat (map column_for columns.now) e.count cells.new.items) }
-    ensures rows { IfOk result (λ e. taken (flat_rows (length columns.now) e.count cells.new.items) (option_map flaw_of e.flaw) ≡ taken_with profile.now columns.now [] reader.old) }
+) -> Result<Option<Flaw>, AllocError>
+    requires columns { table.old.columns ≡ map column_for columns.now }
+    requires none { table.old.rows ≡ [] }
+    ensures columns { IfOk result (λ _. table.new.columns ≡ map column_for columns.now) }
+    ensures rows { IfOk result (λ flaw. taken table.new.rows (option_map flaw_of flaw) ≡ taken_with profile.now columns.now [] reader.old) }
 {
     let mut pools = pools(alloc, columns.len())?;
-    let mut count = 0usize;
+    let mut cells = Vec::with_capacity(alloc, columns.len())?;
     while reader.next(fields)? {
-        match fill_row(alloc, columns, &mut pools, count, fields, profile, cells)? {
-            None => count += 1,
-            Some(flaw) => {
-                cells.truncate(count * columns.len());
-                let flaw = Some(flaw);
-                return Ok(Ending { count, flaw });
-            }
+        let count = table.len();
+        match fill_row(
+            alloc, columns, &mut pools, count, fields, profile, &mut cells,
+        )? {
+            None => table.push_moved(&mut cells)?,
+            Some(flaw) => return Ok(Some(flaw)),
         }
     }
-    Ok(Ending { count, flaw: None })
+    Ok(None)
 }
 
 // A table of the records that are left, about so many, up to the first flaw, and that flaw, if there is one.
@@ -108,11 +92,11 @@ fn take_rows<'a>(
     ensures columns { IfOk result (λ r. r.0.columns ≡ map column_for columns.now) }
     ensures rows { IfOk result (λ r. taken r.0.rows (option_map flaw_of r.1) ≡ taken_with profile.now columns.now [] reader.old) }
 {
-    let table_columns = columns_for(alloc, columns)?;
-    let mut cells = room_for(alloc, expected, columns.len());
-    let ending = add_rows(alloc, &mut cells, columns, reader, fields, profile)?;
-    let table = Table::of_cells(table_columns, cells, ending.count);
-    Ok((table, ending.flaw))
+    let mut table = Table::new(alloc, columns_for(alloc, columns)?);
+    // Without this room the table grows as it is filled.
+    let _has_room = table.reserve_rows(expected).is_ok();
+    let flaw = add_rows(alloc, &mut table, columns, reader, fields, profile)?;
+    Ok((table, flaw))
 }
 
 // The first fault of a file with the rows of a table: the first repeat of identifiers, otherwise the flaw after the
@@ -257,8 +241,8 @@ pub fn read_dataset(
     profile: &Profile,
 ) -> Result<Table, InputErr>
     requires { IsStructure structure.now }
-    ensures rows { Reads structure.now result (dataset_rows profile.now structure.now text.now) }
-    ensures points { IfOk result (λ t. IsTableOf structure.now t) }
+    ensures rows { Reads structure.now (listed_in result) (dataset_rows profile.now structure.now text.now) }
+    ensures points { IfOk result (λ t. IsTableOf structure.now (listed t)) }
     ensures profile { IfOk result (λ t. AreOfProfile profile.now t.rows) }
 {
     match read_text(alloc, text, structure, profile) {

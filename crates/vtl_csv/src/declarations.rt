@@ -228,7 +228,7 @@ fn codes_of(
 
 // The components that a data set has.
 pub fn components<'a>(structures: &'a Structures, dataset: &Txt) -> &'a [Component]
-    ensures { result.now ≡ components_of dataset.now structures.now }
+    ensures { result.now ≡ components_of dataset.now structures.now.sets }
 {
     match structures.get(dataset) {
         Some(structure) => structure.components.as_slice(),
@@ -253,7 +253,7 @@ fn declared(
     structures: &Structures,
     line: Declaration<'_>,
 ) -> Result<Result<(Txt, Component), u8>, AllocError>
-    ensures { IfOk result (λ r. r ≡ declared_by structures.now (declaration_fields line.entry)) }
+    ensures { IfOk result (λ r. r ≡ declared_by structures.now.sets (declaration_fields line.entry)) }
 {
     let Some(dataset) = dataset_in(line.dataset) else {
         return Ok(Err(3));
@@ -294,7 +294,7 @@ pub fn component(
     structures: &Structures,
     fields: &Fields,
 ) -> Result<Result<(Txt, Component), u8>, AllocError>
-    ensures { IfOk result (λ r. r ≡ record_of structures.now fields.now) }
+    ensures { IfOk result (λ r. r ≡ record_of structures.now.sets fields.now) }
 {
     match read_declaration(fields) {
         Some(line) => declared(alloc, structures, line),

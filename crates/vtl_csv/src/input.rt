@@ -1,4 +1,6 @@
 // What is wrong with a CSV file of a data set.
+//
+// A fault names the column of the file, not of the structure, since a user looks into the file.
 
 use std::alloc::AllocError;
 use thiserror::Error;

@@ -1,4 +1,7 @@
 // Laws of the definitions of CSV texts.
+//
+// The round trip is a law on values that a program can hold (`IsHeld`); it leaves out the empty text, which is
+// written as null is.
 ghost use Rattle.std.specs.Prelude.{◌≡◌, ℕ, List, Ok};
 ghost use Rattle.std.specs.List.{range_with_len};
 ghost use Rattle.vtl_lists.specs.Perm.{Perm};

@@ -6,6 +6,10 @@
 //! Where files lie, and what is done with data sets, is left to others.
 //! It knows no operator, no expression and no script.
 //! Begin with specs/InputFile and specs/CsvText, then `dataset.rt` and `table_text.rt`.
+//!
+//! The form of a file is defined on the records that `csv` reads (`records`, any width, no header), whatever their
+//! quotes and line ends: a line is the number of a record, and a wrong number of fields is a matter of the form, not
+//! an error of `csv`.
 #![tactic(auto)]
 
 mod dataset;

@@ -1,4 +1,8 @@
 // Integers in their shortest spelling, read in one walk over their digits.
+//
+// A plain integer is read in one walk over its bytes (`plain_integer`: digits without a needless zero, a minus),
+// which shows too that they are UTF-8; every other numeral goes by the reader of numerals. Its contract says what it
+// gives, and not when, since the other way gives the same.
 ghost use Rattle.std.specs.Prelude.{◌≡◌, ◌≤◌, ◌<◌, ◌^◌, ◌∷◌, true, length, slice_index, if◌then◌else◌, unsigned_abs, IfSome, IsFalse, IsUtf8, Some};
 ghost use Rattle.std.specs.Char.{is_ascii_digit};
 ghost use Rattle.std.specs.Fmt.{decimal, signed_decimal};

@@ -1,4 +1,9 @@
 // Lines of a CSV text, and the records of those that have no quote mark.
+//
+// The fields of a line without a quote mark are parts of the text (`push_line`, `Fields`): nothing is copied, and
+// `csv` is asked from the first line with a quote mark on, to the end of the file. What is left of a text always
+// begins with the end of a line, so a byte order mark inside a file is never taken for one at its start. The reader
+// of `csv` lies in a box: it is large, and a local of the loop is cleared for each record.
 ghost use Rattle.std.specs.Prelude.{◌≡◌, ◌∷◌, ◌≤◌, [], length, IfOk, IfSome};
 ghost use Rattle.std.specs.List.{position_or_len};
 ghost use Rattle.csv.specs.Quoting.{needs_byte};

@@ -1,4 +1,7 @@
 // Columns of a structure, and their names.
+//
+// The definition goes line by line; the code does not: it takes rows up to the first flaw and then asks the table
+// once for the first repeat of identifiers. That the two agree is the lemma `outcome_is`.
 ghost use Rattle.std.specs.Prelude.{◌≡◌, ◌<◌, length, slice_index_or, encode_utf8_all};
 ghost use Rattle.vtl_tree.specs.Shown.{shown};
 ghost use Rattle.vtl_tree.specs.Structure.{same_name};

@@ -1,4 +1,6 @@
 // The records of a CSV text, one after the other.
+//
+// An error of `csv` over memory is answered as out of memory: a slice and a `Vec` have no other. That is not proved.
 ghost use Rattle.std.specs.Prelude.{◌≡◌, ◌∷◌, [], IfOk, OnErr};
 ghost use Rattle.std.specs.Bool.{OnTrue, OnFalse};
 ghost use Rattle.csv.specs.Reading.{default_config, records, strip_bom};

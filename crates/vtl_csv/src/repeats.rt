@@ -1,5 +1,10 @@
 // The first repeat of identifiers. Where one identifier is a number that no other row has, there is none, and no row
 // needs to be looked for among the others.
+//
+// Integers of an identifier that all differ leave no repeat (`first_repeat`): that is seen in one walk with a mark
+// for each number, where they lie near together. Only where no identifier is of this kind are rows looked for among
+// the others, by hash. A mark stands for a distance from the least number, and equal cells have equal distances; no
+// more is proved of it.
 ghost use Rattle.std.specs.Prelude.{◌≡◌, ◌<◌, length, All, IfOk};
 ghost use Rattle.std.specs.Bool.{OnTrue};
 ghost use Rattle.vtl_cell.specs.Row.{column_of};

@@ -1,7 +1,8 @@
 // The structures that a structures file declares.
-ghost use Rattle.std.specs.Prelude.{◌≡◌, ◌+◌, ◌<◌, ◌^◌, [], IfOk, drop, length, option_map};
+ghost use Rattle.std.specs.Prelude.{◌≡◌, ◌+◌, ◌<◌, ◌^◌, [], IfOk, OnOk, drop, length, option_map};
 ghost use Rattle.std.specs.List.{list_any};
 ghost use Rattle.vtl_csv.specs.StructuresFile.{Gives, is_header, is_identifier, lacks_identifier, lines_declare, lines_in, outcome, records_in, structures_of_file, with_record, without_identifier};
+ghost use Rattle.vtl_tree.specs.NotNull.{no_sets};
 ghost use Rattle.vtl_csv.specs.FaultFields.{answer_of, fault_of};
 
 use crate::declarations::{component, components, data_set_name, is_heading, read_declaration};
@@ -82,7 +83,7 @@ fn lacks_identifier(
     structures: &Structures,
     fields: &Fields,
 ) -> Result<bool, AllocError>
-    ensures { IfOk result (λ b. b ≡ lacks_identifier structures.now fields.now) }
+    ensures { IfOk result (λ b. b ≡ lacks_identifier structures.now.sets fields.now) }
 {
     let Some(line) = read_declaration(fields) else {
         return Ok(false);
@@ -102,7 +103,7 @@ fn without_identifier<'a>(
     fields: &mut Fields<'a>,
 ) -> Result<Option<u64>, AllocError>
     requires { length reader.old < 2 ^ 63 }
-    ensures { IfOk result (λ o. o ≡ without_identifier 2 structures.now reader.old) }
+    ensures { IfOk result (λ o. o ≡ without_identifier 2 structures.now.sets reader.old) }
 {
     let mut line = 2;
     while reader.next(fields)? {
@@ -120,7 +121,8 @@ fn add_record(
     structures: &mut Structures,
     fields: &Fields,
 ) -> Result<Option<u8>, AllocError>
-    ensures { IfOk result (λ o. outcome structures.new o ≡ with_record structures.old fields.now) }
+    ensures sets { IfOk result (λ o. outcome structures.new.sets o ≡ with_record structures.old.sets fields.now) }
+    ensures lists { OnOk result (structures.new.not_null ≡ structures.old.not_null) }
 {
     match component(alloc, structures, fields)? {
         Ok((dataset, component)) => {
@@ -139,7 +141,8 @@ fn add_records<'a>(
     fields: &mut Fields<'a>,
 ) -> Result<Option<Fault>, AllocError>
     requires { length reader.old < 2 ^ 63 }
-    ensures { IfOk result (λ o. outcome structures.new (option_map fault_of o) ≡ lines_declare 2 structures.old reader.old) }
+    ensures sets { IfOk result (λ o. outcome structures.new.sets (option_map fault_of o) ≡ lines_declare 2 structures.old.sets reader.old) }
+    ensures lists { OnOk result (structures.new.not_null ≡ structures.old.not_null) }
 {
     let mut line = 2;
     while reader.next(fields)? {
@@ -157,7 +160,7 @@ fn missing_identifier(
     structures: &Structures,
     text: &[u8],
 ) -> Result<Option<u64>, AllocError>
-    ensures { IfOk result (λ o. o ≡ without_identifier 2 structures.now (drop 1 (records_in text.now))) }
+    ensures { IfOk result (λ o. o ≡ without_identifier 2 structures.now.sets (drop 1 (records_in text.now))) }
 {
     let mut reader = RecordReader::new(alloc, text);
     let mut fields = Fields::new(alloc);
@@ -173,8 +176,9 @@ fn add_lines(
     structures: &mut Structures,
     text: &[u8],
 ) -> Result<Option<Fault>, AllocError>
-    requires { structures.old ≡ [] }
-    ensures { IfOk result (λ o. outcome structures.new (option_map fault_of o) ≡ lines_in (records_in text.now)) }
+    requires { structures.old ≡ no_sets }
+    ensures sets { IfOk result (λ o. outcome structures.new.sets (option_map fault_of o) ≡ lines_in (records_in text.now)) }
+    ensures lists { OnOk result (structures.new.not_null ≡ []) }
 {
     let mut reader = RecordReader::new(alloc, text);
     let mut fields = Fields::new(alloc);
@@ -186,7 +190,8 @@ fn add_lines(
 
 // The structures of a text or its first fault.
 fn read_text(alloc: Global, text: &[u8]) -> Result<Result<Structures, Fault>, AllocError>
-    ensures { IfOk result (λ r. answer_of r ≡ structures_of_file text.now) }
+    ensures sets { IfOk result (λ r. answer_of r ≡ structures_of_file text.now) }
+    ensures lists { IfOk result (λ r. IfOk r (λ s. s.not_null ≡ [])) }
 {
     let mut structures = Structures::new(alloc);
     if let Some(fault) = add_lines(alloc, &mut structures, text)? {
@@ -198,7 +203,7 @@ fn read_text(alloc: Global, text: &[u8]) -> Result<Result<Structures, Fault>, Al
     }
 }
 
-/// The structures that a structures file declares, or its first fault by line and then by rule; that a data set has no
+/// The structures that a structures file declares, without not-null lists, or its first fault by line and then by rule; that a data set has no
 /// identifier, rule 10, is looked at only where no line breaks another rule. It otherwise fails only if memory runs
 /// out.
 pub fn read_structures(alloc: Global, text: &[u8]) -> Result<Structures, StructErr>

@@ -1,4 +1,6 @@
 // The CSV text of a table.
+//
+// Rows are written where they lie, by places in order: a sorted copy would take as much memory as the table.
 ghost use Rattle.std.specs.Prelude.{◌≡◌, ◌<◌, ◌++◌, ◌∷◌, [], length, map, All, IfOk, OnOk};
 ghost use Rattle.std.specs.List.{range_with_len};
 ghost use Rattle.csv.specs.Records.{fields_of, partial_of};
@@ -6,6 +8,7 @@ ghost use Rattle.csv.specs.Writing.{default_writer, row_text};
 ghost use Rattle.vtl_cell.specs.Sorted.{rising};
 ghost use Rattle.vtl_rows.specs.Keys.{key_of, ordered};
 ghost use Rattle.vtl_rows.specs.Places.{row_at};
+ghost use Rattle.vtl_rows.specs.Tables.{listed};
 ghost use Rattle.vtl_tree.specs.Structure.{key_width};
 ghost use Rattle.vtl_sets.specs.TableOf.{IsTableOf};
 ghost use Rattle.vtl_csv.specs.CsvText.{csv_of};
@@ -33,7 +36,7 @@ pub fn write_table(
     profile: &Profile,
 ) -> Result<Vec<u8>, AllocError>
     requires { All (λ i. i < length table.now.columns) order.now }
-    ensures { IfOk result (λ text. text.items ≡ table_text profile.now order.now table.now) }
+    ensures { IfOk result (λ text. text.items ≡ table_text profile.now order.now (listed table.now)) }
 {
     let keys = keys_of(alloc, order, table.columns().len())?;
     sorted_text(alloc, table, &keys, profile)
@@ -47,7 +50,7 @@ pub fn write_dataset(
     structure: &Structure,
     profile: &Profile,
 ) -> Result<Vec<u8>, AllocError>
-    requires { IsTableOf structure.now table.now }
+    requires { IsTableOf structure.now (listed table.now) }
     ensures { IfOk result (λ text. text.items ≡ csv_of profile.now structure.now table.now.rows) }
 {
     let count = number_of_identifiers(alloc, structure)?;
@@ -77,11 +80,11 @@ fn number_of_identifiers(alloc: Global, structure: &Structure) -> Result<usize, 
 }
 
 // Keys that rise by listed columns, and then by the first ones.
-fn keys_of(alloc: Global, listed: &[usize], count: usize) -> Result<Vec<SortKey>, AllocError>
-    ensures { IfOk result (λ keys. map key_of keys.items ≡ map rising (listed.now ++ range_with_len 0 count)) }
+fn keys_of(alloc: Global, leading: &[usize], count: usize) -> Result<Vec<SortKey>, AllocError>
+    ensures { IfOk result (λ keys. map key_of keys.items ≡ map rising (leading.now ++ range_with_len 0 count)) }
 {
     let mut keys = Vec::new(alloc);
-    push_listed(&mut keys, listed)?;
+    push_listed(&mut keys, leading)?;
     push_first(&mut keys, count)?;
     Ok(keys)
 }

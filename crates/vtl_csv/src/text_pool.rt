@@ -1,4 +1,8 @@
 // Equal texts of a column that share one text.
+//
+// Equal texts of a column share one text, by slots with a limit, so that a field costs one hash and one comparison at
+// most; where most texts of a trial are new, no further one is kept. No contract speaks of it. A field that agrees
+// with a text that is held needs no test of its bytes.
 ghost use Rattle.std.specs.Prelude.{◌≡◌, vec_len, IfOk, IfSome, Some};
 ghost use Rattle.vtl_csv.specs.Declarations.{text_in};
 

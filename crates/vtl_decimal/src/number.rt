@@ -1,3 +1,4 @@
+// The order, equality and hash of `Dec` are those of its units, which is right within one profile alone.
 ghost use Rattle.std.specs.Prelude.{◌≡◌, ◌^◌, ◌<◌, ◌↔◌, IsSome, IfSome, unsigned_abs};
 ghost use Rattle.vtl_decimal.specs.Range.{fit_number};
 

@@ -1,3 +1,5 @@
+// A number literal has the value of its digits, however many they are (`read_literal`): the limit of 64 bytes is for
+// files.
 ghost use Rattle.std.specs.Prelude.{◌≡◌, ◌≤◌, ◌^◌, Some, None, IfOk, OnErr};
 ghost use Rattle.std.specs.Result.{result_ok};
 ghost use Rattle.vtl_decimal.specs.Numeral.{Numeral as NumeralSpec, SpellsNumeral, IsShort, signed, number_of, integer_of, number_spelled, integer_spelled, number_read, integer_read};

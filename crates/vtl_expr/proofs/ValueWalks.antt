@@ -4,7 +4,7 @@ use Rattle.std.proofs.lemmas.List.{map_more, take_more}
 use Rattle.vtl_decimal.specs.declared.number.Fault.{Fault}
 use Rattle.vtl_cell.specs.Outcome.{Outcome, fault_in, faults_by, join}
 use Rattle.vtl_cell.specs.declared.cell.Cell.{Cell}
-use Rattle.vtl_meaning.specs.Aggregates.{cell_or_null}
+use Rattle.vtl_meaning.specs.Points.{cell_or_null}
 use Rattle.vtl_tree.proofs.Faults.{faults_by-append, join_assoc, join_none}
 
 pub faults_next : {X : Type 0} (f : X → Option Fault) (xs : List X) (i : ℕ) (d : X) → i < length xs → faults_by f (take (i + 1) xs) ≡ join (faults_by f (take i xs)) (f (get_or xs i d))

@@ -2,7 +2,7 @@
 ghost use Rattle.std.specs.Prelude.{◌≡◌, ◌<◌, ◌++◌, Ok, IfOk, OnOk};
 ghost use Rattle.vtl_cell.specs.Outcomes.{is_true};
 ghost use Rattle.vtl_cell.specs.Row.{column_of};
-ghost use Rattle.vtl_rows.specs.Tables.{cells_at};
+ghost use Rattle.vtl_rows.specs.Tables.{cells_at, listed};
 ghost use Rattle.vtl_sets.specs.DataSets.{data_set};
 ghost use Rattle.vtl_meaning.specs.Made.{IsChoice};
 ghost use Rattle.vtl_meaning.specs.Operators.{choice_of};
@@ -69,7 +69,7 @@ fn push_taken<L: Ledger>(
         cells.clear();
         push_cells(cells, row, identifiers)?;
         push_cells(cells, point, &operand.measures)?;
-        out.push_cells(cells)?;
+        out.push_moved(cells)?;
     }
     Ok(())
 }
@@ -135,7 +135,7 @@ fn choice_table<L: Ledger>(
     requires parts { blank.parts ≡ L.parts }
     requires some { 0 < L.parts }
     requires made { IsChoice condition.now.structure then.now.structure other.now.structure made.now }
-    ensures table { IfOk result (IsTableOf made.now) }
+    ensures table { IfOk result (λ t. IsTableOf made.now (listed t)) }
     ensures rows { IfOk result (λ t. t.rows ≡ choice_of condition.now then.now other.now made.now) }
 {
     let mut steps: Steps<L> = Steps::new(blank);

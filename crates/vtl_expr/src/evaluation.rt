@@ -1,4 +1,8 @@
 // The value of an expression at a point or over a group.
+//
+// One evaluator serves points and groups (`value_at` over `Cells`): what it is evaluated at says what a column is and
+// what an aggregate is, as in the definition (`value_over`). A prepared expression has the value of its tree whatever
+// these are (`SameValue`), so one proof serves both.
 ghost use Rattle.std.specs.Prelude.{◌≡◌, ◌∷◌, length, map};
 ghost use Rattle.vtl_cell.specs.Outcome.{Outcome, after};
 ghost use Rattle.vtl_cell.specs.Outcomes.{all_of};

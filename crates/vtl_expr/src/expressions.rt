@@ -1,4 +1,7 @@
 // Expressions that are made from columns and other expressions.
+//
+// A column of a result is made of a component expression, made once for each call, and one walk evaluates the list at
+// each row (`each_point`).
 ghost use Rattle.std.specs.Prelude.{◌≡◌, ◌++◌, map, IfOk, OnOk};
 ghost use Rattle.vtl_tree.specs.Shown.{shown};
 ghost use Rattle.vtl_tree.specs.Structure.{columns_of};

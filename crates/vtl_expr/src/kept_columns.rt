@@ -1,10 +1,16 @@
 // Some of the columns of a data set.
-ghost use Rattle.std.specs.Prelude.{◌≡◌, IfOk};
+//
+// `keep`, `drop` and `a#m` take the data set itself: where all columns stay in their order the table stays, and where
+// nobody else owns it the cells that stay are moved. `rename` shares its cells.
+ghost use Rattle.std.specs.Prelude.{◌≡◌, ℕ, IfOk, List};
 ghost use Rattle.vtl_tree.specs.Structure.{columns_of};
 ghost use Rattle.vtl_sets.specs.DataSets.{data_set};
 ghost use Rattle.vtl_tree.specs.Columns.{places_in};
+ghost use Rattle.vtl_tree.specs.declared.choices.Choice.{Choice};
+ghost use Rattle.vtl_tree.specs.declared.names.Wanted.{Wanted};
 ghost use Rattle.vtl_meaning.specs.Made.{IsLeft};
 ghost use Rattle.vtl_meaning.specs.Operators.{left_of};
+ghost use Rattle.vtl_meaning.specs.Shapes.{IsChosen};
 ghost use Rattle.vtl_sets.specs.TableOf.{IsTableOf};
 
 use crate::places::places_in;
@@ -31,11 +37,12 @@ fn kept_table(alloc: Global, a: DataSet, made: &Structure) -> Result<SharedTable
     a.into_shared_table().into_projected(alloc, &places)
 }
 
-/// The points with the columns of this structure alone, which has all identifiers: `keep`, `drop` and `a#m`. The table
-/// stays where these are all columns in their order. Else its cells are moved together where it has no other owner and
-/// the columns keep their order, and are copied where not. It fails only if memory runs out.
+/// The points with the columns of this structure alone, which has all identifiers and what some names choose: `keep`,
+/// `drop` and `a#m`. The table stays where these are all columns in their order. Else its cells are moved together where
+/// it has no other owner and the columns keep their order, and are copied where not. It fails only if memory runs out.
 pub fn keep_columns(alloc: Global, a: DataSet, made: &Structure) -> Result<DataSet, AllocError>
-    requires { IsLeft a.structure made.now }
+    requires left { IsLeft a.structure made.now }
+    requires chosen { (w : Wanted) × (c : Choice) × (names : List (List ℕ)) × IsChosen w c names a.structure made.now }
     ensures { IfOk result (λ d. d ≡ data_set made.now (left_of a made.now)) }
 {
     let table = kept_table(alloc, a, made)?;

@@ -1,5 +1,6 @@
 // An operator on each measure of a data set.
 ghost use Rattle.std.specs.Prelude.{◌≡◌, ◌++◌, ◌∷◌, [], map, IfOk, OnOk};
+ghost use Rattle.vtl_rows.specs.Tables.{listed};
 ghost use Rattle.vtl_scalar.specs.Answers.{Answers, AnswersBy};
 ghost use Rattle.vtl_tree.specs.Shown.{shown};
 ghost use Rattle.vtl_tree.specs.Structure.{columns_of};
@@ -83,7 +84,7 @@ fn measured_table(
     p: &Profile,
 ) -> Result<Table, ScalarErr>
     requires { IsMeasured p.now (measure_tree op.now) a.now.structure made.now }
-    ensures table { IfOk result (IsTableOf made.now) }
+    ensures table { IfOk result (λ t. IsTableOf made.now (listed t)) }
     ensures rows { AnswersBy (λ t. t.rows) result (measured_of p.now (measure_tree op.now) a.now made.now) }
 {
     let exps = measured_exps(alloc, op, a.structure(), made)?;

@@ -1,9 +1,15 @@
 // An operator on the measures of two data sets.
+//
+// A pair of points is one row in two pieces: an operator on two operands is an operator on one, over the cells of one
+// row followed by those of its partner, and no such row is built.
+//
+// The operand that leads is chosen once (`Lead`): both sides, the pairs and the expressions follow from it, so a pair
+// has one walk and one proof for both ways.
 ghost use Rattle.std.specs.List.{flat_map};
 ghost use Rattle.std.specs.Prelude.{◌≡◌, ◌<◌, ◌++◌, true, cond, map, Some, IfOk, IfErr, OnOk};
 ghost use Rattle.vtl_cell.specs.Outcome.{faults_by, join};
 ghost use Rattle.vtl_cell.specs.Row.{Row};
-ghost use Rattle.vtl_rows.specs.Tables.{fits};
+ghost use Rattle.vtl_rows.specs.Tables.{fits, listed};
 ghost use Rattle.vtl_scalar.specs.Answers.{Answers, AnswersBy};
 ghost use Rattle.vtl_tree.specs.DataSet.{IsDataSet};
 ghost use Rattle.vtl_tree.specs.Structure.{IsStructure, columns_of};
@@ -170,7 +176,7 @@ fn pair_table(
     p: &Profile,
 ) -> Result<Table, ScalarErr>
     requires { IsPaired p.now op a.now.structure b.now.structure made.now }
-    ensures table { IfOk result (IsTableOf made.now) }
+    ensures table { IfOk result (λ t. IsTableOf made.now (listed t)) }
     ensures rows { AnswersBy (λ t. t.rows) result (pair_of p.now op a.now b.now made.now) }
 {
     let pair = Lead::of(alloc, a, b)?;

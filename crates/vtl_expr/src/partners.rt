@@ -1,4 +1,7 @@
 // The points of a data set by their identifiers.
+//
+// Partners are found by places: a look-up in the other operand's table is asked by the places of its identifiers in
+// the row that asks, so no key is copied and asking cannot fail.
 ghost use Rattle.std.specs.Prelude.{◌≡◌, IfOk};
 ghost use Rattle.std.specs.Option.{option_copied};
 ghost use Rattle.vtl_expr.specs.Partners.{found, sought_by};

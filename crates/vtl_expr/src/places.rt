@@ -1,4 +1,7 @@
 // Cells by the places of columns.
+//
+// Cells that were put before memory ran out are taken away again (`push_cells`): room alone does not help, since the
+// copy of a text may fail too.
 ghost use Rattle.std.specs.Prelude.{◌≡◌, ◌++◌, ◌∷◌, [], IfOk, OnOk, OnErr};
 ghost use Rattle.vtl_cell.specs.Row.{column_of};
 ghost use Rattle.vtl_rows.specs.Tables.{cells_at};

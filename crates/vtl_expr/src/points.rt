@@ -1,4 +1,9 @@
 // Points that are made one after the other.
+//
+// A result is filled through one list, which is emptied before each point and whose cells move into the table; the
+// table has room for as many rows as the operand that leads.
+//
+// An evaluated row is put into the table also where it has a fault; the table is given up at the end.
 ghost use Rattle.std.specs.Prelude.{◌≡◌, true, ◌++◌, ◌∷◌, [], map, IfOk, IfErr, OnOk, None};
 ghost use Rattle.vtl_cell.specs.Outcome.{Outcome, fault_in, join, unless};
 ghost use Rattle.vtl_cell.specs.declared.cell.Cell.{Cell};
@@ -96,7 +101,7 @@ impl Points {
         ensures rows { OnOk result (self.new.table.rows ≡ self.old.table.rows ++ self.old.cells.items ∷ []) }
         ensures seen { self.new.seen ≡ self.old.seen }
     {
-        self.table.push_cells(&mut self.cells)
+        self.table.push_moved(&mut self.cells)
     }
 
     /// The table, unless a value has a fault.

@@ -1,4 +1,8 @@
 // Expressions that are evaluated at many points or over many groups.
+//
+// An expression is prepared once for a node and evaluated over lent cells (`Prepared`, `Given`): sets of constants
+// stand in order, values that stand in the point or in the expression are lent, and memory is taken for new texts
+// alone. `eval` prepares for one point.
 ghost use Rattle.std.specs.Prelude.{◌≡◌, ◌<◌, IfOk, IfSome, drop, length, map};
 ghost use Rattle.vtl_cell.specs.declared.kind.Kind.{Kind};
 ghost use Rattle.vtl_tree.specs.CompExp.{call, const};
@@ -70,20 +74,6 @@ impl Drop for Prepared {
     }
 }
 
-// An equal call of an aggregate, whose text is shared.
-fn shared_call(call: &AggCall) -> Result<AggCall, AllocError>
-    ensures { IfOk result (λ shared. shared ≡ call.now) }
-{
-    let component = match &call.component {
-        Some(name) => Some(name.share()?),
-        None => None,
-    };
-    Ok(AggCall {
-        kind: call.kind,
-        component,
-    })
-}
-
 /// The expression, prepared: its value at each point and over each group is that of the tree. It fails only if memory
 /// runs out.
 #[cycle(preparing)]
@@ -96,7 +86,7 @@ pub fn prepare(alloc: Global, e: &CompExpr) -> Result<Prepared, AllocError>
             name: name.share()?,
         }),
         CompExpr::Const(cell) => Ok(Prepared::Const(clone_cell(cell)?)),
-        CompExpr::Aggregate { call, .. } => Ok(Prepared::Aggregate(shared_call(call)?)),
+        CompExpr::Aggregate { call, .. } => Ok(Prepared::Aggregate(call.share()?)),
         CompExpr::Apply { op, kind, args } => {
             let args = prepare_all(alloc, args)?;
             prepared_call(alloc, *op, *kind, args)

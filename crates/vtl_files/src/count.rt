@@ -1,3 +1,5 @@
+// A count stands still at the last value of its type, and then counts as having risen (`Rose`), so no call needs the
+// condition that a count has room.
 ghost use Rattle.std.specs.Prelude.{◌≡◌, ◌≤◌, ◌+◌, ◌-◌, ◌^◌, ℕ, min};
 
 use std::marker::Model;

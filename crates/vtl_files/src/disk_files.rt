@@ -1,3 +1,4 @@
+// A `finish` that fails leaves the file unfinished: closing gives no answer in Rust, so `DiskFiles` flushes first.
 ghost use Rattle.std.specs.Prelude.{◌≡◌, false, None, is_some, [], string_bytes};
 
 use crate::count::Count;

@@ -1,3 +1,13 @@
+// What is said of bytes is said where `held` and `written` are told, each for itself; causes by counts, what is closed
+// and which path is named hold for every object. So one contract fits files in memory and on the disk.
+//
+// `opened` is a meaning of its own: where `held` is not told, nothing else could say that `read` gives 0 where
+// nothing is open.
+//
+// `place` and `mark` bind a fault to a name: a body cannot bring on a fault elsewhere and answer for this file.
+//
+// A call out of turn fails and is counted (`misuses`), where a condition could have stood: every adapter and every
+// caller is total.
 ghost use Rattle.std.specs.Prelude.{◌≡◌, ◌≤◌, ◌<◌, ℕ, List, Bool, true, false, Option, None, Ok, length, is_ok, IsErr, OnOk, OnErr, IfOk, IfSome, string_bytes, []};
 ghost use Rattle.std.specs.Result.{result_unwrap_or};
 ghost use Rattle.vtl_files.specs.Mem.{Follows, MovesFew, Plan, ReadFollows};

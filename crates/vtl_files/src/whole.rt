@@ -1,3 +1,4 @@
+// A write that takes nothing of a piece that is not empty is a fault, so that writing ends.
 ghost use Rattle.std.specs.Prelude.{◌≡◌, ◌≢◌, ◌≤◌, ◌<◌, true, Err, OnOk, OnErr, IfOk, IfSome, length, vec_len};
 ghost use Rattle.vtl_files.specs.Outside.{Rose, FaultAt, bytes_at, AppendsAll, TakesAll};
 ghost use Rattle.vtl_files.specs.Whole.{ReadsAll, CountsAbsent, AppendsFront, TakesFront};

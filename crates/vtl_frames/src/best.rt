@@ -1,4 +1,7 @@
 // The least and the greatest cell of a frame, by a queue of places.
+//
+// The queue holds the places of the values that no value behind them beats, and its first is the best. What it holds
+// is a function of the frame's places alone (`best_places`), so coming and going are two equations.
 ghost use Rattle.std.specs.List.{All};
 ghost use Rattle.std.specs.Prelude.{◌≡◌, ◌<◌, [], IfOk, OnOk, length};
 ghost use Rattle.vtl_cell.specs.Row.{column_of};

@@ -1,4 +1,7 @@
 // What is kept of the cells of a frame that moves up its partition.
+//
+// What is kept is said by places, not by a list of cells: a place more behind and a place less in front are the only
+// steps.
 ghost use Rattle.std.specs.Prelude.{◌≡◌, ◌+◌, ◌<◌, ◌≤◌, ◌^◌, ◌++◌, ◌∷◌, [], ℕ, List, IfOk, OnOk, true, length};
 ghost use Rattle.vtl_cell.specs.Groups.{group_value};
 ghost use Rattle.vtl_cell.specs.declared.cell.Cell as cells;

@@ -1,5 +1,5 @@
 // Medians of frames.
-ghost use Rattle.std.specs.Prelude.{◌≡◌, ◌≤◌, ◌<◌, ◌^◌, ◌++◌, IfOk, OnOk, length};
+ghost use Rattle.std.specs.Prelude.{◌≡◌, ◌≤◌, ◌<◌, ◌^◌, ◌++◌, IfOk, OnErr, OnOk, length, take};
 ghost use Rattle.vtl_cell.specs.Groups.{group_value};
 ghost use Rattle.vtl_cell.specs.declared.operator.AggKind.TheVariants.{Median};
 ghost use Rattle.vtl_frames.specs.Framed.{at_each, cells_at, framed, places_from};
@@ -30,7 +30,7 @@ fn median_of<P: Partition>(
     Ok(acc.finish())
 }
 
-/// Puts the median of the frame of each row behind other values.
+/// Puts the median of the frame of each row behind other values. On Err some of them may stand there.
 pub(crate) fn push_medians<P: Partition>(
     alloc: Global,
     out: &mut Vec<Result<Cell, Fault>>,
@@ -38,7 +38,8 @@ pub(crate) fn push_medians<P: Partition>(
     frame: Frame,
     p: &Profile,
 ) -> Result<(), AllocError>
-    ensures { OnOk result (out.new.items ≡ out.old.items ++ at_each (λ i. group_value p.now Median (framed frame i (P.cells cells.now))) (P.cells cells.now)) }
+    ensures ok { OnOk result (out.new.items ≡ out.old.items ++ at_each (λ i. group_value p.now Median (framed frame i (P.cells cells.now))) (P.cells cells.now)) }
+    ensures err { OnErr result (take (length out.old.items) out.new.items ≡ out.old.items) }
 {
     let count = cells.len();
     for place in 0..count {

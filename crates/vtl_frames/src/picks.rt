@@ -1,9 +1,10 @@
 // Cells at the ends of frames, and cells some places away.
-ghost use Rattle.std.specs.Prelude.{◌≡◌, ◌++◌, ◌∷◌, [], ◌<◌, IfOk, IfSome, Ok, OnOk, length};
+ghost use Rattle.std.specs.Prelude.{◌≡◌, ◌++◌, ◌∷◌, [], ◌<◌, IfOk, IfSome, Ok, OnErr, OnOk, length, take};
 ghost use Rattle.vtl_frames.specs.Framed.{at_each, framed};
 ghost use Rattle.vtl_frames.specs.Picks.{cell_or, end_cell, end_place, place_away, shifted};
 
 use crate::bounds::Cut;
+use crate::taken_back::or_taken_back;
 use crate::{Frame, Partition};
 use std::alloc::AllocError;
 use vtl_cell::{Cell, clone_cell};
@@ -67,15 +68,15 @@ fn cell_or<P: Partition>(
     })
 }
 
-/// Puts the cell at an end of each row's frame behind other values, null where the frame is empty. It fails only if
-/// memory runs out.
-pub fn push_ends<P: Partition>(
+// Puts the cell at an end of each row's frame behind other values. On Err some of them may stand there.
+fn put_ends<P: Partition>(
     out: &mut Vec<Result<Cell, Fault>>,
     cells: &P,
     frame: Frame,
     end: End,
 ) -> Result<(), AllocError>
-    ensures { OnOk result (out.new.items ≡ out.old.items ++ at_each (λ i. Ok (end_cell end (framed frame i (P.cells cells.now)))) (P.cells cells.now)) }
+    ensures ok { OnOk result (out.new.items ≡ out.old.items ++ at_each (λ i. Ok (end_cell end (framed frame i (P.cells cells.now)))) (P.cells cells.now)) }
+    ensures err { OnErr result (take (length out.old.items) out.new.items ≡ out.old.items) }
 {
     let count = cells.len();
     for place in 0..count {
@@ -86,16 +87,32 @@ pub fn push_ends<P: Partition>(
     Ok(())
 }
 
-/// Puts the cell so many places before each row, or behind it, behind other values, and the default where there is no
-/// such place. It fails only if memory runs out.
-pub fn push_shifted<P: Partition>(
+/// Puts the cell at an end of each row's frame behind other values, null where the frame is empty. It fails only if
+/// memory runs out; then the others are as they were.
+pub fn push_ends<P: Partition>(
+    out: &mut Vec<Result<Cell, Fault>>,
+    cells: &P,
+    frame: Frame,
+    end: End,
+) -> Result<(), AllocError>
+    ensures ok { OnOk result (out.new.items ≡ out.old.items ++ at_each (λ i. Ok (end_cell end (framed frame i (P.cells cells.now)))) (P.cells cells.now)) }
+    ensures err { OnErr result (out.new.items ≡ out.old.items) }
+{
+    let before = out.len();
+    let put = put_ends(out, cells, frame, end);
+    or_taken_back(out, before, put)
+}
+
+// Puts the cell so many places before each row, or behind it, behind other values. On Err some of them may stand there.
+fn put_shifted<P: Partition>(
     out: &mut Vec<Result<Cell, Fault>>,
     cells: &P,
     shift: Shift,
     distance: usize,
     default: &Cell,
 ) -> Result<(), AllocError>
-    ensures { OnOk result (out.new.items ≡ out.old.items ++ at_each (λ i. Ok (shifted shift distance default.now i (P.cells cells.now))) (P.cells cells.now)) }
+    ensures ok { OnOk result (out.new.items ≡ out.old.items ++ at_each (λ i. Ok (shifted shift distance default.now i (P.cells cells.now))) (P.cells cells.now)) }
+    ensures err { OnErr result (take (length out.old.items) out.new.items ≡ out.old.items) }
 {
     let count = cells.len();
     for place in 0..count {
@@ -103,4 +120,21 @@ pub fn push_shifted<P: Partition>(
         out.push(Ok(cell_or(default, cells, away)?))?;
     }
     Ok(())
+}
+
+/// Puts the cell so many places before each row, or behind it, behind other values, and the default where there is no
+/// such place. It fails only if memory runs out; then the others are as they were.
+pub fn push_shifted<P: Partition>(
+    out: &mut Vec<Result<Cell, Fault>>,
+    cells: &P,
+    shift: Shift,
+    distance: usize,
+    default: &Cell,
+) -> Result<(), AllocError>
+    ensures ok { OnOk result (out.new.items ≡ out.old.items ++ at_each (λ i. Ok (shifted shift distance default.now i (P.cells cells.now))) (P.cells cells.now)) }
+    ensures err { OnErr result (out.new.items ≡ out.old.items) }
+{
+    let before = out.len();
+    let put = put_shifted(out, cells, shift, distance, default);
+    or_taken_back(out, before, put)
 }

@@ -1,5 +1,8 @@
 // Shares of the total of a partition.
-ghost use Rattle.std.specs.Prelude.{◌≡◌, ◌^◌, ◌<◌, ◌≤◌, ◌++◌, ◌*ℤ◌, OnOk, length, unsigned_abs};
+//
+// `ratio_to_report` looks at the value first: null for a null value whatever the total is; then the total's fault,
+// then a total of 0, then the quotient's range.
+ghost use Rattle.std.specs.Prelude.{◌≡◌, ◌^◌, ◌<◌, ◌≤◌, ◌++◌, ◌*ℤ◌, OnErr, OnOk, length, take, unsigned_abs};
 ghost use Rattle.vtl_cell.specs.Groups.{ratio_of, units_of};
 ghost use Rattle.vtl_cell.specs.Row.{column_of};
 ghost use Rattle.vtl_decimal.specs.Operators as decimal;
@@ -7,6 +10,7 @@ ghost use Rattle.vtl_frames.specs.Framed.{at_each};
 ghost use Rattle.vtl_frames.specs.Ratios.{ratio_to, total_number};
 
 use crate::Partition;
+use crate::taken_back::or_taken_back;
 use crate::totals::Totals;
 use std::alloc::AllocError;
 use vtl_agg::{quotient, unit, units};
@@ -57,17 +61,33 @@ fn ratio(c: &Cell, total: &Result<Dec, Fault>, p: &Profile) -> Result<Cell, Faul
     }
 }
 
-/// Puts the share that each cell has of the total behind other values. It fails only if memory runs out.
-pub fn push_ratios<P: Partition>(
+// Puts the share that each cell has of the total behind other values. On Err some of them may stand there.
+fn put_ratios<P: Partition>(
     out: &mut Vec<Result<Cell, Fault>>,
     cells: &P,
     p: &Profile,
 ) -> Result<(), AllocError>
-    ensures { OnOk result (out.new.items ≡ out.old.items ++ at_each (λ i. ratio_of p.now (column_of i (P.cells cells.now)) (P.cells cells.now)) (P.cells cells.now)) }
+    ensures ok { OnOk result (out.new.items ≡ out.old.items ++ at_each (λ i. ratio_of p.now (column_of i (P.cells cells.now)) (P.cells cells.now)) (P.cells cells.now)) }
+    ensures err { OnErr result (take (length out.old.items) out.new.items ≡ out.old.items) }
 {
     let total = total_of(cells, p);
     for place in 0..cells.len() {
         out.push(ratio(cells.cell(place), &total, p))?;
     }
     Ok(())
+}
+
+/// Puts the share that each cell has of the total behind other values. It fails only if memory runs out; then the others
+/// are as they were.
+pub fn push_ratios<P: Partition>(
+    out: &mut Vec<Result<Cell, Fault>>,
+    cells: &P,
+    p: &Profile,
+) -> Result<(), AllocError>
+    ensures ok { OnOk result (out.new.items ≡ out.old.items ++ at_each (λ i. ratio_of p.now (column_of i (P.cells cells.now)) (P.cells cells.now)) (P.cells cells.now)) }
+    ensures err { OnErr result (out.new.items ≡ out.old.items) }
+{
+    let before = out.len();
+    let put = put_ratios(out, cells, p);
+    or_taken_back(out, before, put)
 }

@@ -1,4 +1,7 @@
 // Row numbers in an order, cut where the rows no longer tie.
+//
+// Row numbers are cut once for both languages: contracts see the list of the stretches, which together are the row
+// numbers (`joined`), so a caller goes over them one by one and need not know where they begin.
 ghost use Rattle.std.specs.Prelude.{◌≡◌, ◌<◌, [], IfOk, length, slice_index_or};
 ghost use Rattle.vtl_frames.specs.Stretches.{start_at, stretches_of};
 

@@ -1,4 +1,7 @@
 // The exact totals of values that come and go.
+//
+// Totals go back exactly: those of integers and of numbers are exact integers, so a cell that goes is taken away. How
+// many of the values are integers is counted, since with the last number the total becomes an integer again.
 ghost use Rattle.std.specs.Int.{w128};
 ghost use Rattle.std.specs.Prelude.{◌≡◌, ◌^◌, ◌<◌, ◌≤◌, ◌+ℤ◌, ◌*ℤ◌, [], FitsSigned, IfNone, IfSome, SomeIff, unsigned_abs};
 ghost use Rattle.vtl_agg.specs.Added.{mean_units, sum_value, units_in};

@@ -19,7 +19,8 @@ use Rattle.vtl_tree.specs.Trees.{AggTree}
 use Rattle.vtl_tree.specs.declared.specifications.AggItems.{AggItems}
 use Rattle.vtl_tree.specs.Columns.{place_of}
 use Rattle.vtl_sets.specs.TableOf.{column_for}
-use Rattle.vtl_meaning.specs.Aggregates.{call_for, cell_or_null, condition_fault, condition_of, group_fault, group_point, is_kept, made_of, made_value}
+use Rattle.vtl_meaning.specs.Aggregates.{call_for, condition_fault, condition_of, group_fault, group_point, is_kept, made_of, made_value}
+use Rattle.vtl_meaning.specs.Points.{cell_or_null}
 use Rattle.vtl_meaning.specs.GroupExpressions.{aggregated, grouped_cell, value_at_group, value_over}
 use Rattle.vtl_meaning.specs.Groups.{keys_by, places_named, points_with}
 use Rattle.vtl_group.specs.Calls.{call_value, column_place, placed, placed_call, placed_for}

@@ -9,7 +9,7 @@ use Rattle.vtl_cell.specs.declared.cell.Cell.{Cell}
 use Rattle.vtl_rows.specs.declared.column.Column.{Column}
 use Rattle.vtl_tree.specs.CompExp.{CompExp}
 use Rattle.vtl_tree.specs.declared.expression.AggCall.{AggCall}
-use Rattle.vtl_meaning.specs.Aggregates.{cell_or_null}
+use Rattle.vtl_meaning.specs.Points.{cell_or_null}
 use Rattle.vtl_meaning.specs.GroupExpressions.{grouped_cell, value_over}
 use Rattle.vtl_group.specs.Calls.{call_value, placed_call}
 use Rattle.vtl_group.specs.declared.calls.Call.{Call}

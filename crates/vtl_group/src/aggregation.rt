@@ -1,5 +1,9 @@
 // Aggregates of data sets.
+//
+// One walk over the groups: the condition, then the columns where it keeps the group, with one joined fault. That
+// this is the condition at all groups and then the columns at those that are kept is list calculus (`faults_apart`).
 ghost use Rattle.std.specs.Prelude.{◌≡◌, IfOk, map, option_map};
+ghost use Rattle.vtl_rows.specs.Tables.{listed};
 ghost use Rattle.vtl_meaning.specs.Aggregates.{aggregate_of};
 ghost use Rattle.vtl_meaning.specs.AggregateShapes.{IsAggregated};
 ghost use Rattle.vtl_tree.specs.Columns.{others_of};
@@ -111,7 +115,7 @@ fn aggregated_table(
     p: &Profile,
 ) -> Result<Table, ScalarErr>
     requires { IsAggregated (agg_tree spec.now) a.now.structure made.now }
-    ensures table { IfOk result (IsTableOf made.now) }
+    ensures table { IfOk result (λ t. IsTableOf made.now (listed t)) }
     ensures rows { AnswersBy (λ t. t.rows) result (aggregate_of p.now (agg_tree spec.now) a.now made.now) }
 {
     let table = a.table();

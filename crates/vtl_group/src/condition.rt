@@ -1,4 +1,8 @@
 // The condition of groups.
+//
+// The condition is prepared once and evaluated at each group as other expressions are at points: names are found at
+// each group, which is little beside going over its rows, and an aggregate is computed only where the expression
+// reaches it.
 ghost use Rattle.std.specs.Prelude.{◌≡◌, option_map};
 ghost use Rattle.std.specs.List.{position_or_len};
 ghost use Rattle.vtl_meaning.specs.GroupExpressions.{grouped_cell};

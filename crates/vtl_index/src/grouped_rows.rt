@@ -1,4 +1,6 @@
 // The rows of a table in groups of those that have one key.
+//
+// Rows are put group by group by counting, not by a sort or a list for each group.
 ghost use Rattle.std.specs.Prelude.{◌≡◌, length};
 ghost use Rattle.vtl_index.specs.GroupedRows.{keys_of, lookup_of};
 ghost use Rattle.vtl_index.specs.RowKeys.{count_in, keys_in};

@@ -1,4 +1,7 @@
 // Groups of rows.
+//
+// A group is known by its lead, the first row that has its key: so groups are a list of numbers, whatever finds them,
+// and their order is that of first appearance. Where no two rows have one key, the leads themselves are the groups.
 ghost use Rattle.std.specs.Prelude.{◌≡◌, ◌<◌, length, slice_index, IfOk};
 ghost use Rattle.vtl_index.specs.Groups.{AreLeads, firsts, rows_led};
 

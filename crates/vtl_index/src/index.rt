@@ -1,4 +1,7 @@
 // The index.
+//
+// A contract sees an `Index` as a function from a key to its rows: the order in which different keys came is not
+// kept. A function cannot be the value of a model, so `Index` has none, and `rows_by` reads a ghost field.
 ghost use Rattle.std.specs.Prelude.{◌≡◌, ℕ, ◌+◌, ◌<◌, List, [], ◌∷◌, ◌++◌, length, OnOk, OnErr};
 ghost use Rattle.vtl_cell.specs.Row.{Row};
 ghost use Rattle.vtl_index.specs.Entries.{IsIndexed};

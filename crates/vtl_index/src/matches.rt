@@ -1,4 +1,9 @@
 // For each row of a table that asks, the rows of another table that have its key.
+//
+// Many keys are looked for at once (`into_matches`, `firsts`), so that they can be hashed and what they are looked
+// for in can be fetched 32 at a time; the answer is a number for each row that asks, and the slots are let go. A row
+// that is the only one of its key is lent from that list itself, which is walked in order, and no other memory is
+// read.
 ghost use Rattle.std.specs.Prelude.{◌≡◌, ◌+◌, ◌≤◌, length, IfOk, OnOk};
 ghost use Rattle.vtl_index.specs.Matches.{matched};
 

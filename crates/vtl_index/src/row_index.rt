@@ -1,4 +1,7 @@
 // A look-up from keys to the rows of a table that have them.
+//
+// A look-up in a table keeps numbers of rows and no cells (`RowIndex`), and is asked with a row and the places of its
+// key there: no key is copied. So `vtl_index` stands on `vtl_rows`.
 ghost use Rattle.std.specs.Prelude.{◌≡◌, ◌+◌, ◌<◌, ◌≤◌, length, nat_lt, IfOk, OnOk};
 ghost use Rattle.vtl_index.specs.GroupedRows.{AreByKey, lookup_of};
 ghost use Rattle.vtl_index.specs.Matches.{asked_keys, firsts_by};

@@ -1,4 +1,7 @@
 // Keys of rows: the cells of listed columns, as they count there.
+//
+// A key's column says whether its integers count as numbers (`KeyForm`), and the look-up what becomes of nulls
+// (`NullKeys`): VTL takes cells as they are and null as a value, an engine of SQL joins by value and never on null.
 ghost use Rattle.std.specs.Prelude.{◌≡◌, ◌≤◌, length, OnOk};
 ghost use Rattle.std.specs.Hash.FoldHasher as folding;
 ghost use Rattle.std.specs.List.{list_any};

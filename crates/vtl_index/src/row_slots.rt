@@ -1,4 +1,14 @@
 // The first row of each key, found by the hash of the key.
+//
+// A row that needs more than a fixed number of slots ends the search by hash for the whole table: then keys are
+// hashed behind one cell more, and where that ends too, rows are found in an order of their keys, by halves. So
+// neither building nor asking rests on luck, and cells that were chosen for one hash cost little more than others:
+// what makes hashes alike is the state that the hasher has come to, which is another one behind that cell. Who
+// chooses cells for both still gets the sort.
+//
+// Slots for few keys come first (8,192): rows that are grouped mostly have few keys, whose slots then stay near the
+// processor, where two slots a row lie anywhere in 16 MB. Once more keys come the rows are gone over anew with slots
+// for all of them; what is lost is the rows that had 8,192 keys among them.
 ghost use Rattle.std.specs.Prelude.{◌≡◌, ◌<◌, ◌-◌, ◌^◌, replicate, IfOk};
 ghost use Rattle.vtl_index.specs.FirstRows.{FindsFirst};
 ghost use Rattle.vtl_index.specs.RowKeys.{count_in, hash_by, key_of, keys_in};

@@ -1,5 +1,5 @@
 -- What an expression evaluates to, from what its operands do.
-use Rattle.std.proofs.Common.{◌≡◌, suc, List, [], ◌∷◌, ◌++◌, length, map, Result, Ok, Err, refl, sym, ap, subst, append_assoc, ◌∙◌}
+use Rattle.std.proofs.Common.{◌≡◌, ℕ, suc, List, [], ◌∷◌, ◌++◌, length, map, Result, Ok, Err, refl, sym, ap, subst, append_assoc, ◌∙◌}
 use Rattle.std.proofs.lemmas.List.{append-nil, length-map}
 use Rattle.vtl_decimal.specs.Settings.{Settings}
 use Rattle.vtl_decimal.specs.declared.number.Fault.TheVariants.{DivZero, Range}
@@ -10,6 +10,7 @@ use Rattle.vtl_scalar.specs.Answers.{AnswersBy}
 use Rattle.vtl_scalar.specs.declared.error.ScalarErr.{ScalarErr}
 use Rattle.vtl_scalar.specs.declared.error.ScalarErr.TheVariants as err
 use Rattle.vtl_tree.specs.Environment.{DataSet, Environment}
+use Rattle.vtl_tree.specs.declared.joins.Operand.{Operand}
 use Rattle.vtl_tree.specs.declared.structure.Structure.{Structure}
 use Rattle.vtl_tree.specs.Trees as nodes
 use Rattle.vtl_tree.specs.Trees.{NodeTree, NodeTrees, OperandTree, OperandTrees, operands_of, structure_of}
@@ -18,7 +19,10 @@ use Rattle.vtl_meaning.specs.Joined.{structures_of}
 use Rattle.vtl_meaning.specs.Made.{node_structures, operands_in}
 use Rattle.vtl_meaning.specs.Meaning.{node_value, nodes_value, operands_value, with_first, with_operand}
 use Rattle.vtl_meaning.specs.Points.{with_points}
+use Rattle.vtl_join.specs.Joining.{sets_of, typed_operands}
+use Rattle.vtl_join.specs.declared.joined.Operand as joining
 use Rattle.vtl_interp.specs.Evaluated.{Evaluates, Gives}
+use Rattle.vtl_interp.specs.Values.{under_aliases}
 
 -- the operands before are evaluated, and the operator is applied to what they give
 pub applied : {A : Type 0} (view : A → DataSet) (p : Settings) (env : Environment) (n : NodeTree) (points : Outcome (List Row)) (r : Result A ScalarErr)
@@ -89,6 +93,25 @@ nodes_structures p env (nodes.and_node n ns) ds e = first_structure n (node_valu
 pub operands_structures : (p : Settings) (env : Environment) (os : OperandTrees) (ds : List DataSet) → operands_value p env os ≡ Ok ds → structures_of ds ≡ map (λ o. o.structure) (operands_in os)
 operands_structures p env nodes.no_operands ds e = no_structures (operands_value p env nodes.no_operands) ds refl e
 operands_structures p env (nodes.operand n alias os) ds e = first_structure n (node_value p env n) (operands_value p env os) (map (λ o. o.structure) (operands_in os)) ds (operands_structures p env os) e
+
+-- operands are their structures under their aliases
+pub under_their_own : (os : List Operand) → os ≡ under_aliases (map (λ o. o.alias) os) (map (λ o. o.structure) os)
+under_their_own [] = refl
+under_their_own (o ∷ os) = ap (λ (l : List Operand). o ∷ l) (under_their_own os)
+
+pub under_set_aliases : (os : List joining.Operand) → typed_operands os ≡ under_aliases (map (λ o. o.alias) os) (structures_of (sets_of os))
+under_set_aliases [] = refl
+under_set_aliases (o ∷ os) = ap (λ (l : List Operand). record { alias = o.alias; structure = o.set.structure } ∷ l) (under_set_aliases os)
+
+operands_aliases : (os : List OperandTree) → map (λ o. o.alias) (operands_in (operands_of os)) ≡ map (λ o. o.alias) os
+operands_aliases [] = refl
+operands_aliases (o ∷ os) = ap (λ (l : List (List ℕ)). o.alias ∷ l) (operands_aliases os)
+
+pub operands_under : (p : Settings) (env : Environment) (os : List OperandTree) (ds : List DataSet) → operands_value p env (operands_of os) ≡ Ok ds → operands_in (operands_of os) ≡ under_aliases (map (λ o. o.alias) os) (structures_of ds)
+operands_under p env os ds e =
+    under_their_own (operands_in (operands_of os))
+    ∙ ap (λ (names : List (List ℕ)). under_aliases names (map (λ o. o.structure) (operands_in (operands_of os)))) (operands_aliases os)
+    ∙ ap (under_aliases (map (λ o. o.alias) os)) (sym (operands_structures p env (operands_of os) ds e))
 
 -- as many as there are operands
 operands_many : (os : List OperandTree) → length (operands_in (operands_of os)) ≡ length os

@@ -15,11 +15,13 @@ use Rattle.vtl_tree.specs.Environment.{DataSet, Environment, data_of}
 use Rattle.vtl_tree.specs.Structure.{same_name}
 use Rattle.vtl_tree.specs.declared.structure.Structure.{Structure}
 use Rattle.vtl_tree.specs.Trees as nodes
-use Rattle.vtl_tree.specs.Trees.{FormTree, NodeTree, nodes_of, operands_of, structure_of}
+use Rattle.vtl_tree.specs.Trees.{FormTree, NodeTree, OperandTree, nodes_of, operands_of, structure_of}
 use Rattle.vtl_tree.specs.NodeView.{agg_tree, analytic_tree, form_tree, item_tree, measure_tree, node_tree, operand_tree}
 use Rattle.vtl_tree.specs.declared.clauses.CalcItem.{CalcItem}
 use Rattle.vtl_tree.specs.declared.clauses.SubItem.{SubItem}
 use Rattle.vtl_tree.specs.declared.renaming.Renaming.{Renaming}
+use Rattle.vtl_tree.specs.declared.joins.Operand.{Operand}
+use Rattle.vtl_tree.specs.declared.nodes.JoinOperand as operand
 use Rattle.vtl_tree.specs.declared.nodes.JoinOperand.{JoinOperand}
 use Rattle.vtl_tree.specs.declared.nodes.MeasureOp.{MeasureOp}
 use Rattle.vtl_tree.specs.declared.nodes.Node as node
@@ -34,11 +36,13 @@ use Rattle.vtl_syntax.specs.declared.word_groups.Retain.{Retain}
 use Rattle.vtl_meaning.specs.AggregateShapes.{IsAggregated}
 use Rattle.vtl_sets.specs.DataSets.{data_set, with_structure}
 use Rattle.vtl_meaning.specs.Joined.{structures_of}
-use Rattle.vtl_meaning.specs.Made.{AreCombined, IsChoice, IsJoined, IsLeft, IsMade, IsMadeForm, IsMeasured, IsWindowed, node_structures}
+use Rattle.vtl_meaning.specs.Made.{AreCombined, IsChoice, IsJoined, IsMade, IsMadeForm, IsMeasured, IsWindowed, node_structures}
 use Rattle.vtl_meaning.specs.Meaning.{form_value, known_in, node_value, nodes_value, operands_value, with_operand}
+use Rattle.vtl_meaning.specs.Shapes.{IsJoinedFrom}
 use Rattle.vtl_interp.specs.Evaluated.{Evaluates, Gives, GivesOne, GivesTwo}
+use Rattle.vtl_interp.specs.Values.{under_aliases}
 use Rattle.vtl_interp.proofs.Environments.{data_looked, known_looked}
-use Rattle.vtl_interp.proofs.Evaluates.{applied, nodes_structures, operands_structures, then}
+use Rattle.vtl_interp.proofs.Evaluates.{applied, nodes_structures, operands_structures, operands_under, then}
 
 -- the tree of a node, and of each form that is evaluated
 node_tree-is : (n : Node) → node_tree n ≡ nodes.node n.structure (form_tree n.form)
@@ -141,10 +145,10 @@ one_given_at p env n f t d is tree g = subst (λ (x : FormTree). GivesOne p env 
 pub two_given_at : (p : Settings) (env : Environment) (n : Node) (f : NodeForm) (t : FormTree) (d e : DataSet) → n.form ≡ f → form_tree f ≡ t → GivesTwo p env (form_tree n.form) d e → GivesTwo p env t d e
 two_given_at p env n f t d e is tree g = subst (λ (x : FormTree). GivesTwo p env x d e) (ap form_tree is ∙ tree) g
 
--- columns that are left are left of the data set that is given
-pub left_fits : (p : Settings) (env : Environment) (n : Node) (f : NodeForm) (t : FormTree) (a : NodeTree) (d : DataSet) → n.form ≡ f → form_tree f ≡ t → (IsMadeForm p (known_in env) n.structure t → IsLeft (structure_of a) n.structure) → IsMade p (known_in env) (node_tree n) → Gives p env a d
-    → IsLeft d.structure n.structure
-left_fits p env n f t a d is tree left made g = subst (λ (s : Structure). IsLeft s n.structure) (sym g.structure) (left (made_form p env n f t is tree made))
+-- what is made of a node's form holds of the data set that its operand gives
+pub one_fits : (Fits : Structure → Structure → Type 0) (p : Settings) (env : Environment) (n : Node) (f : NodeForm) (t : FormTree) (a : NodeTree) (d : DataSet) → n.form ≡ f → form_tree f ≡ t → (IsMadeForm p (known_in env) n.structure t → Fits (structure_of a) n.structure) → IsMade p (known_in env) (node_tree n) → Gives p env a d
+    → Fits d.structure n.structure
+one_fits Fits p env n f t a d is tree fits made g = subst (λ (s : Structure). Fits s n.structure) (sym g.structure) (fits (made_form p env n f t is tree made))
 
 -- what is made of a node's form holds of the data sets that its operands give
 pub two_fit : (Fits : Structure → Structure → Structure → Type 0) (p : Settings) (env : Environment) (n : Node) (f : NodeForm) (t : FormTree) (a b : NodeTree) (d e : DataSet)
@@ -165,6 +169,21 @@ pub join_fits : (p : Settings) (env : Environment) (n : Node) (os : Vec JoinOper
 join_fits p env n os spec ds is made g =
     let trees = operands_of (map operand_tree os.items) in
     subst (λ (ss : List Structure). IsJoined spec.kind ss n.structure) (sym (operands_structures p env trees ds g)) (made_form p env n (form.Join os spec) (nodes.join trees spec) is (form_tree-Join os spec) made).1
+
+operands_named : (os : List JoinOperand) → map (λ o. o.alias) (map operand_tree os) ≡ map (λ o. o.alias) os
+operands_named [] = refl
+operands_named (o ∷ os) =
+    let e : operand_tree o ≡ record { node = node_tree o.node; alias = o.alias } = search (rules, operand.the_lemmas) in
+    ap (λ (t : OperandTree). t.alias ∷ map (λ o. o.alias) (map operand_tree os)) e ∙ ap (λ (l : List (List ℕ)). o.alias ∷ l) (operands_named os)
+
+pub join_named : (p : Settings) (env : Environment) (n : Node) (os : Vec JoinOperand Global) (spec : JoinSpec) (ds : List DataSet)
+    → n.form ≡ form.Join os spec → IsMade p (known_in env) (node_tree n) → operands_value p env (operands_of (map operand_tree os.items)) ≡ Ok ds
+    → IsJoinedFrom spec.kind (under_aliases (map (λ o. o.alias) os.items) (structures_of ds)) n.structure
+join_named p env n os spec ds is made g =
+    let trees = map operand_tree os.items in
+    subst (λ (xs : List Operand). IsJoinedFrom spec.kind xs n.structure)
+    (operands_under p env trees ds g ∙ ap (λ (names : List (List ℕ)). under_aliases names (structures_of ds)) (operands_named os.items))
+    (made_form p env n (form.Join os spec) (nodes.join (operands_of trees) spec) is (form_tree-Join os spec) made).2
 
 -- an operator on one operand
 pub one_operand : {A : Type 0} (view : A → DataSet) (p : Settings) (env : Environment) (n : Node) (f : NodeForm) (t : FormTree) (a : NodeTree) (d : DataSet) (op : DataSet → Outcome (List Row)) (r : Result A ScalarErr)

@@ -1,7 +1,9 @@
 -- The data set that an expression gives, and those that several give.
-use Rattle.std.specs.Prelude.{Vec, List, map}
+use Rattle.std.specs.Prelude.{ℕ, Vec, List, [], ◌∷◌, map}
 use Rattle.std.specs.declared.alloc.Global.{Global}
 use Rattle.vtl_tree.specs.Environment.{DataSet}
+use Rattle.vtl_tree.specs.declared.joins.Operand.{Operand}
+use Rattle.vtl_tree.specs.declared.structure.Structure.{Structure}
 use Rattle.vtl_interp.specs.declared.value.Value.{Value}
 use Rattle.vtl_interp.specs.declared.value.Value.TheVariants as v
 
@@ -11,3 +13,9 @@ value_view (v.Made d) = d
 
 abbrev pub values_view : Vec Value Global → List DataSet
 values_view xs = map value_view xs.items
+
+-- the operands of a join: each structure under its alias
+abbrev pub under_aliases : List (List ℕ) → List Structure → List Operand
+under_aliases [] ss = []
+under_aliases (alias ∷ aliases) [] = []
+under_aliases (alias ∷ aliases) (s ∷ ss) = record { alias = alias; structure = s } ∷ under_aliases aliases ss

@@ -7,9 +7,10 @@ ghost use Rattle.vtl_sets.specs.DataSets.{data_set};
 ghost use Rattle.vtl_meaning.specs.Joined.{join_of, structures_of};
 ghost use Rattle.vtl_meaning.specs.Made.{AreCombined, IsChoice, IsJoined};
 ghost use Rattle.vtl_meaning.specs.Operators.{choice_of};
+ghost use Rattle.vtl_meaning.specs.Shapes.{IsJoinedFrom};
 ghost use Rattle.vtl_meaning.specs.Sets.{intersection_of, union_of};
 ghost use Rattle.vtl_join.specs.Joining.{sets_of};
-ghost use Rattle.vtl_interp.specs.Values.{value_view};
+ghost use Rattle.vtl_interp.specs.Values.{under_aliases, value_view};
 
 use crate::value::Value;
 use std::alloc::{AllocError, Global};
@@ -41,6 +42,7 @@ fn joined<'a>(
     requires named { length values.now ≡ length operands.now }
     ensures kind { IfOk result (λ j. IfSome j.kind (λ before. before ≡ kind)) }
     ensures operands { IfOk result (λ j. sets_of j.operands ≡ map value_view values.now) }
+    ensures aliases { IfOk result (λ j. map (λ o. o.alias) j.operands ≡ map (λ o. o.alias) operands.now) }
 {
     let mut joined = vtl_join::open(alloc, values[0].data(), &operands[0].alias)?;
     for i in 1..values.len() {
@@ -59,6 +61,7 @@ pub fn join<'a>(
 ) -> Result<Value<'a>, ScalarErr>
     requires named { length values.now ≡ length operands.now }
     requires joined { IsJoined kind (structures_of (map value_view values.now)) made.now }
+    requires from { IsJoinedFrom kind (under_aliases (map (λ o. o.alias) operands.now) (structures_of (map value_view values.now))) made.now }
     ensures { AnswersBy value_view result (Ok (data_set made.now (join_of kind (map value_view values.now)))) }
 {
     let joined = joined(alloc, kind, values, operands)?;

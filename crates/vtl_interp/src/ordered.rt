@@ -1,5 +1,8 @@
 // Scripts over tables that are let go then, and tables with their rows in the order of their identifiers.
-ghost use Rattle.std.specs.Prelude.{◌≡◌, ◌≢◌, ◌<◌, length, true, All, Err, IfOk, OnOk};
+ghost use Rattle.std.specs.Prelude.{◌≡◌, ◌≢◌, ◌<◌, ◌≤◌, ◌+◌, length, true, All, Err, IfOk, OnOk};
+ghost use Rattle.vtl_check.specs.Checked.{tree_of};
+ghost use Rattle.vtl_check.specs.Transformations.{transformations};
+ghost use Rattle.vtl_rows.specs.Tables.{listed};
 ghost use Rattle.vtl_backend.specs.Inputs.{AreInRange, AreInputs};
 ghost use Rattle.vtl_backend.specs.Runs.{Runs};
 ghost use Rattle.vtl_backend.specs.Statements.{is_script_built};
@@ -34,6 +37,8 @@ pub fn run_over<B: Backend>(
     requires built { is_script_built script.now ≡ true }
     ensures run { Runs script.now inputs out.old out.new result }
     ensures told { result ≢ Err RunErr.OutOfMemory → B.told back.new script.now }
+    ensures work { B.work back.old ≤ B.work back.new }
+    ensures few { B.work back.new ≤ B.work back.old + length (transformations (tree_of script.now)) }
 {
     let windowed = have_window(script.nodes());
     let ready = prepared(alloc, script, inputs, windowed)?;
@@ -62,17 +67,17 @@ fn in_order(alloc: Global, script: &Checked, inputs: &Inputs) -> Result<Inputs, 
     let mut sorted = Tables::new(alloc);
     for i in 0..inputs.len() {
         let (name, table) = inputs.at(i);
-        let count = number_of_identifiers(alloc, script, name)?;
+        let count = number_of_identifiers(script, name);
         put_sorted(alloc, &mut sorted, name, table, count)?;
     }
     Ok(sorted)
 }
 
 // How many identifiers the data set of a name has; none where the script knows no such data set.
-fn number_of_identifiers(alloc: Global, script: &Checked, name: &Txt) -> Result<usize, AllocError> {
+fn number_of_identifiers(script: &Checked, name: &Txt) -> usize {
     match script.structure(name) {
-        Some(structure) => Ok(structure.key_width()),
-        None => Ok(0),
+        Some(structure) => structure.key_width(),
+        None => 0,
     }
 }
 
@@ -84,7 +89,7 @@ fn put_sorted(
     table: &Table,
     count: usize,
 ) -> Result<(), AllocError>
-    ensures { OnOk result (IsPut name.now table.now sorted.old sorted.new) }
+    ensures { OnOk result (IsPut name.now (listed table.now) sorted.old sorted.new) }
 {
     match sorted.get(name) {
         Some(_) => Ok(()),
@@ -98,7 +103,7 @@ fn put_sorted(
 
 // The rows of a table in the order of the first columns. Rows that stand so already are shared where they can be.
 fn sorted_table(alloc: Global, table: &Table, count: usize) -> Result<Table, AllocError>
-    ensures { IfOk result (IsReordered table.now) }
+    ensures { IfOk result (λ t. IsReordered (listed table.now) (listed t)) }
 {
     let keys = first_columns(alloc, count.min(table.columns().len()))?;
     let places = table.places_by_columns(alloc, &keys)?;

@@ -1,4 +1,7 @@
 // The statements, one after the other.
+//
+// The table of a written result is put as soon as its statement is evaluated, shared with later statements; a data
+// set is let go after the last statement that reads it, which is found in one pass beforehand.
 ghost use Rattle.std.specs.Prelude.{◌≡◌, ◌∷◌, [], None, true, length, map, OnOk};
 ghost use Rattle.vtl_syntax.specs.View.{statement_tree};
 ghost use Rattle.vtl_tree.specs.NodeView.{node_tree};

@@ -8,8 +8,9 @@ ghost use Rattle.vtl_tree.specs.Structure.{columns_of};
 ghost use Rattle.vtl_tree.specs.Columns.{identifiers_of};
 ghost use Rattle.vtl_meaning.specs.Joined.{cross_tuples, full_tuples, inner_tuples, join_of, left_tuples, structures_of, tuple_point};
 ghost use Rattle.vtl_meaning.specs.Made.{AreAmong, HasIdentifiers, IsJoined};
+ghost use Rattle.vtl_meaning.specs.Shapes.{IsJoinedFrom};
 ghost use Rattle.vtl_join.specs.Finding.{wants_all};
-ghost use Rattle.vtl_join.specs.Joining.{sets_of};
+ghost use Rattle.vtl_join.specs.Joining.{sets_of, typed_operands};
 ghost use Rattle.vtl_join.specs.Picks.{picks_at};
 
 use crate::columns::places_of;
@@ -141,8 +142,9 @@ fn joined_table(
     }
 }
 
-/// The joined set, as a data set of the structure that typing gives. The kind is that of the steps; a join of one operand
-/// has none. It fails only if memory runs out.
+/// The joined set, as a data set of the structure that typing gives: its components are the identifiers and the other
+/// components of the operands, each named and with its codes as typing says. The kind is that of the steps; a join of one
+/// operand has none. It fails only if memory runs out.
 pub fn close(
     alloc: Global,
     kind: JoinKind,
@@ -151,6 +153,7 @@ pub fn close(
 ) -> Result<DataSet, AllocError>
     requires kind { IfSome j.kind (λ before. before ≡ kind) }
     requires made { IsJoined kind (structures_of (sets_of j.operands)) made.now }
+    requires named { IsJoinedFrom kind (typed_operands j.operands) made.now }
     ensures { IfOk result (λ d. d ≡ data_set made.now (join_of kind (sets_of j.operands))) }
 {
     operands_are_sets(&j.operands);

@@ -2,6 +2,7 @@
 ghost use Rattle.std.specs.Prelude.{◌≡◌, ◌+◌, ◌<◌, ◌++◌, ◌∷◌, length, map, All, IfOk, OnOk};
 ghost use Rattle.std.specs.List.{AllByRecursion};
 ghost use Rattle.vtl_rows.specs.Gathered.{picked_kind};
+ghost use Rattle.vtl_rows.specs.Tables.{listed};
 ghost use Rattle.vtl_sets.specs.TableOf.{table_columns};
 ghost use Rattle.vtl_tree.specs.DataSet.{IsDataSet};
 ghost use Rattle.vtl_tree.specs.Structure.{IsStructure};
@@ -33,7 +34,7 @@ fn parts_behind<'a>(
     lead: &'a Table,
     operands: &'a [Operand],
 ) -> Result<Vec<&'a Table>, AllocError>
-    ensures { IfOk result (λ v. map (λ t. t.now) v.items ≡ lead.now ∷ map table_of (sets_of operands.now)) }
+    ensures { IfOk result (λ v. map (λ t. listed t.now) v.items ≡ listed lead.now ∷ map table_of (sets_of operands.now)) }
 {
     let mut parts = Vec::new(alloc);
     parts.push(lead)?;
@@ -101,12 +102,12 @@ pub(crate) fn gathered(
     made: &Structure,
 ) -> Result<Table, AllocError>
     requires within { All (λ p. p.part < length operands.now + 1) identifiers.items }
-    requires identifiers { map (picked_kind (lead.now ∷ map table_of (sets_of operands.now))) identifiers.items ≡ component_kinds (identifiers_of made.now) }
+    requires identifiers { map (picked_kind (listed lead.now ∷ map table_of (sets_of operands.now))) identifiers.items ≡ component_kinds (identifiers_of made.now) }
     requires well_formed { IsStructure made.now }
     requires measures { component_kinds (measures_of made.now) ≡ kinds_of_all measures_of (structures_of (sets_of operands.now)) }
     requires attributes { component_kinds (attributes_of made.now) ≡ kinds_of_all attributes_of (structures_of (sets_of operands.now)) }
     ensures columns { IfOk result (λ t. t.columns ≡ table_columns made.now) }
-    ensures rows { IfOk result (λ t. t.rows ≡ joined_rows lead.now (sets_of operands.now) identifiers.items tuples.now) }
+    ensures rows { IfOk result (λ t. t.rows ≡ joined_rows (listed lead.now) (sets_of operands.now) identifiers.items tuples.now) }
 {
     operands_are_sets(operands);
     let parts = parts_behind(alloc, lead, operands)?;

@@ -5,6 +5,11 @@
 //! the structure of the result is decided where scripts are checked, and passed in.
 //! It knows no clause of a join's body, no expression, no script, no file and no text format.
 //! Begin with specs/Joining.antt and `joined.rt`, then `closing.rt`; specs/Finding.antt says which rows are found.
+//!
+//! A join is evaluated on row numbers: each operand is found by one look-up a row of the reference, a number past the
+//! last row is a missing part, and each cell of the result is copied once. A full join first makes the table of all
+//! identifiers, with a spare column, so that operands without identifiers are no case of their own. `step` only
+//! collects, so that no product larger than the result is made whatever the order of the operands.
 #![tactic(auto)]
 
 mod closing;

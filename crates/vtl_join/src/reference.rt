@@ -1,4 +1,7 @@
 // The reference of a join, of which the joined set has the identifiers.
+//
+// The reference is a place among the operands' structures (`reference_place`): so it is the same whatever the order
+// of points, and is found without looking at a point.
 ghost use Rattle.std.specs.Prelude.{◌≡◌, ◌<◌, length};
 ghost use Rattle.vtl_meaning.specs.Joined.{reference_place, structures_of};
 ghost use Rattle.vtl_join.specs.Joining.{sets_of};

@@ -1,4 +1,7 @@
 // The tokens of a text.
+//
+// The definition of tokens is a relation with no function that reads; that it determines the answer is a law, so the
+// answer is exact both ways without a second description of the lexer.
 ghost use Rattle.std.specs.Prelude.{◌≡◌, ℕ, List as Items, Option, None, IfOk, MatchResult};
 ghost use Rattle.vtl_lexer.specs.Answered.{IsErrorOf, IsFault};
 ghost use Rattle.vtl_lexer.specs.Lexed.{IsLexed, mark_len};

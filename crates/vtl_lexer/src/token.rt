@@ -1,4 +1,7 @@
 // Tokens.
+//
+// The table of tokens says what may stand after each (`goes_on`): so of a word that is too long no part is a token,
+// and a comment comes before the sign `/` without an order among rules.
 
 use crate::Keyword;
 use vtl_text::Txt;

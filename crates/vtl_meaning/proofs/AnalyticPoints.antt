@@ -23,7 +23,8 @@ use Rattle.vtl_tree.specs.Trees as nodes
 use Rattle.vtl_tree.specs.Trees.{AnalyticTree, ValueTree}
 use Rattle.vtl_tree.specs.Columns.{identifiers_of, others_of, place_of, places_in}
 use Rattle.vtl_tree.specs.Names.{component_of}
-use Rattle.vtl_meaning.specs.Aggregates.{Made, cell_or_null, group_fault as point_fault}
+use Rattle.vtl_meaning.specs.Aggregates.{Made, group_fault as point_fault}
+use Rattle.vtl_meaning.specs.Points.{cell_or_null}
 use Rattle.vtl_meaning.proofs.GroupKinds.{GivesOf, GivesOfProfile, IsOf, null_is_of}
 use Rattle.vtl_meaning.proofs.GroupPoints.{HasCell, all_more, found_cell}
 use Rattle.vtl_meaning.specs.Analytics.{analytic_of, made_of, point_of, tree_value, value_for}

@@ -29,7 +29,8 @@ use Rattle.vtl_tree.specs.declared.targets.Target.{Target}
 use Rattle.vtl_tree.specs.Kinds.{given_kind}
 use Rattle.vtl_meaning.proofs.GroupPoints.{all_more}
 use Rattle.vtl_meaning.specs.Analytics.{item_named, measure_call, value_for}
-use Rattle.vtl_meaning.specs.AnalyticShapes.{AreMeasuresTaken, IsAnalyzed, IsMadeBy, IsMadeColumn, IsMadeOrStays, IsTakenItem, IsTypedAnalytic, analyzed_components, given_of, of_measure, taken, takes, target_of, tree_kind}
+use Rattle.vtl_meaning.specs.AnalyticShapes.{AreMeasuresTaken, IsAnalyzed, IsMadeBy, IsMadeColumn, IsMadeOrStays, IsTakenItem, IsTypedAnalytic, analyzed_components, given_of, of_measure, taken, takes}
+use Rattle.vtl_meaning.specs.Shapes.{target_of, tree_kind}
 use Rattle.vtl_meaning.proofs.AnalyticColumns.{IsOther, all_append, all_filtered, attribute_role, by_roles, columns_found, measure_role, own_found, same-is}
 use Rattle.vtl_meaning.proofs.Partitions.{all_map}
 

@@ -36,7 +36,8 @@ use Rattle.vtl_tuples.specs.Keys.{each_once}
 use Rattle.vtl_tuples.proofs.Onces.{once_apart}
 use Rattle.vtl_tree.specs.Columns.{identifiers_of, others_of, place_of}
 use Rattle.vtl_tree.specs.Names.{component_of}
-use Rattle.vtl_meaning.specs.Aggregates.{Condition, Made, aggregate_of, call_for, cell_or_null, condition_fault, condition_of, group_fault, group_point, is_kept, made_of, made_value}
+use Rattle.vtl_meaning.specs.Aggregates.{Condition, Made, aggregate_of, call_for, condition_fault, condition_of, group_fault, group_point, is_kept, made_of, made_value}
+use Rattle.vtl_meaning.specs.Points.{cell_or_null}
 use Rattle.vtl_meaning.specs.GroupExpressions.{aggregated}
 use Rattle.vtl_meaning.specs.Groups.{keys_by, places_named, points_with}
 use Rattle.vtl_meaning.specs.AggregateShapes.{IsAggregated, IsMadeColumn, given_kind, given_of}

@@ -1,5 +1,5 @@
 -- What an aggregate operator gives of a data set: `sum(ds group by ..)` and the like on all measures, and the clause `aggr`.
-use Rattle.std.specs.Prelude.{ℕ, Bool, true, List, ◌++◌, map, filter, find, Option, Some, None, option_map, Ok, Err}
+use Rattle.std.specs.Prelude.{ℕ, Bool, true, List, ◌++◌, map, filter, find, Option, Some, None, option_map, Ok}
 use Rattle.std.specs.Option.{option_map_or}
 use Rattle.vtl_decimal.specs.declared.number.Fault.{Fault}
 use Rattle.vtl_cell.specs.Outcome.{Outcome, fault_in, faults_by, join, unless}
@@ -23,6 +23,7 @@ use Rattle.vtl_tree.specs.declared.specifications.AggTarget.{AggTarget}
 use Rattle.vtl_tree.specs.Columns.{others_of}
 use Rattle.vtl_meaning.specs.GroupExpressions.{aggregated, value_at_group}
 use Rattle.vtl_meaning.specs.Groups.{keys_by, places_named, points_with}
+use Rattle.vtl_meaning.specs.Points.{cell_or_null}
 
 -- ---- the aggregates that are made
 
@@ -42,10 +43,6 @@ call_for (items.Targets ts) name = option_map (λ t. t.call) (target_named ts na
 -- the value in a column at a group of these points
 abbrev pub made_value : Settings → List Component → AggItems → Component → (points : List Row) → Outcome Cell
 made_value p xs i y points = option_map_or (λ a. aggregated p xs a.kind a.component points) (call_for i y.name) (Ok c.Null)
-
-abbrev pub cell_or_null : Outcome Cell → Cell
-cell_or_null (Ok v) = v
-cell_or_null (Err f) = c.Null
 
 -- ---- groups with their values
 

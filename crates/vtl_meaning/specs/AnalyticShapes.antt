@@ -1,7 +1,6 @@
 -- How the structure of an analytic operator's result fits its operand.
-use Rattle.std.specs.Prelude.{◌≡◌, Bool, true, false, IfOk, ℕ, List, [], ◌++◌, map, filter, Option, Some, None, option_and_then, unwrap_or, if◌then◌else◌}
+use Rattle.std.specs.Prelude.{◌≡◌, Bool, true, false, IfOk, ℕ, List, [], ◌++◌, map, Option, Some, None, option_and_then, unwrap_or, if◌then◌else◌}
 use Rattle.std.specs.List.{AllByRecursion}
-use Rattle.std.specs.Option.{option_map_or}
 use Rattle.vtl_lists.specs.Apart.{all_apart}
 use Rattle.vtl_cell.specs.Kinds.{is_of, kind_of}
 use Rattle.vtl_cell.specs.Profile.{IsOfProfile}
@@ -25,15 +24,14 @@ use Rattle.vtl_tree.specs.Trees.{AnalyticTree, ItemTree, ValueTree}
 use Rattle.vtl_tree.specs.declared.calls.AnalyticOp.{AnalyticOp}
 use Rattle.vtl_tree.specs.declared.calls.AnalyticOp.TheVariants as op
 use Rattle.vtl_tree.specs.Choices.{chosen, is_identifier_name}
-use Rattle.vtl_tree.specs.ClauseShapes.{calculated, is_new, target_component}
 use Rattle.vtl_tree.specs.Columns.{identifiers_of, others_of}
 use Rattle.vtl_tree.specs.Measures.{Gives, given_measures, measures}
 use Rattle.vtl_tree.specs.Names.{component_of}
 use Rattle.vtl_tree.specs.declared.choices.Choice.TheVariants as choice
 use Rattle.vtl_tree.specs.declared.measures.Outcome.TheVariants as outcome
-use Rattle.vtl_tree.specs.declared.targets.Target.{Target}
-use Rattle.vtl_tree.specs.Kinds.{exp_kind, given_kind}
+use Rattle.vtl_tree.specs.Kinds.{given_kind}
 use Rattle.vtl_meaning.specs.Analytics.{value_for}
+use Rattle.vtl_meaning.specs.Shapes.{calculated_components, target_of, tree_kind}
 
 -- ---- kinds
 
@@ -84,19 +82,11 @@ IsMadeColumn p spec xs y = IsMadeOrStays p xs y (value_for spec y)
 abbrev pub of_measure : AnalyticOp → Gives
 of_measure o x y = taken o x
 
--- the kind of a value that is made of these components
-abbrev pub tree_kind : List Component → ValueTree → Kind
-tree_kind xs (nodes.scalar e) = exp_kind e
-tree_kind xs (nodes.analytic call) = given_kind call.op (option_map_or (λ name. option_map_or (λ x. x.kind) (component_of name xs) k.Null) call.component k.Null)
-
-abbrev pub target_of : List Component → ItemTree → Target
-target_of xs i = record { name = i.target; role = i.role; kind = tree_kind xs i.value }
-
 -- The components of the result. On a data set they are the identifiers, and each measure with the kind that is given; in `calc` the components
 -- as its targets leave them, and then the targets that are new.
 abbrev pub analyzed_components : AnalyticTree → List Component → List Component
 analyzed_components (nodes.of_measures o w) xs = chosen choice.Except [] xs ++ given_measures outcome.All (of_measure o) None xs
-analyzed_components (nodes.of_items items) xs = let ts = map (target_of xs) items in map (calculated ts) xs ++ map target_component (filter (is_new xs) ts)
+analyzed_components (nodes.of_items items) xs = calculated_components (map (target_of xs) items) xs
 
 -- The same identifiers, none of which is made, and columns that are made or stay. It is the structure that typing gives (`shape`); the other
 -- fields say what follows for its columns.

@@ -18,7 +18,8 @@ use Rattle.vtl_tree.specs.declared.calls.AnalyticOp.{AnalyticOp}
 use Rattle.vtl_tree.specs.declared.calls.Window.{Window}
 use Rattle.vtl_tree.specs.Columns.{place_of}
 use Rattle.vtl_tree.specs.Measures.{is_measure}
-use Rattle.vtl_meaning.specs.Aggregates.{Made, cell_or_null, group_fault as point_fault}
+use Rattle.vtl_meaning.specs.Aggregates.{Made, group_fault as point_fault}
+use Rattle.vtl_meaning.specs.Points.{cell_or_null}
 use Rattle.vtl_meaning.specs.Windows.{call_value}
 
 -- ---- the values that are made

@@ -41,13 +41,15 @@ behind no_comp_exps = no_comp_exps
 behind (comp_exp e es) = es
 
 -- Whether the operands behind the first are literals where the operator asks for them: the digits of `round` and `trunc`, the
--- start and the length of `substr`, and the members of a set.
+-- start and the length of `substr`, and the members of a set. Of an operator that no script can spell, nothing passes.
 abbrev pub are_literals : ScalarOp → CompExps → Bool
 are_literals op.Round es = first_passes are_digits es
 are_literals op.Truncate es = first_passes are_digits es
 are_literals op.Substring es = first_passes (is_integer (pos 1) largest_place) es && first_passes (is_integer (pos 0) largest_place) (behind es)
 are_literals op.In es = all_pass is_member es
 are_literals op.NotIn es = all_pass is_member es
+are_literals op.PeriodShift es = false
+are_literals op.PeriodFrequency es = false
 are_literals o es = true
 
 abbrev pub HasLiterals : ScalarOp → CompExps → Type 0

@@ -62,8 +62,8 @@ abbrev pub kinds_in : CompExps → List Kind
 kinds_in no_comp_exps = []
 kinds_in (comp_exp e es) = exp_kind e ∷ kinds_in es
 
--- Each column is one of these, each constant is a value of the profile, and each operator has the kind of its row, and literals
--- where it asks for them.
+-- Each column is one of these, each constant is a value of the profile, and each operator is one that scripts spell, with the
+-- kind of its row, and with literals where it asks for them.
 abbrev mutual
   pub IsTyped : Settings → List Component → CompExp → Type 0
   IsTyped p xs (column place name kind) = IsColumnAt place name kind xs
@@ -117,7 +117,9 @@ abbrev pub HasIdentifiers : Structure → List Component → Type 0
 HasIdentifiers s xs = (names_of (identifiers_of s) ≡ names_of xs) × (map (λ x. x.kind) (identifiers_of s) ≡ map (λ x. x.kind) xs)
 
 -- ---- how a structure fits an operator and its operands
--- It is the one that typing gives (`shape`); the other fields say what follows for its columns.
+-- It is the one that typing gives (`shape`); the other fields say what follows for its columns. They are what an operator needs,
+-- and ask less than typing: an identifier without codes may be turned by `pivot`, a data set without measures by `unpivot`, an
+-- operand of a left join may lack identifiers of the reference, and `using`, aliases and the number of operands are not seen.
 pub record IsMeasured (p : Settings) (m : MeasureTree) (a s : Structure) : Type 0 where
   pub well_formed : IsStructure s
   pub identifiers : HasIdentifiers s (identifiers_of a)
@@ -161,7 +163,7 @@ pub record IsCalculated (p : Settings) (items : List ItemTree) (a s : Structure)
   pub free : AllByRecursion (λ x. target_named items x.name ≡ None) (identifiers_of a)
   pub columns : AreFor p (columns_of a) (calculated_exps items a s) (columns_of s)
   pub apart : all_apart same_name (map (λ i. i.target) items) ≡ true
-  pub shape : s.components ≡ calculated_components (map target_of items) a.components
+  pub shape : s.components ≡ calculated_components (map (target_of a.components) items) a.components
 
 -- `having`, where it is written, is a condition on groups
 abbrev pub IsGroupCondition : Settings → AggTree → Structure → CompExp → Type 0

@@ -22,6 +22,7 @@ use Rattle.vtl_tree.specs.Columns.{identifiers_of, places_in}
 abbrev pub with_points : Structure → List Row → DataSet
 with_points s points = record { structure = s; points = points }
 
+-- the value, or null in the place of a fault
 abbrev pub cell_or_null : Outcome Cell → Cell
 cell_or_null (Ok v) = v
 cell_or_null (Err f) = c.Null

@@ -3,13 +3,16 @@ use Rattle.std.specs.Prelude.{ℕ, ◌≡◌, Bool, true, false, List, [], ◌�
 use Rattle.std.specs.List.{AllByRecursion}
 use Rattle.std.specs.Option.{option_map_or}
 use Rattle.vtl_cell.specs.ScalarKinds.{kinds_of}
+use Rattle.vtl_cell.specs.declared.kind.Kind.{Kind}
+use Rattle.vtl_cell.specs.declared.kind.Kind.TheVariants as k
 use Rattle.vtl_cell.specs.declared.operator.ScalarOp.{ScalarOp}
 use Rattle.vtl_cell.specs.declared.operator.ScalarOp.TheVariants as op
 use Rattle.vtl_tree.specs.Structure.{IsStructure}
 use Rattle.vtl_tree.specs.Structures.{is_null_kind}
 use Rattle.vtl_tree.specs.declared.structure.Component.{Component}
 use Rattle.vtl_tree.specs.declared.structure.Structure.{Structure}
-use Rattle.vtl_tree.specs.Trees.{ItemTree, MeasureTree}
+use Rattle.vtl_tree.specs.Trees as nodes
+use Rattle.vtl_tree.specs.Trees.{ItemTree, MeasureTree, ValueTree}
 use Rattle.vtl_syntax.specs.declared.word_groups.JoinKind.{JoinKind}
 use Rattle.vtl_tree.specs.Joins.{held_names, joined_components}
 use Rattle.vtl_tree.specs.declared.joins.Operand.{Operand}
@@ -23,8 +26,7 @@ use Rattle.vtl_tree.specs.declared.measures.Outcome.TheVariants as outcome
 use Rattle.vtl_tree.specs.declared.names.Wanted.{Wanted}
 use Rattle.vtl_tree.specs.declared.renaming.Renaming.{Renaming}
 use Rattle.vtl_tree.specs.declared.targets.Target.{Target}
-use Rattle.vtl_tree.specs.Kinds.{exp_kind}
-use Rattle.vtl_meaning.specs.Operators.{value_exp}
+use Rattle.vtl_tree.specs.Kinds.{exp_kind, given_kind}
 
 -- a structure whose components all have kinds
 pub record IsShaped (s : Structure) : Type 0 where
@@ -55,9 +57,14 @@ abbrev pub given_of_two : ScalarOp → Gives
 given_of_two o x y = kinds_of o (x ∷ y ∷ [])
 
 -- ---- clauses
+-- the kind of a value that is made of these components
+abbrev pub tree_kind : List Component → ValueTree → Kind
+tree_kind xs (nodes.scalar e) = exp_kind e
+tree_kind xs (nodes.analytic call) = given_kind call.op (option_map_or (λ name. option_map_or (λ x. x.kind) (component_of name xs) k.Null) call.component k.Null)
+
 -- a target of `calc` with the kind of its value
-abbrev pub target_of : ItemTree → Target
-target_of i = record { name = i.target; role = i.role; kind = exp_kind (value_exp i.value) }
+abbrev pub target_of : List Component → ItemTree → Target
+target_of xs i = record { name = i.target; role = i.role; kind = tree_kind xs i.value }
 
 -- the components as the targets leave them, then the targets that are new
 abbrev pub calculated_components : List Target → List Component → List Component

@@ -1,4 +1,7 @@
 // Laws of aggregates.
+//
+// A column of the result is made by the aggregate that its name finds: the measure of that name, or the target. So
+// both forms of an aggregate are one definition, whatever the order of measures and attributes is.
 ghost use Rattle.std.specs.Prelude.{◌≡◌, ◌&&◌, [], ◌∷◌, IfOk, List, None, Some, cond};
 ghost use Rattle.vtl_cell.specs.Outcomes.{Same};
 ghost use Rattle.vtl_lists.specs.Perm.{Perm};

@@ -1,4 +1,17 @@
 // Laws of the definitions.
+//
+// Three ways to make points carry all operators: an expression for each column (`each_point`), chosen columns
+// (`shown`), each point beside its partner (`paired`). That keys, widths and kinds are kept is proved once for each
+// way.
+//
+// A value in a list of points is there also where an expression has a fault (`cell_or_null`): then there is no list,
+// and no point needs a proof that its values have none.
+//
+// A typed call has its literals in its condition (`HasLiterals`): a translation writes them as literals, and none is
+// out of its interval.
+//
+// `filter` and `rename` stay on lists of points: `filter_of` is a definition of `vtl_tree`, which knows no operator,
+// and `rename` changes no point.
 ghost use Rattle.std.specs.Prelude.{◌≡◌, [], ◌∷◌, ◌++◌, IfOk, List, Ok, Some, cond, false, length, map, option_map, true};
 ghost use Rattle.std.specs.List.{list_all};
 ghost use Rattle.std.specs.Option.{option_and_then};

@@ -9,6 +9,9 @@
 //! It knows no tables, no files and no program: `vtl_expr`, `vtl_clause`, `vtl_group` and their neighbours compute this.
 //! Begin with specs/Operators.antt, Joined.antt, Sets.antt, Turned.antt, Groups.antt, Aggregates.antt, Windows.antt,
 //! Analytics.antt and Meaning.antt; LookUps.antt says the same in the words of the manual.
+//!
+//! The laws of joins and sets stand here with those of the other operators, and not in a crate above: the laws of
+//! whole scripts go over all forms, and the code of a join needs that its result is a data set.
 #![tactic(auto)]
 
 mod aggregate_laws;

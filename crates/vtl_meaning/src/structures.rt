@@ -1,4 +1,7 @@
 // The law of the structures of results.
+//
+// What a clause chose or renamed stands beside what its operator needs (`IsChosen` beside `IsLeft`, `IsRenamedBy`
+// beside `IsRenamed`): the calls take the structure of the result and no names.
 ghost use Rattle.std.specs.Prelude.{◌≡◌, List, true};
 ghost use Rattle.vtl_decimal.specs.Settings.{Settings};
 ghost use Rattle.vtl_cell.specs.declared.operator.ScalarOp.{ScalarOp};

@@ -1,4 +1,16 @@
 // Laws of analytic operators.
+//
+// The place of a point is the number of points of its partition that stand before it, and not its place in a sorted
+// list: so it does not depend on the order of points, without reasoning on sorts. That both are one is a law
+// (`windows_place_points`).
+//
+// Points stand by the listed components, then by all identifiers: no two points of a partition have the same
+// identifiers, so the order is one. A frame goes by places, cut to the partition, with or without an order.
+//
+// An operator on a data set and a target of `calc` are one definition: a column is made by the call or the expression
+// that its name finds, or stays. An expression among the targets is known by its values (`IsEvaluated`), not by its
+// typing; the value of a call is taken as one of its column's kind (`as_kind`), so the default of `lag` and `lead`
+// may be an integer beside numbers.
 ghost use Rattle.std.specs.Prelude.{◌≡◌, ◌<◌, ℕ, IfOk, [], None, length, slice_index_or, option_map, map};
 ghost use Rattle.vtl_cell.specs.Groups.{group_value};
 ghost use Rattle.vtl_cell.specs.Outcomes.{Same};

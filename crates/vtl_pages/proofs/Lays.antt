@@ -25,15 +25,15 @@ module _ {X : Type 0} where
   pub same_items : (xs ys : List X) → map Some xs ≡ map Some ys → xs ≡ ys
   same_items xs ys e = sym (values-map xs) ∙ ap values e ∙ values-map ys
 
-  values-laid : (xs : List X) (n : ℕ) → values (laid xs n) ≡ xs
+  pub values-laid : (xs : List X) (n : ℕ) → values (laid xs n) ≡ xs
   unfolding laid
   values-laid xs n = values-front xs (replicate n None) ∙ ap (λ l. xs ++ l) (values-none n) ∙ append-nil xs
 
-  length-laid : (xs : List X) (n : ℕ) → length (laid xs n) ≡ length xs + n
+  pub length-laid : (xs : List X) (n : ℕ) → length (laid xs n) ≡ length xs + n
   unfolding laid
   length-laid xs n = let none : Option X = None in omega (arith, length-append (map Some xs) (replicate n none), length-map xs Some, length-replicate n none)
 
-  get-laid : (xs : List X) (n i : ℕ) (d : X) → i < length xs → get_or (laid xs n) i None ≡ Some (get_or xs i d)
+  pub get-laid : (xs : List X) (n i : ℕ) (d : X) → i < length xs → get_or (laid xs n) i None ≡ Some (get_or xs i d)
   unfolding laid
   get-laid xs n i d lt = let long = length-map xs Some in get_or_append_left (map Some xs) (replicate n None) None i (omega arith) ∙ get_or-map Some xs i d None lt
 
@@ -41,7 +41,7 @@ module _ {X : Type 0} where
   unfolding laid
   get-free xs n i le = let long = length-map xs Some in get_or-append_right (map Some xs) (replicate n None) (length xs) i None long le ∙ get-none X n (i - length xs)
 
-  item_at : (xs : List X) (i : ℕ) → i < length xs → X
+  pub item_at : (xs : List X) (i : ℕ) → i < length xs → X
   item_at [] i lt = absurd (omega arith)
   item_at (x ∷ xs) zero lt = x
   item_at (x ∷ xs) (suc i) lt = item_at xs i (omega arith)
@@ -65,6 +65,15 @@ module _ {X : Type 0} where
   set-laid : (xs : List X) (n i : ℕ) (v : X) → i < length xs → set (laid xs n) i (Some v) ≡ laid (set xs i v) n
   unfolding laid
   set-laid xs n i v lt = let long = length-map xs Some in set-append_left (map Some xs) (replicate n None) i (Some v) (omega arith) ∙ ap (λ l. l ++ replicate n None) (sym (map-set Some xs i v))
+
+  pub swap-laid : (xs : List X) (n i j : ℕ) → i < length xs → j < length xs → swap (laid xs n) i j ≡ laid (swap xs i j) n
+  swap-laid xs n i j li lj =
+      let d = item_at xs i li in let long = length-laid xs n in
+      sym (swap_is (laid xs n) i j None (omega arith) (omega arith))
+      ∙ (λ k. set (set (laid xs n) i (get-laid xs n j d lj k)) j (get-laid xs n i d li k))
+      ∙ ap (λ l. set l j (Some (get_or xs i d))) (set-laid xs n i (get_or xs j d) li)
+      ∙ set-laid (set xs i (get_or xs j d)) n j (get_or xs i d) (omega (arith, length-set xs i (get_or xs j d)))
+      ∙ ap (λ l. laid l n) (swap_is xs i j d li lj)
 
   more-laid : (xs : List X) (n m : ℕ) → laid xs n ++ replicate m None ≡ laid xs (n + m)
   unfolding laid
@@ -150,24 +159,6 @@ module _ {X : Type 0} where
     pub roomier : (ds : List (Option X)) (k : ℕ) → ds ≡ cs ++ replicate k None → IsLaid ds n (room + k) × (values ds ≡ xs)
     roomier ds k is =
         let most = h.within in laid_out ds xs n (room + k) (room - n + k) h.count (omega arith) (is ∙ ap (λ l. l ++ replicate k None) h.places ∙ more-laid xs (room - n) k)
-
-    pub other_there : (i j : ℕ) (ds : List (Option X)) → i ≢ j → j < length xs → ds ≡ set cs i None → IsFilled ds j
-    other_there i j ds ne lt is = let x = item_there j lt in (x.0, ap (λ l. get_or l j None) is ∙ get_or-set_other cs i j None None (λ e. ne (sym e)) ∙ x.1)
-
-    -- two items are taken, and each is put where the other was
-    pub swapped : (ds : List (Option X)) (i j : ℕ) (x y : X) → i ≢ j → i < length xs → j < length xs → get_or cs i None ≡ Some x → get_or (set cs i None) j None ≡ Some y
-        → ds ≡ set (set (set (set cs i None) j None) i (Some y)) j (Some x) → IsLaid ds n room × (values ds ≡ swap xs i j)
-    swapped ds i j x y ne li lj ex ey is =
-        let most = h.within in
-        let x_is : x ≡ get_or xs i x = item_is i x li ex in
-        let y_there : get_or cs j None ≡ Some y = sym (get_or-set_other cs i j None None (λ e. ne (sym e))) ∙ ey in
-        let y_same : Some y ≡ Some (get_or xs j x) = sym y_there ∙ ap (λ l. get_or l j None) h.places ∙ get-laid xs (room - n) j x lj in
-        let y_is : y ≡ get_or xs j x = cc in
-        let moved : set (set (set (set cs i None) j None) i (Some y)) j (Some x) ≡ set (set cs i (Some y)) j (Some x) =
-        ap (λ l. set l j (Some x)) (set_comm (set cs i None) j i None (Some y) (λ e. ne (sym e)) ∙ ap (λ l. set l j None) (set-set cs i None (Some y))) ∙ set-set (set cs i (Some y)) j None (Some x) in
-        laid_out ds (swap xs i j) n room (room - n) (h.count ∙ sym (length-swap xs i j)) (omega arith)
-        (is ∙ moved ∙ ap (λ l. set (set l i (Some y)) j (Some x)) h.places ∙ ap (λ l. set l j (Some x)) (set-laid xs (room - n) i y li)
-        ∙ set-laid (set xs i y) (room - n) j x (omega (arith, length-set xs i y)) ∙ (λ k. laid (set (set xs i (y_is k)) j (x_is k)) (room - n)) ∙ ap (λ l. laid l (room - n)) (swap_is xs i j x li lj))
 
   -- a list is its items but the last, and then the last
   pub last_split : (ys : List X) (m : ℕ) (x : X) → length ys ≡ m + 1 → x ≡ get_or ys m x → ys ≡ take m ys ++ x ∷ []

@@ -2,8 +2,10 @@ pub mod Claimed
 pub mod Emptied
 pub mod Joins
 pub mod Lays
+pub mod Leaves
 pub mod Lending
 pub mod Moved
+pub mod Narrows
 pub mod Opened
 pub mod Orders
 pub mod Puts

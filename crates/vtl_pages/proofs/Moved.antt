@@ -1,10 +1,16 @@
 -- The values of some places are moved into others, the last one first.
-use Rattle.std.proofs.Common.{◌≡◌, ℕ, zero, suc, ◌<◌, ◌≤◌, List, [], ◌∷◌, ◌++◌, length, take, set, get_or, Option, Some, None, refl, sym, ap, ◌∙◌, arith, append-nil, length-take, take_all, get_or-set_other}
-use Rattle.vtl_pages.specs.Laid.{IsLaid}
+use Rattle.std.proofs.Common.{◌≡◌, ◌≢◌, ℕ, zero, suc, ◌+◌, ◌-◌, ◌<◌, ◌≤◌, List, [], ◌∷◌, ◌++◌, length, take, set, get_or, Option, Some, None, refl, sym, ap, ◌∙◌, subst, arith, append-nil, length-take, take_all, get_or-set_other}
+use Rattle.std.proofs.lemmas.List.{set-set, set_comm}
+use Rattle.std.proofs.lemmas.List.Edits.{length-swap, swap_is}
+use Rattle.std.specs.List.{swap}
+use Rattle.vtl_pages.specs.Laid.{laid, IsLaid}
+use Rattle.vtl_pages.specs.Ordered.{swap_all}
 use Rattle.vtl_pages.specs.Places.{values, IsFilled}
 use Rattle.vtl_pages.specs.Stored.{stored}
-use Rattle.vtl_pages.proofs.Lays.{item_is, item_there}
+use Rattle.vtl_pages.proofs.Lays.{get-laid, item_at, item_is, item_there, laid_out, swap-laid}
 use Rattle.vtl_pages.proofs.Puts.{IsPutFrom}
+use Rattle.vtl_pages.proofs.Rows.{filled_below}
+use Rattle.vtl_pages.proofs.Swaps.{length-swap_all}
 
 module _ {X : Type 0} where
   emptied_place : (cs : List (Option X)) (k i : ℕ) → (k < i → get_or cs i None ≡ None) → k ≤ i → get_or (set cs k None) i None ≡ None
@@ -44,3 +50,42 @@ module _ {X : Type 0} where
 
     pub more_empty : (es : List (Option X)) → es ≡ set ds k None → ((i : ℕ) → left ≤ i → get_or ds i None ≡ None) → (i : ℕ) → k ≤ i → get_or es i None ≡ None
     more_empty es e empty i le = ap (λ l. get_or l i None) e ∙ emptied_place ds k i (λ lt. empty i (omega arith)) le
+
+  -- two values are taken, and each is put where the other was
+  pub exchanged : (cs : List (Option X)) (i j : ℕ) (x y : X) → i ≢ j → get_or cs i None ≡ Some x → get_or (set cs i None) j None ≡ Some y → set (set (set (set cs i None) j None) i (Some y)) j (Some x) ≡ swap cs i j
+  exchanged cs i j x y ne ex ey =
+      let y_there : get_or cs j None ≡ Some y = sym (get_or-set_other cs i j None None (λ e. ne (sym e))) ∙ ey in
+      ap (λ l. set l j (Some x)) (set_comm (set cs i None) j i None (Some y) (λ e. ne (sym e)) ∙ ap (λ l. set l j None) (set-set cs i None (Some y))) ∙ set-set (set cs i (Some y)) j None (Some x)
+      ∙ (λ k. set (set cs i (sym y_there k)) j (sym ex k)) ∙ swap_is cs i j None (filled_below cs i x ex) (filled_below cs j y y_there)
+
+  -- a place is empty once its value is taken
+  pub emptied_at : (cs : List (Option X)) (i : ℕ) → get_or (set cs i None) i None ≡ None
+  emptied_at cs i = emptied_place cs i i (λ lt. absurd (omega arith)) (omega arith)
+
+  -- another place is filled while one is empty
+  pub other_filled : (cs ds : List (Option X)) (i j : ℕ) → i ≢ j → ds ≡ set cs i None → IsFilled cs j → IsFilled ds j
+  other_filled cs ds i j ne is x = (x.0, ap (λ l. get_or l j None) is ∙ get_or-set_other cs i j None None (λ e. ne (sym e)) ∙ x.1)
+
+  -- some values change places with others, all of them among those in front
+  pub swap_all-laid : (xs : List X) (n a b k : ℕ) → a + k ≤ length xs → b + k ≤ length xs → swap_all (laid xs n) a b k ≡ laid (swap_all xs a b k) n
+  swap_all-laid xs n a b zero la lb = refl
+  swap_all-laid xs n a b (suc k) la lb =
+      let long = length-swap_all xs a b k in
+      ap (λ l. swap l (a + k) (b + k)) (swap_all-laid xs n a b k (omega arith) (omega arith)) ∙ swap-laid (swap_all xs a b k) n (a + k) (b + k) (omega arith) (omega arith)
+
+  module _ (cs : List (Option X)) (a b k n : ℕ) (h : IsLaid cs (length (values cs)) (length cs)) (more : k < n) (la : a + n ≤ length (values cs)) (lb : b + n ≤ length (values cs)) where
+    pub still_filled : (ds : List (Option X)) (i : ℕ) → ds ≡ swap_all cs a b k → i < length (values cs) → IsFilled ds i
+    still_filled ds i is lt =
+        let xs = values cs in let zs = swap_all xs a b k in let s = length cs - length xs in
+        let x = get-laid zs s i (item_at zs i (subst (λ m. i < m) (sym (length-swap_all xs a b k)) lt)) (subst (λ m. i < m) (sym (length-swap_all xs a b k)) lt) in
+        (get_or zs i (item_at zs i (subst (λ m. i < m) (sym (length-swap_all xs a b k)) lt)), ap (λ l. get_or l i None) (is ∙ ap (λ l. swap_all l a b k) h.places ∙ swap_all-laid xs s a b k (omega arith) (omega arith)) ∙ x)
+
+  pub one_swapped : (cs : List (Option X)) (n room : ℕ) → IsLaid cs n room → (ds : List (Option X)) (i j : ℕ) → i < length (values cs) → j < length (values cs) → ds ≡ swap cs i j → IsLaid ds n room × (values ds ≡ swap (values cs) i j)
+  one_swapped cs n room h ds i j li lj is =
+      let most = h.within in
+      laid_out ds (swap (values cs) i j) n room (room - n) (h.count ∙ sym (length-swap (values cs) i j)) (omega arith) (is ∙ ap (λ l. swap l i j) h.places ∙ swap-laid (values cs) (room - n) i j li lj)
+
+  pub all_swapped : (cs : List (Option X)) (n room : ℕ) → IsLaid cs n room → (ds : List (Option X)) (a b k : ℕ) → a + k ≤ length (values cs) → b + k ≤ length (values cs) → ds ≡ swap_all cs a b k → IsLaid ds n room × (values ds ≡ swap_all (values cs) a b k)
+  all_swapped cs n room h ds a b k la lb is =
+      let most = h.within in
+      laid_out ds (swap_all (values cs) a b k) n room (room - n) (h.count ∙ sym (length-swap_all (values cs) a b k)) (omega arith) (is ∙ ap (λ l. swap_all l a b k) h.places ∙ swap_all-laid (values cs) (room - n) a b k la lb)

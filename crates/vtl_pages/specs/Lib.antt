@@ -1,5 +1,7 @@
+pub mod Chosen
 pub mod Joined
 pub mod Laid
+pub mod Left
 pub mod Ordered
 pub mod Owned
 pub mod Paged

@@ -10,7 +10,9 @@
 
 mod block;
 mod cells;
+mod leaving;
 mod moving;
+mod narrow;
 mod order;
 mod pages;
 mod store;
@@ -22,6 +24,8 @@ mod tests;
 pub use block::Block;
 #[doc(hidden)]
 pub use cells::{Cells, Claim, Start};
+#[doc(hidden)]
+pub use leaving::Leaving;
 pub use pages::Pages;
 #[doc(hidden)]
 pub use store::Store;

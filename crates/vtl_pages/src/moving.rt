@@ -8,7 +8,7 @@ use std::alloc::AllocError;
 
 // The block of a run and the place where the run starts in there, for blocks of `front` runs first, and of 2 ^ shift
 // runs then.
-fn find_run(r: usize, width: usize, front: usize, runs: usize, shift: u32) -> (usize, usize)
+pub(crate) fn find_run(r: usize, width: usize, front: usize, runs: usize, shift: u32) -> (usize, usize)
     requires some { 0 < front }
     requires wide { 0 < width }
     requires bits { shift < 64 }
@@ -66,6 +66,8 @@ impl<T> Pages<T> {
     /// It fails only if memory runs out; both have their items then.
     pub fn append(&mut self, other: &mut Pages<T>) -> Result<(), AllocError>
         ensures ok { OnOk result ((self.new.items ≡ self.old.items ++ other.old.items) × (other.new.items ≡ [])) }
+        ensures spare { OnOk result (self.old.spare ≤ self.new.spare + length other.old.items) }
+        ensures other_spare { OnOk result (other.new.spare ≡ other.old.spare + length other.old.items) }
         ensures err { OnErr result ((self.new.items ≡ self.old.items) × (other.new ≡ other.old)) }
         ensures width { self.new.width ≡ self.old.width }
         ensures other_width { other.new.width ≡ other.old.width }

@@ -5,6 +5,7 @@ ghost use Rattle.std.specs.List.{swap};
 ghost use Rattle.vtl_pages.specs.Paged.{paged};
 
 use crate::block::Block;
+use crate::leaving::Leaving;
 use crate::store::Store;
 use std::alloc::{AllocError, Global};
 use std::marker::Model;
@@ -174,6 +175,7 @@ impl<T> Pages<T> {
     pub fn try_push(&mut self, value: T) -> Result<(), T>
         ensures width { self.new.width ≡ self.old.width }
         ensures ok { OnOk result (self.new.items ≡ self.old.items ++ value ∷ []) }
+        ensures spare { OnOk result (self.old.spare ≤ self.new.spare + 1) }
         ensures err { IfErr result (λ x. (x ≡ value) × (self.new ≡ self.old)) }
     {
         if self.spare() == 0 {
@@ -215,10 +217,26 @@ impl<T> Pages<T> {
         if i == j {
             return;
         }
-        let one = self.store.take_at(i);
-        let other = self.store.take_at(j);
-        self.store.put_at(i, other);
-        self.store.put_at(j, one);
+        let one = self.store.find(i);
+        let other = self.store.find(j);
+        self.store.swap(one, other);
+    }
+
+    // The items, which leave from the first one on.
+    pub(crate) fn into_leaving(self) -> Leaving<T>
+        ensures { result ≡ self.items }
+    {
+        let Pages {
+            store,
+            len,
+            room: _,
+            width: _,
+            front: _,
+            runs: _,
+            shift: _,
+            alloc,
+        } = self;
+        store.into_leaving(alloc, len)
     }
 }
 

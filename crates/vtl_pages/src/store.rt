@@ -1,11 +1,14 @@
 //! Blocks, the first small and all others of one size, as one list of places. A place is named by its block and its
 //! number in there.
-ghost use Rattle.std.specs.Prelude.{◌≡◌, ℕ, ◌+◌, ◌^◌, ◌<◌, ◌≤◌, ◌++◌, [], None, Some, length, map, take, drop, get_or, slice_set, replicate, OnOk, OnErr};
+ghost use Rattle.std.specs.Prelude.{◌≡◌, ◌≢◌, ℕ, ◌+◌, ◌^◌, ◌<◌, ◌≤◌, ◌++◌, [], None, Some, length, map, take, drop, get_or, slice_set, replicate, OnOk, OnErr};
+ghost use Rattle.std.specs.List.{swap};
 ghost use Rattle.vtl_pages.specs.Laid.{IsLaid};
+ghost use Rattle.vtl_pages.specs.Ordered.{swap_all};
 ghost use Rattle.vtl_pages.specs.Places.{IsFilled, IsRun, IsFilledTo, IsFree, put_all, values};
 ghost use Rattle.vtl_pages.specs.Stored.{Stored, stored, next_size, block_size, spot};
 
 use crate::block::Block;
+use crate::leaving::Leaving;
 use std::alloc::{AllocError, Global};
 use std::marker::Model;
 
@@ -157,6 +160,38 @@ impl<T> Store<T> {
         self.take(block, place)
     }
 
+    // Each of two values comes to the place of the other.
+    pub(crate) fn swap(&mut self, a: (usize, usize), b: (usize, usize))
+        requires a_in_block { a.1 < block_size self.old.first self.old.step a.0 }
+        requires b_in_block { b.1 < block_size self.old.first self.old.step b.0 }
+        requires apart { spot self.old.first self.old.step a.0 a.1 ≢ spot self.old.first self.old.step b.0 b.1 }
+        requires a_filled { IsFilled self.old.places (spot self.old.first self.old.step a.0 a.1) }
+        requires b_filled { IsFilled self.old.places (spot self.old.first self.old.step b.0 b.1) }
+        ensures { self.new ≡ stored (swap self.old.places (spot self.old.first self.old.step a.0 a.1) (spot self.old.first self.old.step b.0 b.1)) self.old.first self.old.step }
+    {
+        let one = self.take(a.0, a.1);
+        let other = self.take(b.0, b.1);
+        self.put(a.0, a.1, other);
+        self.put(b.0, b.1, one);
+    }
+
+    // Some values side by side in one block, and as many elsewhere, come to the places of the others. The values stand
+    // in the first places.
+    pub(crate) fn swap_runs(&mut self, a: (usize, usize), b: (usize, usize), count: usize)
+        requires a_in_block { a.1 + count ≤ block_size self.old.first self.old.step a.0 }
+        requires b_in_block { b.1 + count ≤ block_size self.old.first self.old.step b.0 }
+        requires apart { spot self.old.first self.old.step a.0 a.1 ≢ spot self.old.first self.old.step b.0 b.1 }
+        requires few { length (values self.old.places) < 2 ^ 64 }
+        requires laid { IsLaid self.old.places (length (values self.old.places)) (length self.old.places) }
+        requires a_there { spot self.old.first self.old.step a.0 a.1 + count ≤ length (values self.old.places) }
+        requires b_there { spot self.old.first self.old.step b.0 b.1 + count ≤ length (values self.old.places) }
+        ensures { self.new ≡ stored (swap_all self.old.places (spot self.old.first self.old.step a.0 a.1) (spot self.old.first self.old.step b.0 b.1) count) self.old.first self.old.step }
+    {
+        for k in 0..count {
+            self.swap((a.0, a.1 + k), (b.0, b.1 + k));
+        }
+    }
+
     // Moves the n values of another store, which stand in front there, into empty places side by side.
     pub(crate) fn move_all(&mut self, at: usize, other: &mut Store<T>, n: usize)
         requires there { at + n ≤ length self.old.places }
@@ -192,6 +227,19 @@ impl<T> Store<T> {
     {
         let (block, place) = self.find(i);
         self.run(block, place, count)
+    }
+
+    // The values, which stand in the first places, and leave from the first one on.
+    pub(crate) fn into_leaving(self, alloc: Global, len: usize) -> Leaving<T>
+        requires { IsLaid self.places len (length self.places) }
+        ensures { result ≡ values self.places }
+    {
+        let Store {
+            blocks,
+            first,
+            step,
+        } = self;
+        Leaving::new(alloc, blocks, first, step, len)
     }
 
     // Drops the values, which stand in the first places, and gives all blocks back.

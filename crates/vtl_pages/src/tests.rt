@@ -31,6 +31,44 @@ fn drops_each_value_once(rt: HostRuntime) -> Result<(), Fail> {
     Ok(())
 }
 
+// Over the small first block and some large ones: the first and the last item of each run are kept.
+#[test]
+fn narrows_each_run(rt: HostRuntime) -> Result<(), Fail> {
+    let mut pages = Pages::new(rt.alloc(), 3);
+    for i in 0..6000usize {
+        assert!(rt; pages.try_push(i).is_ok());
+    }
+    if pages.len() == 6000 && pages.width() == 3 {
+        let narrow = pages.narrowed(rt.alloc(), &[0, 2])?;
+        assert_eq!(rt; narrow.len(), 4000);
+        assert_eq!(rt; narrow.width(), 2);
+        if narrow.len() == 4000 && narrow.width() == 2 {
+            assert!(rt; narrow.run(0) == [0, 2].as_slice());
+            assert!(rt; narrow.run(16) == [48, 50].as_slice());
+            assert!(rt; narrow.run(1999) == [5997, 5999].as_slice());
+        }
+    }
+    Ok(())
+}
+
+// Items that do not stay are dropped once, and those that stay as well.
+#[test]
+fn narrowed_drops_each_value_once(rt: HostRuntime) -> Result<(), Fail> {
+    let counted = Rc::new(rt.alloc(), 0)?;
+    let mut pages = Pages::new(rt.alloc(), 3);
+    for _ in 0..6000 {
+        assert!(rt; pages.try_push(counted.clone()?).is_ok());
+    }
+    assert_eq!(rt; Rc::strong_count(&counted), 6001);
+    if pages.len() == 6000 && pages.width() == 3 {
+        let narrow = pages.narrowed(rt.alloc(), &[1])?;
+        assert_eq!(rt; Rc::strong_count(&counted), 2001);
+        drop(narrow);
+    }
+    assert_eq!(rt; Rc::strong_count(&counted), 1);
+    Ok(())
+}
+
 // No memory holds a block of this many places.
 #[test]
 fn hands_a_refused_value_back(rt: HostRuntime) -> Result<(), Fail> {

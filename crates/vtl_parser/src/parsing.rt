@@ -1,4 +1,6 @@
 // The script of a text.
+//
+// The place of a fault is that of its statement, so no reader carries places.
 ghost use Rattle.std.specs.Prelude.{◌≡◌, ℕ, IfOk, MatchResult};
 ghost use Rattle.vtl_grammar.specs.Faults.{WholeScript, byte_of};
 ghost use Rattle.vtl_parser.specs.Parsed.{IsSyntaxError, IsFault, IsFaultOf, IsFaulty, IsMemory, IsScript};

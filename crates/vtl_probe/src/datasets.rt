@@ -1,4 +1,5 @@
 // Data sets: what a CSV file of one is read as, written again.
+ghost use Rattle.vtl_rows.specs.Tables.{listed};
 ghost use Rattle.vtl_tree.specs.Structure.{IsStructure};
 ghost use Rattle.vtl_sets.specs.TableOf.{IsTableOf};
 
@@ -63,7 +64,7 @@ fn written(
     structure: &Structure,
     profile: &Profile,
 ) -> Result<String, CaseErr>
-    requires { IsTableOf structure.now table.now }
+    requires { IsTableOf structure.now (listed table.now) }
 {
     text_of(file(alloc, table, structure, profile)?)
 }
@@ -75,7 +76,7 @@ fn file(
     structure: &Structure,
     profile: &Profile,
 ) -> Result<Vec<u8>, AllocError>
-    requires { IsTableOf structure.now table.now }
+    requires { IsTableOf structure.now (listed table.now) }
 {
     write_dataset(alloc, table, structure, profile)
 }

@@ -1,5 +1,8 @@
 // The tree of a script, a line for each node. Expressions, and what holds expressions, have their parts below them; every
 // other part is one line.
+//
+// The printer goes down by recursion, with few functions in the circle. Over a stack of borrowed expressions each
+// function that keeps a `&Expr` in a `&mut` would be dear to prove.
 use crate::lines::Lines;
 use std::fmt;
 use vtl_syntax::{CalcPart, Clause, Expr, JoinPart, PointRule, Script, Statement, Targets};

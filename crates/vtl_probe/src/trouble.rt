@@ -1,4 +1,7 @@
 // Why there is no verdict.
+//
+// What goes wrong in a case is an enum that is copied (`CaseErr`), and lines of a tree are written by functions that
+// return nothing (`Lines`): so no `?` has an error to drop, which would double the proof.
 use std::alloc::{AllocError, Global};
 
 const USAGE: &str = "the words are one of

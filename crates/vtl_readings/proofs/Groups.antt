@@ -16,7 +16,8 @@ use Rattle.vtl_tree.specs.declared.structure.Structure.{Structure}
 use Rattle.vtl_tree.specs.Columns.{others_of}
 use Rattle.vtl_tree.proofs.Faults.{faults_by-append}
 use Rattle.vtl_tuples.proofs.Lists.{filter-map, filter_each, map-map, map_each}
-use Rattle.vtl_meaning.specs.Aggregates.{Condition, Made, aggregate_of, cell_or_null, condition_fault, condition_of, group_fault, is_kept, made_of}
+use Rattle.vtl_meaning.specs.Aggregates.{Condition, Made, aggregate_of, condition_fault, condition_of, group_fault, is_kept, made_of}
+use Rattle.vtl_meaning.specs.Points.{cell_or_null}
 use Rattle.vtl_meaning.specs.Aggregates as keyed
 use Rattle.vtl_meaning.specs.Groups.{keys_by, places_named}
 use Rattle.vtl_readings.specs.Aggregates.{Group, aggregate_points, aggregates_at, condition_at, group_of, group_point, groups_of, kept_groups, values_asked}

@@ -14,7 +14,8 @@ use Rattle.vtl_tree.specs.Structure.{columns_of}
 use Rattle.vtl_tree.specs.declared.structure.Structure.{Structure}
 use Rattle.vtl_tree.specs.Trees.{AggTree}
 use Rattle.vtl_tree.specs.Columns.{others_of}
-use Rattle.vtl_meaning.specs.Aggregates.{cell_or_null, made_value}
+use Rattle.vtl_meaning.specs.Aggregates.{made_value}
+use Rattle.vtl_meaning.specs.Points.{cell_or_null}
 use Rattle.vtl_meaning.specs.GroupExpressions.{value_at_group}
 use Rattle.vtl_meaning.specs.Groups.{keys_by, places_named, points_with}
 use Rattle.vtl_readings.specs.Faults.{worst}

@@ -8,10 +8,8 @@ use Rattle.vtl_cell.specs.declared.cell.Cell.{Cell}
 use Rattle.vtl_cell.specs.Kinds.{is_of}
 use Rattle.vtl_cell.specs.declared.kind.Kind.{Kind}
 use Rattle.vtl_cell.specs.Row.{Row}
-use Rattle.vtl_rows.specs.declared.cells.Cells.{Cells}
-use Rattle.vtl_rows.specs.declared.cells.Cells.TheVariants as c
 use Rattle.vtl_rows.specs.declared.column.Column.{Column}
-use Rattle.vtl_rows.specs.Flat.{cells_of, flat_rows, IsFlat}
+use Rattle.vtl_rows.specs.Flat.{flat_rows, IsFlat}
 use Rattle.vtl_rows.specs.Tables.{AllFit, fits, fits_kinds, column_kinds}
 
 pub length-flat_rows : (width n : ℕ) (cells : List Cell) → length (flat_rows width n cells) ≡ n
@@ -22,10 +20,10 @@ length-flat_rows width (suc n) cells = let e = length-flat_rows width n (drop wi
 pub row_ends : (width n i : ℕ) → i < n → i * width + width ≤ n * width
 row_ends width n i h = let up = mul-le (i + 1) width n width (omega arith) (le_refl width) in omega (arith, up)
 
-one_more : (width n : ℕ) (cells : List Cell) → length cells ≡ suc n * width → (width ≤ length cells) × (length (drop width cells) ≡ n * width)
+pub one_more : (width n : ℕ) (cells : List Cell) → length cells ≡ suc n * width → (width ≤ length cells) × (length (drop width cells) ≡ n * width)
 one_more width n cells e = let l = length-drop width cells in (omega (arith, e), omega (arith, e, l))
 
-none_left : (cells : List Cell) → length cells ≡ 0 → cells ≡ []
+pub none_left : (cells : List Cell) → length cells ≡ 0 → cells ≡ []
 none_left [] e = refl
 none_left (x ∷ xs) e = absurd (omega (arith, e))
 
@@ -133,11 +131,6 @@ module _ (columns : List Column) (n : ℕ) (cells : List Cell) (rows : List Row)
 
   pub row_wide : (i : ℕ) → i < length rows → length (take width (drop (i * width) cells)) ≡ width
   row_wide i h = let w = row_within i h in let l = length-drop (i * width) cells in length-take-le width (drop (i * width) cells) (omega (arith, w, l))
-
--- as many cells as fit into memory
-pub cells_few : (held : Cells) → length (cells_of held) < 2 ^ 63
-cells_few (c.Own cells) = omega (arith, cells.ok, cells.small)
-cells_few (c.Shared shared) = omega (arith, shared.value.ok, shared.value.small)
 
 -- as many rows as cells at most
 pub rows_few : (columns : List Column) (n : ℕ) (cells : List Cell) → IsFlat columns n cells → n ≤ length cells

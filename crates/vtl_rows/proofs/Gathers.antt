@@ -10,11 +10,12 @@ use Rattle.std.proofs.lemmas.List.Sorted.{All-permutation, length_permutation}
 use Rattle.vtl_cell.specs.declared.cell.Cell.{Cell}
 use Rattle.vtl_cell.specs.Kinds.{is_of}
 use Rattle.vtl_cell.specs.Row.{Row, column_of}
+use Rattle.vtl_pages.specs.Ordered.{runs_of}
 use Rattle.vtl_rows.specs.declared.column.Column.{Column}
 use Rattle.vtl_rows.specs.Flat.{flat_rows, IsFlat}
 use Rattle.vtl_rows.specs.Places.{row_at}
 use Rattle.vtl_rows.specs.Tables.{AllFit, cells_at, column_at, fits}
-use Rattle.vtl_rows.proofs.Flats.{fits_wide, length-flat_rows}
+use Rattle.vtl_rows.proofs.Flats.{fits_wide, length-flat_rows, row_read}
 
 module _ {X : Type 0} (f : X → Row) (width : ℕ) where
   pub flat_rows-flat_map : (xs : List X) → AllByRecursion (λ x. length (f x) ≡ width) xs → flat_rows width (length xs) (flat_map f xs) ≡ map f xs
@@ -56,7 +57,7 @@ module _ (columns : List Column) (n : ℕ) (cells : List Cell) (rows : List Row)
     places_wide : AllByRecursion (λ i. length (row_at rows i) ≡ length columns) places
     places_wide = recursion_from_All (λ i. length (row_at rows i) ≡ length columns) places (at_places (λ r. length r ≡ length columns) rows places all rows_wide)
 
-    places_count : length places ≡ n
+    pub places_count : length places ≡ n
     places_count = length_permutation (range_with_len 0 (length rows)) places all ∙ length-range_with_len 0 (length rows) ∙ sym (ap length seen) ∙ length-flat_rows (length columns) n cells
 
     pub moved_rows : (moved : List Cell) → moved ≡ flat_map (row_at rows) places → flat_rows (length columns) n moved ≡ map (row_at rows) places
@@ -71,6 +72,16 @@ module _ (columns : List Column) (n : ℕ) (cells : List Cell) (rows : List Row)
       fit = subst (AllFit columns) (sym (moved_rows moved e))
           (All-map (λ r. fits columns r ≡ true) (row_at rows) places (at_places (λ r. fits columns r ≡ true) rows places all rows_fit));
     }
+
+-- ---- runs of cells are rows
+module _ (columns : List Column) (n : ℕ) (cells : List Cell) (rows : List Row) (flat : IsFlat columns n cells) (seen : flat_rows (length columns) n cells ≡ rows) (width : ℕ) (wide : width ≡ length columns) where
+  runs_are : (places : List ℕ) → AllByRecursion (λ i. i < length rows) places → runs_of width cells places ≡ flat_map (row_at rows) places
+  runs_are [] all = refl
+  runs_are (i ∷ is) all =
+      ap (λ r. r ++ runs_of width cells is) (row_read columns n cells rows width flat seen wide i [] all.0) ∙ ap (λ l. row_at rows i ++ l) (runs_are is all.1)
+
+  pub runs_at : (places : List ℕ) → All (λ i. i < length rows) places → runs_of width cells places ≡ flat_map (row_at rows) places
+  runs_at places within = runs_are places (recursion_from_All (λ i. i < length rows) places within)
 
 -- ---- chosen columns
 cells_count : (r : Row) (places : List ℕ) → length (cells_at places r) ≡ length places

@@ -1,12 +1,13 @@
 pub mod AllColumns
+pub mod CopiedRows
 pub mod Firsts
 pub mod Flats
 pub mod Gathered
 pub mod Gathers
+pub mod Held
 pub mod InOrder
 pub mod Least
 pub mod Marks
-pub mod MovedUp
 pub mod NamedLemmas
 pub mod Placed
 pub mod PlacesStay

@@ -26,11 +26,6 @@ pub record IsOrderOf (keys : List SortKey) (rows : List Row) (places : List ℕ)
   pub sorted : map (row_at rows) places ≡ ordered keys rows
   pub placed : IsSorted (then_cmp (on (row_at rows) (by_keys (map key_of keys))) nat_cmp) places
 
--- no row is before the one in front of it, nor are their numbers in falling order where the two tie
-abbrev pub AreNumbered : List SortKey → List Row → List ℕ → Type 0
-AreNumbered keys rows numbers = (k : ℕ) → k + 1 < length rows
-    → is_lt (ordering_then (by_keys (map key_of keys) (row_at rows (k + 1)) (row_at rows k)) (nat_cmp (slice_index_or numbers (k + 1) 0) (slice_index_or numbers k 0))) ≡ false
-
 -- whether the row at a place ties with one at a place before it
 abbrev pub ties_before : List SortKey → List Row → ℕ → ℕ → Bool
 ties_before keys rows before place = nat_lt before place && tie_by keys (row_at rows before) (row_at rows place)

@@ -1,5 +1,5 @@
 -- A table as contracts see it: its columns, and the list of its rows.
-use Rattle.std.specs.Prelude.{◌≡◌, ℕ, Bool, true, false, ◌&&◌, List, [], ◌∷◌, map, slice_index_or, All}
+use Rattle.std.specs.Prelude.{◌≡◌, ℕ, Bool, true, false, ◌&&◌, List, [], ◌∷◌, map, slice_index_or, Result, Ok, Err, All}
 use Rattle.vtl_cell.specs.Kinds.{is_of}
 use Rattle.vtl_cell.specs.declared.kind.Kind.{Kind}
 use Rattle.vtl_cell.specs.declared.kind.Kind.TheVariants as k
@@ -9,6 +9,21 @@ use Rattle.vtl_rows.specs.declared.column.Column.{Column}
 pub record Listed : Type 0 where
   pub columns : List Column
   pub rows : List Row
+
+-- the same, and for how many further rows there is room
+pub record Tabled : Type 0 where
+  pub columns : List Column
+  pub rows : List Row
+  pub spare : ℕ
+
+-- what a table lists, whatever room it has
+abbrev pub listed : Tabled → Listed
+listed t = record { columns = t.columns; rows = t.rows }
+
+-- what the table of an answer lists
+abbrev pub listed_in : {E : Type 0} → Result Tabled E → Result Listed E
+listed_in (Ok t) = Ok (listed t)
+listed_in (Err e) = Err e
 
 -- a row has one cell for each kind, null or of it
 abbrev pub fits_kinds : List Kind → Row → Bool

@@ -1,54 +1,42 @@
 // The cells of a table, which may have other owners.
-ghost use Rattle.std.specs.Prelude.{◌≡◌, ◌<◌, ◌*◌, ◌++◌, [], true, length, All, IfOk, OnOk, OnErr};
-ghost use Rattle.std.specs.List.{flat_map};
-ghost use Rattle.vtl_rows.specs.Flat.{cells_of, flat_rows, is_own};
-ghost use Rattle.vtl_rows.specs.Places.{AreRising};
-ghost use Rattle.vtl_rows.specs.Tables.{cells_at};
+//
+// All cells of a table stand in pages, and a row is a slice of one of them: no list for each row is followed or freed.
+ghost use Rattle.std.specs.Prelude.{◌≡◌, ◌+◌, ◌*◌, ◌%◌, ◌^◌, ◌<◌, ◌≤◌, ◌++◌, [], true, length, IsPermutation, IfOk, OnOk, OnErr};
+ghost use Rattle.std.specs.List.{range_with_len};
+ghost use Rattle.vtl_pages.specs.Ordered.{runs_of};
+ghost use Rattle.vtl_rows.specs.Flat.{cells_of, is_own, pages_of, room_of, width_of};
 
-use crate::order::append_copies;
-use crate::project::moved_together;
+use crate::copies::copied;
 use std::alloc::{AllocError, Global};
 use std::mem;
 use std::rc::Rc;
 use vtl_cell::Cell;
+use vtl_pages::Pages;
 
 // Cells that belong to one table, or to several.
 pub(crate) enum Cells {
-    Own(Vec<Cell>),
-    Shared(Rc<Vec<Cell>, Global>),
+    Own(Pages<Cell>),
+    Shared(Rc<Pages<Cell>, Global>),
 }
 
 // Written out, so that a proof sees one call and not the drop of each part.
 impl Drop for Cells {
     fn drop(self) {
         match self {
-            Cells::Own(_cells) => {}
-            Cells::Shared(_cells) => {}
+            Cells::Own(_pages) => {}
+            Cells::Shared(_pages) => {}
         }
     }
 }
 
 impl Cells {
-    // The cells, row by row.
-    pub(crate) fn as_slice(&self) -> &[Cell]
-        ensures { result.now ≡ cells_of self.now }
+    // The pages of the cells.
+    pub(crate) fn pages(&self) -> &Pages<Cell>
+        ensures { result.now ≡ pages_of self.now }
     {
         match self {
-            Cells::Own(cells) => cells.as_slice(),
-            Cells::Shared(cells) => Rc::as_ref(cells).as_slice(),
-        }
-    }
-
-    // The same cells, for one table where they have no other owner.
-    pub(crate) fn let_go(self) -> Cells
-        ensures { cells_of result ≡ cells_of self }
-    {
-        match self {
-            Cells::Own(cells) => Cells::Own(cells),
-            Cells::Shared(shared) => match Rc::try_unwrap(shared) {
-                Ok(cells) => Cells::Own(cells),
-                Err(shared) => Cells::Shared(shared),
-            },
+            Cells::Own(pages) => pages,
+            Cells::Shared(pages) => Rc::as_ref(pages),
         }
     }
 
@@ -59,49 +47,66 @@ impl Cells {
         matches!(self, Cells::Own(_))
     }
 
-    // The cells at rising places of every row, moved together; none is copied.
-    pub(crate) fn moved_together(self, width: usize, rows: usize, places: &[usize]) -> Vec<Cell>
-        requires own { is_own self ≡ true }
-        requires whole { length (cells_of self) ≡ rows * width }
-        requires rising { AreRising places.now }
-        requires within { All (λ i. i < width) places.now }
-        ensures { result.items ≡ flat_map (cells_at places.now) (flat_rows width rows (cells_of self)) }
+    // For how many more cells there is room: for none where they are shared.
+    pub(crate) fn room(&self) -> usize
+        ensures { result ≡ room_of self.now }
     {
         match self {
-            Cells::Own(cells) => moved_together(cells, width, rows, places),
-            Cells::Shared(_) => unreachable!(),
+            Cells::Own(pages) => pages.spare(),
+            Cells::Shared(_) => 0,
+        }
+    }
+
+    // The same cells, for one table where they have no other owner.
+    pub(crate) fn let_go(self) -> Cells
+        ensures pages { pages_of result ≡ pages_of self }
+        ensures room { room_of self ≤ room_of result }
+    {
+        match self {
+            Cells::Own(pages) => Cells::Own(pages),
+            Cells::Shared(shared) => match Rc::try_unwrap(shared) {
+                Ok(pages) => Cells::Own(pages),
+                Err(shared) => Cells::Shared(shared),
+            },
         }
     }
 
     // The same cells for several tables; none is copied.
     pub(crate) fn into_shared(self, alloc: Global) -> Result<Cells, AllocError>
-        ensures { IfOk result (λ c. cells_of c ≡ cells_of self) }
+        ensures { IfOk result (λ c. pages_of c ≡ pages_of self) }
     {
         match self {
-            Cells::Own(cells) => Ok(Cells::Shared(Rc::new(alloc, cells)?)),
-            Cells::Shared(cells) => Ok(Cells::Shared(cells)),
+            Cells::Own(pages) => Ok(Cells::Shared(Rc::new(alloc, pages)?)),
+            Cells::Shared(pages) => Ok(Cells::Shared(pages)),
         }
     }
 
     // One more owner of the cells where they are shared, and else a copy.
     pub(crate) fn share(&self, alloc: Global) -> Result<Cells, AllocError>
-        ensures { IfOk result (λ c. cells_of c ≡ cells_of self.now) }
+        requires wide { 0 < width_of self.now }
+        requires whole { length (cells_of self.now) % width_of self.now ≡ 0 }
+        ensures cells { IfOk result (λ c. cells_of c ≡ cells_of self.now) }
+        ensures width { IfOk result (λ c. width_of c ≡ width_of self.now) }
     {
         match self {
-            Cells::Own(cells) => Ok(Cells::Own(copied(alloc, cells.as_slice())?)),
-            Cells::Shared(cells) => Ok(Cells::Shared(cells.clone()?)),
+            Cells::Own(pages) => Ok(Cells::Own(copied(alloc, pages)?)),
+            Cells::Shared(pages) => Ok(Cells::Shared(pages.clone()?)),
         }
     }
 
     // Makes them belong to one table: they are copied where they have other owners. On Err they are as they were.
-    pub(crate) fn make_own(&mut self, alloc: Global) -> Result<(), AllocError>
+    fn make_own(&mut self, alloc: Global) -> Result<(), AllocError>
+        requires wide { 0 < width_of self.old }
+        requires whole { length (cells_of self.old) % width_of self.old ≡ 0 }
         ensures cells { cells_of self.new ≡ cells_of self.old }
+        ensures width { width_of self.new ≡ width_of self.old }
+        ensures room { room_of self.old ≤ room_of self.new }
         ensures own { OnOk result (is_own self.new ≡ true) }
     {
         if let Cells::Own(_) = self {
             return Ok(());
         }
-        let shared = mem::replace(self, Cells::Own(Vec::new(alloc)));
+        let shared = mem::replace(self, Cells::Own(Pages::new(alloc, 1)));
         let (cells, done) = shared.owned(alloc);
         *self = cells;
         done
@@ -109,98 +114,132 @@ impl Cells {
 
     // The same cells for one table, or as they were where memory ran out.
     fn owned(self, alloc: Global) -> (Cells, Result<(), AllocError>)
+        requires wide { 0 < width_of self }
+        requires whole { length (cells_of self) % width_of self ≡ 0 }
         ensures cells { cells_of result.0 ≡ cells_of self }
+        ensures width { width_of result.0 ≡ width_of self }
+        ensures room { room_of self ≤ room_of result.0 }
         ensures own { OnOk result.1 (is_own result.0 ≡ true) }
     {
         match self {
-            Cells::Own(cells) => (Cells::Own(cells), Ok(())),
-            Cells::Shared(cells) => unshared(alloc, cells),
+            Cells::Own(pages) => (Cells::Own(pages), Ok(())),
+            Cells::Shared(shared) => unshared(alloc, shared),
         }
     }
 
-    // Makes room for this many more.
+    // The same cells for one table, which are copied where they have other owners.
+    pub(crate) fn into_own(self, alloc: Global) -> Result<Cells, AllocError>
+        requires wide { 0 < width_of self }
+        requires whole { length (cells_of self) % width_of self ≡ 0 }
+        ensures cells { IfOk result (λ c. cells_of c ≡ cells_of self) }
+        ensures width { IfOk result (λ c. width_of c ≡ width_of self) }
+        ensures room { IfOk result (λ c. room_of self ≤ room_of c) }
+        ensures own { IfOk result (λ c. is_own c ≡ true) }
+    {
+        let mut cells = self;
+        cells.make_own(alloc)?;
+        Ok(cells)
+    }
+
+    // Makes room for this many more, as their only owner.
     pub(crate) fn reserve(&mut self, alloc: Global, count: usize) -> Result<(), AllocError>
-        ensures { cells_of self.new ≡ cells_of self.old }
+        requires wide { 0 < width_of self.old }
+        requires whole { length (cells_of self.old) % width_of self.old ≡ 0 }
+        ensures cells { cells_of self.new ≡ cells_of self.old }
+        ensures width { width_of self.new ≡ width_of self.old }
+        ensures room { room_of self.old ≤ room_of self.new }
+        ensures ok { OnOk result (count ≤ room_of self.new) }
     {
         self.make_own(alloc)?;
         match self {
-            Cells::Own(cells) => cells.reserve(count),
+            Cells::Own(pages) => pages.reserve(count),
             Cells::Shared(_) => unreachable!(),
         }
     }
 
-    // Moves others behind them. On Err both are as they were.
-    pub(crate) fn append(&mut self, alloc: Global, others: &mut Vec<Cell>) -> Result<(), AllocError>
-        ensures cells { OnOk result (cells_of self.new ≡ cells_of self.old ++ others.old.items) }
-        ensures moved { OnOk result (others.new.items ≡ []) }
-        ensures err { OnErr result (cells_of self.new ≡ cells_of self.old) }
-        ensures left { OnErr result (others.new.items ≡ others.old.items) }
+    // Moves the cells of a row behind them, where there is room. It takes no memory.
+    pub(crate) fn push_run(&mut self, row: &mut Vec<Cell>)
+        requires wide { 0 < width_of self.old }
+        requires one_row { length row.old.items ≡ width_of self.old }
+        requires whole { length (cells_of self.old) % width_of self.old ≡ 0 }
+        requires room { width_of self.old ≤ room_of self.old }
+        ensures cells { cells_of self.new ≡ cells_of self.old ++ row.old.items }
+        ensures width { width_of self.new ≡ width_of self.old }
+        ensures room { room_of self.new + width_of self.old ≡ room_of self.old }
+        ensures few { length (cells_of self.new) < 2 ^ 63 }
+        ensures moved { row.new.items ≡ [] }
     {
-        self.make_own(alloc)?;
         match self {
-            Cells::Own(cells) => cells.append(others),
+            Cells::Own(pages) => {
+                pages.push_run(row);
+                // The pages tell that their items are few.
+                pages.len();
+            }
             Cells::Shared(_) => unreachable!(),
         }
     }
 
     // Moves those of another table behind them. On Err they are as they were.
-    pub(crate) fn append_all(&mut self, alloc: Global, others: Cells) -> Result<(), AllocError>
+    pub(crate) fn append(&mut self, alloc: Global, others: Cells) -> Result<(), AllocError>
+        requires wide { 0 < width_of self.old }
+        requires whole { length (cells_of self.old) % width_of self.old ≡ 0 }
+        requires others_wide { 0 < width_of others }
+        requires others_whole { length (cells_of others) % width_of others ≡ 0 }
         ensures cells { OnOk result (cells_of self.new ≡ cells_of self.old ++ cells_of others) }
         ensures err { OnErr result (cells_of self.new ≡ cells_of self.old) }
+        ensures width { width_of self.new ≡ width_of self.old }
+        ensures few { OnOk result (length (cells_of self.new) < 2 ^ 63) }
     {
-        let mut others = others;
-        others.make_own(alloc)?;
-        match &mut others {
-            Cells::Own(cells) => self.append(alloc, cells),
-            Cells::Shared(_) => unreachable!(),
+        let mut others = others.into_own(alloc)?;
+        self.make_own(alloc)?;
+        match (self, &mut others) {
+            (Cells::Own(pages), Cells::Own(others)) => append_pages(pages, others),
+            _ => unreachable!(),
         }
     }
 
-    // Puts copies of others behind them. On Err they are as they were.
-    pub(crate) fn append_copies(&mut self, alloc: Global, others: &[Cell]) -> Result<(), AllocError>
-        ensures cells { OnOk result (cells_of self.new ≡ cells_of self.old ++ others.now) }
-        ensures err { OnErr result (cells_of self.new ≡ cells_of self.old) }
+    // Puts the rows in another order: each is then the one whose number stands at its place.
+    pub(crate) fn permute(&mut self, places: &mut [usize])
+        requires own { is_own self.old ≡ true }
+        requires whole { length (cells_of self.old) ≡ length places.old * width_of self.old }
+        requires order { IsPermutation (range_with_len 0 (length places.old)) places.old }
+        ensures cells { cells_of self.new ≡ runs_of (width_of self.old) (cells_of self.old) places.old }
+        ensures width { width_of self.new ≡ width_of self.old }
+        ensures room { room_of self.new ≡ room_of self.old }
     {
-        self.make_own(alloc)?;
         match self {
-            Cells::Own(cells) => append_or_leave(cells, others),
+            Cells::Own(pages) => pages.permute(places),
             Cells::Shared(_) => unreachable!(),
         }
     }
+}
+
+// Moves all cells of other pages behind those of these. On Err these have the cells that they had.
+fn append_pages(pages: &mut Pages<Cell>, others: &mut Pages<Cell>) -> Result<(), AllocError>
+    ensures cells { OnOk result (pages.new.items ≡ pages.old.items ++ others.old.items) }
+    ensures err { OnErr result (pages.new.items ≡ pages.old.items) }
+    ensures width { pages.new.width ≡ pages.old.width }
+    ensures few { OnOk result (length pages.new.items < 2 ^ 63) }
+{
+    pages.append(others)?;
+    // The pages tell that their items are few.
+    pages.len();
+    Ok(())
 }
 
 // The cells of an owner for one table, or as they were where memory ran out.
-fn unshared(alloc: Global, shared: Rc<Vec<Cell>, Global>) -> (Cells, Result<(), AllocError>)
+fn unshared(alloc: Global, shared: Rc<Pages<Cell>, Global>) -> (Cells, Result<(), AllocError>)
+    requires wide { 0 < shared.value.width }
+    requires whole { length shared.value.items % shared.value.width ≡ 0 }
     ensures cells { cells_of result.0 ≡ shared.value.items }
+    ensures width { width_of result.0 ≡ shared.value.width }
     ensures own { OnOk result.1 (is_own result.0 ≡ true) }
 {
     match Rc::try_unwrap(shared) {
-        Ok(cells) => (Cells::Own(cells), Ok(())),
-        Err(shared) => match copied(alloc, Rc::as_ref(&shared).as_slice()) {
-            Ok(cells) => (Cells::Own(cells), Ok(())),
+        Ok(pages) => (Cells::Own(pages), Ok(())),
+        Err(shared) => match copied(alloc, Rc::as_ref(&shared)) {
+            Ok(pages) => (Cells::Own(pages), Ok(())),
             Err(error) => (Cells::Shared(shared), Err(error)),
         },
     }
-}
-
-// Equal cells.
-pub(crate) fn copied(alloc: Global, cells: &[Cell]) -> Result<Vec<Cell>, AllocError>
-    ensures { IfOk result (λ copy. copy.items ≡ cells.now) }
-{
-    let mut copy = Vec::with_capacity(alloc, cells.len())?;
-    append_copies(&mut copy, cells)?;
-    Ok(copy)
-}
-
-// Puts equal cells after others. On Err these are as they were.
-fn append_or_leave(cells: &mut Vec<Cell>, others: &[Cell]) -> Result<(), AllocError>
-    ensures cells { OnOk result (cells.new.items ≡ cells.old.items ++ others.now) }
-    ensures err { OnErr result (cells.new.items ≡ cells.old.items) }
-{
-    let count = cells.len();
-    let done = append_copies(cells, others);
-    if done.is_err() {
-        cells.truncate(count);
-    }
-    done
 }

@@ -1,11 +1,15 @@
 // Rows gathered from one table or from several.
+//
+// Rows are put together by tuples of row numbers and a list of which cell comes from where (`gather_beside`): a
+// number past the last row is a missing part, whose cells are null without a case, since a row past the end has no
+// cells.
 ghost use Rattle.std.specs.Prelude.{◌≡◌, ◌<◌, ◌++◌, length, map, All, IfOk, OnOk};
-ghost use Rattle.std.specs.List.{flat_map};
 ghost use Rattle.vtl_rows.specs.Gathered.{picked, picked_cell, picked_kind, pieces};
 ghost use Rattle.vtl_rows.specs.Places.{row_at};
-ghost use Rattle.vtl_rows.specs.Tables.{AllFit, column_kinds};
+ghost use Rattle.vtl_rows.specs.Tables.{AllFit, column_kinds, listed};
 
-use crate::order::{gather, row_or_none};
+use crate::copies::append_copies;
+use crate::order::{AHEAD, begins_block, row_or_none};
 use crate::project::{copied_columns, copy_at};
 use crate::{Column, Table};
 use std::alloc::{AllocError, Global};
@@ -28,9 +32,51 @@ impl Table {
         ensures columns { IfOk result (λ t. t.columns ≡ self.now.columns) }
         ensures rows { IfOk result (λ t. t.rows ≡ map (row_at self.now.rows) rows.now) }
     {
-        let columns = copied_columns(alloc, self.columns())?;
-        let cells = gather(alloc, self, rows)?;
-        Ok(Table::of_cells(columns, cells, rows.len()))
+        let mut gathered = Table::new(alloc, copied_columns(alloc, self.columns())?);
+        gathered.reserve_rows(rows.len())?;
+        let mut row = Vec::new(alloc);
+        for i in 0..rows.len() {
+            fetch_ahead(&mut row, self, rows, i)?;
+            append_copies(&mut row, self.row(rows[i]))?;
+            gathered.push_moved(&mut row)?;
+        }
+        Ok(gathered)
+    }
+}
+
+// Fetches the next rows where a block of them begins. Their sum is looked at so that they are fetched; it never is so
+// much that room is made.
+fn fetch_ahead(
+    cells: &mut Vec<Cell>,
+    table: &Table,
+    places: &[usize],
+    i: usize,
+) -> Result<(), AllocError>
+    requires { i < length places.now }
+    ensures { cells.new.items ≡ cells.old.items }
+{
+    if begins_block(i) && whole_rows_fetched(table, &places[i..]) == usize::MAX {
+        cells.reserve(1)?;
+    }
+    Ok(())
+}
+
+// Something of every cell of the first rows at these places, as in `fetched`.
+fn whole_rows_fetched(table: &Table, places: &[usize]) -> usize {
+    let mut sum = 0usize;
+    for place in &places[..places.len().min(AHEAD)] {
+        for cell in row_or_none(table, *place) {
+            sum = sum.saturating_add(length_of(cell));
+        }
+    }
+    sum
+}
+
+// The length of a text, which stands where its owners are counted; another cell counts as one.
+fn length_of(cell: &Cell) -> usize {
+    match cell {
+        Cell::Text(text) => text.as_str().len(),
+        _ => 1,
     }
 }
 
@@ -47,42 +93,28 @@ pub fn gather_beside(
 ) -> Result<Table, AllocError>
     requires some { 0 < length columns.items }
     requires within { All (λ p. p.part < length parts.now) picks.now }
-    requires kinds { column_kinds columns.items ≡ map (picked_kind (map (λ t. t.now) parts.now)) picks.now }
+    requires kinds { column_kinds columns.items ≡ map (picked_kind (map (λ t. listed t.now) parts.now)) picks.now }
     ensures columns { IfOk result (λ t. t.columns ≡ columns.items) }
-    ensures rows { IfOk result (λ t. t.rows ≡ map (picked (map (λ t. t.now) parts.now) picks.now) (pieces (length parts.now) tuples.now)) }
+    ensures rows { IfOk result (λ t. t.rows ≡ map (picked (map (λ t. listed t.now) parts.now) picks.now) (pieces (length parts.now) tuples.now)) }
 {
     parts_fit(parts);
-    let count = tuples.len() / parts.len();
-    let cells = picked_cells(alloc, parts, tuples, picks)?;
-    Ok(Table::of_cells(columns, cells, count))
+    let mut table = Table::new(alloc, columns);
+    table.reserve_rows(tuples.len() / parts.len())?;
+    let mut row = Vec::new(alloc);
+    for tuple in tuples.chunks_exact(parts.len()) {
+        append_picked(&mut row, parts, tuple, picks)?;
+        table.push_moved(&mut row)?;
+    }
+    Ok(table)
 }
 
 // The rows of every part fit its columns, as each part tells of itself.
 fn parts_fit(parts: &[&Table])
-    ensures { All (λ t. AllFit t.columns t.rows) (map (λ t. t.now) parts.now) }
+    ensures { All (λ t. AllFit t.columns t.rows) (map (λ t. listed t.now) parts.now) }
 {
     for part in parts {
         part.columns();
     }
-}
-
-// The cells that are picked, one tuple after the other.
-fn picked_cells(
-    alloc: Global,
-    parts: &[&Table],
-    tuples: &[usize],
-    picks: &[Pick],
-) -> Result<Vec<Cell>, AllocError>
-    requires some { 0 < length parts.now }
-    requires within { All (λ p. p.part < length parts.now) picks.now }
-    ensures { IfOk result (λ cells. cells.items ≡ flat_map (picked (map (λ t. t.now) parts.now) picks.now) (pieces (length parts.now) tuples.now)) }
-{
-    let count = tuples.len() / parts.len();
-    let mut cells = Vec::with_capacity(alloc, count.saturating_mul(picks.len()))?;
-    for tuple in tuples.chunks_exact(parts.len()) {
-        append_picked(&mut cells, parts, tuple, picks)?;
-    }
-    Ok(cells)
 }
 
 // Puts the cells that are picked for a tuple after others.
@@ -94,7 +126,7 @@ fn append_picked(
 ) -> Result<(), AllocError>
     requires whole { length tuple.now ≡ length parts.now }
     requires within { All (λ p. p.part < length parts.now) picks.now }
-    ensures { OnOk result (cells.new.items ≡ cells.old.items ++ picked (map (λ t. t.now) parts.now) picks.now tuple.now) }
+    ensures { OnOk result (cells.new.items ≡ cells.old.items ++ picked (map (λ t. listed t.now) parts.now) picks.now tuple.now) }
 {
     for pick in picks {
         cells.push(picked_cell(parts, tuple, *pick)?)?;
@@ -106,7 +138,7 @@ fn append_picked(
 fn picked_cell(parts: &[&Table], tuple: &[usize], pick: Pick) -> Result<Cell, AllocError>
     requires part { pick.part < length parts.now }
     requires number { pick.part < length tuple.now }
-    ensures { IfOk result (λ cell. cell ≡ picked_cell (map (λ t. t.now) parts.now) tuple.now pick) }
+    ensures { IfOk result (λ cell. cell ≡ picked_cell (map (λ t. listed t.now) parts.now) tuple.now pick) }
 {
     let row = row_or_none(parts[pick.part], tuple[pick.part]);
     copy_at(row, pick.column)

@@ -10,6 +10,7 @@
 mod alphabets;
 mod cells;
 mod column;
+mod copies;
 mod digits;
 mod distinct;
 mod gather;

@@ -1,13 +1,15 @@
 // Columns chosen from others, and the cells below them.
-ghost use Rattle.std.specs.Prelude.{◌≡◌, ℕ, ◌<◌, ◌≤◌, ◌+◌, ◌*◌, ◌++◌, length, map, take, drop, All, IfOk, OnOk};
+//
+// Columns of a table that is given away are moved to narrower pages (`into_projected`), where its cells have no other
+// owner and the columns keep their order: nothing is copied. Whoever owns a table gives it.
+ghost use Rattle.std.specs.Prelude.{◌≡◌, ◌<◌, ◌++◌, length, map, All, IfOk, OnOk};
 ghost use Rattle.std.specs.Bool.{OnTrue};
-ghost use Rattle.std.specs.List.{flat_map, range_with_len};
+ghost use Rattle.std.specs.List.{range_with_len};
 ghost use Rattle.vtl_cell.specs.Row.{column_of};
-ghost use Rattle.vtl_rows.specs.Flat.{flat_rows};
 ghost use Rattle.vtl_rows.specs.Places.{AreRising};
 ghost use Rattle.vtl_rows.specs.Tables.{cells_at, column_at};
 
-use crate::{Column, Table};
+use crate::Column;
 use std::alloc::{AllocError, Global};
 use vtl_cell::{Cell, clone_cell};
 
@@ -47,24 +49,12 @@ pub(crate) fn copied_columns(alloc: Global, columns: &[Column]) -> Result<Vec<Co
     Ok(copy)
 }
 
-// The cells at places of every row, one row after the other.
-pub(crate) fn chosen_cells(
-    alloc: Global,
-    table: &Table,
-    places: &[usize],
-) -> Result<Vec<Cell>, AllocError>
-    ensures { IfOk result (λ cells. cells.items ≡ flat_map (cells_at places.now) table.now.rows) }
-{
-    let count = table.len().saturating_mul(places.len());
-    let mut cells = Vec::with_capacity(alloc, count)?;
-    for i in 0..table.len() {
-        append_chosen(&mut cells, table.row(i), places)?;
-    }
-    Ok(cells)
-}
-
 // Puts the cells at places of a row after others.
-fn append_chosen(cells: &mut Vec<Cell>, row: &[Cell], places: &[usize]) -> Result<(), AllocError>
+pub(crate) fn append_chosen(
+    cells: &mut Vec<Cell>,
+    row: &[Cell],
+    places: &[usize],
+) -> Result<(), AllocError>
     ensures { OnOk result (cells.new.items ≡ cells.old.items ++ cells_at places.now row.now) }
 {
     for place in places {
@@ -108,54 +98,4 @@ pub(crate) fn are_rising(places: &[usize]) -> bool
         }
     }
     true
-}
-
-// The cells at rising places of every row, one row after the other, moved together within their list. It takes no
-// memory, and gives back what the other cells had.
-pub(crate) fn moved_together(
-    cells: Vec<Cell>,
-    width: usize,
-    rows: usize,
-    places: &[usize],
-) -> Vec<Cell>
-    requires whole { length cells.items ≡ rows * width }
-    requires rising { AreRising places.now }
-    requires within { All (λ i. i < width) places.now }
-    ensures { result.items ≡ flat_map (cells_at places.now) (flat_rows width rows cells.items) }
-{
-    let mut cells = cells;
-    let count = move_rows_up(cells.as_mut_slice(), width, rows, places);
-    cells.truncate(count);
-    cells.shrink_to_fit();
-    cells
-}
-
-// Moves the cells at rising places of every row to the front, and counts them. The other cells stand behind them then,
-// in no order.
-fn move_rows_up(cells: &mut [Cell], width: usize, rows: usize, places: &[usize]) -> usize
-    requires whole { length cells.old ≡ rows * width }
-    requires rising { AreRising places.now }
-    requires within { All (λ i. i < width) places.now }
-    ensures count { length cells.new ≡ length cells.old }
-    ensures moved { take result cells.new ≡ flat_map (cells_at places.now) (flat_rows width rows cells.old) }
-{
-    for i in 0..rows {
-        move_row_up(cells, i * places.len(), i * width, places);
-    }
-    rows * places.len()
-}
-
-// Moves the cells at rising places of the row that starts at `from` up to `to`, one after the other. Cells behind the
-// last place stay where they are.
-fn move_row_up(cells: &mut [Cell], to: usize, from: usize, places: &[usize])
-    requires up { to ≤ from }
-    requires rising { AreRising places.now }
-    requires within { All (λ i. from + i < length cells.old) places.now }
-    ensures count { length cells.new ≡ length cells.old }
-    ensures moved { take (to + length places.now) cells.new ≡ take to cells.old ++ cells_at places.now (drop from cells.old) }
-    ensures behind { (j : ℕ) → All (λ i. i < j) places.now → drop (from + j) cells.new ≡ drop (from + j) cells.old }
-{
-    for k in 0..places.len() {
-        cells.swap(to + k, from + places[k]);
-    }
 }

@@ -1,6 +1,10 @@
 // Tables with several owners.
+//
+// A table with several owners has columns of its own above cells that are shared (`SharedTable`): what reads an input
+// holds it and copies nothing, `rename` and a `keep` of all columns share the cells below other names, and cells are
+// copied only where a table with other owners is changed.
 ghost use Rattle.std.specs.Prelude.{◌≡◌, ◌<◌, length, map, All, IfOk};
-ghost use Rattle.vtl_rows.specs.Tables.{cells_at, column_at, column_kinds};
+ghost use Rattle.vtl_rows.specs.Tables.{cells_at, column_at, column_kinds, listed};
 
 use crate::{Column, Table};
 use std::alloc::{AllocError, Global};
@@ -19,21 +23,36 @@ impl Drop for SharedTable {
 }
 
 impl Model for SharedTable {
-    ghost use Rattle.vtl_rows.specs.Tables.{Listed};
+    ghost use Rattle.vtl_rows.specs.Tables.{Listed, listed};
 
     ghost Value = { Listed };
 
-    ghost view = { λ t. t.table };
+    ghost view = { λ t. listed t.table };
 }
 
 impl SharedTable {
     /// A table with one owner. It fails only if memory runs out.
     pub fn of(alloc: Global, table: Table) -> Result<SharedTable, AllocError>
-        ensures { IfOk result (λ t. t ≡ table) }
+        ensures { IfOk result (λ t. t ≡ listed table) }
     {
         Ok(SharedTable {
             table: table.into_shared(alloc)?,
         })
+    }
+
+    // A table with one owner, whose rows are copied for another one. It takes no memory.
+    pub(crate) fn holding(table: Table) -> SharedTable
+        ensures { result ≡ table }
+    {
+        SharedTable { table }
+    }
+
+    // The table itself, whose rows may have other owners. It takes no memory.
+    pub(crate) fn into_held(self) -> Table
+        ensures { result ≡ self }
+    {
+        let SharedTable { table } = self;
+        table
     }
 
     /// One more owner of the rows. It fails only if memory runs out.
@@ -47,14 +66,14 @@ impl SharedTable {
 
     /// The table.
     pub fn table(&self) -> &Table
-        ensures { result.now ≡ self.now }
+        ensures { listed result.now ≡ self.now }
     {
         &self.table
     }
 
     /// The table itself: its rows are copied where they have other owners. It fails only if memory runs out.
     pub fn into_table(self, alloc: Global) -> Result<Table, AllocError>
-        ensures { IfOk result (λ t. t ≡ self) }
+        ensures { IfOk result (λ t. listed t ≡ self) }
     {
         let SharedTable { table } = self;
         table.into_own(alloc)

@@ -1,7 +1,10 @@
 // Tables by name.
-ghost use Rattle.std.specs.Prelude.{◌≡◌, ◌<◌, ◌++◌, [], ◌∷◌, length, None, slice_index_or, IfNone, OnOk, OnErr};
+ghost use Rattle.std.specs.Prelude.{◌≡◌, ◌<◌, ◌++◌, [], ◌∷◌, length, None, option_map, slice_index_or, IfNone, OnOk, OnErr};
+ghost use Rattle.std.specs.Map.{set_value};
 ghost use Rattle.std.specs.Option.{option_copied, option_to_list};
+ghost use Rattle.vtl_text.specs.Texts.{same_text};
 ghost use Rattle.vtl_rows.specs.Named.{table_of};
+ghost use Rattle.vtl_rows.specs.Tables.{listed};
 
 use crate::{SharedTable, Table};
 use indexmap::IndexMap;
@@ -42,7 +45,7 @@ impl Tables {
     /// Puts a table after the others. It fails only if memory runs out, and then leaves the others as they were.
     pub fn put(&mut self, alloc: Global, name: Txt, table: Table) -> Result<(), AllocError>
         requires { table_of name self.old ≡ None }
-        ensures put { OnOk result (self.new ≡ self.old ++ (name, table) ∷ []) }
+        ensures put { OnOk result (self.new ≡ self.old ++ (name, listed table) ∷ []) }
         ensures err { OnErr result (self.new ≡ self.old) }
     {
         self.put_shared(name, SharedTable::of(alloc, table)?)
@@ -61,7 +64,7 @@ impl Tables {
 
     /// The table of a name.
     pub fn get(&self, name: &Txt) -> Option<&Table>
-        ensures { option_copied result ≡ table_of name.now self.now }
+        ensures { option_map (λ t. listed t.now) result ≡ table_of name.now self.now }
     {
         Some(self.shared(name)?.table())
     }
@@ -76,14 +79,34 @@ impl Tables {
     /// The name and the table at a place.
     pub fn at(&self, i: usize) -> (&Txt, &Table)
         requires { i < length self.now }
-        ensures { (result.0.now, result.1.now) ≡ slice_index_or self.now i (result.0.now, result.1.now) }
+        ensures { (result.0.now, listed result.1.now) ≡ slice_index_or self.now i (result.0.now, listed result.1.now) }
     {
         let (name, shared) = self.named.get_index(i).unwrap();
         (name, shared.table())
     }
 
+    /// Puts a table in the place of the one of this name, and leaves all else. Where none has the name, all stay as they
+    /// are. It takes no memory.
+    pub fn set(&mut self, name: &Txt, table: Table)
+        ensures { self.new ≡ set_value (same_text name.now) self.old table }
+    {
+        let Some(place) = self.named.get_mut(name) else {
+            return;
+        };
+        *place = SharedTable::holding(table);
+    }
+
     /// Takes the last table, with its name, where there is one. It takes no memory.
-    pub fn pop(&mut self) -> Option<(Txt, SharedTable)>
+    pub fn pop(&mut self) -> Option<(Txt, Table)>
+        ensures last { self.old ≡ self.new ++ option_to_list result }
+        ensures none { IfNone result (self.new ≡ []) }
+    {
+        let (name, shared) = self.pop_shared()?;
+        Some((name, shared.into_held()))
+    }
+
+    /// Takes the last table, with its name, where there is one, to be shared. It takes no memory.
+    pub fn pop_shared(&mut self) -> Option<(Txt, SharedTable)>
         ensures last { self.old ≡ self.new ++ option_to_list result }
         ensures none { IfNone result (self.new ≡ []) }
     {

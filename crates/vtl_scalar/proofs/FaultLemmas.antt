@@ -99,6 +99,7 @@ binary_is_ok p op.Multiply a b s f h g = cc
 binary_is_ok p op.Divide a b s f h g = cc
 binary_is_ok p op.Round a b s f h g = cc
 binary_is_ok p op.Position a b s f h g = cc
+binary_is_ok p op.PeriodShift a b s f h g = cc
 binary_is_ok p op.Modulo a b s f h g = remainder_is_ok p a b s h g
 binary_is_ok p op.Truncate a b s f h g = truncation_is_ok p a b s h
 binary_is_ok p op.ValueOr a b s f h g = value_or_is_ok p a b s h

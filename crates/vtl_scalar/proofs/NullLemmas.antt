@@ -11,6 +11,7 @@ use Rattle.vtl_cell.specs.Outcome.{Outcome}
 use Rattle.vtl_cell.specs.ScalarArithmetic.{neither, pair_of, at_digits, digits_in}
 use Rattle.vtl_cell.specs.ScalarChoice.{truth_in, on_truths}
 use Rattle.vtl_cell.specs.ScalarComparison.{order_of, compared, combined, member_of, membership_of, truth}
+use Rattle.vtl_cell.specs.ScalarPeriods.{shifted_of}
 use Rattle.vtl_cell.specs.ScalarTexts.{joined_of, count_in, part_from, part_within, replaced_of, position_of}
 use Rattle.vtl_cell.specs.Scalars.{unary_of, binary_of, ternary_of, by_number_of_operands, scalar_of}
 use Rattle.vtl_cell.specs.declared.cell.Cell.{Cell}
@@ -87,6 +88,10 @@ nothing_combined f (Some a) = refl
 
 -- ---- the rows, by the place of the null operand
 
+shifted_by_nothing : (a : Cell) → shifted_of a None ≡ Ok c.Null
+shifted_by_nothing (c.Period q) = refl
+shifted_by_nothing a = refl
+
 unary_null : (p : Settings) (o : ScalarOp) → is_strict o ≡ true → unary_of p o c.Null ≡ Ok c.Null
 unary_null p op.IsNull h = cc
 unary_null p o h = refl
@@ -117,6 +122,7 @@ binary_null_right p op.LessOrEqual a h = ap Ok (compared_with_null is_le p a)
 binary_null_right p op.Greater a h = ap Ok (compared_with_null is_gt p a)
 binary_null_right p op.GreaterOrEqual a h = ap Ok (compared_with_null is_ge p a)
 binary_null_right p op.Xor a h = ap Ok (xor_with_null (truth_in a))
+binary_null_right p op.PeriodShift a h = shifted_by_nothing a
 binary_null_right p op.And a h = cc
 binary_null_right p op.Or a h = cc
 binary_null_right p op.ValueOr a h = cc

@@ -16,6 +16,8 @@ use Rattle.vtl_cell.specs.ScalarComparison.{truth, compared, between_of, members
 use Rattle.vtl_cell.specs.Logic.{not_of, and_of, or_of, xor_of}
 use Rattle.std.specs.Ordering.{is_eq, is_ne, is_lt, is_le, is_gt, is_ge}
 use Rattle.vtl_cell.specs.ScalarKinds.{meets, meet, to, only, first_met, numeric_one, numeric_two, shared_kind, common_kind, truth_of_alike, kinds_of}
+use Rattle.vtl_time.specs.Periods.{YearPart, shift_of}
+use Rattle.vtl_cell.specs.ScalarPeriods.{frequency_of, period, places_in, shifted_of}
 use Rattle.vtl_cell.specs.ScalarTexts.{count_in, on_text, joined_of, part_from, part_within, replaced_of, position_of, length_of}
 use Rattle.vtl_cell.specs.Scalars.{unary_of, binary_of, ternary_of, by_number_of_operands, scalar_of}
 use Rattle.vtl_cell.specs.declared.cell.Cell.{Cell}
@@ -157,6 +159,20 @@ length_is : (p : Settings) (a : Cell) → HasKind k.Int (length_of p a)
 length_is p (c.Text a) = whole_is (fit_integer p.scale (pos (length a)))
 length_is p other = refl
 
+-- ---- periods
+
+period_is : (q : Option YearPart) → HasKind k.Period (period q)
+period_is None = tt
+period_is (Some q) = refl
+
+shifted_is : (a : Cell) (n : Option ℤ) → HasKind k.Period (shifted_of a n)
+shifted_is (c.Period q) (Some n) = period_is (shift_of q n)
+shifted_is a n = refl
+
+frequency_is : (a : Cell) → IsOfKind k.Text (frequency_of a)
+frequency_is (c.Period q) = refl
+frequency_is other = refl
+
 -- ---- choice
 
 either_is : (b : Bool) (kind : Kind) (a : Cell) → IsOfKind kind a → IsOfKind kind (if b then a else c.Null)
@@ -200,6 +216,8 @@ widest op.TrimLeft = k.Text
 widest op.TrimRight = k.Text
 widest op.Substring = k.Text
 widest op.Replace = k.Text
+widest op.PeriodFrequency = k.Text
+widest op.PeriodShift = k.Period
 widest other = k.Bool
 
 unary_is : (p : Settings) (o : ScalarOp) (a : Cell) → HasKind (widest o) (unary_of p o a)
@@ -213,6 +231,7 @@ unary_is p op.TrimLeft a = on_text_is ltrim_of a
 unary_is p op.TrimRight a = on_text_is rtrim_of a
 unary_is p op.Length a = length_is p a
 unary_is p op.Not a = on_truth_is not_of (truth_in a)
+unary_is p op.PeriodFrequency a = frequency_is a
 unary_is p other a = refl
 
 abbrev pub is_choice : ScalarOp → Bool
@@ -242,6 +261,7 @@ binary_is p op.And a b h = on_truths_is and_of (truth_in a) (truth_in b)
 binary_is p op.Or a b h = on_truths_is or_of (truth_in a) (truth_in b)
 binary_is p op.Xor a b h = on_truths_is xor_of (truth_in a) (truth_in b)
 binary_is p op.ValueOr a b h = cc
+binary_is p op.PeriodShift a n h = shifted_is a (places_in n)
 binary_is p other a b h = refl
 
 ternary_is : (p : Settings) (o : ScalarOp) (a x y : Cell) → is_choice o ≡ false → HasKind (widest o) (ternary_of p o a x y)
@@ -365,6 +385,8 @@ value_is_of_kind p op.And kinds args kind e met = only_is p kinds args kind met 
 value_is_of_kind p op.Or kinds args kind e met = only_is p kinds args kind met op.Or (k.Bool ∷ k.Bool ∷ []) k.Bool e (scalar_is p op.Or args refl)
 value_is_of_kind p op.Xor kinds args kind e met = only_is p kinds args kind met op.Xor (k.Bool ∷ k.Bool ∷ []) k.Bool e (scalar_is p op.Xor args refl)
 value_is_of_kind p op.Not kinds args kind e met = only_is p kinds args kind met op.Not (k.Bool ∷ []) k.Bool e (scalar_is p op.Not args refl)
+value_is_of_kind p op.PeriodShift kinds args kind e met = only_is p kinds args kind met op.PeriodShift (k.Period ∷ k.Int ∷ []) k.Period e (scalar_is p op.PeriodShift args refl)
+value_is_of_kind p op.PeriodFrequency kinds args kind e met = only_is p kinds args kind met op.PeriodFrequency (k.Period ∷ []) k.Text e (scalar_is p op.PeriodFrequency args refl)
 value_is_of_kind p op.IsNull (a ∷ []) args kind e met =
     let same : k.Bool ≡ kind = cc in
     to_kind k.Bool kind (scalar_of p op.IsNull args) same (scalar_is p op.IsNull args refl)

@@ -14,6 +14,7 @@ may_fault op.Ceil = true
 may_fault op.Round = true
 may_fault op.Position = true
 may_fault op.Length = true
+may_fault op.PeriodShift = true
 may_fault other = false
 
 -- whether an operator is null where an operand is null

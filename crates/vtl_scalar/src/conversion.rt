@@ -1,4 +1,7 @@
 // Values as those of the kind that an expression has.
+//
+// A value is made one of its expression's kind (`to_kind`): `nvl` of a null among numbers and the literal 0 is the
+// number 0, which the operands alone do not tell.
 ghost use Rattle.std.specs.Prelude.{◌≡◌};
 ghost use Rattle.vtl_cell.specs.Conversion.{as_kind};
 

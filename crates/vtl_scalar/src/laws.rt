@@ -21,8 +21,8 @@ pub fn integers_are_numbers()
     ensures { (p : Settings) (n : ℤ) → p.scale ≤ 9 → IsOfProfile p (Cell.Int n) → as_number p n ≡ Ok (units p n) }
 {}
 
-/// For operands of the profile only `+`, `-`, `*`, `/`, `floor`, `ceil`, `round`, `instr` and `length` may have a
-/// fault.
+/// For operands of the profile only `+`, `-`, `*`, `/`, `floor`, `ceil`, `round`, `instr`, `length` and the shift of a
+/// period may have a fault.
 #[tactic(auto, using(crate::proofs::FaultLemmas::scalar_is_ok))]
 pub fn other_operators_have_no_fault()
     ensures { (p : Settings) (op : ScalarOp) (args : List Cell) → p.scale ≤ 9 → may_fault op ≡ false → AllByRecursion (IsOfProfile p) args → IsOk (scalar_of p op args) }

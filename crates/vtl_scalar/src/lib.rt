@@ -18,6 +18,7 @@ mod laws;
 mod members;
 mod operands;
 mod operators;
+mod periods;
 mod run_error;
 mod seen;
 mod texts;

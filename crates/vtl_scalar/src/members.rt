@@ -1,4 +1,7 @@
 // Sets that many values are looked up in.
+//
+// A set is looked up by halves (`Members`): integers and the other members stand in two sorted runs, so that their
+// order depends on no profile; a run of several kinds is walked.
 ghost use Rattle.std.specs.Prelude.{◌≡◌, ◌<◌, ◌∷◌, IfOk, length, true};
 ghost use Rattle.std.specs.List.{list_all};
 ghost use Rattle.vtl_lists.specs.Perm.{Perm};

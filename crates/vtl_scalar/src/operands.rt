@@ -1,4 +1,7 @@
 // Operands that are integers or numbers.
+//
+// Two operands of arithmetic are first made alike (`pair_of`); a comparison is by value, exactly and without a fault,
+// also where no number could hold the integer.
 ghost use Rattle.std.specs.Prelude.{◌≡◌, ◌<◌, ◌^◌, unsigned_abs};
 ghost use Rattle.vtl_cell.specs.ScalarArithmetic.{as_number, digits_in, number_in, pair_of, units};
 ghost use Rattle.vtl_scalar.specs.Operands.{pair_outcome};

@@ -6,7 +6,7 @@ ghost use Rattle.vtl_scalar.specs.Answers.{Answers};
 use crate::comparison::{between, member, member_of_two, membership, order, truth};
 use crate::error::ScalarErr;
 use crate::operands::alike;
-use crate::{arithmetic, choice, texts};
+use crate::{arithmetic, choice, periods, texts};
 use std::alloc::Global;
 use std::slice;
 use vtl_cell::{Cell, ScalarOp, not3};
@@ -111,6 +111,7 @@ fn unary(alloc: Global, op: ScalarOp, a: &Cell, p: &Profile) -> Result<Cell, Sca
         ScalarOp::Length => answered(texts::length(a, p)),
         ScalarOp::Not => Ok(choice::not(a)),
         ScalarOp::IsNull => Ok(Cell::Bool(choice::is_null(a))),
+        ScalarOp::PeriodFrequency => Ok(periods::frequency(alloc, a)?),
         _ => Ok(Cell::Null),
     }
 }
@@ -140,6 +141,7 @@ fn binary(alloc: Global, op: ScalarOp, a: &Cell, b: &Cell, p: &Profile) -> Resul
         ScalarOp::Or => Ok(choice::or(a, b)),
         ScalarOp::Xor => Ok(choice::xor(a, b)),
         ScalarOp::ValueOr => choice::value_or(a, b, p),
+        ScalarOp::PeriodShift => answered(periods::shifted(a, b)),
         _ => Ok(Cell::Null),
     }
 }

@@ -1,4 +1,6 @@
 // The operators on texts.
+//
+// An operator that leaves a text as it is gives one more owner of it, for which `replace` searches once more.
 ghost use Rattle.std.specs.Prelude.{◌≡◌, ◌≤ℤ◌, ℕ, List, false, pos, unsigned_abs, [], chars, IfOk};
 ghost use Rattle.vtl_cell.specs.ScalarTexts.{on_text, joined_of, count_in, part_from, part_within, replaced_of, position_of, length_of};
 ghost use Rattle.vtl_text.specs.Texts.{ltrim_of, replace_of, rtrim_of, trim_of};

@@ -2,6 +2,7 @@
 ghost use Rattle.std.specs.Prelude.{◌≡◌, IfOk, List};
 ghost use Rattle.vtl_cell.specs.Outcome.{Outcome};
 ghost use Rattle.vtl_cell.specs.Row.{Row};
+ghost use Rattle.vtl_rows.specs.Tables.{listed};
 ghost use Rattle.vtl_scalar.specs.Answers.{Answers, AnswersBy};
 ghost use Rattle.vtl_tree.specs.DataSet.{IsDataSet};
 ghost use Rattle.vtl_sets.specs.DataSets.{data_set, with_structure};
@@ -52,7 +53,7 @@ impl DataSet {
 
     /// The data set of a table that is one of this structure, which is shared. It fails only if memory runs out.
     pub fn of(alloc: Global, structure: &Structure, table: Table) -> Result<DataSet, AllocError>
-        requires { IsTableOf structure.now table }
+        requires { IsTableOf structure.now (listed table) }
         ensures { IfOk result (λ d. d ≡ data_set structure.now table.rows) }
     {
         let table = SharedTable::of(alloc, table)?;
@@ -66,7 +67,7 @@ impl DataSet {
         structure: &Structure,
         table: Result<Table, ScalarErr>,
     ) -> Result<DataSet, ScalarErr>
-        requires { IfOk table (IsTableOf structure.now) }
+        requires { IfOk table (λ t. IsTableOf structure.now (listed t)) }
         ensures { (m : Outcome (List Row)) → AnswersBy (λ t. t.rows) table m → Answers result (with_structure structure.now m) }
     {
         match table {
@@ -86,7 +87,7 @@ impl DataSet {
     /// The table of the points.
     pub fn table(&self) -> &Table
         ensures points { result.now.rows ≡ self.now.points }
-        ensures table { IsTableOf self.now.structure result.now }
+        ensures table { IsTableOf self.now.structure (listed result.now) }
     {
         self.table.table()
     }
@@ -110,7 +111,7 @@ impl DataSet {
     /// The table of the points itself: it is copied where it has other owners. It fails only if memory runs out.
     pub fn into_table(self, alloc: Global) -> Result<Table, AllocError>
         ensures points { IfOk result (λ t. t.rows ≡ self.points) }
-        ensures table { IfOk result (IsTableOf self.structure) }
+        ensures table { IfOk result (λ t. IsTableOf self.structure (listed t)) }
     {
         self.table.into_table(alloc)
     }

@@ -1,4 +1,6 @@
 // Expressions, clauses and the body of joins.
+//
+// Raw `Vec`s stay in the trees: the kit gives no proof to calls in a circle through a recursive type with a model.
 
 use crate::{
     AggregateName, BasicOut, BinaryOp, CheckOut, Comp, Constant, DifferenceName, ErrorPart,

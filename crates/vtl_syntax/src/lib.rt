@@ -1,8 +1,9 @@
 //! Syntax trees of scripts: what is written, including brackets and every word that may be left out.
 //!
-//! A tree keeps each word, so the tokens of a tree are a function of it and the grammar needs no trees of
-//! derivation. Scripts have several owners, and nobody copies one. Depth, which bounds every recursion over a tree,
-//! is defined here.
+//! A tree keeps each word, brackets too, so the grammar needs no trees of derivation: its right side is the function
+//! that gives the tokens of a tree in front of others (`exp_onto`), and which tree may stand where is a predicate
+//! (`Fits`). Scripts have several owners, and nobody copies one. Depth, which bounds every recursion over a tree, is
+//! defined here.
 //! It knows no values, no kinds and no meaning: a literal is its digits.
 //! Begin with specs/Trees.antt and specs/Depth.antt.
 #![tactic(auto)]

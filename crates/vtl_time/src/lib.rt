@@ -7,8 +7,10 @@
 #![tactic(auto)]
 
 mod days;
+mod laws;
 mod numerals;
 mod periods;
 
 pub use days::{Day, read_day, write_day};
+pub use laws::{periods_are_ordered_by_index, periods_stand_at_their_indexes, shifts_add_up};
 pub use periods::{Frequency, Period, read_period, shift, write_period};

@@ -25,10 +25,10 @@ pub enum Frequency {
 }
 
 impl Frequency {
-    ghost use Rattle.vtl_time.specs.Periods.{parts_in_year, frequency_rank, width_of};
+    ghost use Rattle.vtl_time.specs.Periods.{parts_in_year, frequency_rank, letter_of, width_of};
 
-    // How many periods a year has.
-    fn parts(self) -> u8
+    /// How many periods a year has: 1, 2, 4 or 12.
+    pub fn parts(self) -> u8
         ensures { result ≡ parts_in_year self }
     {
         match self {
@@ -36,6 +36,18 @@ impl Frequency {
             Frequency::Semester => 2,
             Frequency::Quarter => 4,
             Frequency::Month => 12,
+        }
+    }
+
+    /// The letter that stands before the number of a part: `A`, `S`, `Q` or `M`.
+    pub fn letter(self) -> &'static str
+        ensures { chars result.now ≡ letter_of self ∷ [] }
+    {
+        match self {
+            Frequency::Annual => "A",
+            Frequency::Semester => "S",
+            Frequency::Quarter => "Q",
+            Frequency::Month => "M",
         }
     }
 
@@ -197,16 +209,18 @@ impl Period {
         self.frequency
     }
 
-    // How many periods of its frequency come before it from the year 0 on.
-    fn index(self) -> u64
+    /// How many periods of its frequency come before it from the year 0 on.
+    pub fn index(self) -> u64
         ensures value { result ≡ index_of self }
+        ensures below { index_of self < 10000 * parts_in_year self.frequency }
         ensures valid { IsTrue (is_year_part self.frequency self.year self.part) }
     {
         u64::from(self.year) * u64::from(self.frequency.parts()) + u64::from(self.part - 1)
     }
 
-    // The period that has this many of its frequency before it.
-    fn at_index(frequency: Frequency, index: u64) -> Period
+    /// The period that has this many of its frequency before it from the year 0 on. One of the year 9999 or before it
+    /// has fewer than 10,000 times the parts of a year.
+    pub fn at_index(frequency: Frequency, index: u64) -> Period
         requires { index < 10000 * parts_in_year frequency }
         ensures { result ≡ period_at frequency index }
     {

@@ -80,7 +80,7 @@ module _ (p : Settings) (known : Named) (all : AreKnownNamed known) where
     form_named b s (nodes.filter a e) m t w = subst (λ (z : Structure). Fits (marks b (nodes.filter a e)) z.components) (sym m.1.same) (components_named b a m.0 t w)
     form_named b s (nodes.calc a items) m t w =
         let h = components_named b a m.0 t w.0 in
-        (by_shape (marks b (nodes.calc a items)) s _ m.1.shape (calculated_named (marks b (nodes.calc a items)) (map target_of items) (structure_of a).components (lists.mapped (λ t. IsColumnName t.name) target_of items w.1) h.0), h.1)
+        (by_shape (marks b (nodes.calc a items)) s _ m.1.shape (calculated_named (marks b (nodes.calc a items)) (map (target_of (structure_of a).components) items) (structure_of a).components (lists.mapped (λ t. IsColumnName t.name) (target_of (structure_of a).components) items w.1) h.0), h.1)
     form_named b s (nodes.keep a names) m t w =
         let h = components_named b a m.0 t w in
         (by_shape (marks b (nodes.keep a names)) s _ m.2.shape (chosen_named (marks b (nodes.keep a names)) choice.Keep names (structure_of a).components h.0), h.1)

@@ -1,4 +1,7 @@
 // The query of `exists_in`, over the tables of its operands.
+//
+// `exists_in` is a select with EXISTS as an item; where only one answer is kept, EXISTS stands in WHERE instead, and
+// the item is this answer as a constant, so that each row is asked once.
 ghost use Rattle.std.specs.Prelude.{◌≡◌, ◌++◌, ◌∷◌, [], map, IfOk};
 ghost use Rattle.std.specs.Option.{option_map};
 ghost use Rattle.vtl_tree.specs.Shown.{shown};

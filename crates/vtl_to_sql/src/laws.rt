@@ -1,4 +1,15 @@
 // Laws of translated scripts.
+//
+// That a whole script is typed is shown over data sets without points: there no expression has a fault, so every
+// table of the script is made, and typing does not see rows.
+//
+// What translation asks of a script is said on trees (specs/Conditions.antt) and asks nothing of the points. That an
+// accepted script meets it is shown by a walk over typing (proofs/AcceptedTyping.antt), which tells the words that
+// nodes take from the script; the names of all other columns follow from the structures that typing gives
+// (proofs/AcceptedNames.antt). A name stands behind an alias only inside the body of a join, whose last naming gives
+// the names back. What only a program can tell is a premise (specs/Accepted.antt): that constants are in the range of
+// their types, and that tables and operands can be numbered; a union of many names is one node, so the limit on nodes
+// does not bound the tables.
 ghost use Rattle.std.specs.Prelude.{◌≡◌, ◌≤◌, ◌<◌, ◌+◌, ◌^◌, ℕ, List, length, true};
 ghost use Rattle.vtl_cell.specs.Row.{Row};
 ghost use Rattle.vtl_decimal.specs.Settings.{Settings};

@@ -6,7 +6,9 @@
 //! `rules_to_sql`, and how a table is found to an engine.
 //! Its code takes a script that the checker accepted and asks the checker's functions about structures; it knows no
 //! text, no file, and no program that runs either language.
-//! Begin with specs/Queries.antt, Tables.antt and Scripts.antt, then Means.antt and src/laws.rt.
+//! Begin with specs/FormQueries.antt, Tables.antt and Scripts.antt, then Means.antt and src/laws.rt.
+//!
+//! Texts that people read are checked by examples (proofs/Examples.antt): each form's query, and a whole script.
 #![tactic(auto)]
 
 mod constants;

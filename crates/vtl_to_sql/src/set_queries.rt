@@ -1,4 +1,8 @@
 // The queries of the set operators and of `exists_in`, over the tables of two operands.
+//
+// Set operators of many operands go two by two, each step in a table of its own: the text grows by a select for each
+// operand and no query deepens. One UNION ALL would ask of each operand that no earlier one has the point, which is a
+// square of conditions.
 ghost use Rattle.std.specs.Prelude.{◌≡◌, ◌++◌, ◌∷◌, [], map, IfOk, OnOk};
 ghost use Rattle.std.specs.Option.{option_map};
 ghost use Rattle.vtl_tree.specs.Shown.{shown};

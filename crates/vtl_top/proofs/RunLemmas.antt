@@ -22,6 +22,7 @@ use Rattle.vtl_decimal.specs.Settings.{Settings}
 use Rattle.vtl_syntax.specs.Trees.{ScriptTree}
 use Rattle.vtl_syntax.specs.View.{script_tree, statement_tree}
 use Rattle.vtl_syntax.specs.declared.statements.Script.{Script}
+use Rattle.vtl_tree.specs.NotNull.{Declared}
 use Rattle.vtl_tree.specs.Structures.{Named}
 use Rattle.vtl_check.specs.Checked.{TypedScript, nodes_of, tree_of}
 use Rattle.vtl_check.specs.Script.{has_definitions}
@@ -115,14 +116,14 @@ module _ {F X : Type 0} (g : Ghosts F) (s : Source) (view : X → Typed) (a b : 
         (takes_onward g (refused_if (has_definitions (script_tree script)) (unbuilt s)) (λ plain. after_plain s (script_tree script)) b b c (λ (u : Unit {0}). u) view tt result
         (test_passes g b (has_definitions (script_tree script)) (unbuilt s) plain) rest)
 
-    pub structures_refused : (c : F) (status : Status) → has_definitions (script_tree script) ≡ false → Takes g b c (structures_step s.structures) (λ (x : Named). x) (Err status) → Takes g a c (typed_step s) view (Err status)
+    pub structures_refused : (c : F) (status : Status) → has_definitions (script_tree script) ≡ false → Takes g b c (structures_step s.structures) (λ (x : Declared). x.sets) (Err status) → Takes g a c (typed_step s) view (Err status)
     structures_refused c status plain u =
-        plainly c (Err status) plain (takes_stopped g (structures_step s.structures) (after_structures s (script_tree script)) b c (λ (x : Named). x) view status u)
+        plainly c (Err status) plain (takes_stopped g (structures_step s.structures) (after_structures s (script_tree script)) b c (λ (x : Declared). x.sets) view status u)
 
-    pub then_typed : (c : F) (structures : Named) (result : Result X Status) → has_definitions (script_tree script) ≡ false → Takes g b c (structures_step s.structures) (λ (x : Named). x) (Ok structures)
-        → Takes g c c (after_structures s (script_tree script) structures) view result → Takes g a c (typed_step s) view result
+    pub then_typed : (c : F) (structures : Declared) (result : Result X Status) → has_definitions (script_tree script) ≡ false → Takes g b c (structures_step s.structures) (λ (x : Declared). x.sets) (Ok structures)
+        → Takes g c c (after_structures s (script_tree script) structures.sets) view result → Takes g a c (typed_step s) view result
     then_typed c structures result plain u rest =
-        plainly c result plain (takes_onward g (structures_step s.structures) (after_structures s (script_tree script)) b c c (λ (x : Named). x) view structures result u rest)
+        plainly c result plain (takes_onward g (structures_step s.structures) (after_structures s (script_tree script)) b c c (λ (x : Declared). x.sets) view structures result u rest)
 
 module _ {F : Type 0} (g : Ghosts F) (s : Source) (a : F) (tree : ScriptTree) (structures : Named) where
   typed_same : (t : TypedScript) → tree_of t ≡ tree → t.declared ≡ structures → t.settings ≡ s.settings → typed_by tree structures s.settings (nodes_of t) ≡ typed_view t

@@ -6,7 +6,7 @@ use Rattle.vtl_lists.specs.Apart.{all_apart}
 use Rattle.vtl_cell.specs.Row.{Row}
 use Rattle.vtl_decimal.specs.Settings.{Settings}
 use Rattle.vtl_rows.specs.Named.{NamedTables}
-use Rattle.vtl_rows.specs.Tables.{Listed}
+use Rattle.vtl_rows.specs.Tables.{Listed, Tabled}
 use Rattle.vtl_tree.specs.DataSet.{AreOfProfile}
 use Rattle.vtl_tree.specs.Structure.{IsStructure, same_name}
 use Rattle.vtl_tree.specs.Structures.{Named}
@@ -26,7 +26,7 @@ pub record AreReadable (inputs : Named) : Type 0 where
   pub structures : AllByRecursion (λ e. IsStructure e.1) inputs
   pub distinct : all_apart same_name (keys_of inputs) ≡ true
 
-abbrev pub rows_in : Listed → List Row
+abbrev pub rows_in : Tabled → List Row
 rows_in t = t.rows
 
 -- one more table stands behind the others, of a data set of this structure with integers of the profile

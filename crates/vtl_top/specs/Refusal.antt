@@ -8,7 +8,7 @@ use Rattle.vtl_parser.specs.Parsed.{IsFaulty, IsScript}
 use Rattle.vtl_syntax.specs.View.{script_tree}
 use Rattle.vtl_syntax.specs.declared.statements.Script.{Script}
 use Rattle.vtl_cell.specs.Row.{Row}
-use Rattle.vtl_rows.specs.Tables.{Listed}
+use Rattle.vtl_rows.specs.Tables.{Tabled, listed}
 use Rattle.vtl_scalar.specs.declared.run_error.RunErr.{RunErr}
 use Rattle.vtl_scalar.specs.declared.run_error.RunErr.TheVariants as run
 use Rattle.vtl_tree.specs.declared.structure.Structure.{Structure}
@@ -44,8 +44,8 @@ input_refusal name (input.Fault line column kind) = st.Input name line column ki
 input_refusal name input.OutOfMemory = st.Memory
 
 -- the table of a data set of this structure whose points are its rows, or the fault of its file, or want of memory
-abbrev pub IsTableRead : List ℕ → Structure → Result (List Row) Fault → Result Listed Status → Type 0
-IsTableRead name s read (Ok t) = IsTableOf s t × (points_or_fault name read ≡ Ok t.rows)
+abbrev pub IsTableRead : List ℕ → Structure → Result (List Row) Fault → Result Tabled Status → Type 0
+IsTableRead name s read (Ok t) = IsTableOf s (listed t) × (points_or_fault name read ≡ Ok t.rows)
 IsTableRead name s read (Err status) = (status ≡ st.Memory) ⊎ (points_or_fault name read ≡ Err status)
 
 -- the status of a run that gave no tables, or no exports

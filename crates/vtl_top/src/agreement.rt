@@ -1,4 +1,8 @@
 // Interpreter and SQL agree.
+//
+// Agreement is said over held files that are twins (specs/Agreement.antt): the one holds the script and its inputs,
+// the other the same inputs and the script's text. A user runs `sql` first and writes its text to a file, so the
+// files differ by that.
 ghost use Rattle.std.specs.Prelude.{◌≡◌, ◌⊎◌, List, Result, Some};
 ghost use Rattle.vtl_top.specs.Agreement.{AreTwins, IsOutcomeOf, IsPrinted, WroteSame};
 ghost use Rattle.vtl_top.specs.Answered.{Ends};

@@ -1,8 +1,12 @@
 // The data sets that are read, from their files.
+//
+// All inputs are read before any statement is carried out, in order of first use. They are let go after the run
+// (`run_over`), before the first text is made.
 ghost use Rattle.std.specs.Prelude.{◌≡◌, ◌<◌, [], None, length, map, slice_index_or, IfOk, OnOk};
 ghost use Rattle.std.specs.List.{AllByRecursion};
 ghost use Rattle.std.specs.Map.{keys_of};
 ghost use Rattle.vtl_rows.specs.Named.{table_of};
+ghost use Rattle.vtl_rows.specs.Tables.{listed};
 ghost use Rattle.vtl_tree.specs.DataSet.{AreOfProfile};
 ghost use Rattle.vtl_tree.specs.Structure.{IsStructure};
 ghost use Rattle.vtl_csv.specs.InputFile.{dataset_rows};
@@ -66,7 +70,7 @@ fn read_input<F: Files>(
 ) -> Result<Table, Status>
     requires { IsStructure structure.now }
     ensures takes { Takes F.Files files.old files.new (dataset_step folder.now profile.now (name.now, structure.now)) rows_in result }
-    ensures table { IfOk result (λ t. IsTableOf structure.now t) }
+    ensures table { IfOk result (λ t. IsTableOf structure.now (listed t)) }
     ensures ranges { IfOk result (λ t. AreOfProfile profile.now t.rows) }
 {
     let path = file_in(alloc, folder, name)?;

@@ -1,4 +1,7 @@
 // Laws of the definitions that the top call cites.
+//
+// That each held file has an outcome is said without choosing one (`expected_is_there`): the tokens of a text are a
+// relation, and nothing decides them outside the program.
 ghost use Rattle.std.specs.Prelude.{◌≡◌, ◌≢◌, ◌≤◌, ◌⊎◌, ℕ, Err, List, Ok, Option, Result, Some};
 ghost use Rattle.std.specs.Map.{lookup};
 ghost use Rattle.vtl_tree.specs.Structure.{IsStructure, key_width, same_name};

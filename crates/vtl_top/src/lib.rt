@@ -1,9 +1,8 @@
 //! The top call: carries out the words of a command line over files and a sink, and answers a status.
 //!
 //! The commands and the steps of a run in their order are decided here, and here alone; the statuses with their codes
-//! and lines are those of `vtl_status`. A step says what it gives over held bytes and which paths it reads; a run is
-//! one chain of steps (`run_step`), and so is the text of a script in SQL (`text_step`). Nothing is created before all
-//! is computed, and from then on no memory is taken.
+//! and lines are those of `vtl_status`. A run is one chain of steps (`run_step`), and so is the text of a script in SQL
+//! (`text_step`). Nothing is created before all is computed, and from then on no memory is taken.
 //! It sees the outside through the traits `Files` and `Sink`, and knows of reading, typing, evaluation and texts in SQL
 //! only what they promise.
 //! Who brings an engine or a back end finds the words for it here: the traits, and the tables that they are handed.
@@ -11,8 +10,7 @@
 //!
 //! A step is two relations, what it gives over held bytes and which paths it reads, and one operation puts a step after
 //! another: a relation, since the tokens of a text are one; the paths beside it, since a fault of reading is told also
-//! of a file whose bytes would have been read as nothing. The run is one chain of steps (`run_step`), and `prepare` is
-//! that chain.
+//! of a file whose bytes would have been read as nothing. `prepare` is the chain of a run.
 #![tactic(auto)]
 
 mod agreement;

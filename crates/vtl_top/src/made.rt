@@ -1,4 +1,11 @@
 // What commands make, before anything of it is given out.
+//
+// What a command gives out is files and, after them, a text (`Made`), said of files and sink in one clause: up to a
+// state between, and from there on the line (`Ends`). Which half a command has is one line of `IsMadeBy`.
+//
+// The functions from the words to the outputs are generic over the back end: `run` goes by the interpreter, `sqlrun`
+// by the back end that is handed in. What a back end can show of a script that it was handed (`told` of `Backend`) is
+// its own to say, and the top call hands it on (`Informs`); every other command leaves the back end as it was.
 ghost use Rattle.std.specs.Prelude.{◌≡◌, [], Some, IfOk};
 ghost use Rattle.std.specs.List.{AllByRecursion};
 ghost use Rattle.vtl_top.specs.Answered.{IsMadeBy, Takes};

@@ -1,4 +1,7 @@
 // The output of a run, and how it is written.
+//
+// Paths and texts are made before the first output is created, and a line is handed over by its parts: from then on
+// no memory is taken.
 ghost use Rattle.std.specs.Prelude.{◌≡◌, ◌∷◌, [], false, IfOk, OnOk, OnErr, string_bytes};
 ghost use Rattle.std.specs.List.{AllByRecursion};
 ghost use Rattle.vtl_files.specs.Outside.{FaultAt};

@@ -1,6 +1,7 @@
 // The outputs of the results.
 ghost use Rattle.std.specs.Prelude.{◌≡◌, ◌<◌, true, length, map, slice_index_or, IfOk};
 ghost use Rattle.std.specs.List.{AllByRecursion};
+ghost use Rattle.vtl_rows.specs.Tables.{listed};
 ghost use Rattle.vtl_sets.specs.TableOf.{IsTableOf};
 ghost use Rattle.vtl_check.specs.Checked.{known_of};
 ghost use Rattle.vtl_backend.specs.Inputs.{AreInRange, AreInputs};
@@ -35,7 +36,7 @@ fn make_output(
     table: &Table,
     structure: &Structure,
 ) -> Result<Output, AllocError>
-    requires { IsTableOf structure.now table.now }
+    requires { IsTableOf structure.now (listed table.now) }
     ensures view { IfOk result (λ o. output_view o ≡ output_of folder.now checked.now.settings (name.now, data_set structure.now table.now.rows)) }
     ensures named { IfOk result NamesPath }
 {

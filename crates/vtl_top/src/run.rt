@@ -83,7 +83,7 @@ fn read_structures_file<F: Files>(
     files: &mut F,
     path: &str,
 ) -> Result<Structures, Status>
-    ensures { Takes F.Files files.old files.new (structures_step path.now) (λ s. s) result }
+    ensures { Takes F.Files files.old files.new (structures_step path.now) (λ s. s.sets) result }
 {
     match read_file(alloc, files, path, STRUCTURES_LIMIT) {
         Ok(bytes) => structures_of(alloc, path, &bytes),

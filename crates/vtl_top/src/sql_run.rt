@@ -2,6 +2,7 @@
 ghost use Rattle.std.specs.Prelude.{◌≡◌, ◌<◌, [], length, map, IfOk, slice_index_or};
 ghost use Rattle.std.specs.List.{AllByRecursion};
 ghost use Rattle.vtl_rows.specs.Named.{NamedTables};
+ghost use Rattle.vtl_rows.specs.Tables.{listed};
 ghost use Rattle.sql_tree.specs.Formed.{FormedScript};
 ghost use Rattle.sql_tree.specs.View.{script_tree};
 ghost use Rattle.sql_check_parts.specs.Statements.{script_settings};
@@ -109,7 +110,7 @@ fn make_export(
     name: &Txt,
     table: &Table,
 ) -> Result<Output, AllocError>
-    ensures view { IfOk result (λ o. output_view o ≡ table_file folder.now profile.now (name.now, table.now)) }
+    ensures view { IfOk result (λ o. output_view o ≡ table_file folder.now profile.now (name.now, listed table.now)) }
     ensures named { IfOk result NamesPath }
 {
     let path = file_in(alloc, folder, name)?;

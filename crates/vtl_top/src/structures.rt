@@ -1,5 +1,5 @@
 // The structures of the structures file.
-ghost use Rattle.vtl_top.specs.Refusal.{Settles};
+ghost use Rattle.vtl_top.specs.Refusal.{SettlesBy};
 ghost use Rattle.vtl_top.specs.Structures.{declared, structures_in};
 ghost use Rattle.vtl_csv.specs.StructuresFile.{structures_of_file};
 
@@ -13,7 +13,7 @@ use vtl_tree::Structures;
 /// The structures that the bytes of the file at a path declare, or the status of their first fault; or that memory ran
 /// out.
 pub fn structures_of(alloc: Global, path: &str, bytes: &[u8]) -> Result<Structures, Status>
-    ensures { Settles (structures_in path.now bytes.now) result }
+    ensures { SettlesBy (λ s. s.sets) (structures_in path.now bytes.now) result }
 {
     match str::from_utf8(bytes) {
         Ok(_) => declared(alloc, bytes),
@@ -23,7 +23,7 @@ pub fn structures_of(alloc: Global, path: &str, bytes: &[u8]) -> Result<Structur
 
 // The structures that a text declares.
 fn declared(alloc: Global, text: &[u8]) -> Result<Structures, Status>
-    ensures { Settles (declared (structures_of_file text.now)) result }
+    ensures { SettlesBy (λ s. s.sets) (declared (structures_of_file text.now)) result }
 {
     match read_structures(alloc, text) {
         Ok(structures) => Ok(structures),

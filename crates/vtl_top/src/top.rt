@@ -1,4 +1,10 @@
 // The top call.
+//
+// A status has a kind, and all that it tells of files and causes goes by its kind (`Ends`): a new status adds
+// nothing.
+//
+// `no_command` is a kind of its own, so that a step which only reads can be said to answer no `Usage`, for every
+// object.
 ghost use Rattle.std.specs.Prelude.{◌≡◌, ◌≢◌, ◌≤◌, ◌↔◌, None, Some, false, map, IsTrue, OnErr, OnOk, string_bytes};
 ghost use Rattle.sql_back.specs.Texts.{HasTextOf};
 ghost use Rattle.vtl_files.specs.Outside.{Rose};

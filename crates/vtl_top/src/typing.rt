@@ -1,4 +1,7 @@
 // Whether the script is typed over the structures.
+//
+// The settings of a run stand in the typed script alone once it is typed: the words give them to typing, and inputs
+// are read and outputs written with what `Checked` holds. So no clause ties two copies of them.
 ghost use Rattle.std.specs.Prelude.{◌≡◌, IfOk, false};
 ghost use Rattle.vtl_syntax.specs.View.{script_tree};
 ghost use Rattle.vtl_syntax.specs.Written.{AreWritten};
@@ -24,9 +27,9 @@ pub fn typed(
 ) -> Result<Checked, Status>
     requires written { AreWritten (script_tree script.now) }
     requires plain { has_definitions (script_tree script.now) ≡ false }
-    ensures typing { SettlesBy nodes_of (typed_or_fault (script_typed (env_over profile.now structures.now) (script_tree script.now))) result }
+    ensures typing { SettlesBy nodes_of (typed_or_fault (script_typed (env_over profile.now structures.now.sets) (script_tree script.now))) result }
     ensures script { IfOk result (λ c. c.script ≡ script.now.statements) }
-    ensures declared { IfOk result (λ c. c.declared ≡ structures.now) }
+    ensures declared { IfOk result (λ c. c.declared ≡ structures.now.sets) }
     ensures settings { IfOk result (λ c. c.settings ≡ profile.now) }
 {
     match check(alloc, script, structures, profile) {

@@ -38,7 +38,7 @@ all_push p (y ∷ ys) x h e =
     let parts = and_parts (p y) (list_all p ys) h in
     and_from (p y) (list_all p (ys ++ x ∷ [])) parts.0 (all_push p ys x parts.1 e)
 
-keys_push : (xs : Named) (name : List ℕ) (s : Structure) → keys_of (xs ++ (name, s) ∷ []) ≡ keys_of xs ++ name ∷ []
+pub keys_push : {T : Type 0} (xs : List (List ℕ × T)) (name : List ℕ) (s : T) → keys_of (xs ++ (name, s) ∷ []) ≡ keys_of xs ++ name ∷ []
 keys_push [] name s = refl
 keys_push (x ∷ xs) name s = ap (λ ks. x.0 ∷ ks) (keys_push xs name s)
 
@@ -48,12 +48,6 @@ put_are xs name s h e d = record {
   declarable = all_push is_declarable_entry xs (name, s) h.declarable d;
   distinct = ap (all_apart same_name) (keys_push xs name s) ∙ apart_push (keys_of xs) name h.distinct e;
 }
-
--- and whether there was memory for it or not
-pub put_leaves : {A E : Type 0} (r : Result A E) (xs new : Named) (name : List ℕ) (s : Structure) → AreStructures xs → has_name name xs ≡ false → is_declarable s ≡ true
-    → OnOk r (new ≡ xs ++ (name, s) ∷ []) → OnErr r (new ≡ xs) → AreStructures new
-put_leaves (Ok a) xs new name s h e d put kept = subst AreStructures (sym put) (put_are xs name s h e d)
-put_leaves (Err a) xs new name s h e d put kept = subst AreStructures (sym kept) h
 
 -- a name that is not there has no structure
 pub not_found : (xs : Named) (name : List ℕ) → has_name name xs ≡ false → lookup (same_name name) xs ≡ None
@@ -151,31 +145,6 @@ add_are xs name x h f = record {
     go true e = ap (all_apart same_name) (keys_kept xs name x e) ∙ h.distinct
     go false e = ap (λ l. all_apart same_name (keys_of l)) (begins_data_set xs name x e) ∙ ap (all_apart same_name) (keys_push xs name (structure_of (x ∷ []))) ∙ apart_push (keys_of xs) name h.distinct e
 
--- what a component that is added to a data set leaves, whether there was memory or not; another structure stood in its
--- place meanwhile
-module _ (xs between new : Named) (name : List ℕ) (x : Component) (s t other : Structure) (h : AreStructures xs) (f : Fits x (components_of name xs))
-    (found : lookup (same_name name) xs ≡ Some s) (taken : between ≡ set_value (same_name name) xs other) (put : new ≡ set_value (same_name name) between t) where
-  written : new ≡ set_value (same_name name) xs t
-  written = put ∙ ap (λ l. set_value (same_name name) l t) taken ∙ set_twice (same_name name) xs other t
-
-  added : t ≡ structure_of (s.components ++ x ∷ []) → new ≡ with_component name x xs
-  added e = written ∙ ap (set_value (same_name name) xs) e ∙ goes_on xs name x s found
-
-  kept : t ≡ s → new ≡ xs
-  kept e = written ∙ ap (set_value (same_name name) xs) e ∙ set_value_same (same_name name) xs s found
-
-  pub pushed_are : {A E : Type 0} (r : Result A E) → OnOk r (t ≡ structure_of (s.components ++ x ∷ [])) → OnErr r (t ≡ s) → AreStructures new
-  pushed_are (Ok a) e k = subst AreStructures (sym (added e)) (add_are xs name x h f)
-  pushed_are (Err a) e k = subst AreStructures (sym (kept k)) h
-
-  pub pushed_added : {A E : Type 0} (r : Result A E) → OnOk r (t ≡ structure_of (s.components ++ x ∷ [])) → OnOk r (new ≡ with_component name x xs)
-  pushed_added (Ok a) e = added e
-  pushed_added (Err a) e = tt
-
-  pub pushed_kept : {A E : Type 0} (r : Result A E) → OnErr r (t ≡ s) → OnErr r (new ≡ xs)
-  pushed_kept (Ok a) e = tt
-  pushed_kept (Err a) e = kept e
-
 -- what a new data set of one component leaves
 pub began : {A E : Type 0} (xs old new : Named) (name : List ℕ) (x : Component) (s : Structure) (r : Result A E) → old ≡ xs → lookup (same_name name) xs ≡ None
     → s ≡ structure_of (x ∷ []) → OnOk r (new ≡ old ++ (name, s) ∷ []) → OnOk r (new ≡ with_component name x xs)
@@ -187,6 +156,10 @@ pub on_err : {T E P : Type 0} (r : Result T E) → P → OnErr r P
 on_err (Ok x) p = tt
 on_err (Err e) p = p
 
-pub kept_same : {T E : Type 0} (xs old new : Named) (r : Result T E) → old ≡ xs → OnErr r (new ≡ old) → OnErr r (new ≡ xs)
+pub kept_same : {X T E : Type 0} (xs old new : X) (r : Result T E) → old ≡ xs → OnErr r (new ≡ old) → OnErr r (new ≡ xs)
 kept_same xs old new (Ok x) same e = tt
 kept_same xs old new (Err e) same k = k ∙ same
+
+pub stays_same : {X T E : Type 0} (xs old new : X) (r : Result T E) → old ≡ xs → OnOk r (new ≡ old) → OnOk r (new ≡ xs)
+stays_same xs old new (Ok x) same k = k ∙ same
+stays_same xs old new (Err e) same k = tt

@@ -4,6 +4,7 @@ pub mod Clauses
 pub mod Columns
 pub mod CompExp
 pub mod DataSet
+pub mod Declarations
 pub mod Environment
 pub mod Joins
 pub mod Kept
@@ -12,6 +13,7 @@ pub mod Measures
 pub mod Names
 pub mod NodeView
 pub mod Nodes
+pub mod NotNull
 pub mod Operands
 pub mod Pairs
 pub mod Shown

@@ -2,6 +2,7 @@
 use Rattle.std.specs.Prelude.{ℕ, ◌≡◌, ◌≤◌, Bool, true, false, List, ◌++◌, map, length, filter}
 use Rattle.vtl_lists.specs.Apart.{all_apart}
 use Rattle.vtl_text.specs.Texts.{same_text}
+use Rattle.vtl_tree.specs.declared.limits.TheConstants.{MAX_COMPONENTS}
 use Rattle.vtl_tree.specs.declared.structure.Role.{Role}
 use Rattle.vtl_tree.specs.declared.structure.Role.TheVariants as role
 use Rattle.vtl_tree.specs.declared.structure.Component.{Component}
@@ -33,7 +34,7 @@ key_width s = length (of_role role.Identifier s)
 
 -- the most components that a structure may have
 abbrev pub most_components : ℕ
-most_components = 64
+most_components = MAX_COMPONENTS
 
 -- no more components than a structure may have, one at least, with distinct names
 pub record IsStructure (s : Structure) : Type 0 where

@@ -43,7 +43,7 @@ is_declarable_component x = is_component_name x.name && not (is_null_kind x.kind
 abbrev pub are_declarable : List Component → Bool
 are_declarable xs = nat_le 1 (length xs) && nat_le (length xs) most_components && all_apart same_name (names_of xs) && list_all is_declarable_component xs
 
--- a structure as it may be declared: 1 to 64 components with distinct names, each as it may be declared
+-- a structure as it may be declared: 1 to `most_components` components with distinct names, each as it may be declared
 abbrev pub is_declarable : Structure → Bool
 is_declarable s = are_declarable s.components
 

@@ -1,8 +1,9 @@
 // Components that are chosen by their roles and names.
-ghost use Rattle.std.specs.Prelude.{◌≡◌, ◌++◌, OnOk};
+ghost use Rattle.std.specs.Prelude.{◌≡◌, ◌++◌, OnErr, OnOk};
 ghost use Rattle.vtl_tree.specs.Choices.{chosen, is_chosen, is_identifier, is_identifier_name};
 
-use crate::{Component, Role, component_of, is_among, is_same_role, share_component};
+use crate::copies::push_copy;
+use crate::{Component, Role, component_of, is_among, is_same_role};
 use std::alloc::AllocError;
 use vtl_text::Txt;
 
@@ -48,18 +49,23 @@ pub fn is_chosen(choice: Choice, names: &[Txt], component: &Component) -> bool
     }
 }
 
-/// Adds the chosen components, in their order.
+/// Adds the chosen components, in their order. If memory runs out, `out` is left as it was.
 pub fn push_chosen(
     out: &mut Vec<Component>,
     choice: Choice,
     names: &[Txt],
     components: &[Component],
 ) -> Result<(), AllocError>
-    ensures { OnOk result (out.new.items ≡ out.old.items ++ chosen choice names.now components.now) }
+    ensures ok { OnOk result (out.new.items ≡ out.old.items ++ chosen choice names.now components.now) }
+    ensures err { OnErr result (out.new.items ≡ out.old.items) }
 {
+    let before = out.len();
     for component in components {
         if is_chosen(choice, names, component) {
-            out.push(share_component(component)?)?;
+            if let Err(error) = push_copy(out, component) {
+                out.truncate(before);
+                return Err(error);
+            }
         }
     }
     Ok(())

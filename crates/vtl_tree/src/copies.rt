@@ -1,5 +1,5 @@
 // Components and structures are shared: their names and codes are the same texts.
-ghost use Rattle.std.specs.Prelude.{◌≡◌, IfOk};
+ghost use Rattle.std.specs.Prelude.{◌≡◌, ◌++◌, ◌∷◌, [], IfOk, OnErr, OnOk};
 
 use crate::structure::{Component, Structure};
 use std::alloc::{AllocError, Global};
@@ -25,6 +25,15 @@ pub fn share_component(component: &Component) -> Result<Component, AllocError>
         kind: component.kind,
         codes: share_codes(&component.codes)?,
     })
+}
+
+/// Puts a copy of a component behind others, which are left as they are if memory runs out.
+pub(crate) fn push_copy(out: &mut Vec<Component>, component: &Component) -> Result<(), AllocError>
+    ensures ok { OnOk result (out.new.items ≡ out.old.items ++ component.now ∷ []) }
+    ensures err { OnErr result (out.new.items ≡ out.old.items) }
+{
+    out.push(share_component(component)?)?;
+    Ok(())
 }
 
 /// One more copy of a structure.

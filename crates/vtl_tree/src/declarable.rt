@@ -5,8 +5,8 @@ ghost use Rattle.vtl_lists.specs.Apart.{all_apart};
 ghost use Rattle.vtl_tree.specs.Structure.{names_of, same_name};
 ghost use Rattle.vtl_tree.specs.Structures.{are_codes, codes_fit, is_declarable, is_declarable_component, is_filled, is_null_kind, is_string_identifier};
 
+use crate::limits::MAX_COMPONENTS;
 use crate::structure::{Component, Role, Structure};
-use crate::structures::MAX_COMPONENTS;
 use std::alloc::{AllocError, Global};
 use vtl_cell::Kind;
 use vtl_text::{Txt, are_distinct, is_component_name};
@@ -101,9 +101,9 @@ fn names_are_apart(components: &[Component]) -> bool
     true
 }
 
-/// Whether a structure may be declared: it has 1 to 64 components with distinct names, each a component name, none of
-/// the kind of null; codes stand on string identifiers alone, at least one in a list, distinct and none empty. It fails
-/// only if memory runs out.
+/// Whether a structure may be declared: it has 1 to `MAX_COMPONENTS` components with distinct names, each a component
+/// name, none of the kind of null; codes stand on string identifiers alone, at least one in a list, distinct and none
+/// empty. It fails only if memory runs out.
 pub fn is_declarable(alloc: Global, structure: &Structure) -> Result<bool, AllocError>
     ensures { IfOk result (λ b. b ≡ is_declarable structure.now) }
 {

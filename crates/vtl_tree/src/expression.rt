@@ -1,5 +1,9 @@
 // Expressions over the components of one point.
+//
+// A component is its place in the column order, with its name beside it: its value needs no search.
+ghost use Rattle.std.specs.Prelude.{◌≡◌, IfOk};
 
+use std::alloc::AllocError;
 use vtl_cell::{AggKind, Cell, Kind, ScalarOp};
 use vtl_text::Txt;
 
@@ -64,6 +68,22 @@ pub struct AggCall {
     pub kind: AggKind,
     /// The component, or none for the number of points.
     pub component: Option<Txt>,
+}
+
+impl AggCall {
+    /// An equal call, whose text is shared. It fails only if memory runs out.
+    pub fn share(&self) -> Result<AggCall, AllocError>
+        ensures { IfOk result (λ copy. copy ≡ self.now) }
+    {
+        let component = match &self.component {
+            Some(name) => Some(name.share()?),
+            None => None,
+        };
+        Ok(AggCall {
+            kind: self.kind,
+            component,
+        })
+    }
 }
 
 // Written out, so that a proof above sees one call and not the drop of each part.

@@ -4,28 +4,10 @@ ghost use Rattle.vtl_tree.specs.Shown.{shown};
 ghost use Rattle.vtl_tree.specs.View.{comp_exp_of};
 ghost use Rattle.vtl_tree.specs.Columns.{column_behind, column_named};
 
-use crate::{AggCall, CompExpr, Component, kind_named, place_of};
+use crate::{CompExpr, Component, kind_named, place_of};
 use std::alloc::{AllocError, Global};
 use vtl_cell::clone_cell;
 use vtl_text::Txt;
-
-fn copied_name(name: &Option<Txt>) -> Result<Option<Txt>, AllocError>
-    ensures { IfOk result (λ copy. copy ≡ name.now) }
-{
-    match name {
-        Some(name) => Ok(Some(name.share()?)),
-        None => Ok(None),
-    }
-}
-
-fn copied_aggregate(call: &AggCall) -> Result<AggCall, AllocError>
-    ensures { IfOk result (λ copy. copy ≡ call.now) }
-{
-    Ok(AggCall {
-        kind: call.kind,
-        component: copied_name(&call.component)?,
-    })
-}
 
 /// An equal expression, whose texts are shared.
 pub fn copied(alloc: Global, e: &CompExpr) -> Result<CompExpr, AllocError>
@@ -39,7 +21,7 @@ pub fn copied(alloc: Global, e: &CompExpr) -> Result<CompExpr, AllocError>
         }),
         CompExpr::Const(value) => Ok(CompExpr::Const(clone_cell(value)?)),
         CompExpr::Aggregate { call, kind } => Ok(CompExpr::Aggregate {
-            call: copied_aggregate(call)?,
+            call: call.share()?,
             kind: *kind,
         }),
         CompExpr::Apply { op, kind, args } => {

@@ -1,8 +1,9 @@
 // The measures of an operand.
-ghost use Rattle.std.specs.Prelude.{◌≡◌, ◌++◌, OnOk};
+ghost use Rattle.std.specs.Prelude.{◌≡◌, ◌++◌, OnErr, OnOk};
 ghost use Rattle.vtl_tree.specs.Measures.{is_measure, measures};
 
-use crate::{Component, Role, is_same_role, share_component};
+use crate::copies::push_copy;
+use crate::{Component, Role, is_same_role};
 use std::alloc::AllocError;
 
 /// Which measures an operator asks for, and which it gives.
@@ -25,13 +26,18 @@ pub fn is_measure(component: &Component) -> bool
     is_same_role(component.role, Role::Measure)
 }
 
-/// Adds the measures, in their order.
+/// Adds the measures, in their order. If memory runs out, `out` is left as it was.
 pub fn push_measures(out: &mut Vec<Component>, components: &[Component]) -> Result<(), AllocError>
-    ensures { OnOk result (out.new.items ≡ out.old.items ++ measures components.now) }
+    ensures ok { OnOk result (out.new.items ≡ out.old.items ++ measures components.now) }
+    ensures err { OnErr result (out.new.items ≡ out.old.items) }
 {
+    let before = out.len();
     for component in components {
         if is_measure(component) {
-            out.push(share_component(component)?)?;
+            if let Err(error) = push_copy(out, component) {
+                out.truncate(before);
+                return Err(error);
+            }
         }
     }
     Ok(())

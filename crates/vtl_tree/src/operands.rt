@@ -1,6 +1,6 @@
 // Components of several operands.
 ghost use Rattle.std.specs.List.{list_all};
-ghost use Rattle.std.specs.Prelude.{◌≡◌, ◌++◌, IfOk, OnOk};
+ghost use Rattle.std.specs.Prelude.{◌≡◌, ◌++◌, ◌∷◌, [], IfOk, OnErr, OnOk};
 ghost use Rattle.vtl_tree.specs.Shown.{shown};
 ghost use Rattle.vtl_tree.specs.Operands.{agree, all_meet, agreed, agreed_identifiers, all_agree, has_one_measure, is_alike, is_coded_alike, is_there, is_within, same_codes};
 
@@ -120,17 +120,36 @@ fn agreed(others: &[&Structure], component: &Component) -> Result<Component, All
     })
 }
 
-/// Adds the identifiers, with the codes that all operands agree on.
+// Puts a component behind others, with the codes that all operands agree on; if memory runs out, the others are left as
+// they are.
+fn push_agreed(
+    out: &mut Vec<Component>,
+    others: &[&Structure],
+    component: &Component,
+) -> Result<(), AllocError>
+    ensures ok { OnOk result (out.new.items ≡ out.old.items ++ agreed (shown others.now) component.now ∷ []) }
+    ensures err { OnErr result (out.new.items ≡ out.old.items) }
+{
+    out.push(agreed(others, component)?)?;
+    Ok(())
+}
+
+/// Adds the identifiers, with the codes that all operands agree on. If memory runs out, `out` is left as it was.
 pub fn push_identifiers(
     out: &mut Vec<Component>,
     others: &[&Structure],
     components: &[Component],
 ) -> Result<(), AllocError>
-    ensures { OnOk result (out.new.items ≡ out.old.items ++ agreed_identifiers (shown others.now) components.now) }
+    ensures ok { OnOk result (out.new.items ≡ out.old.items ++ agreed_identifiers (shown others.now) components.now) }
+    ensures err { OnErr result (out.new.items ≡ out.old.items) }
 {
+    let before = out.len();
     for component in components {
         if is_identifier(component) {
-            out.push(agreed(others, component)?)?;
+            if let Err(error) = push_agreed(out, others, component) {
+                out.truncate(before);
+                return Err(error);
+            }
         }
     }
     Ok(())

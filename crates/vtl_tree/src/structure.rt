@@ -56,7 +56,7 @@ impl Drop for Component {
     }
 }
 
-/// The structure of a data set: 1 to 64 components with distinct names.
+/// The structure of a data set: 1 to `MAX_COMPONENTS` components with distinct names.
 pub struct Structure {
     /// The components, in the order in which they were declared.
     pub components: List<Component>,

@@ -4,7 +4,8 @@ ghost use Rattle.std.specs.Map.{lookup};
 ghost use Rattle.std.specs.List.{list_any};
 ghost use Rattle.std.specs.Option.{option_copied};
 ghost use Rattle.vtl_tree.specs.Structure.{names_of, same_name};
-ghost use Rattle.vtl_tree.specs.Structures.{AreStructures, are_codes, codes_fit, components_of, has_name, is_declarable, is_declarable_component, is_null_kind, is_string_identifier, structure_of, with_component, Fits};
+ghost use Rattle.vtl_tree.specs.Structures.{AreStructures, components_of, has_name, is_declarable, structure_of, with_component, Fits};
+ghost use Rattle.vtl_tree.specs.NotNull.{are_not_null, no_sets, not_null_of, with_list};
 
 use crate::structure::{Component, Role, Structure};
 use std::alloc::{AllocError, Global};
@@ -13,13 +14,27 @@ use std::mem;
 use vtl_cell::Kind;
 use vtl_text::{ByName, List, Txt, is_component_name};
 
-/// The most components that a structure may have.
-pub const MAX_COMPONENTS: usize = 64;
+// A structure, and the names of its components that are never null.
+struct Declaration {
+    structure: Structure,
+    not_null: List<Txt>,
+}
+
+// Written out, so that a proof above sees one call and not the drop of each part.
+impl Drop for Declaration {
+    fn drop(self) {
+        let Declaration {
+            structure: _structure,
+            not_null: _not_null,
+        } = self;
+    }
+}
 
 /// Structures with their names, in the order in which they were put. Each is declarable, and the names are distinct. A
-/// contract sees the list of the names, each with its structure.
+/// structure may have a not-null list: the names of components that are no identifiers and are never null. A contract
+/// sees the list of the names, each with its structure, and the not-null lists that are not empty, each with its name.
 pub struct Structures {
-    by_name: ByName<Structure>,
+    by_name: ByName<Declaration>,
     alloc: Global,
 }
 
@@ -34,19 +49,20 @@ impl Drop for Structures {
 }
 
 impl Model for Structures {
-    ghost use Rattle.vtl_tree.specs.Structures.{AreStructures, Named};
+    ghost use Rattle.vtl_tree.specs.NotNull.{Declared};
+    ghost use Rattle.vtl_tree.specs.Declarations.{AreDeclarations, declared};
 
-    ghost Value = { Named };
+    ghost Value = { Declared };
 
-    ghost view = { λ s. s.by_name };
+    ghost view = { λ s. declared s.by_name };
 
-    ghost invariant = { λ s. AreStructures s.by_name };
+    ghost invariant = { λ s. AreDeclarations s.by_name };
 }
 
 impl Structures {
     /// No structures.
     pub fn new(alloc: Global) -> Structures
-        ensures { result ≡ [] }
+        ensures { result ≡ no_sets }
     {
         Structures {
             by_name: ByName::new(alloc),
@@ -56,33 +72,57 @@ impl Structures {
 
     /// How many structures there are.
     pub fn len(&self) -> usize
-        ensures count { result ≡ length self.now }
-        ensures structures { AreStructures self.now }
+        ensures count { result ≡ length self.now.sets }
+        ensures structures { AreStructures self.now.sets }
     {
         self.by_name.len()
     }
 
-    /// Adds a structure under a name that none has yet. It fails only if memory runs out.
+    /// Adds a structure under a name that none has yet, with an empty not-null list. It fails only if memory runs out.
     pub fn put(&mut self, name: Txt, structure: Structure) -> Result<(), AllocError>
-        requires new_name { has_name name self.old ≡ false }
+        requires new_name { has_name name self.old.sets ≡ false }
         requires declarable { is_declarable structure ≡ true }
-        ensures put { OnOk result (self.new ≡ self.old ++ (name, structure) ∷ []) }
+        ensures put { OnOk result (self.new.sets ≡ self.old.sets ++ (name, structure) ∷ []) }
+        ensures lists { OnOk result (self.new.not_null ≡ self.old.not_null) }
         ensures failed { OnErr result (self.new ≡ self.old) }
     {
-        self.by_name.put(name, structure)
+        self.put_with(name, structure, Vec::new(self.alloc))
+    }
+
+    /// Adds a structure with its not-null list under a name that none has yet. It fails only if memory runs out.
+    pub fn put_with(
+        &mut self,
+        name: Txt,
+        structure: Structure,
+        not_null: Vec<Txt>,
+    ) -> Result<(), AllocError>
+        requires new_name { has_name name self.old.sets ≡ false }
+        requires declarable { is_declarable structure ≡ true }
+        requires not_null { are_not_null structure not_null.items ≡ true }
+        ensures put { OnOk result (self.new.sets ≡ self.old.sets ++ (name, structure) ∷ []) }
+        ensures lists { OnOk result (self.new.not_null ≡ self.old.not_null ++ with_list name not_null.items) }
+        ensures failed { OnErr result (self.new ≡ self.old) }
+    {
+        let not_null = List::of(not_null);
+        let declaration = Declaration {
+            structure,
+            not_null,
+        };
+        self.by_name.put(name, declaration)
     }
 
     /// Adds a component that fits its data set: the last of those that it has, or the first of a new data set, which
-    /// goes last. It fails only if memory runs out.
+    /// goes last. All not-null lists stay. It fails only if memory runs out.
     pub fn add(&mut self, name: Txt, component: Component) -> Result<(), AllocError>
-        requires { Fits component (components_of name self.old) }
-        ensures added { OnOk result (self.new ≡ with_component name component self.old) }
+        requires { Fits component (components_of name self.old.sets) }
+        ensures added { OnOk result (self.new.sets ≡ with_component name component self.old.sets) }
+        ensures lists { OnOk result (self.new.not_null ≡ self.old.not_null) }
         ensures failed { OnErr result (self.new ≡ self.old) }
     {
         match self.by_name.replace(&name, no_components(self.alloc)) {
-            Some(mut structure) => {
-                let pushed = push_component(self.alloc, &mut structure, component);
-                self.by_name.replace(&name, structure);
+            Some(mut declaration) => {
+                let pushed = push_component(self.alloc, &mut declaration, component);
+                self.by_name.replace(&name, declaration);
                 pushed
             }
             None => {
@@ -94,44 +134,61 @@ impl Structures {
 
     /// The structure of a name, if there is one.
     pub fn get(&self, name: &Txt) -> Option<&Structure>
-        ensures found { option_copied result ≡ lookup (same_name name.now) self.now }
+        ensures found { option_copied result ≡ lookup (same_name name.now) self.now.sets }
         ensures declarable { IfSome result (λ s. is_declarable s.now ≡ true) }
     {
-        self.by_name.get(name)
+        match self.by_name.get(name) {
+            Some(declaration) => Some(&declaration.structure),
+            None => None,
+        }
+    }
+
+    /// The not-null list of a name: empty for a name without one.
+    pub fn not_null(&self, name: &Txt) -> &[Txt]
+        ensures list { result.now ≡ not_null_of name.now self.now.not_null }
+        ensures fit { are_not_null (structure_of (components_of name.now self.now.sets)) result.now ≡ true }
+    {
+        match self.by_name.get(name) {
+            Some(declaration) => declaration.not_null.as_slice(),
+            None => &[],
+        }
     }
 
     /// The name and the structure at a place.
     pub fn at(&self, i: usize) -> (&Txt, &Structure)
-        requires { i < length self.now }
-        ensures entry { slice_get self.now i ≡ Some (result.0.now, result.1.now) }
+        requires { i < length self.now.sets }
+        ensures entry { slice_get self.now.sets i ≡ Some (result.0.now, result.1.now) }
         ensures declarable { is_declarable result.1.now ≡ true }
     {
-        self.by_name.at(i)
+        let (name, declaration) = self.by_name.at(i);
+        (name, &declaration.structure)
     }
 }
 
-// A structure without components, which stands in place of one that is changed.
-fn no_components(alloc: Global) -> Structure
-    ensures { result ≡ structure_of [] }
-{
-    Structure {
-        components: List::of(Vec::new(alloc)),
+// What stands in place of one that is changed.
+fn no_components(alloc: Global) -> Declaration {
+    let components = List::of(Vec::new(alloc));
+    Declaration {
+        structure: Structure { components },
+        not_null: List::of(Vec::new(alloc)),
     }
 }
 
 // Adds a component after the others.
 fn push_component(
     alloc: Global,
-    structure: &mut Structure,
+    declaration: &mut Declaration,
     component: Component,
 ) -> Result<(), AllocError>
-    ensures added { OnOk result (structure.new ≡ structure_of (structure.old.components ++ component ∷ [])) }
-    ensures failed { OnErr result (structure.new ≡ structure.old) }
+    ensures added { OnOk result (declaration.new.structure ≡ structure_of (declaration.old.structure.components ++ component ∷ [])) }
+    ensures failed { OnErr result (declaration.new.structure ≡ declaration.old.structure) }
+    ensures list { declaration.new.not_null ≡ declaration.old.not_null }
 {
     let nothing = List::of(Vec::new(alloc));
-    let mut components = mem::replace(&mut structure.components, nothing).into_vec();
+    let components = mem::replace(&mut declaration.structure.components, nothing);
+    let mut components = components.into_vec();
     let pushed = components.push(component);
-    structure.components = List::of(components);
+    declaration.structure.components = List::of(components);
     pushed?;
     Ok(())
 }

@@ -10,11 +10,17 @@ use vtl_tree::{JoinOperand, Node, NodeForm};
 /// The operands of a node, in written order.
 #[derive(Clone, Copy)]
 pub enum NodeOperands<'a> {
+    /// None: the node is the name of a data set.
     None,
+    /// The one operand.
     One(&'a Node),
+    /// Both operands.
     Two(&'a Node, &'a Node),
+    /// All three operands: the condition of `if`, then its two results.
     Three(&'a Node, &'a Node, &'a Node),
+    /// Operands of which a script writes as many as it likes, as those of `union`.
     Many(&'a [Node]),
+    /// The operands of a join; a look at one leaves its alias out.
     Joined(&'a [JoinOperand]),
 }
 

@@ -16,7 +16,8 @@ use Rattle.vtl_tree.specs.Shown.{shown}
 use Rattle.vtl_tree.specs.Structure.{columns_of}
 use Rattle.vtl_tree.specs.declared.structure.Component.{Component}
 use Rattle.vtl_tree.proofs.Faults.{faults_by-append, join_assoc, join_none}
-use Rattle.vtl_meaning.specs.Aggregates.{Made, cell_or_null}
+use Rattle.vtl_meaning.specs.Aggregates.{Made}
+use Rattle.vtl_meaning.specs.Points.{cell_or_null}
 use Rattle.vtl_meaning.specs.Analytics.{made_of, point_of, tree_value, value_for}
 use Rattle.vtl_tree.specs.Columns.{place_of}
 use Rattle.vtl_tree.specs.Trees.{AnalyticTree, ValueTree}

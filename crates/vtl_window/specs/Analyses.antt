@@ -6,7 +6,8 @@ use Rattle.vtl_cell.specs.Outcome.{Outcome, fault_in, faults_by}
 use Rattle.vtl_cell.specs.Row.{Row, column_of}
 use Rattle.vtl_cell.specs.declared.cell.Cell.{Cell}
 use Rattle.vtl_tree.specs.declared.structure.Component.{Component}
-use Rattle.vtl_meaning.specs.Aggregates.{Made, cell_or_null}
+use Rattle.vtl_meaning.specs.Aggregates.{Made}
+use Rattle.vtl_meaning.specs.Points.{cell_or_null}
 use Rattle.vtl_window.specs.declared.column.Column.{Column}
 use Rattle.vtl_window.specs.declared.column.Column.TheVariants as column
 

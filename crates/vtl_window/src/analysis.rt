@@ -1,5 +1,6 @@
 // Analytic operators on data sets.
 ghost use Rattle.std.specs.Prelude.{IfOk};
+ghost use Rattle.vtl_rows.specs.Tables.{listed};
 ghost use Rattle.vtl_scalar.specs.Answers.{Answers, AnswersBy};
 ghost use Rattle.vtl_meaning.specs.Analytics.{analytic_of};
 ghost use Rattle.vtl_sets.specs.DataSets.{with_structure};
@@ -24,7 +25,7 @@ fn analyzed_table(
     p: &Profile,
 ) -> Result<Table, ScalarErr>
     requires { IsWindowed p.now (analytic_tree spec.now) a.now.structure made.now }
-    ensures table { IfOk result (IsTableOf made.now) }
+    ensures table { IfOk result (λ t. IsTableOf made.now (listed t)) }
     ensures rows { AnswersBy (λ t. t.rows) result (analytic_of p.now (analytic_tree spec.now) a.now made.now) }
 {
     let table = a.table();
@@ -35,7 +36,7 @@ fn analyzed_table(
     let mut row = Vec::with_capacity(alloc, columns.len())?;
     for i in 0..table.len() {
         push_across(&mut row, &mut columns, table.row(i))?;
-        points.push_cells(&mut row)?;
+        points.push_moved(&mut row)?;
     }
     Ok(points)
 }

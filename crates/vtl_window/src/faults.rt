@@ -2,7 +2,7 @@
 ghost use Rattle.std.specs.Prelude.{◌≡◌, IfErr, IfOk};
 ghost use Rattle.vtl_cell.specs.Outcome.{Outcome, fault_in, join};
 ghost use Rattle.vtl_cell.specs.declared.cell.Cell as cell;
-ghost use Rattle.vtl_meaning.specs.Aggregates.{cell_or_null};
+ghost use Rattle.vtl_meaning.specs.Points.{cell_or_null};
 ghost use Rattle.vtl_scalar.specs.Seen.{seen_of};
 ghost use Rattle.vtl_scalar.specs.Answers.{Answers};
 

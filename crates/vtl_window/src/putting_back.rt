@@ -1,4 +1,7 @@
 // Values of sorted points, put back at the points.
+//
+// A column that stays is read from the operand's rows, and cells that are made are moved into the rows of the result:
+// each cell is copied or made once, and only columns that are made have lists.
 ghost use Rattle.std.specs.List.{range_with_len};
 ghost use Rattle.std.specs.Prelude.{◌≡◌, ◌<◌, ℕ, All, IfErr, IfOk, IsPermutation, length, map, slice_set};
 ghost use Rattle.vtl_cell.specs.Conversion.{as_kind};

@@ -1,4 +1,7 @@
 // The values of a call at the points.
+//
+// A rank sorts by the partition and the listed components alone (`tie_breakers`): points that tie by these have one
+// rank, whatever order they stand in. The other operators see which point stands before which.
 ghost use Rattle.std.specs.List.{AllByRecursion};
 ghost use Rattle.std.specs.Prelude.{◌≡◌, ◌<◌, ℕ, All, IfErr, IfOk, length, map, option_map};
 ghost use Rattle.std.specs.Option.{option_map_or};

@@ -6,8 +6,8 @@ use Rattle.sql_groups.specs.Kept.{rows_of, scope_of}
 use Rattle.sql_groups.proofs.KeyLemmas.{key_row_fits}
 use Rattle.sql_groups.proofs.grouping.key_table.Goals as goal
 
-pub push_cells-requires : goal.push_cells-requires
-push_cells-requires c =
+pub push_moved-requires : goal.push_moved-requires
+push_moved-requires c =
     let rows = rows_of c.args.rows.now in
     let i = c.loop-number.number in
     let r = row_at rows i in
@@ -22,11 +22,11 @@ loop-number-preserved c =
     let within : i < length rows = omega (arith, c.len-number-end.ensures.rows, c.loop-number-test.true) in
     let key = c.in_ok-push_key.ensures ∙ ap (λ l. l ++ cells_at c.args.places.now (row_at rows i)) c.loop-number.invariant.empty in
     record {
-      kinds = ap column_kinds c.push_cells.ensures.columns ∙ c.loop-number.invariant.kinds;
+      kinds = ap column_kinds c.push_moved.ensures.columns ∙ c.loop-number.invariant.kinds;
       rows =
-          c.in_ok-push_cells.ensures.rows
+          c.in_ok-push_moved.ensures.rows
           ∙ ap (λ k. c.loop-number.table.rows ++ k ∷ []) key
           ∙ ap (λ l. l ++ cells_at c.args.places.now (row_at rows i) ∷ []) c.loop-number.invariant.rows
           ∙ sym (map_more (cells_at c.args.places.now) rows i [] within);
-      empty = c.in_ok-push_cells.ensures.moved;
+      empty = c.in_ok-push_moved.ensures.moved;
     }

@@ -14,4 +14,4 @@ returns c =
     let lane = c.of-lane.ensures ∙ ap (lane_cells rows run) c.place.ensures in
     on_ok_weaker c.push_aggregates.result
     (λ e. e ∙ ap (λ l. c.args.out.now.items ++ l) (aggregate_values v c.args.column.now c.args.over.now rows run (cells_in c.of-lane.result) lane c.args.function c.frame_of.result c.frame_of.ensures))
-    c.push_aggregates.ensures
+    c.push_aggregates.ensures.ok

@@ -42,4 +42,4 @@ returns-in-Rank c =
     on_ok_weaker c.push_ranks.result
     (λ e. e ∙ ap (λ l. c.args.out.now.items ++ l) (ap (λ ks. map (λ k. row_rank v.base.settings ks (row_at rows k) (map (row_at rows) run)) run) c.requires.keys
     ∙ sym (listed (λ k. row_rank v.base.settings (keys_of v o) (row_at rows k) (map (row_at rows) run)) run 0) ∙ ap (λ w. run_values v w o rows run) (sym c.in-Rank.is)))
-    c.push_ranks.ensures
+    c.push_ranks.ensures.ok

@@ -15,7 +15,7 @@ returns-in-FirstValue c =
     let cells = cells_in c.args.lane.now in
     on_ok_weaker c.push_ends.result
     (λ e. e ∙ ap (λ l. c.args.out.now.items ++ l) (end_values p f ends.First c.frame_of.result cells c.frame_of.ensures ∙ ap (λ o. at_each (λ i. value_in p f o (column_of i cells) i cells) cells) (sym c.in-FirstValue.is)))
-    c.push_ends.ensures
+    c.push_ends.ensures.ok
 
 pub returns-in-LastValue : goal.returns-in-LastValue
 returns-in-LastValue c =
@@ -24,4 +24,4 @@ returns-in-LastValue c =
     let cells = cells_in c.args.lane.now in
     on_ok_weaker c.push_ends-in-LastValue.result
     (λ e. e ∙ ap (λ l. c.args.out.now.items ++ l) (end_values p f ends.Last c.frame_of-in-LastValue.result cells c.frame_of-in-LastValue.ensures ∙ ap (λ o. at_each (λ i. value_in p f o (column_of i cells) i cells) cells) (sym c.in-LastValue.is)))
-    c.push_ends-in-LastValue.ensures
+    c.push_ends-in-LastValue.ensures.ok

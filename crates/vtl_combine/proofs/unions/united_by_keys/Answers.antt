@@ -24,7 +24,7 @@ pub once_by_key-requires : goal.once_by_key-requires
 once_by_key-requires c =
     let ds = c.args.operands.now in
     let s = c.args.made.now in
-    subst (λ n. AllByRecursion (λ (r : Row). n ≤ length r) c.in_ok-all.all.rows) (sym c.in_ok-width.ensures)
+    subst (λ n. AllByRecursion (λ (r : Row). n ≤ length r) c.in_ok-all.all.rows) (sym c.key_width.ensures)
     (subst (λ (l : List Row). AllByRecursion (λ (r : Row). key_width s ≤ length r) l) (sym c.in_ok-all.ensures.rows) (all_points_wide ds s))
 
 pub returns-clause-rows : goal.returns-clause-rows
@@ -32,8 +32,8 @@ returns-clause-rows c =
     let ds = c.args.operands.now in
     let s = c.args.made.now in
     let all = c.in_ok-all.all.rows in
-    IfOk-weaker c.once_by_key.result (λ (t : Listed). t.rows ≡ each_once (same_key c.in_ok-width.width) all) (λ (t : Listed). t.rows ≡ union_of (shown ds) s)
-    (λ t e. e ∙ ap (λ n. each_once (same_key n) all) c.in_ok-width.ensures ∙ ap (each_once (same_key (key_width s))) (c.in_ok-all.ensures.rows ∙ all_points_are ds s)) c.once_by_key.ensures.rows
+    IfOk-weaker c.once_by_key.result (λ (t : Listed). t.rows ≡ each_once (same_key c.key_width.result) all) (λ (t : Listed). t.rows ≡ union_of (shown ds) s)
+    (λ t e. e ∙ ap (λ n. each_once (same_key n) all) c.key_width.ensures ∙ ap (each_once (same_key (key_width s))) (c.in_ok-all.ensures.rows ∙ all_points_are ds s)) c.once_by_key.ensures.rows
 
 pub returns-clause-table : goal.returns-clause-table
 returns-clause-table c =

@@ -4,7 +4,7 @@ use Rattle.vtl_csv.proofs.structures.without_identifier.Given as goal
 
 abbrev pub invariant-loop-fields : goal.invariant-loop-fields
 invariant-loop-fields l =
-    (without_identifier l.line l.structures l.reader ≡ without_identifier 2 l.structures l.fn.reader)
+    (without_identifier l.line l.structures.sets l.reader ≡ without_identifier 2 l.structures.sets l.fn.reader)
     × (l.line + length l.reader ≡ 2 + length l.fn.reader)
 
 abbrev pub decreases-loop-fields : goal.decreases-loop-fields

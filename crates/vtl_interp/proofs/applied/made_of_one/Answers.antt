@@ -1,15 +1,19 @@
-use Rattle.std.proofs.Common.{◌≡◌, Ok, map, refl, subst}
+use Rattle.std.proofs.Common.{◌≡◌, ◌∷◌, [], Ok, map, refl, subst}
 use Rattle.std.specs.Prelude.{IfOk}
 use Rattle.vtl_scalar.specs.Answers.{Answers}
 use Rattle.vtl_tree.specs.Trees as nodes
 use Rattle.vtl_tree.specs.NodeView.{agg_tree, analytic_tree, item_tree, measure_tree, node_tree}
+use Rattle.vtl_tree.specs.declared.choices.Choice.TheVariants as choice
+use Rattle.vtl_tree.specs.declared.names.Wanted.TheVariants as wanted
 use Rattle.vtl_tree.specs.declared.nodes.NodeForm.TheVariants as form
 use Rattle.vtl_meaning.specs.Aggregates.{aggregate_of}
 use Rattle.vtl_meaning.specs.Analytics.{analytic_of}
 use Rattle.vtl_sets.specs.DataSets.{data_set, with_structure}
+use Rattle.vtl_meaning.specs.Made.{IsLeft, IsRenamed}
 use Rattle.vtl_meaning.specs.Operators.{calculated_of, left_of, measured_of, sub_of}
+use Rattle.vtl_meaning.specs.Shapes.{IsChosen, IsRenamedBy}
 use Rattle.vtl_meaning.specs.Turned.{pivot_of, unpivot_of}
-use Rattle.vtl_interp.proofs.NodesEvaluated.{aggregate_fits, analytic_fits, form_tree-Aggregate, form_tree-Analytic, form_tree-Calc, form_tree-DropNamed, form_tree-Keep, form_tree-Measures, form_tree-Member, form_tree-Pivot, form_tree-Rename, form_tree-Sub, form_tree-Unpivot, left_fits, measures_fit, one_given_at, one_operand, renamed}
+use Rattle.vtl_interp.proofs.NodesEvaluated.{aggregate_fits, analytic_fits, form_tree-Aggregate, form_tree-Analytic, form_tree-Calc, form_tree-DropNamed, form_tree-Keep, form_tree-Measures, form_tree-Member, form_tree-Pivot, form_tree-Rename, form_tree-Sub, form_tree-Unpivot, measures_fit, one_fits, one_given_at, one_operand, renamed}
 use Rattle.vtl_interp.proofs.applied.made_of_one.Goals as goal
 
 pub map_measures-requires : goal.map_measures-requires
@@ -31,14 +35,27 @@ returns-in-Measures c env made g =
     (one_given_at c.args.p.now env n (form.Measures x.op x.a) (nodes.measures (measure_tree x.op) a) v x.is (form_tree-Measures x.op x.a) g)
     c.map_measures.ensures
 
-pub keep_columns-requires : goal.keep_columns-requires
-keep_columns-requires c =
+pub keep_columns-requires-clause-left : goal.keep_columns-requires-clause-left
+keep_columns-requires-clause-left c =
     let n = c.args.node.now in
     let v = c.args.a in
     let x = c.in-Member in
     let a = node_tree x.a.value in
-    left_fits c.args.p.now c.requires.0 n (form.Member x.a x.m) (nodes.member a x.m) a v x.is (form_tree-Member x.a x.m) (λ m. m.1) c.requires.1
+    one_fits IsLeft c.args.p.now c.requires.0 n (form.Member x.a x.m) (nodes.member a x.m) a v x.is (form_tree-Member x.a x.m) (λ m. m.1) c.requires.1
     (one_given_at c.args.p.now c.requires.0 n (form.Member x.a x.m) (nodes.member a x.m) v x.is (form_tree-Member x.a x.m) c.requires.2)
+
+pub keep_columns-requires-clause-chosen : goal.keep_columns-requires-clause-chosen
+keep_columns-requires-clause-chosen c =
+    let n = c.args.node.now in
+    let v = c.args.a in
+    let x = c.in-Member in
+    let a = node_tree x.a.value in (
+      wanted.Measure,
+      choice.Keep,
+      (x.m ∷ []),
+      one_fits (IsChosen wanted.Measure choice.Keep (x.m ∷ [])) c.args.p.now c.requires.0 n (form.Member x.a x.m) (nodes.member a x.m) a v x.is (form_tree-Member x.a x.m) (λ m. m.2) c.requires.1
+          (one_given_at c.args.p.now c.requires.0 n (form.Member x.a x.m) (nodes.member a x.m) v x.is (form_tree-Member x.a x.m) c.requires.2),
+    )
 
 pub returns-in-Member : goal.returns-in-Member
 returns-in-Member c env made g =
@@ -51,14 +68,27 @@ returns-in-Member c env made g =
     (one_given_at c.args.p.now env n (form.Member x.a x.m) (nodes.member a x.m) v x.is (form_tree-Member x.a x.m) g)
     (c.answered.ensures (data_set s (left_of v s)) c.keep_columns.ensures)
 
-pub keep_columns-requires-in-Keep : goal.keep_columns-requires-in-Keep
-keep_columns-requires-in-Keep c =
+pub keep_columns-requires-clause-left-in-Keep : goal.keep_columns-requires-clause-left-in-Keep
+keep_columns-requires-clause-left-in-Keep c =
     let n = c.args.node.now in
     let v = c.args.a in
     let x = c.in-Keep in
     let a = node_tree x.a.value in
-    left_fits c.args.p.now c.requires.0 n (form.Keep x.a x.names) (nodes.keep a x.names) a v x.is (form_tree-Keep x.a x.names) (λ m. m.1) c.requires.1
+    one_fits IsLeft c.args.p.now c.requires.0 n (form.Keep x.a x.names) (nodes.keep a x.names) a v x.is (form_tree-Keep x.a x.names) (λ m. m.1) c.requires.1
     (one_given_at c.args.p.now c.requires.0 n (form.Keep x.a x.names) (nodes.keep a x.names) v x.is (form_tree-Keep x.a x.names) c.requires.2)
+
+pub keep_columns-requires-clause-chosen-in-Keep : goal.keep_columns-requires-clause-chosen-in-Keep
+keep_columns-requires-clause-chosen-in-Keep c =
+    let n = c.args.node.now in
+    let v = c.args.a in
+    let x = c.in-Keep in
+    let a = node_tree x.a.value in (
+      wanted.Value,
+      choice.Keep,
+      x.names,
+      one_fits (IsChosen wanted.Value choice.Keep x.names) c.args.p.now c.requires.0 n (form.Keep x.a x.names) (nodes.keep a x.names) a v x.is (form_tree-Keep x.a x.names) (λ m. m.2) c.requires.1
+          (one_given_at c.args.p.now c.requires.0 n (form.Keep x.a x.names) (nodes.keep a x.names) v x.is (form_tree-Keep x.a x.names) c.requires.2),
+    )
 
 pub returns-in-Keep : goal.returns-in-Keep
 returns-in-Keep c env made g =
@@ -71,14 +101,27 @@ returns-in-Keep c env made g =
     (one_given_at c.args.p.now env n (form.Keep x.a x.names) (nodes.keep a x.names) v x.is (form_tree-Keep x.a x.names) g)
     (c.answered-in-Keep.ensures (data_set s (left_of v s)) c.keep_columns-in-Keep.ensures)
 
-pub keep_columns-requires-in-DropNamed : goal.keep_columns-requires-in-DropNamed
-keep_columns-requires-in-DropNamed c =
+pub keep_columns-requires-clause-left-in-DropNamed : goal.keep_columns-requires-clause-left-in-DropNamed
+keep_columns-requires-clause-left-in-DropNamed c =
     let n = c.args.node.now in
     let v = c.args.a in
     let x = c.in-DropNamed in
     let a = node_tree x.a.value in
-    left_fits c.args.p.now c.requires.0 n (form.DropNamed x.a x.names) (nodes.drop_named a x.names) a v x.is (form_tree-DropNamed x.a x.names) (λ m. m.1) c.requires.1
+    one_fits IsLeft c.args.p.now c.requires.0 n (form.DropNamed x.a x.names) (nodes.drop_named a x.names) a v x.is (form_tree-DropNamed x.a x.names) (λ m. m.1) c.requires.1
     (one_given_at c.args.p.now c.requires.0 n (form.DropNamed x.a x.names) (nodes.drop_named a x.names) v x.is (form_tree-DropNamed x.a x.names) c.requires.2)
+
+pub keep_columns-requires-clause-chosen-in-DropNamed : goal.keep_columns-requires-clause-chosen-in-DropNamed
+keep_columns-requires-clause-chosen-in-DropNamed c =
+    let n = c.args.node.now in
+    let v = c.args.a in
+    let x = c.in-DropNamed in
+    let a = node_tree x.a.value in (
+      wanted.Value,
+      choice.Drop,
+      x.names,
+      one_fits (IsChosen wanted.Value choice.Drop x.names) c.args.p.now c.requires.0 n (form.DropNamed x.a x.names) (nodes.drop_named a x.names) a v x.is (form_tree-DropNamed x.a x.names) (λ m. m.2) c.requires.1
+          (one_given_at c.args.p.now c.requires.0 n (form.DropNamed x.a x.names) (nodes.drop_named a x.names) v x.is (form_tree-DropNamed x.a x.names) c.requires.2),
+    )
 
 pub returns-in-DropNamed : goal.returns-in-DropNamed
 returns-in-DropNamed c env made g =
@@ -112,6 +155,26 @@ returns-in-Sub c env made g =
     one_operand (λ d. d) c.args.p.now env n (form.Sub x.a x.values) (nodes.sub a x.values) a v (λ d. Ok (sub_of x.values d s)) c.answered-in-Sub.result x.is (form_tree-Sub x.a x.values) refl
     (one_given_at c.args.p.now env n (form.Sub x.a x.values) (nodes.sub a x.values) v x.is (form_tree-Sub x.a x.values) g)
     (c.answered-in-Sub.ensures (data_set s (sub_of x.values v s)) (subst (λ items. IfOk c.sub.result (λ d. d ≡ data_set s (sub_of items v s))) c.as_slice-in-Sub.ensures c.sub.ensures))
+
+pub rename-requires-clause-made : goal.rename-requires-clause-made
+rename-requires-clause-made c =
+    let n = c.args.node.now in
+    let v = c.args.a in
+    let x = c.in-Rename in
+    let a = node_tree x.a.value in
+    one_fits IsRenamed c.args.p.now c.requires.0 n (form.Rename x.a x.pairs) (nodes.rename a x.pairs) a v x.is (form_tree-Rename x.a x.pairs) (λ m. m.1) c.requires.1
+    (one_given_at c.args.p.now c.requires.0 n (form.Rename x.a x.pairs) (nodes.rename a x.pairs) v x.is (form_tree-Rename x.a x.pairs) c.requires.2)
+
+pub rename-requires-clause-pairs : goal.rename-requires-clause-pairs
+rename-requires-clause-pairs c =
+    let n = c.args.node.now in
+    let v = c.args.a in
+    let x = c.in-Rename in
+    let a = node_tree x.a.value in (
+      x.pairs,
+      one_fits (IsRenamedBy x.pairs) c.args.p.now c.requires.0 n (form.Rename x.a x.pairs) (nodes.rename a x.pairs) a v x.is (form_tree-Rename x.a x.pairs) (λ m. m.2) c.requires.1
+          (one_given_at c.args.p.now c.requires.0 n (form.Rename x.a x.pairs) (nodes.rename a x.pairs) v x.is (form_tree-Rename x.a x.pairs) c.requires.2),
+    )
 
 pub returns-in-Rename : goal.returns-in-Rename
 returns-in-Rename c env made g =

@@ -8,4 +8,5 @@ abbrev pub invariant-loop-i : goal.invariant-loop-i
 invariant-loop-i l = record {
   kind : IfSome l.joined.kind (λ before. before ≡ l.kind);
   operands : sets_of l.joined.operands ≡ map value_view (take l.i l.values);
+  aliases : map (λ o. o.alias) l.joined.operands ≡ map (λ o. o.alias) (take l.i l.operands);
 }

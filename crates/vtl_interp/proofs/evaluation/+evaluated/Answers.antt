@@ -7,10 +7,11 @@ use Rattle.vtl_tree.specs.declared.nodes.NodeForm.TheVariants as form
 use Rattle.vtl_meaning.specs.Joined.{structures_of}
 use Rattle.vtl_meaning.specs.Made.{AreCombined, IsJoined}
 use Rattle.vtl_meaning.specs.Meaning.{nodes_value, operands_value}
+use Rattle.vtl_meaning.specs.Shapes.{IsJoinedFrom}
 use Rattle.vtl_interp.specs.Evaluated.{Gives}
-use Rattle.vtl_interp.specs.Values.{value_view, values_view}
+use Rattle.vtl_interp.specs.Values.{under_aliases, value_view, values_view}
 use Rattle.vtl_interp.proofs.Evaluates.{operands_named}
-use Rattle.vtl_interp.proofs.NodesEvaluated.{choose_fits, form_tree-Intersect, form_tree-Union, join_fits, name_gives, name_is_held, several_fit}
+use Rattle.vtl_interp.proofs.NodesEvaluated.{choose_fits, form_tree-Intersect, form_tree-Union, join_fits, join_named, name_gives, name_is_held, several_fit}
 use Rattle.vtl_interp.proofs.evaluation.+evaluated.Goals as goal
 
 pub evaluate-unreachable-requires : goal.evaluate-unreachable-requires
@@ -38,6 +39,16 @@ evaluate-join-requires-clause-joined t c =
     subst (λ xs. IsJoined c.in-Join.spec.kind (structures_of (map value_view xs)) c.args.node.now.structure) (sym c.deref-in-Join-2.ensures.value)
     (join_fits c.args.p.now env c.args.node.now os c.in-Join.spec (values_view sets) c.in-Join.is c.requires.made
     (subst (λ xs. operands_value c.args.p.now env (operands_of (map operand_tree xs)) ≡ Ok (values_view sets)) c.deref-in-Join.ensures.value c.in_ok-sets-in-Join.ensures))
+
+pub evaluate-join-requires-clause-from : goal.evaluate-join-requires-clause-from
+evaluate-join-requires-clause-from t c =
+    let env = c.args.known.now.entries in
+    let os = c.in-Join.operands in
+    let sets = c.in_ok-sets-in-Join.sets in
+    subst (λ xs. IsJoinedFrom c.in-Join.spec.kind (under_aliases (map (λ o. o.alias) c.deref-in-Join-3.result.now) (structures_of (map value_view xs))) c.args.node.now.structure) (sym c.deref-in-Join-2.ensures.value)
+    (subst (λ xs. IsJoinedFrom c.in-Join.spec.kind (under_aliases (map (λ o. o.alias) xs) (structures_of (values_view sets))) c.args.node.now.structure) (sym c.deref-in-Join-3.ensures.value)
+    (join_named c.args.p.now env c.args.node.now os c.in-Join.spec (values_view sets) c.in-Join.is c.requires.made
+    (subst (λ xs. operands_value c.args.p.now env (operands_of (map operand_tree xs)) ≡ Ok (values_view sets)) c.deref-in-Join.ensures.value c.in_ok-sets-in-Join.ensures)))
 
 pub evaluate-join-requires-clause-named : goal.evaluate-join-requires-clause-named
 evaluate-join-requires-clause-named t c =

@@ -22,5 +22,5 @@ returns g c =
     let s = source_view c.args.source.now in
     then_typed g.F.Files s typed_view c.args.files.now c.read_script.new.files c.in_ok-script.script c.in_ok-script.ensures.takes c.read_structures_file.new.files c.in_ok-structures.structures c.typed.result
     (sym c.defines_rulesets.ensures ∙ c.if-defines_rulesets.false) c.in_ok-structures.ensures
-    (typed_takes g.F.Files s c.read_structures_file.new.files (script_tree c.in_ok-script.script) c.in_ok-structures.structures c.typed.result c.typed.ensures.typing
+    (typed_takes g.F.Files s c.read_structures_file.new.files (script_tree c.in_ok-script.script) c.in_ok-structures.structures.sets c.typed.result c.typed.ensures.typing
     (same_tree c.typed.result c.in_ok-script.script.statements c.typed.ensures.script) c.typed.ensures.declared c.typed.ensures.settings)

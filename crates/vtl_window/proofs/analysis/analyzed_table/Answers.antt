@@ -45,8 +45,8 @@ loop-i-init c =
       left = begins c.args.p.now (analytic_tree c.args.spec.now) a s c.requires own (shown c.deref.result.now) is (map (cells_in a.points) c.in_ok-columns.columns.items) c.in_ok-columns.ensures;
     }
 
-pub push_cells-requires : goal.push_cells-requires
-push_cells-requires c =
+pub push_moved-requires : goal.push_moved-requires
+push_moved-requires c =
     let p = c.args.p.now in
     let spec = analytic_tree c.args.spec.now in
     let a = c.args.a.now in
@@ -92,10 +92,10 @@ loop-i-preserved c =
     let row : c.push_across.new.row.items ≡ point q = c.in_ok-push_across.ensures.row made ys rest left ∙ ap (λ l. l ++ point q) c.loop-i.invariant.row in
     let len : length c.push_across.new.columns ≡ c.loop-i.columns.len = omega (arith, ap (λ (l : List Column). length l) c.deref_mut.ensures.value, c.loop-i.columns.ok.0, c.push_across.auto.columns) in
     record {
-      columns = c.push_cells.ensures.columns ∙ c.loop-i.invariant.columns;
-      rows = c.in_ok-push_cells.ensures.rows ∙ ap (λ l. l ++ c.push_across.new.row.items ∷ []) c.loop-i.invariant.rows
+      columns = c.push_moved.ensures.columns ∙ c.loop-i.invariant.columns;
+      rows = c.in_ok-push_moved.ensures.rows ∙ ap (λ l. l ++ c.push_across.new.row.items ∷ []) c.loop-i.invariant.rows
           ∙ ap (λ r. map point (take i a.points) ++ r ∷ []) (row ∙ ap point (sym at)) ∙ sym (map_more point a.points i q within);
-      row = c.in_ok-push_cells.ensures.moved;
+      row = c.in_ok-push_moved.ensures.moved;
       left = ap (map (cells_in rest)) (with_items_is c.loop-i.columns c.push_across.new.columns len) ∙ c.in_ok-push_across.ensures.columns made ys rest left;
     }
 

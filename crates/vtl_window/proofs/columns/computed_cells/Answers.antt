@@ -1,7 +1,7 @@
 use Rattle.std.proofs.Common.{◌<◌, ◌≡◌, ◌++◌, ◌∷◌, [], length, ap, ◌∙◌, arith}
 use Rattle.vtl_cell.specs.Outcome.{fault_in, join}
 use Rattle.vtl_tree.specs.Value.{value}
-use Rattle.vtl_meaning.specs.Aggregates.{cell_or_null}
+use Rattle.vtl_meaning.specs.Points.{cell_or_null}
 use Rattle.vtl_expr.specs.Prepared.{prepared_exp}
 use Rattle.vtl_scalar.specs.Seen.{seen_of}
 use Rattle.vtl_window.proofs.AnalysisLemmas.{cells_next, faults_next}

@@ -34,7 +34,7 @@ returns-in-Sum c =
     (λ e. e ∙ ap (λ l. c.args.out.now.items ++ l) (op_values p xs call rows run column c.requires.column op.Sum c.in-Sum.is (λ i cs. group_value p agg.Sum (frames.framed frame i cs))
     (λ i h. ap (group_value p agg.Sum) (ap (λ f. frames.framed f i (lent_cells p xs call rows run column c.requires.column)) c.frame_of-frame.ensures ∙ frame_is call.window i (lent_cells p xs call rows run column c.requires.column)))
     (cells_in c.of-lane.result) lane))
-    c.push_aggregates.ensures
+    c.push_aggregates.ensures.ok
 
 pub returns-in-Avg : goal.returns-in-Avg
 returns-in-Avg c =
@@ -50,7 +50,7 @@ returns-in-Avg c =
     (λ e. e ∙ ap (λ l. c.args.out.now.items ++ l) (op_values p xs call rows run column c.requires.column op.Avg c.in-Avg.is (λ i cs. group_value p agg.Avg (frames.framed frame i cs))
     (λ i h. ap (group_value p agg.Avg) (ap (λ f. frames.framed f i (lent_cells p xs call rows run column c.requires.column)) c.frame_of-frame.ensures ∙ frame_is call.window i (lent_cells p xs call rows run column c.requires.column)))
     (cells_in c.of-lane.result) lane))
-    c.push_aggregates-in-Avg.ensures
+    c.push_aggregates-in-Avg.ensures.ok
 
 pub returns-in-Count : goal.returns-in-Count
 returns-in-Count c =
@@ -66,7 +66,7 @@ returns-in-Count c =
     (λ e. e ∙ ap (λ l. c.args.out.now.items ++ l) (op_values p xs call rows run column c.requires.column op.Count c.in-Count.is (λ i cs. group_value p agg.Count (frames.framed frame i cs))
     (λ i h. ap (group_value p agg.Count) (ap (λ f. frames.framed f i (lent_cells p xs call rows run column c.requires.column)) c.frame_of-frame.ensures ∙ frame_is call.window i (lent_cells p xs call rows run column c.requires.column)))
     (cells_in c.of-lane.result) lane))
-    c.push_aggregates-in-Count.ensures
+    c.push_aggregates-in-Count.ensures.ok
 
 pub returns-in-Min : goal.returns-in-Min
 returns-in-Min c =
@@ -82,7 +82,7 @@ returns-in-Min c =
     (λ e. e ∙ ap (λ l. c.args.out.now.items ++ l) (op_values p xs call rows run column c.requires.column op.Min c.in-Min.is (λ i cs. group_value p agg.Min (frames.framed frame i cs))
     (λ i h. ap (group_value p agg.Min) (ap (λ f. frames.framed f i (lent_cells p xs call rows run column c.requires.column)) c.frame_of-frame.ensures ∙ frame_is call.window i (lent_cells p xs call rows run column c.requires.column)))
     (cells_in c.of-lane.result) lane))
-    c.push_aggregates-in-Min.ensures
+    c.push_aggregates-in-Min.ensures.ok
 
 pub returns-in-Max : goal.returns-in-Max
 returns-in-Max c =
@@ -98,7 +98,7 @@ returns-in-Max c =
     (λ e. e ∙ ap (λ l. c.args.out.now.items ++ l) (op_values p xs call rows run column c.requires.column op.Max c.in-Max.is (λ i cs. group_value p agg.Max (frames.framed frame i cs))
     (λ i h. ap (group_value p agg.Max) (ap (λ f. frames.framed f i (lent_cells p xs call rows run column c.requires.column)) c.frame_of-frame.ensures ∙ frame_is call.window i (lent_cells p xs call rows run column c.requires.column)))
     (cells_in c.of-lane.result) lane))
-    c.push_aggregates-in-Max.ensures
+    c.push_aggregates-in-Max.ensures.ok
 
 pub returns-in-FirstValue : goal.returns-in-FirstValue
 returns-in-FirstValue c =
@@ -114,7 +114,7 @@ returns-in-FirstValue c =
     (λ e. e ∙ ap (λ l. c.args.out.now.items ++ l) (op_values p xs call rows run column c.requires.column op.FirstValue c.in-FirstValue.is (λ i cs. Ok (first_cell (frames.framed frame i cs)))
     (λ i h. ap (λ l. Ok (first_cell l)) (ap (λ f. frames.framed f i (lent_cells p xs call rows run column c.requires.column)) c.frame_of-frame.ensures ∙ frame_is call.window i (lent_cells p xs call rows run column c.requires.column)))
     (cells_in c.of-lane.result) lane))
-    c.push_ends.ensures
+    c.push_ends.ensures.ok
 
 pub returns-in-LastValue : goal.returns-in-LastValue
 returns-in-LastValue c =
@@ -130,7 +130,7 @@ returns-in-LastValue c =
     (λ e. e ∙ ap (λ l. c.args.out.now.items ++ l) (op_values p xs call rows run column c.requires.column op.LastValue c.in-LastValue.is (λ i cs. Ok (last_cell (frames.framed frame i cs)))
     (λ i h. ap (λ l. Ok (last_cell l)) (ap (λ f. frames.framed f i (lent_cells p xs call rows run column c.requires.column)) c.frame_of-frame.ensures ∙ frame_is call.window i (lent_cells p xs call rows run column c.requires.column)))
     (cells_in c.of-lane.result) lane))
-    c.push_ends-in-LastValue.ensures
+    c.push_ends-in-LastValue.ensures.ok
 
 pub returns-in-RatioToReport : goal.returns-in-RatioToReport
 returns-in-RatioToReport c =
@@ -145,7 +145,7 @@ returns-in-RatioToReport c =
     (λ e. e ∙ ap (λ l. c.args.out.now.items ++ l) (op_values p xs call rows run column c.requires.column op.RatioToReport c.in-RatioToReport.is (λ i cs. ratio_of p (column_of i cs) cs)
     (λ i h. ap (λ v. ratio_of p v (lent_cells p xs call rows run column c.requires.column)) (own_cell p xs call rows run column c.requires.column i h))
     (cells_in c.of-lane.result) lane))
-    c.push_ratios.ensures
+    c.push_ratios.ensures.ok
 
 pub returns-in-Lag : goal.returns-in-Lag
 returns-in-Lag c =
@@ -160,7 +160,7 @@ returns-in-Lag c =
     (λ e. e ∙ ap (λ l. c.args.out.now.items ++ l) (op_values p xs call rows run column c.requires.column (op.Lag c.in-Lag.offset c.in-Lag.default) c.in-Lag.is (λ i cs. Ok (lag_of c.in-Lag.offset c.in-Lag.default i cs))
     (λ i h. refl)
     (cells_in c.of-lane.result) lane))
-    c.push_shifted.ensures
+    c.push_shifted.ensures.ok
 
 pub returns-in-Rank : goal.returns-in-Rank
 returns-in-Rank c =
@@ -174,7 +174,7 @@ returns-in-Rank c =
     ∙ ap (λ ks. map (λ k. row_rank p ks (row_at rows k) (map (row_at rows) run)) run) c.requires.keys
     ∙ sym (listed (λ k. row_rank p (keys_in xs call.window) (row_at rows k) (map (row_at rows) run)) run 0)
     ∙ ap (λ o. map (λ i. op_value p xs call.window (argument xs call.component) o (stand_at rows run i)) (range_with_len 0 (length run))) (sym c.in-Rank.is)))
-    c.push_ranks.ensures
+    c.push_ranks.ensures.ok
 
 pub returns : goal.returns
 returns c =
@@ -189,4 +189,4 @@ returns c =
     (λ e. e ∙ ap (λ l. c.args.out.now.items ++ l) (op_values p xs call rows run column c.requires.column (op.Lead c.in-Lead.offset c.in-Lead.default) c.in-Lead.is (λ i cs. Ok (lead_of c.in-Lead.offset c.in-Lead.default i cs))
     (λ i h. refl)
     (cells_in c.of-lane.result) lane))
-    c.push_shifted-in-Lead.ensures
+    c.push_shifted-in-Lead.ensures.ok

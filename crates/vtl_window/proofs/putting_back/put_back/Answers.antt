@@ -8,7 +8,7 @@ use Rattle.vtl_cell.specs.Outcome.{Outcome, after, join}
 use Rattle.vtl_cell.specs.declared.cell.Cell.{Cell}
 use Rattle.vtl_cell.specs.declared.cell.Cell.TheVariants as cells
 use Rattle.vtl_tree.proofs.Faults.{join_none}
-use Rattle.vtl_meaning.specs.Aggregates.{cell_or_null}
+use Rattle.vtl_meaning.specs.Points.{cell_or_null}
 use Rattle.vtl_scalar.specs.Seen.{seen_of}
 use Rattle.vtl_window.specs.Analyses.{cells_by, faults_of}
 use Rattle.vtl_frames.proofs.ListLemmas.{all_get}

@@ -9,7 +9,7 @@ use Rattle.vtl_rows.specs.Places.{row_at}
 use Rattle.vtl_tree.specs.DataSet.{IsDataSet}
 use Rattle.vtl_tree.specs.Shown.{shown}
 use Rattle.vtl_tree.specs.Structure.{columns_of}
-use Rattle.vtl_meaning.specs.Aggregates.{cell_or_null}
+use Rattle.vtl_meaning.specs.Points.{cell_or_null}
 use Rattle.vtl_tree.specs.Columns.{place_of}
 use Rattle.vtl_scalar.specs.Seen.{seen_of}
 use Rattle.vtl_meaning.specs.Analytics.{tree_value}

@@ -1,17 +1,20 @@
-use Rattle.std.proofs.Common.{◌≡◌, true, Option, Some, None, sym}
-use Rattle.std.specs.Borrow.{Bor}
-use Rattle.std.specs.Option.{option_copied}
-use Rattle.std.specs.Prelude.{IfSome}
+use Rattle.std.proofs.Common.{◌≡◌, Option, option_map, sym, ap, ◌∙◌}
 use Rattle.std.specs.Map.{lookup}
+use Rattle.vtl_tree.specs.NotNull.{Declared}
 use Rattle.vtl_tree.specs.Structure.{same_name}
-use Rattle.vtl_tree.specs.Structures.{is_declarable}
-use Rattle.vtl_tree.specs.declared.structure.Structure.{Structure}
-use Rattle.vtl_tree.proofs.StructuresLemmas.{all_found}
+use Rattle.vtl_tree.specs.declared.structures.Declaration.{Declaration}
+use Rattle.vtl_tree.proofs.DeclarationLemmas.{declaration_found, lookup_seen}
 use Rattle.vtl_tree.proofs.structures.Structures.get.Goals as goal
 
-pub returns-clause-declarable : goal.returns-clause-declarable
-returns-clause-declarable c = go c.get.result c.get.ensures
-  where
-    go : (o : Option (Bor Structure)) → option_copied o ≡ lookup (same_name c.args.name.now) c.self.inside.by_name → IfSome o (λ s. is_declarable s.now ≡ true)
-    go None e = tt
-    go (Some s) e = all_found (same_name c.args.name.now) c.self.inside.by_name s.now c.self.invariant.declarable (sym e)
+pub returns-in-Some-clause-found : goal.returns-in-Some-clause-found
+returns-in-Some-clause-found c =
+    ap (option_map (λ (d : Declaration). d.structure)) c.in-Some.ensures ∙ sym (lookup_seen (same_name c.args.name.now) c.self.inside.by_name)
+    ∙ ap (λ (d : Declared). lookup (same_name c.args.name.now) d.sets) c.self.view_is
+
+pub returns-in-Some-clause-declarable : goal.returns-in-Some-clause-declarable
+returns-in-Some-clause-declarable c = (declaration_found (same_name c.args.name.now) c.self.inside.by_name c.in-Some.declaration.now c.self.invariant.all (sym c.in-Some.ensures)).0
+
+pub returns-in-None-clause-found : goal.returns-in-None-clause-found
+returns-in-None-clause-found c =
+    ap (option_map (λ (d : Declaration). d.structure)) c.in-None.ensures ∙ sym (lookup_seen (same_name c.args.name.now) c.self.inside.by_name)
+    ∙ ap (λ (d : Declared). lookup (same_name c.args.name.now) d.sets) c.self.view_is

@@ -1,0 +1,8 @@
+use Rattle.vtl_time.proofs.PeriodLaws.{shift_frequency, shift_sum}
+use Rattle.vtl_time.proofs.laws.shifts_add_up.Goals as goal
+
+pub returns-clause-frequency : goal.returns-clause-frequency
+returns-clause-frequency c = shift_frequency
+
+pub returns-clause-sum : goal.returns-clause-sum
+returns-clause-sum c = shift_sum

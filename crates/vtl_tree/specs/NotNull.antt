@@ -1,0 +1,39 @@
+-- Structures by name, and which of their components are never null.
+use Rattle.std.specs.Prelude.{ℕ, Bool, not, ◌&&◌, List, [], ◌∷◌, unwrap_or}
+use Rattle.std.specs.List.{list_all, list_any}
+use Rattle.std.specs.Map.{lookup}
+use Rattle.vtl_lists.specs.Apart.{all_apart}
+use Rattle.vtl_tree.specs.declared.structure.Component.{Component}
+use Rattle.vtl_tree.specs.declared.structure.Role.TheVariants as role
+use Rattle.vtl_tree.specs.declared.structure.Structure.{Structure}
+use Rattle.vtl_tree.specs.Structure.{same_name, same_role}
+use Rattle.vtl_tree.specs.Structures.{Named}
+
+-- a component of this name that is no identifier
+abbrev pub is_no_identifier : List ℕ → Component → Bool
+is_no_identifier name x = same_name name x.name && not (same_role x.role role.Identifier)
+
+-- distinct names of components of the structure that are no identifiers
+abbrev pub are_not_null : Structure → List (List ℕ) → Bool
+are_not_null s names = list_all (λ n. list_any (is_no_identifier n) s.components) names && all_apart same_name names
+
+-- names of structures, each with the names of its not-null components
+abbrev pub NotNull : Type 0
+NotNull = List (List ℕ × List (List ℕ))
+
+-- structures with their names, and the not-null lists of those that have not-null components
+pub record Declared : Type 0 where
+  pub sets : Named
+  pub not_null : NotNull
+
+abbrev pub no_sets : Declared
+no_sets = record { sets = []; not_null = [] }
+
+-- the not-null list of a name, which is empty where none is kept
+abbrev pub not_null_of : List ℕ → NotNull → List (List ℕ)
+not_null_of name ls = unwrap_or (lookup (same_name name) ls) []
+
+-- a list as it is kept with its name; an empty one is not kept
+abbrev pub with_list : List ℕ → List (List ℕ) → NotNull
+with_list name [] = []
+with_list name (n ∷ ns) = (name, n ∷ ns) ∷ []
