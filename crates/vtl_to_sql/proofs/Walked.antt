@@ -1,5 +1,5 @@
 -- Expressions as trees, and the tables of several operands one behind the other.
-use Rattle.std.proofs.Common.{◌≡◌, ◌⊎◌, inl, inr, ℕ, List, [], ◌∷◌, ◌++◌, map, length, ◌≤◌, arith, append_assoc, refl, rules, sym, ap, subst, ◌∙◌}
+use Rattle.std.proofs.Common.{◌≡◌, ◌⊎◌, inl, inr, ℕ, List, [], ◌∷◌, ◌++◌, map, length, ◌<◌, ◌≤◌, arith, append_assoc, refl, rules, sym, ap, subst, ◌∙◌}
 use Rattle.std.specs.Prelude.{Box}
 use Rattle.std.specs.declared.alloc.Global.{Global}
 use Rattle.std.proofs.lemmas.List.{map-append}
@@ -123,11 +123,10 @@ node_is : (n : Node) → node_tree n ≡ nodes.node n.structure (form_tree n.for
 node_is n = search (rules, node.the_lemmas)
 
 -- one that renames nothing is its operand
-pub nothing_renamed : (p : Settings) (r : Text) (s : Structure) (f : NodeForm) (a : Box Node Global) (pairs : List Renaming) (n : ℕ) → f ≡ form.Rename a pairs → pairs ≡ []
+pub nothing_renamed : (p : Settings) (r : Text) (s : Structure) (f : NodeForm) (a : Box Node Global) (pairs : List Renaming) (n : ℕ) → f ≡ form.Rename a pairs → length pairs < 1
     → made_of_form p r a.value.structure (form_tree a.value.form) n ≡ made_of_form p r s (form_tree f) n
-nothing_renamed p r s f a pairs n e none =
-    let tree = tree_of_rename f a pairs e ∙ ap (nodes.rename (node_tree a.value)) none in
-    sym (ap (λ (b : NodeTree). made_of p r b n) (node_is a.value)) ∙ sym (ap (λ (t : FormTree). made_of_form p r s t n) tree)
+nothing_renamed p r s f a [] n e h = sym (ap (λ (b : NodeTree). made_of p r b n) (node_is a.value)) ∙ sym (ap (λ (t : FormTree). made_of_form p r s t n) (tree_of_rename f a [] e))
+nothing_renamed p r s f a (x ∷ xs) n e h = absurd (omega (arith, h))
 
 pub one_renamed : (p : Settings) (r : Text) (s : Structure) (f : NodeForm) (a : Box Node Global) (pairs : List Renaming) (n : ℕ) → f ≡ form.Rename a pairs → 1 ≤ length pairs
     → made_of_form p r s (form_tree f) n ≡ over (sources_of p r (node_tree a.value) n) (with_one (query_of_one p (form_tree f) s))
