@@ -9,6 +9,7 @@ pub mod InOrder
 pub mod Least
 pub mod Marks
 pub mod NamedLemmas
+pub mod Narrow
 pub mod Permuted
 pub mod Placed
 pub mod PlacesStay

@@ -1,7 +1,8 @@
 -- Rows of one width in pages of cells.
-use Rattle.std.specs.Prelude.{◌≡◌, ℕ, zero, suc, ◌*◌, ◌^◌, ◌<◌, ◌≤◌, Bool, true, false, List, [], ◌∷◌, length, take, drop}
+use Rattle.std.specs.Prelude.{◌≡◌, ℕ, zero, ◌*◌, ◌^◌, ◌<◌, ◌≤◌, Bool, true, false, List, length}
 use Rattle.vtl_cell.specs.declared.cell.Cell.{Cell}
 use Rattle.vtl_cell.specs.Row.{Row}
+use Rattle.vtl_pages.specs.Chosen.{runs}
 use Rattle.vtl_pages.specs.Paged.{Paged}
 use Rattle.vtl_rows.specs.declared.cells.Cells.{Cells}
 use Rattle.vtl_rows.specs.declared.cells.Cells.TheVariants as c
@@ -32,8 +33,7 @@ room_of (c.Shared shared) = zero
 
 -- the first n rows of a list of cells
 abbrev pub flat_rows : ℕ → ℕ → List Cell → List Row
-flat_rows width zero cells = []
-flat_rows width (suc n) cells = take width cells ∷ flat_rows width n (drop width cells)
+flat_rows = runs
 
 -- the cells are those of n whole rows, each of which fits the columns
 pub record IsFlat (columns : List Column) (n : ℕ) (cells : List Cell) : Type 0 where

@@ -12,10 +12,6 @@ use Rattle.vtl_rows.specs.Keys.{key_of, ordered, tie_by}
 abbrev pub row_at : List Row → ℕ → Row
 row_at rows i = slice_index_or rows i []
 
--- each place is greater than the one before it
-abbrev pub AreRising : List ℕ → Type 0
-AreRising places = (k : ℕ) → k + 1 < length places → slice_index places k < slice_index places (k + 1)
-
 -- a number that stands behind a word
 abbrev pub number_at : ℕ × ℕ → ℕ
 number_at pair = pair.1

@@ -1,10 +1,12 @@
 // The cells of a table, which may have other owners.
 //
 // All cells of a table stand in pages, and a row is a slice of one of them: no list for each row is followed or freed.
-ghost use Rattle.std.specs.Prelude.{◌≡◌, ◌+◌, ◌*◌, ◌%◌, ◌^◌, ◌<◌, ◌≤◌, ◌++◌, [], true, length, IsPermutation, IfOk, OnOk, OnErr};
-ghost use Rattle.std.specs.List.{range_with_len};
+ghost use Rattle.std.specs.Prelude.{◌≡◌, ℕ, ◌+◌, ◌*◌, ◌%◌, ◌^◌, ◌<◌, ◌≤◌, ◌++◌, [], true, length, All, IsPermutation, IfOk, OnOk, OnErr};
+ghost use Rattle.std.specs.List.{flat_map, range_with_len};
+ghost use Rattle.vtl_pages.specs.Chosen.{AreRising};
 ghost use Rattle.vtl_pages.specs.Ordered.{runs_of};
-ghost use Rattle.vtl_rows.specs.Flat.{cells_of, is_own, pages_of, room_of, width_of};
+ghost use Rattle.vtl_rows.specs.Flat.{cells_of, flat_rows, is_own, pages_of, room_of, width_of};
+ghost use Rattle.vtl_rows.specs.Tables.{cells_at};
 
 use crate::copies::copied;
 use std::alloc::{AllocError, Global};
@@ -195,6 +197,22 @@ impl Cells {
         match (self, &mut others) {
             (Cells::Own(pages), Cells::Own(others)) => append_pages(pages, others),
             _ => unreachable!(),
+        }
+    }
+
+    // The cells at rising places of every row, which are moved; the others are dropped.
+    pub(crate) fn narrowed(self, alloc: Global, places: &[usize]) -> Result<Cells, AllocError>
+        requires own { is_own self ≡ true }
+        requires some { 0 < length places.now }
+        requires rising { AreRising places.now }
+        requires within { All (λ i. i < width_of self) places.now }
+        requires whole { length (cells_of self) % width_of self ≡ 0 }
+        ensures cells { IfOk result (λ c. (n : ℕ) → length (cells_of self) ≡ n * width_of self → cells_of c ≡ flat_map (cells_at places.now) (flat_rows (width_of self) n (cells_of self))) }
+        ensures width { IfOk result (λ c. width_of c ≡ length places.now) }
+    {
+        match self {
+            Cells::Own(pages) => Ok(Cells::Own(pages.narrowed(alloc, places)?)),
+            Cells::Shared(_) => unreachable!(),
         }
     }
 

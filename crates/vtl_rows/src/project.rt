@@ -6,7 +6,7 @@ ghost use Rattle.std.specs.Prelude.{◌≡◌, ◌<◌, ◌++◌, length, map, A
 ghost use Rattle.std.specs.Bool.{OnTrue};
 ghost use Rattle.std.specs.List.{range_with_len};
 ghost use Rattle.vtl_cell.specs.Row.{column_of};
-ghost use Rattle.vtl_rows.specs.Places.{AreRising};
+ghost use Rattle.vtl_pages.specs.Chosen.{AreRising};
 ghost use Rattle.vtl_rows.specs.Tables.{cells_at, column_at};
 
 use crate::Column;

@@ -42,14 +42,14 @@ impl SharedTable {
 
     // A table with one owner, whose rows are copied for another one. It takes no memory.
     pub(crate) fn holding(table: Table) -> SharedTable
-        ensures { result ≡ table }
+        ensures { result ≡ listed table }
     {
         SharedTable { table }
     }
 
     // The table itself, whose rows may have other owners. It takes no memory.
     pub(crate) fn into_held(self) -> Table
-        ensures { result ≡ self }
+        ensures { listed result ≡ self }
     {
         let SharedTable { table } = self;
         table

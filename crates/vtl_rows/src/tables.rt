@@ -88,7 +88,7 @@ impl Tables {
     /// Puts a table in the place of the one of this name, and leaves all else. Where none has the name, all stay as they
     /// are. It takes no memory.
     pub fn set(&mut self, name: &Txt, table: Table)
-        ensures { self.new ≡ set_value (same_text name.now) self.old table }
+        ensures { self.new ≡ set_value (same_text name.now) self.old (listed table) }
     {
         let Some(place) = self.named.get_mut(name) else {
             return;
@@ -98,7 +98,7 @@ impl Tables {
 
     /// Takes the last table, with its name, where there is one. It takes no memory.
     pub fn pop(&mut self) -> Option<(Txt, Table)>
-        ensures last { self.old ≡ self.new ++ option_to_list result }
+        ensures last { self.old ≡ self.new ++ option_to_list (option_map (λ t. (t.0, listed t.1)) result) }
         ensures none { IfNone result (self.new ≡ []) }
     {
         let (name, shared) = self.pop_shared()?;

@@ -11,5 +11,5 @@ invariant-loop-tuple l = record {
   size : chunks_exact_size l.tuple-iterator ≡ length l.parts;
   columns : l.table.columns ≡ l.fn.columns.items;
   rows : l.table.rows ++ map (picked (map (λ t. listed t.now) l.parts) l.picks) (pieces (length l.parts) (chunks_exact_rest l.tuple-iterator)) ≡ map (picked (map (λ t. listed t.now) l.parts) l.picks) (pieces (length l.parts) l.tuples);
-  none : l.row.items ≡ []
+  none : l.row.items ≡ [];
 }

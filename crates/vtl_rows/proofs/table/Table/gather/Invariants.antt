@@ -6,5 +6,5 @@ abbrev pub invariant-loop-i : goal.invariant-loop-i
 invariant-loop-i l = record {
   columns : l.gathered.columns ≡ l.self.columns;
   rows : l.gathered.rows ≡ map (row_at l.self.rows) (take l.i l.rows);
-  none : l.row.items ≡ []
+  none : l.row.items ≡ [];
 }
