@@ -37,7 +37,7 @@ module _ {X : Type 0} where
   unfolding laid
   get-laid xs n i d lt = let long = length-map xs Some in get_or_append_left (map Some xs) (replicate n None) None i (omega arith) ∙ get_or-map Some xs i d None lt
 
-  get-free : (xs : List X) (n i : ℕ) → length xs ≤ i → get_or (laid xs n) i None ≡ None
+  pub get-free : (xs : List X) (n i : ℕ) → length xs ≤ i → get_or (laid xs n) i None ≡ None
   unfolding laid
   get-free xs n i le = let long = length-map xs Some in get_or-append_right (map Some xs) (replicate n None) (length xs) i None long le ∙ get-none X n (i - length xs)
 

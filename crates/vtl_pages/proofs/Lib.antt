@@ -1,5 +1,6 @@
 pub mod Claimed
 pub mod Emptied
+pub mod Hands
 pub mod Joins
 pub mod Lays
 pub mod Leaves
