@@ -68,8 +68,8 @@ returns-in-Member c env made g =
     (one_given_at c.args.p.now env n (form.Member x.a x.m) (nodes.member a x.m) v x.is (form_tree-Member x.a x.m) g)
     (c.answered.ensures (data_set s (left_of v s)) c.keep_columns.ensures)
 
-pub keep_columns-requires-clause-left-in-Keep : goal.keep_columns-requires-clause-left-in-Keep
-keep_columns-requires-clause-left-in-Keep c =
+pub keep_columns-requires-in-Keep-clause-left : goal.keep_columns-requires-in-Keep-clause-left
+keep_columns-requires-in-Keep-clause-left c =
     let n = c.args.node.now in
     let v = c.args.a in
     let x = c.in-Keep in
@@ -77,8 +77,8 @@ keep_columns-requires-clause-left-in-Keep c =
     one_fits IsLeft c.args.p.now c.requires.0 n (form.Keep x.a x.names) (nodes.keep a x.names) a v x.is (form_tree-Keep x.a x.names) (λ m. m.1) c.requires.1
     (one_given_at c.args.p.now c.requires.0 n (form.Keep x.a x.names) (nodes.keep a x.names) v x.is (form_tree-Keep x.a x.names) c.requires.2)
 
-pub keep_columns-requires-clause-chosen-in-Keep : goal.keep_columns-requires-clause-chosen-in-Keep
-keep_columns-requires-clause-chosen-in-Keep c =
+pub keep_columns-requires-in-Keep-clause-chosen : goal.keep_columns-requires-in-Keep-clause-chosen
+keep_columns-requires-in-Keep-clause-chosen c =
     let n = c.args.node.now in
     let v = c.args.a in
     let x = c.in-Keep in
@@ -101,8 +101,8 @@ returns-in-Keep c env made g =
     (one_given_at c.args.p.now env n (form.Keep x.a x.names) (nodes.keep a x.names) v x.is (form_tree-Keep x.a x.names) g)
     (c.answered-in-Keep.ensures (data_set s (left_of v s)) c.keep_columns-in-Keep.ensures)
 
-pub keep_columns-requires-clause-left-in-DropNamed : goal.keep_columns-requires-clause-left-in-DropNamed
-keep_columns-requires-clause-left-in-DropNamed c =
+pub keep_columns-requires-in-DropNamed-clause-left : goal.keep_columns-requires-in-DropNamed-clause-left
+keep_columns-requires-in-DropNamed-clause-left c =
     let n = c.args.node.now in
     let v = c.args.a in
     let x = c.in-DropNamed in
@@ -110,8 +110,8 @@ keep_columns-requires-clause-left-in-DropNamed c =
     one_fits IsLeft c.args.p.now c.requires.0 n (form.DropNamed x.a x.names) (nodes.drop_named a x.names) a v x.is (form_tree-DropNamed x.a x.names) (λ m. m.1) c.requires.1
     (one_given_at c.args.p.now c.requires.0 n (form.DropNamed x.a x.names) (nodes.drop_named a x.names) v x.is (form_tree-DropNamed x.a x.names) c.requires.2)
 
-pub keep_columns-requires-clause-chosen-in-DropNamed : goal.keep_columns-requires-clause-chosen-in-DropNamed
-keep_columns-requires-clause-chosen-in-DropNamed c =
+pub keep_columns-requires-in-DropNamed-clause-chosen : goal.keep_columns-requires-in-DropNamed-clause-chosen
+keep_columns-requires-in-DropNamed-clause-chosen c =
     let n = c.args.node.now in
     let v = c.args.a in
     let x = c.in-DropNamed in
