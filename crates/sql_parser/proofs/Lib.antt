@@ -1,8 +1,8 @@
 pub mod FormedScripts
 pub mod Gives
+pub mod Joins
 pub mod ReadingAt
-pub mod Told
-pub mod Tables
+pub mod Steps
 pub mod Texts
-pub mod Turns
+pub mod Told
 pub mod Views

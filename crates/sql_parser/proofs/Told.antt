@@ -10,7 +10,7 @@ use Rattle.sql_tree.specs.Grammar.{Tokens, setting, statement, statement_at}
 use Rattle.sql_tree.specs.Texts.{kind, start}
 use Rattle.sql_tree.specs.Trees.{ScriptTree, StatementTree}
 use Rattle.sql_tree.proofs.ScriptLaws.{statement-closed}
-use Rattle.sql_parser.specs.Answers.{kinds}
+use Rattle.sql_parser_parts.specs.Answers.{kinds}
 use Rattle.sql_parser.specs.Parsed.{next_byte_of}
 
 pub statement-behind : (i : ℕ) (ts : Tokens) → (statement_at (suc i)).reads ts ≡ statement.reads ts

@@ -11,9 +11,9 @@ use Rattle.sql_tree.specs.Trees.{Exp}
 use Rattle.sql_tree.specs.View.{expr_tree}
 use Rattle.sql_tree.specs.declared.expressions.SqlExpr.{SqlExpr}
 use Rattle.vtl_cell.specs.declared.operator.ScalarOp.{ScalarOp}
-use Rattle.sql_parser.specs.Answers.{AnswersBy, kinds}
-use Rattle.sql_parser.specs.declared.front.Front.{Front}
-use Rattle.sql_parser.specs.declared.front.Unread.{Unread}
+use Rattle.sql_parser_parts.specs.Answers.{AnswersBy, kinds}
+use Rattle.sql_parser_parts.specs.declared.front.Front.{Front}
+use Rattle.sql_parser_parts.specs.declared.front.Unread.{Unread}
 use Rattle.sql_parser.specs.declared.grammar.Deep as program
 use Rattle.sql_parser.specs.declared.grammar.Place as placed
 use Rattle.sql_parser.specs.declared.grammar.Place.TheVariants as place

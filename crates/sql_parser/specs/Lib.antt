@@ -1,4 +1,3 @@
-pub mod Answers
 pub mod Depths
 pub mod Parsed
 pub mod Parts

@@ -8,10 +8,10 @@ use Rattle.sql_tree.specs.Texts.{IsFaulty, kind, start}
 use Rattle.sql_tree.specs.Trees.{ScriptTree}
 use Rattle.sql_tree.specs.View.{script_tree}
 use Rattle.sql_tree.specs.declared.statements.SqlScript.{SqlScript}
-use Rattle.sql_parser.specs.Answers.{kinds}
-use Rattle.sql_parser.specs.declared.front.Front.{Front}
-use Rattle.sql_parser.specs.declared.front.Unread.{Unread}
-use Rattle.sql_parser.specs.declared.front.Unread.TheVariants as u
+use Rattle.sql_parser_parts.specs.Answers.{kinds}
+use Rattle.sql_parser_parts.specs.declared.front.Front.{Front}
+use Rattle.sql_parser_parts.specs.declared.front.Unread.{Unread}
+use Rattle.sql_parser_parts.specs.declared.front.Unread.TheVariants as u
 use Rattle.sql_parser.specs.declared.parsing.SqlErr.{SqlErr}
 use Rattle.sql_parser.specs.declared.parsing.SqlErr.TheVariants as e
 

@@ -4,10 +4,10 @@ use Rattle.vtl_lists.specs.Options.{given, ◌>>=◌}
 use Rattle.grammar_forms.specs.Forms.{Deep, Reads}
 use Rattle.sql_lexer.specs.declared.token.TokenKind.{TokenKind}
 use Rattle.sql_tree.specs.Trees.{Exp}
-use Rattle.sql_parser.specs.Answers.{front_view}
+use Rattle.sql_parser_parts.specs.Answers.{front_view}
 use Rattle.sql_parser.specs.Depths.{box_tree, deep_view}
-use Rattle.sql_parser.specs.declared.front.Unread.{Unread}
-use Rattle.sql_parser.specs.declared.front.Unread.TheVariants as u
+use Rattle.sql_parser_parts.specs.declared.front.Unread.{Unread}
+use Rattle.sql_parser_parts.specs.declared.front.Unread.TheVariants as u
 use Rattle.sql_parser.specs.declared.levels.Turn.{Turn}
 use Rattle.sql_parser.specs.declared.levels.Turn.TheVariants as t
 

@@ -4,13 +4,12 @@
 // law.
 ghost use Rattle.std.specs.Prelude.{length, map};
 ghost use Rattle.grammar_forms.specs.Forms.{chain_reads, deep, deep_added, turns};
-ghost use Rattle.sql_parser.specs.Answers.{AnswersBy, item_views, kinds};
+ghost use Rattle.sql_parser_parts.specs.Answers.{AnswersBy, item_views, kinds};
 ghost use Rattle.sql_parser.specs.Depths.{Nests, deep_view, first_deep};
 
-use crate::front::{Front, Tokens, Unread, optional};
 use crate::grammar::{Deep, Grammar, Node, Place};
-use crate::words::key;
 use sql_lexer::Word;
+use sql_parser_parts::{Front, Tokens, Unread, key, optional};
 use sql_tree::{Branch, SqlExpr};
 
 // A kind of list with depths: how its first item is read at a budget of parts, and how each item after it is, with the
@@ -19,7 +18,7 @@ pub(crate) trait DeepKind {
     ghost use Rattle.std.specs.Prelude.{ℕ};
     ghost use Rattle.grammar_forms.specs.Forms.{Deep, Reads};
     ghost use Rattle.sql_lexer.specs.declared.token.TokenKind.{TokenKind};
-    ghost use Rattle.sql_parser.specs.Answers.{AnswersBy, kinds};
+    ghost use Rattle.sql_parser_parts.specs.Answers.{AnswersBy, kinds};
     ghost use Rattle.sql_parser.specs.Depths.{Nests, deep_view};
 
     type Item: Drop;

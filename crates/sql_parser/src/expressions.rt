@@ -2,21 +2,21 @@
 ghost use Rattle.std.specs.Prelude.{suc};
 ghost use Rattle.grammar_forms.specs.Forms.{after, before, deep, made, maybe, seq};
 ghost use Rattle.sql_lexer.specs.declared.token.Word.TheVariants as word;
-ghost use Rattle.sql_parser.specs.Answers.{AnswersBy, kinds};
+ghost use Rattle.sql_parser_parts.specs.Answers.{AnswersBy, kinds};
 ghost use Rattle.sql_parser.specs.Depths.{Nests, box_tree, deep_view, place_of};
 ghost use Rattle.sql_parser.specs.Tails.{compared_reads, tail_view, tailed_reads};
 ghost use Rattle.sql_tree.specs.Grammar.{Negated, Signed, Whole, add, aggr, aggregates_table, at_place, bracketed, branch, call_of, case, cmp, compare_ops_table, conjunction, counted, disjunction, exists, expr, expr_at, in_brackets, key, membership, mul, neg, negated, null_test, of_table, operator_before, prim, signs_table, tail, un};
 ghost use Rattle.sql_tree.specs.View.{branch_tree};
 ghost use Rattle.vtl_cell.specs.declared.operator.ScalarOp.TheVariants as op;
 
-use crate::conditions::{membership, null_test, sought};
 use crate::deep::{BranchList, OperandList};
-use crate::front::{Front, Tokens, Unread, before, both, optional};
 use crate::grammar::{Deep, Grammar, Node, Place, deeper, leaf, node};
 use crate::levels::{AddLevel, AndLevel, MulLevel, OrLevel};
-use crate::parts::{column, constant};
-use crate::words::{key, word};
 use sql_lexer::Word;
+use sql_parser_parts::{
+    Front, Tokens, Unread, before, both, column, constant, key, membership, null_test, optional,
+    sought, word,
+};
 use sql_tree::{Branch, Literal, SqlExpr};
 use vtl_cell::{AggKind, ScalarOp};
 use vtl_text::List;

@@ -1,12 +1,12 @@
 // The reader of expressions at one budget of depth, over a reader of their parts at the next lower one.
 ghost use Rattle.std.specs.Prelude.{◌≡◌, ◌≤◌, suc};
 ghost use Rattle.grammar_forms.specs.Forms.{deep, gives};
-ghost use Rattle.sql_parser.specs.Answers.{AnswersBy, kinds};
+ghost use Rattle.sql_parser_parts.specs.Answers.{AnswersBy, kinds};
 ghost use Rattle.sql_parser.specs.Depths.{box_tree, deep_view, node_reads};
 ghost use Rattle.sql_tree.specs.Grammar.{most_levels};
 ghost use Rattle.sql_tree.specs.View.{expr_tree};
 
-use crate::front::{Front, Tokens, Unread};
+use sql_parser_parts::{Front, Tokens, Unread};
 use sql_tree::SqlExpr;
 use std::alloc::Global;
 

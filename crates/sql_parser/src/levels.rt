@@ -1,15 +1,14 @@
 // Levels of operators that group to the left.
 ghost use Rattle.std.specs.Prelude.{length, suc};
 ghost use Rattle.grammar_forms.specs.Forms.{chain_reads, deep, then_reads, turns};
-ghost use Rattle.sql_parser.specs.Answers.{AnswersBy, front_view, kinds};
+ghost use Rattle.sql_parser_parts.specs.Answers.{AnswersBy, front_view, kinds};
 ghost use Rattle.sql_parser.specs.Depths.{Nests, box_tree, deep_view, step_view};
 ghost use Rattle.sql_parser.specs.Steps.{AnswersTurn, turn_reads};
 ghost use Rattle.sql_tree.specs.Grammar.{joined_by, of_table};
 
-use crate::front::{Front, Tokens, Unread, optional};
 use crate::grammar::{Deep, Grammar, Node, Place, node};
-use crate::words::word;
 use sql_lexer::Word;
+use sql_parser_parts::{Front, Tokens, Unread, optional, word};
 use sql_tree::SqlExpr;
 use vtl_cell::ScalarOp;
 
@@ -18,7 +17,7 @@ pub(crate) trait Level {
     ghost use Rattle.std.specs.Prelude.{◌≡◌, ℕ, List, option_map};
     ghost use Rattle.grammar_forms.specs.Forms.{Deep, Reads};
     ghost use Rattle.sql_lexer.specs.declared.token.TokenKind.{TokenKind};
-    ghost use Rattle.sql_parser.specs.Answers.{AnswersBy, front_view, kinds, same};
+    ghost use Rattle.sql_parser_parts.specs.Answers.{AnswersBy, front_view, kinds, same};
     ghost use Rattle.sql_parser.specs.Depths.{Nests, box_tree, deep_view};
     ghost use Rattle.sql_tree.specs.Grammar.{of_table};
     ghost use Rattle.sql_tree.specs.Trees.{Exp};

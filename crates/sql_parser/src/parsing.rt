@@ -8,9 +8,9 @@ ghost use Rattle.sql_tree.specs.Texts.{IsFaulty, IsScript, kind, start};
 ghost use Rattle.sql_tree.specs.Trees.{ScriptTree};
 ghost use Rattle.sql_tree.specs.View.{script_tree};
 
-use crate::front::{Tokens, Unread};
 use crate::scripts::script;
 use sql_lexer::lex;
+use sql_parser_parts::{Tokens, Unread};
 use sql_tree::SqlScript;
 use std::alloc::{AllocError, Global};
 

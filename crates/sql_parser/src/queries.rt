@@ -1,19 +1,18 @@
 // Queries.
 ghost use Rattle.grammar_forms.specs.Forms.{after, maybe_after, seq, «as»};
 ghost use Rattle.sql_lexer.specs.declared.token.Word.TheVariants as word;
-ghost use Rattle.sql_parser.specs.Answers.{Answers, AnswersBy, item_views, kinds};
+ghost use Rattle.sql_parser_parts.specs.Answers.{Answers, AnswersBy, item_views, kinds};
 ghost use Rattle.sql_parser.specs.Parts.{body_view, group_view, joins_view, limits_view, option_view};
 ghost use Rattle.sql_tree.specs.Grammar.{columns, expr, item, items_after, join_kinds_table, join_of, key, limits, name, of_table, query, select, source, sources, two_keys, value_of};
 ghost use Rattle.sql_tree.specs.Trees as tree;
 ghost use Rattle.sql_tree.specs.View.{item_tree, join_tree, select_tree, value_tree};
 
-use crate::front::{Front, Tokens, Unread, both, optional};
-use crate::lists::{Commas, ListKind, Part, listed, more};
-use crate::parts::{columns_after, name, source};
 use crate::reading::expression;
-use crate::windows::{bracketed_over, call_over};
-use crate::words::{key, two_keys, word};
 use sql_lexer::Word;
+use sql_parser_parts::{
+    Commas, Front, ListKind, Part, Tokens, Unread, both, bracketed_over, call_over, columns_after,
+    key, listed, more, name, optional, source, two_keys, word,
+};
 use sql_tree::{Column, Item, ItemValue, Join, JoinKind, Select, Source, SqlExpr, Window};
 use std::alloc::Global;
 use vtl_text::{List, Txt};
@@ -153,7 +152,7 @@ impl ListKind for JoinList {
 }
 
 // The first source, and the others
-#[tactic(auto, using(crate::proofs::Turns::joins), unfolding(sql_tree::specs::Grammar::sources))]
+#[tactic(auto, using(crate::proofs::Joins::joins), unfolding(sql_tree::specs::Grammar::sources))]
 fn sources(alloc: Global, tokens: Tokens<'_>) -> Result<Front<'_, (Source, Vec<Join>)>, Unread>
     ensures { AnswersBy joins_view (sources.reads (kinds tokens.now)) result }
 {

@@ -1,12 +1,12 @@
 // Expressions of any depth up to the limit.
 ghost use Rattle.std.specs.Prelude.{◌≤◌};
-ghost use Rattle.sql_parser.specs.Answers.{AnswersBy, kinds};
+ghost use Rattle.sql_parser_parts.specs.Answers.{AnswersBy, kinds};
 ghost use Rattle.sql_parser.specs.Depths.{box_tree, deep_view, place_of};
 ghost use Rattle.sql_tree.specs.Grammar.{expr, expr_at, most_levels};
 ghost use Rattle.sql_tree.specs.View.{expr_tree};
 
-use crate::front::{Front, Tokens, Unread};
 use crate::grammar::{Grammar, Node, Place};
+use sql_parser_parts::{Front, Tokens, Unread};
 use sql_tree::SqlExpr;
 use std::alloc::Global;
 

@@ -1,13 +1,13 @@
 // Scripts: SET, and the statements after it.
 ghost use Rattle.std.specs.Prelude.{Some, length};
 ghost use Rattle.grammar_forms.specs.Scripts.{script_reads};
-ghost use Rattle.sql_parser.specs.Answers.{AnswersBy, item_views, kinds};
+ghost use Rattle.sql_parser_parts.specs.Answers.{AnswersBy, item_views, kinds};
 ghost use Rattle.sql_parser.specs.Parsed.{AnswersScript};
 ghost use Rattle.sql_tree.specs.Grammar.{statement_at};
 ghost use Rattle.sql_tree.specs.View.{statement_tree};
 
-use crate::front::{Front, Tokens, Unread, optional};
 use crate::statements::{setting, statement};
+use sql_parser_parts::{Front, Tokens, Unread, optional};
 use sql_tree::{SqlScript, Statement};
 use std::alloc::Global;
 use vtl_text::List;

@@ -1,17 +1,17 @@
 // Statements.
 ghost use Rattle.grammar_forms.specs.Forms.{after, before, maybe, «as»};
 ghost use Rattle.sql_lexer.specs.declared.token.Word.TheVariants as word;
-ghost use Rattle.sql_parser.specs.Answers.{Answers, AnswersBy, item_views, kinds, vec_items};
+ghost use Rattle.sql_parser_parts.specs.Answers.{Answers, AnswersBy, item_views, kinds, vec_items};
 ghost use Rattle.sql_parser.specs.Parts.{setting_view};
 ghost use Rattle.sql_tree.specs.Grammar.{commas, create, export, in_brackets, input, input_column, items_after, items_or_none, key, name, names, query, setting, statement, texts, two_keys};
 ghost use Rattle.sql_tree.specs.View.{select_tree, statement_tree};
 
-use crate::front::{Front, Tokens, Unread, before, optional};
-use crate::lists::{Commas, Part, listed};
-use crate::parts::{bracketed_texts, int, name, names};
 use crate::queries::query;
-use crate::words::{key, two_keys, word};
 use sql_lexer::Word;
+use sql_parser_parts::{
+    Commas, Front, Part, Tokens, Unread, before, bracketed_texts, int, key, listed, name, names,
+    optional, two_keys, word,
+};
 use sql_tree::{InputColumn, Query, Select, SqlCreate, SqlExport, SqlInput, Statement};
 use std::alloc::Global;
 use vtl_cell::Kind;
@@ -67,7 +67,7 @@ fn input_column(alloc: Global, tokens: Tokens<'_>) -> Result<Front<'_, InputColu
 struct InputColumnPart;
 
 impl Part for InputColumnPart {
-    ghost use Rattle.sql_parser.specs.Answers.{same};
+    ghost use Rattle.sql_parser_parts.specs.Answers.{same};
     ghost use Rattle.sql_tree.specs.Grammar.{input_column};
     ghost use Rattle.sql_tree.specs.declared.statements.InputColumn.{InputColumn};
 
@@ -85,7 +85,7 @@ impl Part for InputColumnPart {
 }
 
 // `"(" column { "," column } ")"`
-#[tactic(auto, using(crate::proofs::Tables::same_items))]
+#[tactic(auto, using(sql_parser_parts::proofs::Tables::same_items))]
 fn bracketed_columns(
     alloc: Global,
     tokens: Tokens<'_>,

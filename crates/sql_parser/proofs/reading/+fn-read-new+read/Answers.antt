@@ -1,5 +1,5 @@
 use Rattle.std.proofs.Common.{◌-◌, sym, arith}
-use Rattle.sql_parser.specs.Answers.{kinds}
+use Rattle.sql_parser_parts.specs.Answers.{kinds}
 use Rattle.sql_parser.specs.Depths.{place_of}
 use Rattle.sql_parser.proofs.ReadingAt.{read-at, read-nothing}
 use Rattle.sql_parser.proofs.reading.+fn-read-new+read.Goals as goal

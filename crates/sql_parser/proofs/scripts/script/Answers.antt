@@ -1,9 +1,9 @@
 use Rattle.std.proofs.Common.{length, map, refl, arith}
-use Rattle.sql_parser.specs.Answers.{kinds}
+use Rattle.sql_parser_parts.specs.Answers.{kinds}
 use Rattle.sql_parser.specs.Parts.{setting_view}
 use Rattle.sql_tree.specs.View.{statement_tree}
 use Rattle.sql_parser.proofs.Told.{script-read}
-use Rattle.sql_parser.proofs.Turns.{kinds-length}
+use Rattle.sql_parser_parts.proofs.Turns.{kinds-length}
 use Rattle.sql_parser.proofs.scripts.script.Goals as goal
 
 pub returns : goal.returns

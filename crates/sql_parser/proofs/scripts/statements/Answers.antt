@@ -1,11 +1,11 @@
 use Rattle.std.proofs.Common.{Some, Ok, map, ◌∙◌, ◌+◌, ◌-◌, [], ◌∷◌, ◌++◌, ◌≡◌, suc, sym, ap, arith}
 use Rattle.grammar_forms.specs.Scripts.{ahead, script_reads}
 use Rattle.grammar_forms.proofs.Scripts.{ahead-full, ahead-stop, ahead-turn}
-use Rattle.sql_parser.specs.Answers.{kinds}
+use Rattle.sql_parser_parts.specs.Answers.{kinds}
 use Rattle.sql_tree.specs.Grammar.{statement, statement_at}
 use Rattle.sql_tree.specs.View.{statement_tree}
 use Rattle.sql_parser.proofs.Told.{statement-behind}
-use Rattle.sql_parser.proofs.Turns.{map-push, optional-none, optional-some}
+use Rattle.sql_parser_parts.proofs.Turns.{map-push, optional-none, optional-some}
 use Rattle.sql_parser.proofs.scripts.statements.Goals.{else-loop-test, then-loop-test+in_ok-next+in_default}
 use Rattle.sql_parser.proofs.scripts.statements.Goals as goal
 

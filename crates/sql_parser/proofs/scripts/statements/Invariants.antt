@@ -1,6 +1,6 @@
 use Rattle.std.proofs.Common.{suc, map, ◌≡◌, ◌-◌}
 use Rattle.grammar_forms.specs.Scripts.{ahead, script_reads}
-use Rattle.sql_parser.specs.Answers.{kinds}
+use Rattle.sql_parser_parts.specs.Answers.{kinds}
 use Rattle.sql_tree.specs.Grammar.{statement_at}
 use Rattle.sql_tree.specs.View.{statement_tree}
 use Rattle.sql_parser.proofs.scripts.statements.Given as goal

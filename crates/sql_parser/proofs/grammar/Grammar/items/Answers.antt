@@ -1,8 +1,8 @@
 use Rattle.std.proofs.Common.{length, ◌∙◌, ◌+◌, ◌-◌, sym, ap, arith, map, refl, max, ◌++◌, ◌∷◌, [], Ok}
 use Rattle.grammar_forms.specs.Forms.{deep, deep_added, turns}
-use Rattle.sql_parser.specs.Answers.{kinds}
+use Rattle.sql_parser_parts.specs.Answers.{kinds}
 use Rattle.sql_parser.specs.Depths.{deep_view}
-use Rattle.sql_parser.proofs.Turns.{kinds-length, map-push, optional-none, optional-some, turns-ends, turns-full, turns-turn}
+use Rattle.sql_parser_parts.proofs.Turns.{kinds-length, map-push, optional-none, optional-some, turns-ends, turns-full, turns-turn}
 use Rattle.sql_parser.proofs.grammar.Grammar.items.Goals.{else-loop-test, then-loop-test+in_ok-next+in_default}
 use Rattle.sql_parser.proofs.grammar.Grammar.items.Goals as goal
 

@@ -1,7 +1,7 @@
 use Rattle.std.proofs.Common.{length, ◌≡◌, ◌-◌}
 use Rattle.std.specs.Prelude.{map}
 use Rattle.grammar_forms.specs.Forms.{deep, deep_added, turns}
-use Rattle.sql_parser.specs.Answers.{kinds}
+use Rattle.sql_parser_parts.specs.Answers.{kinds}
 use Rattle.sql_parser.proofs.grammar.Grammar.items.Given as goal
 
 abbrev pub invariant-loop : goal.invariant-loop

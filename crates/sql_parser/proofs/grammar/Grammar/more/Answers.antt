@@ -1,9 +1,10 @@
 use Rattle.std.proofs.Common.{length, suc, ◌∙◌, ◌+◌, ◌-◌, Some, sym, ap, arith}
 use Rattle.grammar_forms.specs.Forms.{deep, then_reads, turns}
-use Rattle.sql_parser.specs.Answers.{kinds}
+use Rattle.sql_parser_parts.specs.Answers.{kinds}
 use Rattle.sql_parser.specs.Depths.{box_tree}
 use Rattle.sql_tree.specs.Grammar.{joined_by, of_table}
-use Rattle.sql_parser.proofs.Turns.{kinds-length, turn-end, turn-more, turn-stop, turns-full}
+use Rattle.sql_parser_parts.proofs.Turns.{kinds-length, turns-full}
+use Rattle.sql_parser.proofs.Steps.{turn-end, turn-more, turn-stop}
 use Rattle.sql_parser.proofs.grammar.Grammar.more.Goals as goal
 
 pub loop-init : goal.loop-init

@@ -1,6 +1,6 @@
 use Rattle.std.proofs.Common.{length, suc, ◌≡◌, ◌-◌}
 use Rattle.grammar_forms.specs.Forms.{deep, then_reads, turns}
-use Rattle.sql_parser.specs.Answers.{kinds}
+use Rattle.sql_parser_parts.specs.Answers.{kinds}
 use Rattle.sql_parser.specs.Depths.{box_tree}
 use Rattle.sql_tree.specs.Grammar.{joined_by, of_table}
 use Rattle.sql_parser.proofs.grammar.Grammar.more.Given as goal

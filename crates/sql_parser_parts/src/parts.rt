@@ -1,7 +1,7 @@
 // Names, texts, numbers, columns and constants.
 ghost use Rattle.grammar_forms.specs.Forms.{after, listed};
 ghost use Rattle.sql_lexer.specs.declared.token.Word.TheVariants as word;
-ghost use Rattle.sql_parser.specs.Answers.{Answers, AnswersBy, AnswersTokens, kinds, vec_items};
+ghost use Rattle.sql_parser_parts.specs.Answers.{Answers, AnswersBy, AnswersTokens, kinds, vec_items};
 ghost use Rattle.sql_tree.specs.Grammar.{column, columns, const, constant_words_table, dec, equality, in_brackets, int, items_after, key, lit, literal_words_table, lits, name, names, number, of_table, one, signed_number, source, text, texts, two_keys};
 
 use crate::front::{Front, Tokens, Unread, next, optional};
@@ -12,7 +12,8 @@ use sql_tree::{Column, Constant, Equality, Literal, Numeral, Source};
 use std::alloc::Global;
 use vtl_text::Txt;
 
-pub(crate) fn name(tokens: Tokens<'_>) -> Result<Front<'_, Txt>, Unread>
+/// A name.
+pub fn name(tokens: Tokens<'_>) -> Result<Front<'_, Txt>, Unread>
     ensures { Answers (name.reads (kinds tokens.now)) result }
 {
     match next(tokens) {
@@ -36,7 +37,8 @@ fn text(tokens: Tokens<'_>) -> Result<Front<'_, Txt>, Unread>
     }
 }
 
-pub(crate) fn int(tokens: Tokens<'_>) -> Result<Front<'_, Txt>, Unread>
+/// The digits of an integer.
+pub fn int(tokens: Tokens<'_>) -> Result<Front<'_, Txt>, Unread>
     ensures { Answers (int.reads (kinds tokens.now)) result }
 {
     match next(tokens) {
@@ -60,9 +62,9 @@ fn dec(tokens: Tokens<'_>) -> Result<Front<'_, Txt>, Unread>
     }
 }
 
-// `name "." name`
+/// `name "." name`
 #[tactic(auto, unfolding(sql_tree::specs::Grammar::column))]
-pub(crate) fn column(tokens: Tokens<'_>) -> Result<Front<'_, Column>, Unread>
+pub fn column(tokens: Tokens<'_>) -> Result<Front<'_, Column>, Unread>
     ensures { Answers (column.reads (kinds tokens.now)) result }
 {
     let source = name(tokens)?;
@@ -76,9 +78,9 @@ pub(crate) fn column(tokens: Tokens<'_>) -> Result<Front<'_, Column>, Unread>
     })
 }
 
-// `name "AS" name`
+/// `name "AS" name`
 #[tactic(auto, unfolding(sql_tree::specs::Grammar::source))]
-pub(crate) fn source(tokens: Tokens<'_>) -> Result<Front<'_, Source>, Unread>
+pub fn source(tokens: Tokens<'_>) -> Result<Front<'_, Source>, Unread>
     ensures { Answers (source.reads (kinds tokens.now)) result }
 {
     let table = name(tokens)?;
@@ -157,8 +159,8 @@ fn constant_word(tokens: Tokens<'_>) -> Result<Front<'_, Constant>, Unread>
     })
 }
 
-// A constant.
-pub(crate) fn constant(tokens: Tokens<'_>) -> Result<Front<'_, Constant>, Unread>
+/// A constant.
+pub fn constant(tokens: Tokens<'_>) -> Result<Front<'_, Constant>, Unread>
     ensures { Answers (const.reads (kinds tokens.now)) result }
 {
     if let Some(number) = optional(number(tokens))? {
@@ -266,7 +268,7 @@ pub(crate) fn one(tokens: Tokens<'_>) -> Result<Tokens<'_>, Unread>
 struct NamePart;
 
 impl Part for NamePart {
-    ghost use Rattle.sql_parser.specs.Answers.{same};
+    ghost use Rattle.sql_parser_parts.specs.Answers.{same};
     ghost use Rattle.sql_tree.specs.Grammar.{name};
     ghost use Rattle.sql_tree.specs.Trees.{Text};
 
@@ -283,9 +285,9 @@ impl Part for NamePart {
     }
 }
 
-// `name { "," name }`
+/// `name { "," name }`
 #[tactic(auto, using(crate::proofs::Tables::same_items), unfolding(sql_tree::specs::Grammar::names))]
-pub(crate) fn names(alloc: Global, tokens: Tokens<'_>) -> Result<Front<'_, Vec<Txt>>, Unread>
+pub fn names(alloc: Global, tokens: Tokens<'_>) -> Result<Front<'_, Vec<Txt>>, Unread>
     ensures { AnswersBy vec_items (names.reads (kinds tokens.now)) result }
 {
     listed::<Commas<NamePart>>(alloc, tokens)
@@ -294,7 +296,7 @@ pub(crate) fn names(alloc: Global, tokens: Tokens<'_>) -> Result<Front<'_, Vec<T
 struct TextPart;
 
 impl Part for TextPart {
-    ghost use Rattle.sql_parser.specs.Answers.{same};
+    ghost use Rattle.sql_parser_parts.specs.Answers.{same};
     ghost use Rattle.sql_tree.specs.Grammar.{text};
     ghost use Rattle.sql_tree.specs.Trees.{Text};
 
@@ -311,12 +313,9 @@ impl Part for TextPart {
     }
 }
 
-// `"(" text { "," text } ")"`
+/// `"(" text { "," text } ")"`
 #[tactic(auto, using(crate::proofs::Tables::same_items), unfolding(sql_tree::specs::Grammar::texts))]
-pub(crate) fn bracketed_texts(
-    alloc: Global,
-    tokens: Tokens<'_>,
-) -> Result<Front<'_, Vec<Txt>>, Unread>
+pub fn bracketed_texts(alloc: Global, tokens: Tokens<'_>) -> Result<Front<'_, Vec<Txt>>, Unread>
     ensures { AnswersBy vec_items ((in_brackets texts).reads (kinds tokens.now)) result }
 {
     let texts = listed::<Commas<TextPart>>(alloc, key(tokens, Word::Open)?)?;
@@ -330,7 +329,7 @@ pub(crate) fn bracketed_texts(
 struct ColumnPart;
 
 impl Part for ColumnPart {
-    ghost use Rattle.sql_parser.specs.Answers.{same};
+    ghost use Rattle.sql_parser_parts.specs.Answers.{same};
     ghost use Rattle.sql_tree.specs.Grammar.{column};
     ghost use Rattle.sql_tree.specs.declared.parts.Column.{Column};
 
@@ -347,9 +346,9 @@ impl Part for ColumnPart {
     }
 }
 
-// Columns after two words, or none
+/// Columns after two words, or none where the words do not stand there.
 #[tactic(auto, using(crate::proofs::Tables::same_items), unfolding(sql_tree::specs::Grammar::columns))]
-pub(crate) fn columns_after(
+pub fn columns_after(
     alloc: Global,
     tokens: Tokens<'_>,
     first: Word,
@@ -369,7 +368,7 @@ pub(crate) fn columns_after(
 struct LiteralPart;
 
 impl Part for LiteralPart {
-    ghost use Rattle.sql_parser.specs.Answers.{same};
+    ghost use Rattle.sql_parser_parts.specs.Answers.{same};
     ghost use Rattle.sql_tree.specs.Grammar.{lit};
     ghost use Rattle.sql_tree.specs.declared.parts.Literal.{Literal};
 
@@ -407,7 +406,7 @@ struct EqualityList;
 impl ListKind for EqualityList {
     ghost use Rattle.grammar_forms.specs.Forms.{after};
     ghost use Rattle.sql_lexer.specs.declared.token.Word.TheVariants.{And};
-    ghost use Rattle.sql_parser.specs.Answers.{same};
+    ghost use Rattle.sql_parser_parts.specs.Answers.{same};
     ghost use Rattle.sql_tree.specs.Grammar.{equality, key};
     ghost use Rattle.sql_tree.specs.declared.parts.Equality.{Equality};
 

@@ -1,6 +1,6 @@
 use Rattle.std.proofs.Common.{rules}
 use Rattle.sql_tree.specs.Grammar.{const}
-use Rattle.sql_parser.proofs.parts.constant.Goals as goal
+use Rattle.sql_parser_parts.proofs.parts.constant.Goals as goal
 
 pub returns-in-Some : goal.returns-in-Some
 unfolding const

@@ -1,19 +1,20 @@
 // Lists of parts.
 ghost use Rattle.std.specs.Prelude.{length, map};
 ghost use Rattle.grammar_forms.specs.Forms.{added, chain_reads, turns};
-ghost use Rattle.sql_parser.specs.Answers.{AnswersBy, first_item, item_views, kinds};
+ghost use Rattle.sql_parser_parts.specs.Answers.{AnswersBy, first_item, item_views, kinds};
 
 use crate::front::{Front, Tokens, Unread, optional};
 use crate::words::key;
 use sql_lexer::Word;
 use std::alloc::Global;
 
-// A kind of list: how its first item is read, and how each item after it is, with the mark before it.
-pub(crate) trait ListKind {
+/// A kind of list: how its first item is read, and how each item after it is, with the mark before it.
+pub trait ListKind {
     ghost use Rattle.grammar_forms.specs.Forms.{Reads};
     ghost use Rattle.sql_lexer.specs.declared.token.TokenKind.{TokenKind};
-    ghost use Rattle.sql_parser.specs.Answers.{AnswersBy, kinds};
+    ghost use Rattle.sql_parser_parts.specs.Answers.{AnswersBy, kinds};
 
+    /// What an item is read as.
     type Item: Drop;
 
     // What an item stands for.
@@ -25,15 +26,17 @@ pub(crate) trait ListKind {
 
     ghost step: { Reads TokenKind Tree };
 
+    /// The first item.
     fn first(alloc: Global, tokens: Tokens<'_>) -> Result<Front<'_, Self::Item>, Unread>
         ensures { AnswersBy view (first (kinds tokens.now)) result };
 
+    /// An item after another one.
     fn step(alloc: Global, tokens: Tokens<'_>) -> Result<Front<'_, Self::Item>, Unread>
         ensures { AnswersBy view (step (kinds tokens.now)) result };
 }
 
-// An item, and those that follow it.
-pub(crate) fn listed<L: ListKind>(
+/// An item, and as many as follow it.
+pub fn listed<L: ListKind>(
     alloc: Global,
     tokens: Tokens<'_>,
 ) -> Result<Front<'_, Vec<L::Item>>, Unread>
@@ -45,8 +48,8 @@ pub(crate) fn listed<L: ListKind>(
     more::<L>(alloc, items, first.rest)
 }
 
-// The items after these.
-pub(crate) fn more<L: ListKind>(
+/// These items, and as many as follow them.
+pub fn more<L: ListKind>(
     alloc: Global,
     mut items: Vec<L::Item>,
     tokens: Tokens<'_>,
@@ -64,12 +67,13 @@ pub(crate) fn more<L: ListKind>(
     Ok(Front { part: items, rest })
 }
 
-// A part that stands in lists with a comma between two.
-pub(crate) trait Part {
+/// A part that stands in lists with a comma between two.
+pub trait Part {
     ghost use Rattle.grammar_forms.specs.Forms.{Reads};
     ghost use Rattle.sql_lexer.specs.declared.token.TokenKind.{TokenKind};
-    ghost use Rattle.sql_parser.specs.Answers.{AnswersBy, kinds};
+    ghost use Rattle.sql_parser_parts.specs.Answers.{AnswersBy, kinds};
 
+    /// What it is read as.
     type Item: Drop;
 
     // What it stands for.
@@ -79,16 +83,17 @@ pub(crate) trait Part {
 
     ghost reads: { Reads TokenKind Tree };
 
+    /// The part at the front.
     fn read(alloc: Global, tokens: Tokens<'_>) -> Result<Front<'_, Self::Item>, Unread>
         ensures { AnswersBy view (reads (kinds tokens.now)) result };
 }
 
-// A list of parts with commas.
-pub(crate) struct Commas<P>(P);
+/// The list of parts with a comma between two.
+pub struct Commas<P>(P);
 
 impl<P: Part> ListKind for Commas<P> {
     ghost use Rattle.sql_lexer.specs.declared.token.Word.TheVariants.{Comma};
-    ghost use Rattle.sql_parser.specs.Answers.{after_word};
+    ghost use Rattle.sql_parser_parts.specs.Answers.{after_word};
 
     type Item = P::Item;
 

@@ -2,8 +2,8 @@
 ghost use Rattle.std.specs.Prelude.{◌≡◌, List, None, Some, MatchResult, map, option_map};
 ghost use Rattle.grammar_forms.specs.Forms.{first_as, lookup, maybe, «as»};
 ghost use Rattle.sql_lexer.specs.Places.{place};
-ghost use Rattle.sql_parser.specs.declared.front.Unread.TheVariants as unread;
-ghost use Rattle.sql_parser.specs.Answers.{by_places, front_view, kinds, marked, same};
+ghost use Rattle.sql_parser_parts.specs.declared.front.Unread.TheVariants as unread;
+ghost use Rattle.sql_parser_parts.specs.Answers.{by_places, front_view, kinds, marked, same};
 ghost use Rattle.sql_tree.specs.Classes.{class};
 ghost use Rattle.sql_tree.specs.Grammar.{is_some, key, two_keys};
 
@@ -38,8 +38,8 @@ fn class_of(kind: &TokenKind) -> u8
     }
 }
 
-// The tokens after the word, where it stands first.
-pub(crate) fn key(tokens: Tokens<'_>, word: Word) -> Result<Tokens<'_>, Unread>
+/// The tokens after the word, where it stands first.
+pub fn key(tokens: Tokens<'_>, word: Word) -> Result<Tokens<'_>, Unread>
     ensures { MatchResult result (λ rest. (key word).reads (kinds tokens.now) ≡ Some (marked (kinds rest.now))) (λ e. ((key word).reads (kinds tokens.now) ≡ None) × (e ≡ unread.Absent)) }
 {
     let (first, rest) = next(tokens).ok_or(Unread::Absent)?;
@@ -50,8 +50,8 @@ pub(crate) fn key(tokens: Tokens<'_>, word: Word) -> Result<Tokens<'_>, Unread>
     }
 }
 
-// What the word at the front stands for in a table.
-pub(crate) fn word<'t, A: Copy>(tokens: Tokens<'t>, table: &[(Word, A)]) -> Option<Front<'t, A>>
+/// What the word at the front stands for in a table of words, if it has an entry there; the first entry counts.
+pub fn word<'t, A: Copy>(tokens: Tokens<'t>, table: &[(Word, A)]) -> Option<Front<'t, A>>
     ensures { option_map (front_view same) result ≡ first_as (λ t. lookup (by_places table.now) (class t)) (kinds tokens.now) }
 {
     let (first, rest) = next(tokens)?;
@@ -70,8 +70,8 @@ fn looked_up<A: Copy>(table: &[(Word, A)], class: u8) -> Option<A>
     None
 }
 
-// The tokens after two words.
-pub(crate) fn two_keys(tokens: Tokens<'_>, first: Word, second: Word) -> Result<Tokens<'_>, Unread>
+/// The tokens after two words, where they stand first.
+pub fn two_keys(tokens: Tokens<'_>, first: Word, second: Word) -> Result<Tokens<'_>, Unread>
     ensures { MatchResult result (λ rest. (two_keys first second).reads (kinds tokens.now) ≡ Some (marked (kinds rest.now))) (λ e. ((two_keys first second).reads (kinds tokens.now) ≡ None) × (e ≡ unread.Absent)) }
 {
     key(key(tokens, first)?, second)

@@ -1,6 +1,6 @@
 use Rattle.std.proofs.Common.{◌≡◌, ◌∙◌, sym, refl, [], ◌∷◌}
-use Rattle.sql_parser.proofs.Tables.{one-is}
-use Rattle.sql_parser.proofs.parts.one.Goals as goal
+use Rattle.sql_parser_parts.proofs.Tables.{one-is}
+use Rattle.sql_parser_parts.proofs.parts.one.Goals as goal
 
 pub returns-in-Some-Int-default : goal.returns-in-Some-Int-default
 returns-in-Some-Int-default c =

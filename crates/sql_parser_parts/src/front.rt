@@ -1,34 +1,37 @@
 // What stands at the front of some tokens.
 ghost use Rattle.std.specs.Prelude.{◌≡◌, ◌∷◌, [], None, Some, MatchOption, MatchResult};
-ghost use Rattle.sql_parser.specs.Answers.{both_of, kinds, marked, optional_of};
-ghost use Rattle.sql_parser.specs.declared.front.Unread.TheVariants as unread;
+ghost use Rattle.sql_parser_parts.specs.Answers.{both_of, kinds, marked, optional_of};
+ghost use Rattle.sql_parser_parts.specs.declared.front.Unread.TheVariants as unread;
 ghost use Rattle.sql_tree.specs.Grammar.{key};
 
 use crate::words::key;
 use sql_lexer::{Token, TokenKind, Word};
 use std::alloc::{AllocError, AllocFailed};
 
-pub(crate) type Tokens<'t> = &'t [Token];
+/// Tokens, lent.
+pub type Tokens<'t> = &'t [Token];
 
-// What was read, and the tokens that are left.
+/// What stands at the front of some tokens, and the tokens after it.
 #[derive(Drop)]
-pub(crate) struct Front<'t, T> {
-    pub(crate) part: T,
-    pub(crate) rest: Tokens<'t>,
+pub struct Front<'t, T> {
+    /// What was read.
+    pub part: T,
+    /// The tokens that are left.
+    pub rest: Tokens<'t>,
 }
 
-// Why a part was not read.
+/// Why a part was not read.
 #[derive(Clone, Copy)]
-pub(crate) enum Unread {
-    // It does not stand there.
+pub enum Unread {
+    /// It does not stand there.
     Absent,
-    // There was not enough memory.
+    /// There was not enough memory.
     OutOfMemory,
 }
 
 impl From<AllocError> for Unread {
     ghost use Rattle.std.specs.Prelude.{◌≡◌};
-    ghost use Rattle.sql_parser.specs.declared.front.Unread.TheVariants.{OutOfMemory};
+    ghost use Rattle.sql_parser_parts.specs.declared.front.Unread.TheVariants.{OutOfMemory};
 
     ghost from_gives = { λ _ e. e ≡ OutOfMemory };
 
@@ -39,7 +42,7 @@ impl From<AllocError> for Unread {
 
 impl<T: Drop> From<AllocFailed<T>> for Unread {
     ghost use Rattle.std.specs.Prelude.{◌≡◌};
-    ghost use Rattle.sql_parser.specs.declared.front.Unread.TheVariants.{OutOfMemory};
+    ghost use Rattle.sql_parser_parts.specs.declared.front.Unread.TheVariants.{OutOfMemory};
 
     ghost from_gives = { λ _ e. e ≡ OutOfMemory };
 
@@ -57,10 +60,8 @@ pub(crate) fn next(tokens: Tokens<'_>) -> Option<(&TokenKind, Tokens<'_>)>
     Some((&first.kind, rest))
 }
 
-// What was read, or nothing where it does not stand there.
-pub(crate) fn optional<T>(
-    read: Result<Front<'_, T>, Unread>,
-) -> Result<Option<Front<'_, T>>, Unread>
+/// What was read, or nothing where it does not stand there. It fails only if memory ran out.
+pub fn optional<T>(read: Result<Front<'_, T>, Unread>) -> Result<Option<Front<'_, T>>, Unread>
     ensures { result ≡ optional_of read.entry }
 {
     match read {
@@ -70,8 +71,8 @@ pub(crate) fn optional<T>(
     }
 }
 
-// What was read, where the word stands after it.
-pub(crate) fn before<T: Drop>(read: Front<'_, T>, word: Word) -> Result<Front<'_, T>, Unread>
+/// What was read, where the word stands after it.
+pub fn before<T: Drop>(read: Front<'_, T>, word: Word) -> Result<Front<'_, T>, Unread>
     ensures { MatchResult result (λ front. (front.part ≡ read.entry.part) × ((key word).reads (kinds read.entry.rest.now) ≡ Some (marked (kinds front.rest.now)))) (λ e. ((key word).reads (kinds read.entry.rest.now) ≡ None) × (e ≡ unread.Absent)) }
 {
     let rest = key(read.rest, word)?;
@@ -81,8 +82,8 @@ pub(crate) fn before<T: Drop>(read: Front<'_, T>, word: Word) -> Result<Front<'_
     })
 }
 
-// A part that was read, and the one after it.
-pub(crate) fn both<A: Drop, B>(
+/// A part that was read, and the one after it, as a pair.
+pub fn both<A: Drop, B>(
     first: A,
     second: Result<Front<'_, B>, Unread>,
 ) -> Result<Front<'_, (A, B)>, Unread>

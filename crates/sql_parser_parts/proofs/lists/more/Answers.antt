@@ -1,9 +1,9 @@
 use Rattle.std.proofs.Common.{length, ◌∙◌, ◌+◌, ◌-◌, sym, ap, arith, map, refl, ◌++◌, ◌∷◌, [], Ok}
 use Rattle.grammar_forms.specs.Forms.{added, turns}
-use Rattle.sql_parser.specs.Answers.{kinds}
-use Rattle.sql_parser.proofs.Turns.{kinds-length, map-push, optional-none, optional-some, turns-ends, turns-full, turns-turn}
-use Rattle.sql_parser.proofs.lists.more.Goals.{else-loop-test, then-loop-test+in_ok-next+in_default}
-use Rattle.sql_parser.proofs.lists.more.Goals as goal
+use Rattle.sql_parser_parts.specs.Answers.{kinds}
+use Rattle.sql_parser_parts.proofs.Turns.{kinds-length, map-push, optional-none, optional-some, turns-ends, turns-full, turns-turn}
+use Rattle.sql_parser_parts.proofs.lists.more.Goals.{else-loop-test, then-loop-test+in_ok-next+in_default}
+use Rattle.sql_parser_parts.proofs.lists.more.Goals as goal
 
 pub loop-init : goal.loop-init
 loop-init g c = ap (λ n. turns g.L.ListKind.step added n (map g.L.ListKind.view c.args.items.items) (kinds c.args.tokens.now)) (omega (arith, kinds-length c.args.tokens.now))

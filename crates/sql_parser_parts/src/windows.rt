@@ -4,7 +4,7 @@
 ghost use Rattle.std.specs.Prelude.{◌≡◌, Some};
 ghost use Rattle.grammar_forms.specs.Forms.{after, before, maybe, seq, «as»};
 ghost use Rattle.sql_lexer.specs.declared.token.Word.TheVariants as word;
-ghost use Rattle.sql_parser.specs.Answers.{Answers, AnswersBy, front_view, kinds, same, vec_items};
+ghost use Rattle.sql_parser_parts.specs.Answers.{Answers, AnswersBy, front_view, kinds, same, vec_items};
 ghost use Rattle.sql_tree.specs.Grammar.{bound_of, column, column_aggregate, column_shift, column_value, commas, default, directions_table, frame, in_brackets, int, items_after, key, of_table, over, rank, sides_table, two_keys, wcall, wkey};
 ghost use Rattle.sql_tree.specs.declared.windows.Bound.TheVariants as bound;
 
@@ -184,7 +184,7 @@ fn window_key(tokens: Tokens<'_>) -> Result<Front<'_, WindowKey>, Unread>
 struct KeyPart;
 
 impl Part for KeyPart {
-    ghost use Rattle.sql_parser.specs.Answers.{same};
+    ghost use Rattle.sql_parser_parts.specs.Answers.{same};
     ghost use Rattle.sql_tree.specs.Grammar.{wkey};
     ghost use Rattle.sql_tree.specs.declared.windows.WindowKey.{WindowKey};
 
@@ -319,8 +319,8 @@ fn rows_over(alloc: Global, tokens: Tokens<'_>) -> Result<Front<'_, Over>, Unrea
     })
 }
 
-// A call with `OVER` after it
-pub(crate) fn call_over(tokens: Tokens<'_>) -> Result<Front<'_, WindowCall>, Unread>
+/// What a window computes, with `OVER` after it.
+pub fn call_over(tokens: Tokens<'_>) -> Result<Front<'_, WindowCall>, Unread>
     ensures { Answers ((before wcall (key word.Over)).reads (kinds tokens.now)) result }
 {
     let call = call(tokens)?;
@@ -331,8 +331,8 @@ pub(crate) fn call_over(tokens: Tokens<'_>) -> Result<Front<'_, WindowCall>, Unr
     })
 }
 
-// What stands in brackets after `OVER`
-pub(crate) fn bracketed_over(alloc: Global, tokens: Tokens<'_>) -> Result<Front<'_, Over>, Unread>
+/// What stands in brackets after `OVER`: over which rows.
+pub fn bracketed_over(alloc: Global, tokens: Tokens<'_>) -> Result<Front<'_, Over>, Unread>
     ensures { Answers ((in_brackets over).reads (kinds tokens.now)) result }
 {
     let over = rows_over(alloc, key(tokens, Word::Open)?)?;

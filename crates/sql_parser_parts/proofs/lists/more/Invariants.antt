@@ -1,7 +1,7 @@
 use Rattle.std.proofs.Common.{length, ◌≡◌, ◌-◌, map}
 use Rattle.grammar_forms.specs.Forms.{added, turns}
-use Rattle.sql_parser.specs.Answers.{kinds}
-use Rattle.sql_parser.proofs.lists.more.Given as goal
+use Rattle.sql_parser_parts.specs.Answers.{kinds}
+use Rattle.sql_parser_parts.proofs.lists.more.Given as goal
 
 abbrev pub invariant-loop : goal.invariant-loop
 invariant-loop g l =

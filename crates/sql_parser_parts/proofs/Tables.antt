@@ -12,10 +12,10 @@ use Rattle.sql_lexer.specs.declared.token.TokenKind.{TokenKind}
 use Rattle.sql_lexer.specs.declared.token.Word.{Word}
 use Rattle.sql_tree.specs.Classes.{class}
 use Rattle.sql_tree.specs.Grammar.{key, of_table}
-use Rattle.sql_parser.specs.Answers.{AnswersBy, item_views, marked, same, vec_items}
-use Rattle.sql_parser.specs.declared.front.Front.{Front}
-use Rattle.sql_parser.specs.declared.front.Unread.{Unread}
-use Rattle.sql_parser.specs.declared.front.Unread.TheVariants as u
+use Rattle.sql_parser_parts.specs.Answers.{AnswersBy, item_views, marked, same, vec_items}
+use Rattle.sql_parser_parts.specs.declared.front.Front.{Front}
+use Rattle.sql_parser_parts.specs.declared.front.Unread.{Unread}
+use Rattle.sql_parser_parts.specs.declared.front.Unread.TheVariants as u
 
 at-first : {A : Type 0} (a : A) (more : Option A) (b : Bool) (ts rest : List TokenKind) → option_map {U = Unit {0} × List TokenKind} (λ x. (x, ts)) (if b then Some tt else None) ≡ Some (marked rest) → option_map {U = A × List TokenKind} (λ x. (x, ts)) (if b then Some a else more) ≡ Some (a, rest)
 at-first a more true ts rest e = ap (λ us. Some (a, us)) (pair_of tt ts tt rest e).1

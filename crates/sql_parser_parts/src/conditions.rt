@@ -1,7 +1,7 @@
 // What tests of operands hold besides expressions.
 ghost use Rattle.grammar_forms.specs.Forms.{after};
 ghost use Rattle.sql_lexer.specs.declared.token.Word.TheVariants as word;
-ghost use Rattle.sql_parser.specs.Answers.{Answers, AnswersBy, kinds, with_items};
+ghost use Rattle.sql_parser_parts.specs.Answers.{Answers, AnswersBy, kinds, with_items};
 ghost use Rattle.sql_tree.specs.Grammar.{in_brackets, key, matched, membership, negated, null_test, one};
 
 use crate::front::{Front, Tokens, Unread, before};
@@ -19,9 +19,9 @@ fn negated(tokens: Tokens<'_>) -> Result<Front<'_, bool>, Unread>
     Ok(flag(tokens, Word::Not))
 }
 
-// `"IS" ["NOT"] "NULL"`
+/// `"IS" ["NOT"] "NULL"`: whether NOT stands there.
 #[tactic(auto, unfolding(sql_tree::specs::Grammar::null_test))]
-pub(crate) fn null_test(tokens: Tokens<'_>) -> Result<Front<'_, bool>, Unread>
+pub fn null_test(tokens: Tokens<'_>) -> Result<Front<'_, bool>, Unread>
     ensures { Answers (null_test.reads (kinds tokens.now)) result }
 {
     let negated = negated(key(tokens, Word::Is)?)?;
@@ -32,9 +32,9 @@ pub(crate) fn null_test(tokens: Tokens<'_>) -> Result<Front<'_, bool>, Unread>
     })
 }
 
-// `["NOT"] "IN" "(" literals ")"`
+/// `["NOT"] "IN" "(" literals ")"`: whether NOT stands there, and the literals.
 #[tactic(auto, unfolding(sql_tree::specs::Grammar::membership))]
-pub(crate) fn membership(
+pub fn membership(
     alloc: Global,
     tokens: Tokens<'_>,
 ) -> Result<Front<'_, (bool, Vec<Literal>)>, Unread>
@@ -72,8 +72,8 @@ fn selected_one(
     matched(alloc, key(behind, Word::From)?)
 }
 
-// What an EXISTS looks for
-pub(crate) fn sought(
+/// An EXISTS: the source that it looks in, and the equalities that it looks for.
+pub fn sought(
     alloc: Global,
     tokens: Tokens<'_>,
 ) -> Result<Front<'_, (Source, Vec<Equality>)>, Unread>

@@ -9,9 +9,9 @@ use Rattle.sql_lexer.specs.declared.token.Token.{Token}
 use Rattle.sql_lexer.specs.declared.token.TokenKind.{TokenKind}
 use Rattle.sql_lexer.specs.declared.token.Word.{Word}
 use Rattle.sql_tree.specs.Classes.{class}
-use Rattle.sql_parser.specs.declared.front.Front.{Front}
-use Rattle.sql_parser.specs.declared.front.Unread.{Unread}
-use Rattle.sql_parser.specs.declared.front.Unread.TheVariants as u
+use Rattle.sql_parser_parts.specs.declared.front.Front.{Front}
+use Rattle.sql_parser_parts.specs.declared.front.Unread.{Unread}
+use Rattle.sql_parser_parts.specs.declared.front.Unread.TheVariants as u
 
 -- the tokens without their places
 unfoldable pub kinds : List Token → List TokenKind
