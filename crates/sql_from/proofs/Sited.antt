@@ -7,7 +7,7 @@ use Rattle.std.specs.Prelude.{option_and_then, slice_get, unwrap_or}
 use Rattle.std.proofs.lemmas.List.{append-nil, length-map}
 use Rattle.vtl_text.specs.Texts.{same_text}
 use Rattle.vtl_rows.specs.Named.{NamedTables, table_of}
-use Rattle.vtl_rows.specs.Tables.{Listed}
+use Rattle.vtl_rows.specs.Tables.{Listed, listed}
 use Rattle.sql_tree.specs.Trees.{Text}
 use Rattle.sql_tree.specs.declared.parts.Column.{Column}
 use Rattle.sql_check_parts.specs.Scopes.{Columns, Named, columns_of, found, numbered, placed, placed_from, row_of, value_among}
@@ -44,11 +44,11 @@ keys_are (s ∷ ss) = ap (λ l. s.0 ∷ l) (keys_are ss)
 
 -- ---- one source more
 
-pub sited_last : (n : ℕ) (ss : Named SourceTable) (alias : Text) (s : SourceTable) → AreSited n ss → AreFound (n + width_of (parts_of (map source_of ss))) (columns_held s.table.now) s.columns → AreSited n (ss ++ (alias, s) ∷ [])
-sited_last n [] alias s all here = let e : n + 0 ≡ n = omega arith in (subst (λ k. AreFound k (columns_held s.table.now) s.columns) e here, tt)
+pub sited_last : (n : ℕ) (ss : Named SourceTable) (alias : Text) (s : SourceTable) → AreSited n ss → AreFound (n + width_of (parts_of (map source_of ss))) (columns_held (listed s.table.now)) s.columns → AreSited n (ss ++ (alias, s) ∷ [])
+sited_last n [] alias s all here = let e : n + 0 ≡ n = omega arith in (subst (λ k. AreFound k (columns_held (listed s.table.now)) s.columns) e here, tt)
 sited_last n (u ∷ ss) alias s all here =
     let e : n + (length u.1.table.now.columns + width_of (parts_of (map source_of ss))) ≡ n + length u.1.table.now.columns + width_of (parts_of (map source_of ss)) = omega arith in
-    (all.0, sited_last (n + length u.1.table.now.columns) ss alias s all.1 (subst (λ k. AreFound k (columns_held s.table.now) s.columns) e here))
+    (all.0, sited_last (n + length u.1.table.now.columns) ss alias s all.1 (subst (λ k. AreFound k (columns_held (listed s.table.now)) s.columns) e here))
 
 pub all_last : {X : Type 0} (P : X → Type 0) (xs : List X) (x : X) → AllByRecursion P xs → P x → AllByRecursion P (xs ++ x ∷ [])
 all_last P [] x all h = (h, tt)
@@ -71,7 +71,7 @@ found_kind n (s ∷ ss) x all = go (same_text x.source s.0) (found_kind (n + len
   where
     go : (b : Bool) → option_map (λ c. c.kind) (known_at ss x) ≡ found (scope_held (map source_of ss)) x
         → option_map (λ c. c.kind) (option_and_then (λ u. value_among u.columns x.name) (cond b (Some s.1) (value_among ss x.source)))
-        ≡ option_and_then (λ named. value_among named x.name) (cond b (Some (columns_held s.1.table.now)) (value_among (scope_held (map source_of ss)) x.source))
+        ≡ option_and_then (λ named. value_among named x.name) (cond b (Some (columns_held (listed s.1.table.now))) (value_among (scope_held (map source_of ss)) x.source))
     go true ih = all.0.kinds x.name
     go false ih = ih
 
@@ -80,12 +80,12 @@ found_place_from n [] x all = refl
 found_place_from n (s ∷ ss) x all =
     go (same_text x.source s.0) (found_place_from (n + length s.1.table.now.columns) ss x all.1 ∙ ap (λ k. found (placed_from k (scope_held (map source_of ss))) x) count)
   where
-    count : n + length s.1.table.now.columns ≡ n + length (columns_held s.1.table.now)
+    count : n + length s.1.table.now.columns ≡ n + length (columns_held (listed s.1.table.now))
     count = ap (λ k. n + k) (sym (length-map s.1.table.now.columns column_entry))
 
-    go : (b : Bool) → option_map (λ c. c.place) (known_at ss x) ≡ found (placed_from (n + length (columns_held s.1.table.now)) (scope_held (map source_of ss))) x
+    go : (b : Bool) → option_map (λ c. c.place) (known_at ss x) ≡ found (placed_from (n + length (columns_held (listed s.1.table.now))) (scope_held (map source_of ss))) x
         → option_map (λ c. c.place) (option_and_then (λ u. value_among u.columns x.name) (cond b (Some s.1) (value_among ss x.source)))
-        ≡ option_and_then (λ named. value_among named x.name) (cond b (Some (numbered n (columns_held s.1.table.now))) (value_among (placed_from (n + length (columns_held s.1.table.now)) (scope_held (map source_of ss))) x.source))
+        ≡ option_and_then (λ named. value_among named x.name) (cond b (Some (numbered n (columns_held (listed s.1.table.now)))) (value_among (placed_from (n + length (columns_held (listed s.1.table.now))) (scope_held (map source_of ss))) x.source))
     go true ih = all.0.places x.name
     go false ih = ih
 
@@ -103,9 +103,9 @@ row_wide (s ∷ ss) =
     let rest = row_wide ss in
     omega (arith, all, one, two, rest)
 
-pub part_got : (ss : Named SourceTable) (i : ℕ) (key : Text) (s : SourceTable) → slice_get ss i ≡ Some (key, s) → slice_get (parts_of (map source_of ss)) i ≡ Some s.table.now
+pub part_got : (ss : Named SourceTable) (i : ℕ) (key : Text) (s : SourceTable) → slice_get ss i ≡ Some (key, s) → slice_get (parts_of (map source_of ss)) i ≡ Some (listed s.table.now)
 part_got [] i key s e = cc
-part_got (u ∷ ss) zero key s e = let h : u ≡ (key, s) = cc in ap (λ (v : Text × SourceTable). Some v.1.table.now) h
+part_got (u ∷ ss) zero key s e = let h : u ≡ (key, s) = cc in ap (λ (v : Text × SourceTable). Some (listed v.1.table.now)) h
 part_got (u ∷ ss) (suc i) key s e = part_got ss i key s e
 
 -- ---- the table of EXISTS
@@ -134,7 +134,7 @@ module _ (alias : Text) (x : Column) where
       go true = refl
       go false = refl
 
-pub source_got : (ss : Named SourceTable) (i : ℕ) (key : Text) (s : SourceTable) → slice_get ss i ≡ Some (key, s) → slice_get (map source_of ss) i ≡ Some (key, s.table.now)
+pub source_got : (ss : Named SourceTable) (i : ℕ) (key : Text) (s : SourceTable) → slice_get ss i ≡ Some (key, s) → slice_get (map source_of ss) i ≡ Some (key, listed s.table.now)
 source_got [] i key s e = cc
-source_got (u ∷ ss) zero key s e = let h : u ≡ (key, s) = cc in ap (λ (v : Text × SourceTable). Some (v.0, v.1.table.now)) h
+source_got (u ∷ ss) zero key s e = let h : u ≡ (key, s) = cc in ap (λ (v : Text × SourceTable). Some (v.0, listed v.1.table.now)) h
 source_got (u ∷ ss) (suc i) key s e = source_got ss i key s e

@@ -1,6 +1,7 @@
 use Rattle.std.proofs.Common.{◌≡◌, ◌∙◌, ◌-◌, ℕ, List, true, true≢false, arith, ap, subst, sym}
 use Rattle.std.specs.List.{list_all}
 use Rattle.std.specs.Prelude.{slice_get}
+use Rattle.vtl_rows.specs.Tables.{listed}
 use Rattle.sql_tree.specs.View.{expr_tree}
 use Rattle.sql_meaning.specs.Plans.{conjuncts}
 use Rattle.sql_from.specs.Keys.{ArePaired, is_link}
@@ -16,8 +17,8 @@ returns-clause-rows g c =
     let s = c.args.sources.now in
     let keys = c.push_pairs.new.keys.items in
     let lead = c.in-Some.lead in
-    let own = c.table-own.result.now in
-    let table = c.table-table.result.now in
+    let own = listed c.table-own.result.now in
+    let table = listed c.table-table.result.now in
     let l = c.in_ok-keyed.field-0 in
     let paired = subst (λ (ks : List KeyPair). ArePaired s lead (expr_tree c.args.condition.now) ks keys) c.new-keys.ensures.items (c.in_ok-push_pairs.ensures.paired c.if-not-branch.false) in
     count_is c.args.p.now s (expr_tree c.args.condition.now) l lead own table keys c.requires (omega (arith, c.if-lead-count.false, c.len-count.ensures))
@@ -29,8 +30,8 @@ returns-clause-finds g c =
     let s = c.args.sources.now in
     let keys = c.push_pairs.new.keys.items in
     let lead = c.in-Some.lead in
-    let own = c.table-own.result.now in
-    let table = c.table-table.result.now in
+    let own = listed c.table-own.result.now in
+    let table = listed c.table-table.result.now in
     let l = c.in_ok-keyed.field-0 in
     let paired = subst (λ (ks : List KeyPair). ArePaired s lead (expr_tree c.args.condition.now) ks keys) c.new-keys.ensures.items (c.in_ok-push_pairs.ensures.paired c.if-not-branch.false) in
     lookup_finds c.args.p.now s (expr_tree c.args.condition.now) l lead own table keys c.requires (omega (arith, c.if-lead-count.false, c.len-count.ensures))
@@ -58,7 +59,7 @@ returns-in_err-keyed-clause-steps g c lead linked =
     let s = c.args.sources.now in
     let same = found_same c.lead_of.result c.in-Some.lead lead c.in-Some.is (c.lead_of.ensures.is lead linked) in
     let own_got = ap (λ n. slice_get (parts_of s.sources) (n - 1)) (sym c.len-count.ensures) ∙ c.table-own.ensures.source in
-    let count = linked_rows s c.in-Some.lead lead c.table-own.result.now c.table-table.result.now same own_got c.table-table.ensures.source in
+    let count = linked_rows s c.in-Some.lead lead (listed c.table-own.result.now) (listed c.table-table.result.now) same own_got c.table-table.ensures.source in
     omega (arith, count, c.keyed.ensures.steps)
 
 pub returns-clause-steps : goal.returns-clause-steps
@@ -66,5 +67,5 @@ returns-clause-steps g c lead linked =
     let s = c.args.sources.now in
     let same = found_same c.lead_of.result c.in-Some.lead lead c.in-Some.is (c.lead_of.ensures.is lead linked) in
     let own_got = ap (λ n. slice_get (parts_of s.sources) (n - 1)) (sym c.len-count.ensures) ∙ c.table-own.ensures.source in
-    let count = linked_rows s c.in-Some.lead lead c.table-own.result.now c.table-table.result.now same own_got c.table-table.ensures.source in
+    let count = linked_rows s c.in-Some.lead lead (listed c.table-own.result.now) (listed c.table-table.result.now) same own_got c.table-table.ensures.source in
     omega (arith, count, c.keyed.ensures.steps)

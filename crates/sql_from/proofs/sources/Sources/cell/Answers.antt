@@ -1,6 +1,7 @@
 use Rattle.std.proofs.Common.{◌≡◌, ◌∙◌, ◌+◌, ◌++◌, ◌∷◌, [], length, ap, arith, Some}
 use Rattle.std.specs.Prelude.{slice_get, slice_index}
 use Rattle.std.proofs.lemmas.List.{length-map}
+use Rattle.vtl_rows.specs.Tables.{listed}
 use Rattle.sql_from.specs.Rows.{picks_from}
 use Rattle.sql_from.specs.Sources.{parts_of}
 use Rattle.sql_from.proofs.Parted.{cell_missing, cell_there, front_number, got_at, got_past, last_number, pick_within}
@@ -45,4 +46,4 @@ returns-after-pick-front c =
       | then-pick-front w ↦ w.number-is ∙ front_number x last pick.part w.if-pick-front.true
       | else-pick-front w ↦ w.number-is ∙ last_number x last pick.part w.if-pick-front.false (omega (arith, h, whole))
     ] in
-    c.cell_of.ensures ∙ cell_there (parts_of ss) picks are x last c.args.place whole pick got c.table.result.now c.if-pick-front.number c.table.ensures.source n
+    c.cell_of.ensures ∙ cell_there (parts_of ss) picks are x last c.args.place whole pick got (listed c.table.result.now) c.if-pick-front.number c.table.ensures.source n

@@ -1,6 +1,7 @@
 use Rattle.std.proofs.Common.{◌≡◌, ◌∙◌, Some, ap, map, subst, sym}
 use Rattle.std.specs.Prelude.{slice_get}
 use Rattle.vtl_rows.specs.Named.{NamedTables}
+use Rattle.vtl_rows.specs.Tables.{listed}
 use Rattle.sql_from.specs.Held.{IsHeld}
 use Rattle.sql_from.specs.Sources.{parts_of, source_of}
 use Rattle.sql_from.proofs.Sited.{one_of, part_got}
@@ -13,6 +14,6 @@ returns-clause-source c =
 
 pub returns-clause-held : goal.returns-clause-held
 returns-clause-held c =
-    let got : slice_get (parts_of (map source_of c.self.inside.sources)) c.args.i ≡ Some c.at.result.1.now.table.now = part_got c.self.inside.sources c.args.i c.at.result.0.now c.at.result.1.now c.at.ensures in
-    subst (λ (h : NamedTables). IsHeld h c.at.result.1.now.table.now) (ap (λ s. s.held) c.self.view_is)
-    (one_of (IsHeld c.self.inside.held.now) (parts_of (map source_of c.self.inside.sources)) c.args.i c.at.result.1.now.table.now c.self.invariant.among got)
+    let got : slice_get (parts_of (map source_of c.self.inside.sources)) c.args.i ≡ Some (listed c.at.result.1.now.table.now) = part_got c.self.inside.sources c.args.i c.at.result.0.now c.at.result.1.now c.at.ensures in
+    subst (λ (h : NamedTables). IsHeld h (listed c.at.result.1.now.table.now)) (ap (λ s. s.held) c.self.view_is)
+    (one_of (IsHeld c.self.inside.held.now) (parts_of (map source_of c.self.inside.sources)) c.args.i (listed c.at.result.1.now.table.now) c.self.invariant.among got)

@@ -4,6 +4,7 @@ use Rattle.std.proofs.lemmas.List.{length-map}
 use Rattle.std.proofs.lemmas.List.Elements.{recursion_from_All}
 use Rattle.vtl_rows.specs.Gathered.{picked, picked_kind, pieces}
 use Rattle.vtl_rows.specs.declared.gather.Pick.{Pick}
+use Rattle.vtl_rows.specs.Tables.{listed}
 use Rattle.sql_from.specs.Rows.{pick_for}
 use Rattle.sql_from.specs.Sources.{parts_of}
 use Rattle.sql_from.proofs.ChosenCells.{chosen_within, kinds_chosen, rows_chosen, within_picks}
@@ -19,8 +20,8 @@ gather_beside-requires-clause-within c =
     let ss = c.args.self.now.sources.sources in
     let ts = parts_of ss in
     let picks = c.picks.result.now in
-    let parts : map (λ t. t.now) c.deref.result.now ≡ ts = ap (map (λ t. t.now)) c.deref.ensures.value ∙ c.in_ok-tables.ensures in
-    let many : length ts ≡ length c.deref.result.now = ap length (sym parts) ∙ length-map c.deref.result.now (λ t. t.now) in
+    let parts : map (λ t. listed t.now) c.deref.result.now ≡ ts = ap (map (λ t. listed t.now)) c.deref.ensures.value ∙ c.in_ok-tables.ensures in
+    let many : length ts ≡ length c.deref.result.now = ap length (sym parts) ∙ length-map c.deref.result.now (λ t. listed t.now) in
     let chosen : c.deref-2.result.now ≡ map (pick_for picks) c.args.places.now = c.deref-2.ensures.value ∙ c.in_ok-picks.ensures in
     subst (λ (ps : List Pick). All (λ p. p.part < length c.deref.result.now) ps) (sym chosen)
     (chosen_within picks c.args.places.now (length c.deref.result.now) (picks_within ts picks (length c.deref.result.now) c.picks.ensures many) (within_picks ss picks c.args.places.now c.picks.ensures c.requires.within))
@@ -30,7 +31,7 @@ gather_beside-requires-clause-kinds c =
     let ss = c.args.self.now.sources.sources in
     let picks = c.picks.result.now in
     let places = c.args.places.now in
-    let parts : map (λ t. t.now) c.deref.result.now ≡ parts_of ss = ap (map (λ t. t.now)) c.deref.ensures.value ∙ c.in_ok-tables.ensures in
+    let parts : map (λ t. listed t.now) c.deref.result.now ≡ parts_of ss = ap (map (λ t. listed t.now)) c.deref.ensures.value ∙ c.in_ok-tables.ensures in
     let chosen : c.deref-2.result.now ≡ map (pick_for picks) places = c.deref-2.ensures.value ∙ c.in_ok-picks.ensures in
     c.requires.kinds
     ∙ kinds_chosen ss picks places c.picks.ensures (recursion_from_All (λ i. i < length picks) places (within_picks ss picks places c.picks.ensures c.requires.within))
@@ -43,9 +44,9 @@ returns-clause-rows c =
     let ts = parts_of s.sources in
     let picks = c.picks.result.now in
     let places = c.args.places.now in
-    let parts : map (λ t. t.now) c.deref.result.now ≡ ts = ap (map (λ t. t.now)) c.deref.ensures.value ∙ c.in_ok-tables.ensures in
+    let parts : map (λ t. listed t.now) c.deref.result.now ≡ ts = ap (map (λ t. listed t.now)) c.deref.ensures.value ∙ c.in_ok-tables.ensures in
     let chosen : c.deref-2.result.now ≡ map (pick_for picks) places = c.deref-2.ensures.value ∙ c.in_ok-picks.ensures in
-    let many : length c.deref.result.now ≡ length ts = sym (length-map c.deref.result.now (λ t. t.now)) ∙ ap length parts in
+    let many : length c.deref.result.now ≡ length ts = sym (length-map c.deref.result.now (λ t. listed t.now)) ∙ ap length parts in
     let width : length ts ≡ tuples.width = length-map s.sources (λ u. u.1) ∙ sym c.args.self.now.is_whole in
     let whole : AllByRecursion (λ x. length x ≡ length ts) tuples.tuples = subst (λ n. AllByRecursion (λ x. length x ≡ n) tuples.tuples) (sym width) c.numbers.ensures.wide in
     let cut : pieces (length c.deref.result.now) c.numbers.result.now ≡ tuples.tuples = ap (λ n. pieces n c.numbers.result.now) (many ∙ width) ∙ c.numbers.ensures.numbers in
