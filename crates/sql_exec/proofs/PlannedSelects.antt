@@ -8,7 +8,7 @@ use Rattle.vtl_cell.specs.Outcome.{Outcome}
 use Rattle.vtl_cell.specs.Outcomes.{Same}
 use Rattle.vtl_cell.specs.Row.{Row}
 use Rattle.vtl_cell.specs.declared.kind.Kind.{Kind}
-use Rattle.vtl_rows.specs.Tables.{Listed, fits_kinds}
+use Rattle.vtl_rows.specs.Tables.{Tabled, fits_kinds}
 use Rattle.vtl_scalar.specs.declared.error.ScalarErr.{ScalarErr}
 use Rattle.vtl_scalar.specs.declared.error.ScalarErr.TheVariants as err
 use Rattle.sql_tree.specs.Trees.{JoinTree, QueryTree, SelectTree}
@@ -112,7 +112,7 @@ same_rows_of_profile b s early rows lawful same is = go (source_rows b s) (sourc
     go (Ok others) all perm = AllByRecursion-Perm (IsRowOfProfile b.settings) (Perm-sym perm) all
     go (Err f) all perm = absurd perm
 
-pub gives_same : (m n : Outcome (List Row)) (r : Result Listed ScalarErr) → Same m n → Gives m r → Gives n r
+pub gives_same : (m n : Outcome (List Row)) (r : Result Tabled ScalarErr) → Same m n → Gives m r → Gives n r
 gives_same (Ok xs) (Ok ys) (Ok t) same gives = chain (Perm-sym same) gives
 gives_same (Ok xs) (Ok ys) (Err err.DivZero) same gives = cc
 gives_same (Ok xs) (Ok ys) (Err err.Range) same gives = cc

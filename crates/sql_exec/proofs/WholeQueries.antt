@@ -10,7 +10,7 @@ use Rattle.vtl_cell.specs.Outcomes.{Same}
 use Rattle.vtl_lists.specs.Perm.{Perm}
 use Rattle.vtl_cell.specs.Row.{Row}
 use Rattle.vtl_cell.specs.declared.kind.Kind.{Kind}
-use Rattle.vtl_rows.specs.Tables.{Listed, column_kinds}
+use Rattle.vtl_rows.specs.Tables.{Tabled, column_kinds}
 use Rattle.vtl_rows.specs.declared.column.Column.{Column}
 use Rattle.vtl_scalar.specs.declared.error.ScalarErr.{ScalarErr}
 use Rattle.sql_tree.specs.Formed.{IsQuery}
@@ -79,7 +79,7 @@ answered_keeps P r f x a h = subst (λ q. IfOk q P) (sym a) (go f)
     go (Some Range) = tt
 
 -- what is added to no rows is the outcome
-pub gives : (m : Outcome (List Row)) (r : Result Listed ScalarErr) (old now : Output) → r ≡ answer_of (unless (fault_seen now) now.table) → fault_seen old ≡ None → old.table.rows ≡ [] → Adds m old now → Gives m r
+pub gives : (m : Outcome (List Row)) (r : Result Tabled ScalarErr) (old now : Output) → r ≡ answer_of (unless (fault_seen now) now.table) → fault_seen old ≡ None → old.table.rows ≡ [] → Adds m old now → Gives m r
 gives m r old now a none empty adds = subst (Gives m) (sym a) (go (fault_seen now) seen adds.rows)
   where
     seen : fault_seen now ≡ fault_in m

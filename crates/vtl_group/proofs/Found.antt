@@ -6,7 +6,7 @@ use Rattle.vtl_cell.specs.Outcome.{fault_in, join}
 use Rattle.vtl_cell.specs.Row.{Row}
 use Rattle.vtl_decimal.specs.Settings.{Settings}
 use Rattle.vtl_rows.specs.Places.{row_at}
-use Rattle.vtl_rows.specs.Tables.{Listed, cells_at}
+use Rattle.vtl_rows.specs.Tables.{Tabled, cells_at}
 use Rattle.vtl_tree.specs.CompExp.{CompExp}
 use Rattle.vtl_tree.specs.declared.structure.Component.{Component}
 use Rattle.vtl_tree.specs.Trees.{AggTree}
@@ -36,14 +36,14 @@ pub record Stands (spec : AggTree) (xs ys : List Component) (d : List Row) (r : 
   pub led : g ≡ leads_of (cells_at (places_named spec.grouping xs)) d
 
 -- as it is found
-pub stands_by : (spec : AggTree) (xs ys : List Component) (d : List Row) (r : Recipe) (g : List ℕ) (t : Listed) (lent : List ℕ) → r.table.now ≡ t → t.rows ≡ d → t.columns ≡ columns_for xs → r.names.now ≡ spec.grouping
+pub stands_by : (spec : AggTree) (xs ys : List Component) (d : List Row) (r : Recipe) (g : List ℕ) (t : Tabled) (lent : List ℕ) → r.table.now ≡ t → t.rows ≡ d → t.columns ≡ columns_for xs → r.names.now ≡ spec.grouping
     → r.places.items ≡ map (λ name. column_place name t.columns) spec.grouping → SameCondition (option_map prepared_exp r.having) spec.having → r.calls.items ≡ map (λ y. placed_for t.columns spec.items y.name) ys
     → lent ≡ r.places.items → g ≡ leads_of (cells_at lent) t.rows → Stands spec xs ys d r g
 stands_by spec xs ys d r g t lent table rows columns names places having calls deref led =
     let placed : r.places.items ≡ places_named spec.grouping xs = places ∙ ap (λ cs. map (λ name. column_place name cs) spec.grouping) columns ∙ places_are xs spec.grouping in
     record {
-      rows = ap (λ (l : Listed). l.rows) table ∙ rows;
-      columns = ap (λ (l : Listed). l.columns) table ∙ columns;
+      rows = ap (λ (l : Tabled). l.rows) table ∙ rows;
+      columns = ap (λ (l : Tabled). l.columns) table ∙ columns;
       names = names;
       places = placed;
       having = having;

@@ -10,7 +10,7 @@ use Rattle.vtl_lists.specs.Perm.{Perm}
 use Rattle.vtl_lists.proofs.Perms.{Perm-from_IsPermutation, Perm-map, Perm-refl}
 use Rattle.vtl_rows.specs.Named.{NamedTables, table_of}
 use Rattle.vtl_rows.specs.Places.{row_at}
-use Rattle.vtl_rows.specs.Tables.{Listed}
+use Rattle.vtl_rows.specs.Tables.{Listed, Tabled, listed}
 use Rattle.vtl_interp.specs.Reordered.{AreBothReordered, AreReordered, IsPut, IsPutUnless, IsReordered}
 
 -- ---- one table
@@ -18,12 +18,12 @@ use Rattle.vtl_interp.specs.Reordered.{AreBothReordered, AreReordered, IsPut, Is
 pub reordered_refl : (t : Listed) → IsReordered t t
 reordered_refl t = record { columns = refl; rows = Perm-refl t.rows }
 
-pub shared_is_reordered : {E : Type 0} (t : Listed) (r : Result Listed E) → IfOk r (λ u. u ≡ t) → IfOk r (IsReordered t)
+pub shared_is_reordered : {E : Type 0} (t : Listed) (r : Result Tabled E) → IfOk r (λ u. listed u ≡ t) → IfOk r (λ u. IsReordered t (listed u))
 shared_is_reordered t (Ok u) e = subst (IsReordered t) (sym e) (reordered_refl t)
 shared_is_reordered t (Err x) e = tt
 
-pub gathered_is_reordered : {E : Type 0} (t : Listed) (places : List ℕ) (r : Result Listed E) → IsPermutation (range_with_len 0 (length t.rows)) places
-    → IfOk r (λ u. u.columns ≡ t.columns) → IfOk r (λ u. u.rows ≡ map (row_at t.rows) places) → IfOk r (IsReordered t)
+pub gathered_is_reordered : {E : Type 0} (t : Listed) (places : List ℕ) (r : Result Tabled E) → IsPermutation (range_with_len 0 (length t.rows)) places
+    → IfOk r (λ u. u.columns ≡ t.columns) → IfOk r (λ u. u.rows ≡ map (row_at t.rows) places) → IfOk r (λ u. IsReordered t (listed u))
 gathered_is_reordered t places (Ok u) all columns rows = record {
   columns = sym columns;
   rows = subst (Perm t.rows) (sym rows)

@@ -10,7 +10,7 @@ use Rattle.std.proofs.lemmas.List.FromFn.{map-range_with_len_more}
 use Rattle.vtl_cell.specs.Row.{Row}
 use Rattle.vtl_rows.specs.Gathered.{picked, picked_kind, pieces}
 use Rattle.vtl_rows.specs.Places.{row_at}
-use Rattle.vtl_rows.specs.Tables.{Listed, column_kinds}
+use Rattle.vtl_rows.specs.Tables.{Listed, column_kinds, Tabled, listed}
 use Rattle.vtl_rows.specs.declared.gather.Pick.{Pick}
 use Rattle.vtl_index.specs.Seekers.{Sought, first_meant}
 use Rattle.vtl_sets.specs.TableOf.{table_columns}
@@ -145,16 +145,16 @@ within_all n ids os picks e all is =
     let these : AllByRecursion P ids = all_recursion n ids (λ k d h. let b = all k d h in omega (arith, b, e)) in
     subst (All P) (sym is) (all_below n (ids ++ ms ++ xs) (all_append P (ids ++ ms) xs (all_append P ids ms these (from_below role.Measure n 1 ss count)) (from_below role.Attribute n 1 ss count)))
 
-pub parts_many : (parts : List (Bor Listed)) (lead : Listed) (os : List Operand) → map (λ t. t.now) parts ≡ lead ∷ map table_of (sets_of os) → length parts ≡ length os + 1
+pub parts_many : (parts : List (Bor Tabled)) (lead : Listed) (os : List Operand) → map (λ t. listed t.now) parts ≡ lead ∷ map table_of (sets_of os) → length parts ≡ length os + 1
 parts_many parts lead os e =
-    let l = length-map parts (λ t. t.now) in
+    let l = length-map parts (λ t. listed t.now) in
     let m = ap length e in
     let n = length-map (sets_of os) table_of in
     let o = length-map os (λ x. x.set) in
     omega (arith, l, m, n, o)
 
-pub rows_gathered : (parts : List (Bor Listed)) (lead : Listed) (os : List Operand) (ids picks : List Pick) (tuples : List ℕ) → map (λ t. t.now) parts ≡ lead ∷ map table_of (sets_of os) → picks ≡ picks_behind ids (structures_of (sets_of os))
-    → map (picked (map (λ t. t.now) parts) picks) (pieces (length parts) tuples) ≡ joined_rows lead (sets_of os) ids tuples
+pub rows_gathered : (parts : List (Bor Tabled)) (lead : Listed) (os : List Operand) (ids picks : List Pick) (tuples : List ℕ) → map (λ t. listed t.now) parts ≡ lead ∷ map table_of (sets_of os) → picks ≡ picks_behind ids (structures_of (sets_of os))
+    → map (picked (map (λ t. listed t.now) parts) picks) (pieces (length parts) tuples) ≡ joined_rows lead (sets_of os) ids tuples
 rows_gathered parts lead os ids picks tuples e is =
     let ds = sets_of os in
     let count : length parts ≡ length ds + 1 = let l = parts_many parts lead os e in let m = length-map os (λ x. x.set) in omega (arith, l, m) in

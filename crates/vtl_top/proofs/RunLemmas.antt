@@ -5,7 +5,7 @@ use Rattle.vtl_decimal.specs.declared.number.Fault.TheVariants.{DivZero, Range}
 use Rattle.vtl_decimal.specs.declared.number.Fault.{Fault as EvaluationFault}
 use Rattle.vtl_cell.specs.Row.{Row}
 use Rattle.vtl_rows.specs.Named.{NamedTables}
-use Rattle.vtl_rows.specs.Tables.{Listed}
+use Rattle.vtl_rows.specs.Tables.{Tabled}
 use Rattle.vtl_tree.specs.declared.structure.Structure.{Structure}
 use Rattle.vtl_csv.specs.InputFile.{Fault, Reads}
 use Rattle.vtl_csv.specs.declared.input.InputErr.{InputErr}
@@ -69,7 +69,7 @@ input_refused name s read (input.Fault line column kind) status is (inr e) = inr
 input_refused name s read input.OutOfMemory status is (inl e) = inl e
 input_refused name s read input.OutOfMemory status is (inr e) = inl e
 
-pub input_settles : (name : List ℕ) (s : Structure) (read : Result (List Row) Fault) (result : Result Listed Status) → IsTableRead name s read result → SettlesBy rows_in (points_or_fault name read) result
+pub input_settles : (name : List ℕ) (s : Structure) (read : Result (List Row) Fault) (result : Result Tabled Status) → IsTableRead name s read result → SettlesBy rows_in (points_or_fault name read) result
 input_settles name s read (Ok t) is = is.1
 input_settles name s read (Err status) is = is
 

@@ -2,7 +2,7 @@ use Rattle.std.proofs.Common.{◌≡◌, ◌∙◌, ◌++◌, List, length, map,
 use Rattle.std.specs.List.{range_with_len}
 use Rattle.vtl_cell.specs.Sorted.{rising}
 use Rattle.vtl_rows.specs.Keys.{key_of}
-use Rattle.vtl_rows.specs.Tables.{Listed}
+use Rattle.vtl_rows.specs.Tables.{Listed, listed}
 use Rattle.vtl_rows.specs.declared.column.Column.{Column}
 use Rattle.sql_check_laws.specs.Statements.{AreNames}
 use Rattle.sql_meaning.specs.Scripts.{sort_key}
@@ -23,5 +23,5 @@ returns c =
     let names = c.args.names.now in
     let e : map key_of c.deref.result.now ≡ map (sort_key (map column_entry c.in_ok-table.table.columns)) names ++ map rising (range_with_len 0 (length c.in_ok-table.table.columns)) =
     ap (map key_of) c.deref.ensures.value ∙ c.in_ok-keys.ensures ∙ ap (λ (l : List Column). map (sort_key (map column_entry l)) names ++ map rising (range_with_len 0 (length l))) c.columns.ensures.columns in
-    table_ordered c.in_ok-table.table c.sort_by_columns.new.self c.deref.result.now names e c.columns.ensures.wide c.in_ok-sort_by_columns.ensures.columns c.in_ok-sort_by_columns.ensures.rows
+    table_ordered (listed c.in_ok-table.table) (listed c.sort_by_columns.new.self) c.deref.result.now names e c.columns.ensures.wide c.in_ok-sort_by_columns.ensures.columns c.in_ok-sort_by_columns.ensures.rows
     ∙ ap (ordered_by names) c.in_ok-table.ensures

@@ -4,7 +4,7 @@ use Rattle.std.specs.List.{AllByRecursion}
 use Rattle.vtl_cell.specs.Outcome.{Outcome}
 use Rattle.vtl_cell.specs.Row.{Row}
 use Rattle.vtl_cell.specs.declared.kind.Kind.{Kind}
-use Rattle.vtl_rows.specs.Tables.{Listed, column_kinds}
+use Rattle.vtl_rows.specs.Tables.{Tabled, column_kinds}
 use Rattle.sql_tree.specs.Trees.{QueryTree}
 use Rattle.sql_tree.specs.View.{query_tree, select_tree}
 use Rattle.sql_tree.specs.declared.statements.Item.{Item}
@@ -79,7 +79,7 @@ returns-clause-columns g c =
     let made = c.in_ok-columns.ensures ∙ ap (λ (items : List Item). zip (map (λ (x : Item). x.name) items) c.deref.result.now) c.as_slice.ensures in
     let are = columns_are tables selects c.index-selects-0.result c.deref.result.now c.in_ok-columns.columns.items (some_selects selects q is c.requires.formed) (c.deref.ensures.value ∙ c.in_ok-kinds.ensures) made in
     let table = c.add_selects.new.out.table in
-    answered_keeps (λ (t : Listed). map column_entry t.columns ≡ query_columns tables q) c.finish.result (fault_seen c.add_selects.new.out) table c.finish.ensures
+    answered_keeps (λ (t : Tabled). map column_entry t.columns ≡ query_columns tables q) c.finish.result (fault_seen c.add_selects.new.out) table c.finish.ensures
     (ap (map column_entry) (c.in_ok-add_selects.ensures.adds.columns ∙ c.new-out.ensures.columns) ∙ are ∙ ap (query_columns tables) is)
 
 pub add_selects-requires-clause-plan : goal.add_selects-requires-clause-plan

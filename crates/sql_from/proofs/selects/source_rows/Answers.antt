@@ -1,7 +1,7 @@
 use Rattle.std.proofs.Common.{◌≡◌, ◌∙◌, [], List, Ok, ap, refl, rules, subst, sym}
 use Rattle.vtl_cell.specs.Outcome.{Outcome}
 use Rattle.vtl_cell.specs.Row.{Row}
-use Rattle.vtl_rows.specs.Tables.{Listed}
+use Rattle.vtl_rows.specs.Tables.{Tabled}
 use Rattle.vtl_scalar.specs.Answers.{AnswersBy}
 use Rattle.sql_tree.specs.Trees.{SelectTree}
 use Rattle.sql_tree.specs.View.{select_tree}
@@ -20,8 +20,8 @@ pub returns-in_err-source_tuples-clause-rows : goal.returns-in_err-source_tuples
 returns-in_err-source_tuples-clause-rows g c =
     let b = base_held c.args.p.now c.args.tables.now in
     let s = select_tree c.args.select.now in
-    let told : AnswersBy (λ (t : Listed). t.rows) c.from_residual.result (planned_source_rows b s [] []) = search rules in
-    subst (λ (m : Outcome (List Row)). AnswersBy (λ (t : Listed). t.rows) c.from_residual.result m) (as_written b s) told
+    let told : AnswersBy (λ (t : Tabled). t.rows) c.from_residual.result (planned_source_rows b s [] []) = search rules in
+    subst (λ (m : Outcome (List Row)). AnswersBy (λ (t : Tabled). t.rows) c.from_residual.result m) (as_written b s) told
 
 pub returns-clause-rows : goal.returns-clause-rows
 returns-clause-rows g c =

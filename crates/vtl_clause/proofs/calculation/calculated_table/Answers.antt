@@ -1,5 +1,5 @@
 use Rattle.std.proofs.Common.{List, map, ap, sym, subst, ◌∙◌}
-use Rattle.vtl_rows.specs.Tables.{Listed}
+use Rattle.vtl_rows.specs.Tables.{Tabled}
 use Rattle.vtl_scalar.specs.Answers.{AnswersBy}
 use Rattle.vtl_tree.specs.CompExp.{CompExp}
 use Rattle.vtl_tree.specs.Shown.{shown}
@@ -28,7 +28,7 @@ returns-clause-rows c =
     let items = map item_tree c.args.items.now in
     let es = ap (map comp_exp_of) c.deref-2.ensures.value ∙ c.in_ok-exps.ensures ∙ ap (λ (x : Structure). map (calculated_exp items (columns_of x)) (shown c.deref.result.now)) c.structure.ensures.structure
     ∙ ap (map (calculated_exp items (columns_of a.structure))) (ap shown c.deref.ensures.value ∙ c.in_ok-wanted.ensures) in
-    subst (λ (l : List CompExp). AnswersBy (λ (t : Listed). t.rows) c.each_point.result (each_point c.args.p.now l a.points)) es c.each_point.ensures.rows
+    subst (λ (l : List CompExp). AnswersBy (λ (t : Tabled). t.rows) c.each_point.result (each_point c.args.p.now l a.points)) es c.each_point.ensures.rows
 
 pub returns-clause-table : goal.returns-clause-table
 returns-clause-table c =

@@ -4,7 +4,7 @@ use Rattle.vtl_decimal.specs.declared.number.Fault.{Fault}
 use Rattle.vtl_cell.specs.Outcome.{fault_in, faults_by, join}
 use Rattle.vtl_cell.specs.Outcomes.{is_true}
 use Rattle.vtl_cell.specs.Row.{Row}
-use Rattle.vtl_rows.specs.Tables.{Listed, fits}
+use Rattle.vtl_rows.specs.Tables.{Tabled, fits}
 use Rattle.vtl_tree.specs.Clauses.{filter_of, kept}
 use Rattle.vtl_tree.specs.DataSet.{IsDataSet, is_point}
 use Rattle.vtl_tree.specs.Structure.{IsStructure, columns_of}
@@ -57,7 +57,7 @@ returns-clause-rows c =
     let past : length rows ≤ c.loop-i.i = omega (arith, c.len-i-end.ensures.rows, c.loop-i-test.false) in
     let all = take_all c.loop-i.i rows past ∙ c.table-table.ensures.points in
     let f : Row → Option Fault = λ x. fault_in (value p e x) in
-    finished (λ (t : Listed). t.rows) c.unless.result (seen_of c.loop-i.seen) (faults_by f points) c.loop-i.kept (kept p e points) c.unless.ensures
+    finished (λ (t : Tabled). t.rows) c.unless.result (seen_of c.loop-i.seen) (faults_by f points) c.loop-i.kept (kept p e points) c.unless.ensures
     (c.loop-i.invariant.seen ∙ ap (faults_by f) all) (c.loop-i.invariant.rows ∙ ap (kept p e) all)
 
 pub returns-clause-table : goal.returns-clause-table
@@ -66,6 +66,6 @@ returns-clause-table c =
     let e = comp_exp_of c.args.condition.now in
     let a = c.args.a.now in
     let s = c.args.made.now in
-    let columns = answered_keeps (λ (t : Listed). t.columns ≡ table_columns s) c.unless.result (seen_of c.loop-i.seen) c.loop-i.kept c.unless.ensures c.loop-i.invariant.columns in
+    let columns = answered_keeps (λ (t : Tabled). t.columns ≡ table_columns s) c.unless.result (seen_of c.loop-i.seen) c.loop-i.kept c.unless.ensures c.loop-i.invariant.columns in
     let own = subst (λ (l : List Row). IsDataSet a.structure l) c.table-table.ensures.points c.table-table.ensures.table.points in
     answered_is_table s c.unless.result (filter_of p e a.points) columns (returns-clause-rows c) (λ out q. filtered_kept p e a.structure s a.points out c.requires own q)

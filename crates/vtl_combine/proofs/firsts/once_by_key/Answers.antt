@@ -6,7 +6,7 @@ use Rattle.vtl_index.specs.Groups.{AreLeads, firsts}
 use Rattle.vtl_index.specs.Leads.{leads_of}
 use Rattle.vtl_index.proofs.KeyGroups.{are_leads}
 use Rattle.vtl_rows.specs.Places.{row_at}
-use Rattle.vtl_rows.specs.Tables.{Listed, cells_at}
+use Rattle.vtl_rows.specs.Tables.{Tabled, cells_at}
 use Rattle.vtl_tuples.specs.Keys.{each_once}
 use Rattle.vtl_combine.proofs.FirstLemmas.{all_once, firsts_below, firsts_once}
 use Rattle.vtl_combine.proofs.firsts.once_by_key.Goals as goal
@@ -31,5 +31,5 @@ returns-clause-rows c =
     let n = c.args.width in
     let rows = c.args.table.rows in
     let leads = c.in_ok-groups.ensures ∙ ap (λ ps. leads_of (cells_at ps) rows) (c.deref.ensures.value ∙ c.in_ok-key.ensures) in
-    IfOk-weaker c.gather.result (λ (t : Listed). t.rows ≡ map (row_at rows) c.deref-2.result.now) (λ (t : Listed). t.rows ≡ each_once (same_key n) rows)
+    IfOk-weaker c.gather.result (λ (t : Tabled). t.rows ≡ map (row_at rows) c.deref-2.result.now) (λ (t : Tabled). t.rows ≡ each_once (same_key n) rows)
     (λ t e. e ∙ ap (map (row_at rows)) (c.deref-2.ensures.value ∙ c.in_ok-rows.ensures ∙ ap firsts leads) ∙ firsts_once n rows c.requires) c.gather.ensures.rows

@@ -1,6 +1,6 @@
 use Rattle.std.proofs.Common.{◌≡◌, ◌∷◌, ◌∙◌, ap, map, arith}
 use Rattle.std.proofs.lemmas.Result.{IfOk-weaker}
-use Rattle.vtl_rows.specs.Tables.{Listed}
+use Rattle.vtl_rows.specs.Tables.{Tabled}
 use Rattle.vtl_tree.specs.Shown.{shown}
 use Rattle.vtl_sets.proofs.TableLemmas.{made_is_table}
 use Rattle.vtl_meaning.specs.Joined.{structures_of}
@@ -20,7 +20,7 @@ returns-clause-rows c =
     let d = c.args.operand.now in
     let s = c.args.made.now in
     let others = c.args.others.now in
-    IfOk-weaker c.chosen_rows.result (λ (t : Listed). t.rows ≡ map (left_at d s) c.deref.result.now) (λ (t : Listed). t.rows ≡ intersection_of (d ∷ shown others) s)
+    IfOk-weaker c.chosen_rows.result (λ (t : Tabled). t.rows ≡ map (left_at d s) c.deref.result.now) (λ (t : Tabled). t.rows ≡ intersection_of (d ∷ shown others) s)
     (λ t e. e ∙ ap (map (left_at d s)) (c.deref.ensures.value ∙ c.in_ok-rows.ensures) ∙ chosen_by_all d (shown others) s) c.chosen_rows.ensures.rows
 
 pub returns-clause-table : goal.returns-clause-table

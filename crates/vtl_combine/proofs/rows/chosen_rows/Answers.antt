@@ -3,7 +3,7 @@ use Rattle.std.proofs.lemmas.Result.{IfOk-weaker}
 use Rattle.std.proofs.lemmas.List.Elements.{All-same}
 use Rattle.vtl_rows.specs.Gathered.{picked, picked_kind, pieces}
 use Rattle.vtl_rows.specs.Places.{row_at}
-use Rattle.vtl_rows.specs.Tables.{Listed, cells_at, column_kinds}
+use Rattle.vtl_rows.specs.Tables.{Tabled, cells_at, column_kinds, listed}
 use Rattle.vtl_rows.specs.declared.gather.Pick.{Pick}
 use Rattle.vtl_sets.proofs.ColumnLemmas.{some_table_columns}
 use Rattle.vtl_tree.specs.Structure.{columns_of}
@@ -22,7 +22,7 @@ gather_beside-requires-clause-within c =
 
 pub gather_beside-requires-clause-kinds : goal.gather_beside-requires-clause-kinds
 gather_beside-requires-clause-kinds c =
-    let t = c.table.result.now in
+    let t = listed c.table.result.now in
     let places = c.deref.result.now in
     let columns = left_columns c.args.made.now c.args.operand.now.structure t.columns places c.requires c.table.ensures.table.columns (c.deref.ensures.value ∙ c.in_ok-left_places.ensures) in
     ap column_kinds (c.in_ok-columns.ensures ∙ sym columns) ∙ sym (ap (map (picked_kind (t ∷ []))) (c.deref-2.ensures.value ∙ c.in_ok-picks.ensures) ∙ kinds_of_one t places)
@@ -31,10 +31,10 @@ pub returns-clause-rows : goal.returns-clause-rows
 returns-clause-rows c =
     let d = c.args.operand.now in
     let s = c.args.made.now in
-    let t = c.table.result.now in
+    let t = listed c.table.result.now in
     let places = c.deref.result.now in
     let rows = c.args.rows.now in
-    IfOk-weaker c.gather_beside.result (λ (x : Listed). x.rows ≡ map (picked (t ∷ []) c.deref-2.result.now) (pieces 1 rows)) (λ (x : Listed). x.rows ≡ map (left_at d s) rows)
+    IfOk-weaker c.gather_beside.result (λ (x : Tabled). x.rows ≡ map (picked (t ∷ []) c.deref-2.result.now) (pieces 1 rows)) (λ (x : Tabled). x.rows ≡ map (left_at d s) rows)
     (λ x e. e ∙ ap (λ ps. map (picked (t ∷ []) ps) (pieces 1 rows)) (c.deref-2.ensures.value ∙ c.in_ok-picks.ensures) ∙ rows_of_one t places rows
     ∙ ap (λ ps. map (λ i. cells_at ps (row_at t.rows i)) rows) (c.deref.ensures.value ∙ c.in_ok-left_places.ensures)
     ∙ ap (λ l. map (λ i. cells_at (places_in (columns_of d.structure) (columns_of s)) (row_at l i)) rows) c.table.ensures.points) c.gather_beside.ensures.rows

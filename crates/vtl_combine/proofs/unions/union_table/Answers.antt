@@ -1,6 +1,6 @@
 use Rattle.std.proofs.Common.{◌≡◌, ◌∷◌, [], ◌∙◌, ap, sym, subst, length, arith, List}
 use Rattle.std.proofs.lemmas.Result.{IfOk-weaker}
-use Rattle.vtl_rows.specs.Tables.{Listed}
+use Rattle.vtl_rows.specs.Tables.{Tabled}
 use Rattle.vtl_tree.specs.Environment.{DataSet}
 use Rattle.vtl_tree.specs.Shown.{shown}
 use Rattle.vtl_meaning.specs.Joined.{structures_of}
@@ -22,5 +22,5 @@ returns-in-len2-clause-rows c =
     let b = c.b-item.result in
     let s = c.args.made.now in
     let two : length ds ≡ 2 = omega (arith, c.in-len2.len_at_least, c.in-len2.len_below) in
-    IfOk-weaker c.united_pair.result (λ (t : Listed). t.rows ≡ union_of (a.now ∷ b.now ∷ []) s) (λ (t : Listed). t.rows ≡ union_of (shown ds) s)
+    IfOk-weaker c.united_pair.result (λ (t : Tabled). t.rows ≡ union_of (a.now ∷ b.now ∷ []) s) (λ (t : Tabled). t.rows ≡ union_of (shown ds) s)
     (λ t e. e ∙ ap (λ (l : List DataSet). union_of l s) (two_shown ds a b two c.a-item.is c.b-item.is)) c.united_pair.ensures.rows

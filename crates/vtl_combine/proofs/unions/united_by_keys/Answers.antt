@@ -2,7 +2,7 @@ use Rattle.std.proofs.Common.{◌≡◌, ◌≤◌, ◌∙◌, ap, sym, subst, l
 use Rattle.std.specs.List.{AllByRecursion}
 use Rattle.std.proofs.lemmas.Result.{IfOk-weaker}
 use Rattle.vtl_cell.specs.Row.{Row, same_key}
-use Rattle.vtl_rows.specs.Tables.{Listed}
+use Rattle.vtl_rows.specs.Tables.{Tabled}
 use Rattle.vtl_tree.specs.Shown.{shown}
 use Rattle.vtl_tree.specs.Structure.{key_width}
 use Rattle.vtl_sets.specs.TableOf.{table_columns}
@@ -32,7 +32,7 @@ returns-clause-rows c =
     let ds = c.args.operands.now in
     let s = c.args.made.now in
     let all = c.in_ok-all.all.rows in
-    IfOk-weaker c.once_by_key.result (λ (t : Listed). t.rows ≡ each_once (same_key c.key_width.result) all) (λ (t : Listed). t.rows ≡ union_of (shown ds) s)
+    IfOk-weaker c.once_by_key.result (λ (t : Tabled). t.rows ≡ each_once (same_key c.key_width.result) all) (λ (t : Tabled). t.rows ≡ union_of (shown ds) s)
     (λ t e. e ∙ ap (λ n. each_once (same_key n) all) c.key_width.ensures ∙ ap (each_once (same_key (key_width s))) (c.in_ok-all.ensures.rows ∙ all_points_are ds s)) c.once_by_key.ensures.rows
 
 pub returns-clause-table : goal.returns-clause-table
@@ -40,6 +40,6 @@ returns-clause-table c =
     let ds = c.args.operands.now in
     let s = c.args.made.now in
     made_is_table s c.once_by_key.result (union_of (shown ds) s)
-    (IfOk-weaker c.once_by_key.result (λ (t : Listed). t.columns ≡ c.in_ok-all.all.columns) (λ (t : Listed). t.columns ≡ table_columns s) (λ t e. e ∙ c.in_ok-all.ensures.columns) c.once_by_key.ensures.columns)
+    (IfOk-weaker c.once_by_key.result (λ (t : Tabled). t.columns ≡ c.in_ok-all.all.columns) (λ (t : Tabled). t.columns ≡ table_columns s) (λ t e. e ∙ c.in_ok-all.ensures.columns) c.once_by_key.ensures.columns)
     (returns-clause-rows c)
     (union_kept (shown ds) s c.requires (all_are_sets ds c.are_data_sets.ensures))

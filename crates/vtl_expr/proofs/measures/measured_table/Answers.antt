@@ -1,5 +1,5 @@
 use Rattle.std.proofs.Common.{List, map, ap, sym, subst, ◌∙◌}
-use Rattle.vtl_rows.specs.Tables.{Listed}
+use Rattle.vtl_rows.specs.Tables.{Tabled}
 use Rattle.vtl_scalar.specs.Answers.{AnswersBy}
 use Rattle.vtl_tree.specs.CompExp.{CompExp}
 use Rattle.vtl_tree.specs.Structure.{columns_of}
@@ -26,7 +26,7 @@ returns-clause-rows c =
     let s = c.args.made.now in
     let m = measure_tree c.args.op.now in
     let es = ap (map comp_exp_of) c.deref.ensures.value ∙ c.in_ok-exps.ensures ∙ ap (λ (x : Structure). measured_exps m x s) c.structure.ensures.structure in
-    subst (λ (l : List CompExp). AnswersBy (λ (t : Listed). t.rows) c.each_point.result (each_point c.args.p.now l c.args.a.now.points)) es c.each_point.ensures.rows
+    subst (λ (l : List CompExp). AnswersBy (λ (t : Tabled). t.rows) c.each_point.result (each_point c.args.p.now l c.args.a.now.points)) es c.each_point.ensures.rows
 
 pub returns-clause-table : goal.returns-clause-table
 returns-clause-table c =
@@ -36,5 +36,5 @@ returns-clause-table c =
     let m = measure_tree c.args.op.now in
     let es = ap (map comp_exp_of) c.deref.ensures.value ∙ c.in_ok-exps.ensures ∙ ap (λ (x : Structure). measured_exps m x s) c.structure.ensures.structure in
     answered_is_table s c.each_point.result (measured_of p m a s) c.each_point.ensures.columns
-    (subst (λ (l : List CompExp). AnswersBy (λ (t : Listed). t.rows) c.each_point.result (each_point p l a.points)) es c.each_point.ensures.rows)
+    (subst (λ (l : List CompExp). AnswersBy (λ (t : Tabled). t.rows) c.each_point.result (each_point p l a.points)) es c.each_point.ensures.rows)
     (λ out e. measured_kept p m a s out c.requires c.structure.ensures.points e)

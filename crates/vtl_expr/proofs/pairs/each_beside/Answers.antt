@@ -3,7 +3,7 @@ use Rattle.std.specs.List.{AllByRecursion, flat_map}
 use Rattle.std.proofs.lemmas.List.{take_all}
 use Rattle.vtl_cell.specs.Outcome.{faults_by}
 use Rattle.vtl_cell.specs.Row.{Row}
-use Rattle.vtl_rows.specs.Tables.{Listed, fits}
+use Rattle.vtl_rows.specs.Tables.{Tabled, fits}
 use Rattle.vtl_sets.specs.TableOf.{table_columns}
 use Rattle.vtl_meaning.specs.Points.{point_fault, point_of}
 use Rattle.vtl_expr.specs.Partners.{found, with_found}
@@ -47,5 +47,5 @@ returns-clause-rows g c =
     let past : length rows ≤ c.loop-i.i = omega (arith, c.len-i-end.ensures.rows, c.loop-i-test.false) in
     let all = ap (flat_map draw) (take_all c.loop-i.i rows past ∙ c.table-table.ensures.points) in
     let pairs = flat_map draw c.args.lead.now.points in
-    finished (λ (t : Listed). t.rows) c.finish.result (seen_of c.loop-i.points.seen) (faults_by (point_fault p es) pairs) c.loop-i.points.table (map (point_of p es) pairs) c.finish.ensures
+    finished (λ (t : Tabled). t.rows) c.finish.result (seen_of c.loop-i.points.seen) (faults_by (point_fault p es) pairs) c.loop-i.points.table (map (point_of p es) pairs) c.finish.ensures
     (c.loop-i.invariant.seen ∙ ap (faults_by (point_fault p es)) all) (c.loop-i.invariant.rows ∙ ap (map (point_of p es)) all)

@@ -1,7 +1,7 @@
 use Rattle.std.proofs.Common.{List, map, ap, sym, subst, ◌∙◌}
 use Rattle.vtl_cell.specs.Row.{Row}
 use Rattle.vtl_cell.specs.Outcome.{Outcome}
-use Rattle.vtl_rows.specs.Tables.{Listed}
+use Rattle.vtl_rows.specs.Tables.{Tabled}
 use Rattle.vtl_scalar.specs.Answers.{AnswersBy}
 use Rattle.vtl_tree.specs.View.{comp_exp_of}
 use Rattle.vtl_tree.specs.declared.structure.Structure.{Structure}
@@ -29,5 +29,5 @@ returns-clause-rows g c =
     let other = c.args.other.now in
     let es = map comp_exp_of c.args.exps.now in
     let is = c.in_ok-partners.ensures ∙ ap (λ (x : Structure). sought_by x other) c.structure.ensures.structure in
-    subst (λ (m : Outcome (List Row)). AnswersBy (λ (t : Listed). t.rows) c.each_beside.result m)
+    subst (λ (m : Outcome (List Row)). AnswersBy (λ (t : Tabled). t.rows) c.each_beside.result m)
     (each_prepared p c.deref.result.now c.in_ok-prepared.prepared.items es c.deref.ensures.value c.in_ok-prepared.ensures _ ∙ ap (each_point p es) (all_paired lead other c.in_ok-partners.partners is)) c.each_beside.ensures.rows

@@ -1,6 +1,6 @@
 use Rattle.std.proofs.Common.{◌++◌, List, map, ap, sym, subst, ◌∙◌}
 use Rattle.vtl_cell.specs.Row.{Row}
-use Rattle.vtl_rows.specs.Tables.{Listed}
+use Rattle.vtl_rows.specs.Tables.{Tabled}
 use Rattle.vtl_scalar.specs.Answers.{AnswersBy}
 use Rattle.vtl_tree.specs.CompExp.{CompExp}
 use Rattle.vtl_tree.specs.Structure.{columns_of}
@@ -35,8 +35,8 @@ returns-clause-rows c =
     let es = ap (map comp_exp_of) c.deref.ensures.value
     ∙ lead_exps a b pair.lead.now pair.other.now c.in_ok-pair.ensures.lead c.in_ok-pair.ensures.other c.args.op s c.structure-lead.result.now c.structure-ours.result.now pair.left pair.right (map comp_exp_of c.in_ok-exps.exps.items)
     c.structure-lead.ensures.structure c.structure-ours.ensures.structure c.in_ok-pair.ensures.left c.in_ok-pair.ensures.right c.in_ok-exps.ensures in
-    subst (λ (d : List Row). AnswersBy (λ (t : Listed). t.rows) c.pairs_table.result (each_point c.args.p.now (pair_exps c.args.op a.structure b.structure s) d)) (lead_pairs a b pair.lead.now pair.other.now c.in_ok-pair.ensures.lead c.in_ok-pair.ensures.other)
-    (subst (λ (l : List CompExp). AnswersBy (λ (t : Listed). t.rows) c.pairs_table.result (each_point c.args.p.now l (paired pair.lead.now pair.other.now))) es c.pairs_table.ensures.rows)
+    subst (λ (d : List Row). AnswersBy (λ (t : Tabled). t.rows) c.pairs_table.result (each_point c.args.p.now (pair_exps c.args.op a.structure b.structure s) d)) (lead_pairs a b pair.lead.now pair.other.now c.in_ok-pair.ensures.lead c.in_ok-pair.ensures.other)
+    (subst (λ (l : List CompExp). AnswersBy (λ (t : Tabled). t.rows) c.pairs_table.result (each_point c.args.p.now l (paired pair.lead.now pair.other.now))) es c.pairs_table.ensures.rows)
 
 pub returns-clause-table : goal.returns-clause-table
 returns-clause-table c =

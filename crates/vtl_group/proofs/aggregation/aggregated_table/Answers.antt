@@ -5,7 +5,7 @@ use Rattle.std.proofs.lemmas.List.{take_all}
 use Rattle.vtl_cell.specs.Outcome.{faults_by, join}
 use Rattle.vtl_cell.specs.Row.{Row}
 use Rattle.vtl_rows.specs.Places.{row_at}
-use Rattle.vtl_rows.specs.Tables.{Listed, fits}
+use Rattle.vtl_rows.specs.Tables.{Tabled, fits}
 use Rattle.vtl_tree.specs.DataSet.{IsDataSet, is_point}
 use Rattle.vtl_tree.specs.Structure.{columns_of}
 use Rattle.vtl_tree.specs.NodeView.{agg_tree}
@@ -100,7 +100,7 @@ returns-clause-rows c =
     let past : length ks ≤ c.loop-group.group = omega (arith, c.len-group-end.ensures, c.loop-group-test.false, many) in
     let all = take_all c.loop-group.group ks past in
     let at = condition_of p spec xs d in
-    finished (λ (t : Listed). t.rows) c.finish.result (seen_of c.loop-group.points.seen)
+    finished (λ (t : Tabled). t.rows) c.finish.result (seen_of c.loop-group.points.seen)
     (join (faults_by (condition_fault at spec.having) ks) (faults_by (group_fault (made_of p spec xs d) ys) (filter (kept p spec xs ys d) ks)))
     c.loop-group.points.table (map (point p spec xs ys d) (filter (kept p spec xs ys d) ks)) c.finish.ensures
     (c.loop-group.invariant.seen ∙ ap (faults_by (fault_at p spec xs ys d)) all ∙ faults_apart (condition_fault at spec.having) (group_fault (made_of p spec xs d) ys) (kept p spec xs ys d) ks)
@@ -112,6 +112,6 @@ returns-clause-table c =
     let spec = agg_tree c.args.spec.now in
     let a = c.args.a.now in
     let s = c.args.made.now in
-    let columns = answered_keeps (λ (t : Listed). t.columns ≡ table_columns s) c.finish.result (seen_of c.loop-group.points.seen) c.loop-group.points.table c.finish.ensures c.loop-group.invariant.columns in
+    let columns = answered_keeps (λ (t : Tabled). t.columns ≡ table_columns s) c.finish.result (seen_of c.loop-group.points.seen) c.loop-group.points.table c.finish.ensures c.loop-group.invariant.columns in
     let own = subst (λ (l : List Row). IsDataSet a.structure l) c.table-table.ensures.points c.table-table.ensures.table.points in
     answered_is_table s c.finish.result (aggregate_of p spec a s) columns (returns-clause-rows c) (λ out q. subst (λ m. IfOk m (IsDataSet s)) q (result_is p spec a s c.requires own))

@@ -3,7 +3,7 @@ use Rattle.std.specs.Prelude.{IfOk}
 use Rattle.std.specs.List.{range_with_len}
 use Rattle.vtl_cell.specs.Row.{Row}
 use Rattle.vtl_rows.specs.Gathered.{picked_kind}
-use Rattle.vtl_rows.specs.Tables.{Listed}
+use Rattle.vtl_rows.specs.Tables.{Listed, listed}
 use Rattle.vtl_rows.specs.declared.gather.Pick.{Pick}
 use Rattle.vtl_index.specs.Seekers.{Sought}
 use Rattle.vtl_tree.specs.declared.structure.Role.TheVariants as role
@@ -25,7 +25,7 @@ gathered-requires-clause-identifiers g c =
     let d = c.args.lead.now in
     let ds = sets_of c.args.operands.now in
     let ids = c.in_ok-identifiers.ensures ∙ ap (picks_at 0) (c.deref-2.ensures.value ∙ c.in_ok-places.ensures ∙ ap (places_of role.Identifier) c.structure-2.ensures.structure) in
-    let lead = table_is c.table-2.result.now d c.table-2.ensures.table.columns c.table-2.ensures.points in
+    let lead = table_is (listed c.table-2.result.now) d c.table-2.ensures.table.columns c.table-2.ensures.points in
     ap (λ (t : Listed). map (picked_kind (t ∷ map table_of ds)) c.in_ok-identifiers.identifiers.items) lead
     ∙ ap (λ (ps : List Pick). map (picked_kind (table_of d ∷ map table_of ds)) ps) ids
     ∙ own_kinds ds d c.args.made.now c.structure.ensures.points.well_formed c.requires.identifiers
@@ -37,7 +37,7 @@ returns-clause-rows g c =
     let ds = sets_of c.args.operands.now in
     let whole = wants_all c.args.kind in
     let ids = c.in_ok-identifiers.ensures ∙ ap (picks_at 0) (c.deref-2.ensures.value ∙ c.in_ok-places.ensures ∙ ap (places_of role.Identifier) c.structure-2.ensures.structure) in
-    let lead = table_is c.table-2.result.now d c.table-2.ensures.table.columns c.table-2.ensures.points in
+    let lead = table_is (listed c.table-2.result.now) d c.table-2.ensures.table.columns c.table-2.ensures.points in
     let rows = c.table.result.now.rows in
     let sources = c.deref.ensures.value ∙ c.in_ok-sources.ensures ∙ ap (λ (s : Structure). sources_around s ds c.args.place) c.structure.ensures.structure in
     let tuples = c.deref-3.ensures.value ∙ c.in_ok-tuples.ensures ∙ ap (λ (b : Bool). all_numbers b c.deref.result.now rows (range_with_len 0 (length rows))) c.wants_all.ensures

@@ -5,6 +5,7 @@ use Rattle.vtl_rows.specs.Gathered.{picked_kind}
 use Rattle.vtl_rows.specs.declared.gather.Pick.{Pick}
 use Rattle.vtl_tree.specs.declared.structure.Role.TheVariants as role
 use Rattle.vtl_meaning.specs.Joined.{structures_of}
+use Rattle.vtl_rows.specs.Tables.{listed}
 use Rattle.vtl_join.specs.Joining.{sets_of}
 use Rattle.vtl_join.specs.Picks.{joined_rows, picks_from, table_of}
 use Rattle.vtl_join.proofs.Closed.{roles_below}
@@ -22,11 +23,11 @@ pub gathered-requires-clause-identifiers : goal.gathered-requires-clause-identif
 gathered-requires-clause-identifiers c =
     let ds = sets_of c.args.operands.now in
     let ids = c.in_ok-push_role.ensures ∙ ap (λ l. l ++ picks_from role.Identifier 1 (structures_of ds)) c.new-identifiers.ensures.items in
-    ap (λ (ps : List Pick). map (picked_kind (c.args.lead.now ∷ map table_of ds)) ps) ids ∙ kinds_behind role.Identifier c.args.lead.now ds c.operands_are_sets.ensures ∙ sym c.requires.made.identifiers
+    ap (λ (ps : List Pick). map (picked_kind (listed c.args.lead.now ∷ map table_of ds)) ps) ids ∙ kinds_behind role.Identifier (listed c.args.lead.now) ds c.operands_are_sets.ensures ∙ sym c.requires.made.identifiers
 
 pub returns-clause-rows : goal.returns-clause-rows
 returns-clause-rows c =
-    let lead = c.args.lead.now in
+    let lead = listed c.args.lead.now in
     let ds = sets_of c.args.operands.now in
     let ids = c.in_ok-push_role.ensures ∙ ap (λ l. l ++ picks_from role.Identifier 1 (structures_of ds)) c.new-identifiers.ensures.items in
     let all = ap (λ (ps : List Pick). joined_rows lead ds ps c.deref.result.now) ids

@@ -11,6 +11,7 @@ use Rattle.vtl_tree.specs.Shown.{shown}
 use Rattle.vtl_tree.specs.declared.structure.Component.{Component}
 use Rattle.vtl_tree.specs.Columns.{identifiers_of}
 use Rattle.vtl_meaning.specs.Joined.{all_keys}
+use Rattle.vtl_rows.specs.Tables.{listed}
 use Rattle.vtl_join.specs.Crossing.{up_to}
 use Rattle.vtl_join.specs.Finding.{all_numbers, sought_at}
 use Rattle.vtl_join.specs.Joining.{sets_of}
@@ -28,7 +29,7 @@ pub gathered-requires-clause-identifiers : goal.gathered-requires-clause-identif
 gathered-requires-clause-identifiers g c =
     let ids = identifiers_of c.args.reference.now.structure in
     let ds = sets_of c.args.operands.now in
-    let lead = c.in_ok-lead.lead in
+    let lead = listed c.in_ok-lead.lead in
     let seen : shown c.deref.result.now ≡ ids = ap shown c.deref.ensures.value ∙ c.in_ok-identifiers.ensures ∙ ap identifiers_of c.structure.ensures.structure in
     let many = c.len.ensures ∙ sym c.deref.ensures.len ∙ sym (length-map c.deref.result.now (λ (x : Bor Component). x.now)) ∙ ap length seen in
     let picks = c.in_ok-picks.ensures ∙ ap (picks_at 0) (c.deref-4.ensures.value ∙ c.in_ok-up_to.ensures ∙ ap up_to many) in
@@ -39,7 +40,7 @@ returns-clause-rows g c =
     let r = c.args.reference.now in
     let ids = identifiers_of r.structure in
     let ds = sets_of c.args.operands.now in
-    let lead = c.in_ok-lead.lead in
+    let lead = listed c.in_ok-lead.lead in
     let seen : shown c.deref.result.now ≡ ids = ap shown c.deref.ensures.value ∙ c.in_ok-identifiers.ensures ∙ ap identifiers_of c.structure.ensures.structure in
     let again : shown c.deref-2.result.now ≡ ids = ap shown c.deref-2.ensures.value ∙ c.in_ok-identifiers.ensures ∙ ap identifiers_of c.structure.ensures.structure in
     let many = c.len.ensures ∙ sym c.deref.ensures.len ∙ sym (length-map c.deref.result.now (λ (x : Bor Component). x.now)) ∙ ap length seen in

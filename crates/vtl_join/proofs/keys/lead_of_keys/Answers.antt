@@ -4,7 +4,7 @@ use Rattle.std.specs.List.{range_with_len}
 use Rattle.std.proofs.lemmas.List.{length-map}
 use Rattle.vtl_cell.specs.Row.{Row}
 use Rattle.vtl_rows.specs.Places.{row_at}
-use Rattle.vtl_rows.specs.Tables.{Listed, cells_at}
+use Rattle.vtl_rows.specs.Tables.{Tabled, cells_at}
 use Rattle.vtl_index.specs.Groups.{AreLeads, firsts}
 use Rattle.vtl_index.specs.Leads.{leads_of}
 use Rattle.vtl_index.proofs.KeyGroups.{are_leads}
@@ -36,4 +36,4 @@ returns-clause-keys c =
     let groups = c.in_ok-groups.ensures ∙ ap (λ (l : List ℕ). leads_of (cells_at l) c.in_ok-keys.keys.rows) own ∙ ap (leads_of (key_cells ids)) c.in_ok-keys.ensures.rows in
     let first = c.deref-2.ensures.value ∙ c.in_ok-first_rows.ensures ∙ ap firsts groups in
     let rows = ap (λ (l : List ℕ). map (row_at c.in_ok-keys.keys.rows) l) first ∙ ap (λ (l : List Row). map (row_at l) (firsts (leads_of (key_cells ids) (all_key_rows ids ds)))) c.in_ok-keys.ensures.rows in
-    if_ok (λ (t : Listed). t.rows ≡ map (row_at c.in_ok-keys.keys.rows) c.deref-2.result.now) (λ (t : Listed). map (key_cells ids) t.rows ≡ all_keys ids ds) c.gather.result (λ t e. ap (map (key_cells ids)) (e ∙ rows) ∙ lead_keys ids ds) c.gather.ensures.rows
+    if_ok (λ (t : Tabled). t.rows ≡ map (row_at c.in_ok-keys.keys.rows) c.deref-2.result.now) (λ (t : Tabled). map (key_cells ids) t.rows ≡ all_keys ids ds) c.gather.result (λ t e. ap (map (key_cells ids)) (e ∙ rows) ∙ lead_keys ids ds) c.gather.ensures.rows

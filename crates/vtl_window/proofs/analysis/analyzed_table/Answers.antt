@@ -2,7 +2,7 @@ use Rattle.std.proofs.Common.{◌≡◌, ◌<◌, ◌≤◌, ◌+◌, List, [], 
 use Rattle.std.proofs.lemmas.List.{drop_more, map_more, take_all, with_items_is}
 use Rattle.vtl_cell.specs.Outcome.{faults_by}
 use Rattle.vtl_cell.specs.Row.{Row}
-use Rattle.vtl_rows.specs.Tables.{Listed, fits}
+use Rattle.vtl_rows.specs.Tables.{Tabled, fits}
 use Rattle.vtl_scalar.specs.Answers.{AnswersBy}
 use Rattle.vtl_tree.specs.DataSet.{IsDataSet}
 use Rattle.vtl_tree.specs.Shown.{shown}
@@ -27,8 +27,8 @@ returns-in_err-columns-clause-rows c =
     let wanted = shown c.deref.result.now in
     let is : wanted ≡ columns_of s = ap shown c.deref.ensures.value ∙ c.in_ok-wanted.ensures in
     let passed : c.from_residual-in_err-columns.result ≡ Err c.in_err-columns.field-0.0 = search rules in
-    subst (λ r. AnswersBy (λ (t : Listed). t.rows) r (analytic_of p spec a s)) (sym passed)
-    (fault_answered (λ (v : Vec Column Global). map (cells_in a.points) v.items) (λ (t : Listed). t.rows) c.in_err-columns.field-0.0 (made_faults made wanted a.points) (faults_by (point_fault made (columns_of s)) a.points)
+    subst (λ r. AnswersBy (λ (t : Tabled). t.rows) r (analytic_of p spec a s)) (sym passed)
+    (fault_answered (λ (v : Vec Column Global). map (cells_in a.points) v.items) (λ (t : Tabled). t.rows) c.in_err-columns.field-0.0 (made_faults made wanted a.points) (faults_by (point_fault made (columns_of s)) a.points)
     (made_cells made wanted a.points) (map (point_of made (columns_of s)) a.points)
     (ap (λ ys. made_faults made ys a.points) is ∙ faults_turned made (columns_of s) a.points) c.in_err-columns.ensures)
 
