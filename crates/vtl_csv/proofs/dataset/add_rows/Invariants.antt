@@ -10,7 +10,7 @@ invariant-loop-pools l =
       as_many : vec_len l.pools ≡ length l.columns;
       columns : l.table.columns ≡ map column_for (components_in l.columns);
       empty : l.cells.items ≡ [];
-      taken : taken_with l.profile l.columns l.table.rows l.reader ≡ taken_with l.profile l.columns [] l.fn.reader
+      taken : taken_with l.profile l.columns l.table.rows l.reader ≡ taken_with l.profile l.columns [] l.fn.reader;
     }
 
 abbrev pub decreases-loop-pools : goal.decreases-loop-pools
