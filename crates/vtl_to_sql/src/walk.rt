@@ -171,14 +171,6 @@ pub(crate) fn query(
             let table = source(alloc, writer, a, target, draft)?;
             query_of_one(alloc, writer, form, s, &table)
         }
-        NodeForm::Rename { a, pairs } => match pairs.as_slice() {
-            // A naming that renames nothing is its operand.
-            [] => query(alloc, writer, &a.form, &a.structure, target, draft),
-            [_, ..] => {
-                let operand = source(alloc, writer, a, target, draft)?;
-                query_of_one(alloc, writer, form, s, &operand)
-            }
-        },
         NodeForm::Pair { a, b, .. }
         | NodeForm::SetDiff { a, b }
         | NodeForm::SymDiff { a, b }
@@ -193,6 +185,14 @@ pub(crate) fn query(
             let third = source(alloc, writer, b, target, draft)?;
             query_of_three(alloc, writer, form, s, &first, &second, &third)
         }
+        NodeForm::Rename { a, pairs } => match pairs.as_slice() {
+            // A naming that renames nothing is its operand.
+            [] => query(alloc, writer, &a.form, &a.structure, target, draft),
+            [_, ..] => {
+                let operand = source(alloc, writer, a, target, draft)?;
+                query_of_one(alloc, writer, form, s, &operand)
+            }
+        },
         NodeForm::Join { operands, spec } => join(alloc, writer, operands, spec, s, target, draft),
         NodeForm::Union(nodes) => {
             combined(alloc, writer, SetOperator::Union, nodes, s, target, draft)

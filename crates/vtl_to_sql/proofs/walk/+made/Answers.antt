@@ -1,9 +1,10 @@
-use Rattle.std.proofs.Common.{◌∷◌, [], ◌++◌, ℕ, ◌+◌, ◌-◌, length, take, drop, ap, map, refl, sym, ◌∙◌}
+use Rattle.std.proofs.Common.{◌∷◌, [], ◌++◌, ℕ, ◌+◌, ◌-◌, ◌≤◌, List, length, take, drop, ap, map, refl, subst, sym, ◌∙◌}
 use Rattle.std.proofs.lemmas.Result.{IfOk-weaker}
 use Rattle.vtl_tree.specs.Shown.{shown}
 use Rattle.vtl_tree.specs.Trees.{FormTree, structure_of}
 use Rattle.vtl_tree.specs.NodeView.{form_tree, node_tree}
 use Rattle.vtl_tree.specs.declared.nodes.Node.{Node}
+use Rattle.vtl_tree.specs.declared.renaming.Renaming.{Renaming}
 use Rattle.sql_tree.specs.View.{query_tree, statement_tree}
 use Rattle.vtl_to_sql.specs.Combined.{combined_made}
 use Rattle.vtl_to_sql.specs.FormQueries.{query_of_one, query_of_two}
@@ -11,7 +12,7 @@ use Rattle.selects_to_sql.specs.Tables.{create_for, Made, and_then, with_one, wi
 use Rattle.vtl_to_sql.specs.Tables.{made_of_form, sources_of}
 use Rattle.vtl_to_sql.proofs.JoinNodes.{join_gives, join_of_form}
 use Rattle.vtl_to_sql.proofs.Combining.{alone, begun, ended, ends, intersection_of_form, left_ready, one_more, turn_made, union_of_form}
-use Rattle.vtl_to_sql.proofs.Walked.{behind_names, behind_others, one_made, tree_of_choose, tree_of_named, two_made}
+use Rattle.vtl_to_sql.proofs.Walked.{behind_names, behind_others, one_made, one_renamed, tree_of_choose, tree_of_named, two_made}
 use Rattle.vtl_to_sql.proofs.walk.+made.Goals as goal
 
 pub join-returns-clause-query : goal.join-returns-clause-query
@@ -52,7 +53,18 @@ query-returns-in_ok-table-in-Measures-clause-query t c =
     let n = c.args.draft.now.next in
     let f = c.args.form.now in
     let named = c.in_ok-table-in-Measures.ensures.name ∙ ap (λ (x : Node). (sources_of p r (node_tree x) n).names) c.deref-in-Measures.ensures in
-    IfOk-weaker c.query_of_one.result _ _ (λ q e. e ∙ ap (with_one (query_of_one p (form_tree f) s)) named ∙ sym (ap (λ (m : Made). m.query) (one_made p r s f c.in-Measures.a n c.in-Measures.is))) c.query_of_one.ensures
+    IfOk-weaker c.query_of_one-in-Measures.result _ _ (λ q e. e ∙ ap (with_one (query_of_one p (form_tree f) s)) named ∙ sym (ap (λ (m : Made). m.query) (one_made p r s f c.in-Measures.a n c.in-Measures.is))) c.query_of_one-in-Measures.ensures
+
+pub query-returns-in_ok-operand-in-len1-up-clause-query : goal.query-returns-in_ok-operand-in-len1-up-clause-query
+query-returns-in_ok-operand-in-len1-up-clause-query t c =
+    let p = c.args.writer.now in
+    let r = c.args.target.now in
+    let s = c.args.s.now in
+    let n = c.args.draft.now.next in
+    let f = c.args.form.now in
+    let some = subst (λ (l : List Renaming). 1 ≤ length l) c.as_slice.ensures c.in-len1-up.len_at_least in
+    let named = c.in_ok-operand-in-len1-up.ensures.name ∙ ap (λ (x : Node). (sources_of p r (node_tree x) n).names) c.deref-in-len1-up.ensures in
+    IfOk-weaker c.query_of_one.result _ _ (λ q e. e ∙ ap (with_one (query_of_one p (form_tree f) s)) named ∙ sym (ap (λ (m : Made). m.query) (one_renamed p r s f c.in-Rename.a c.in-Rename.pairs n c.in-Rename.is some))) c.query_of_one.ensures
 
 pub query-returns-in_ok-second-in-Pair-clause-query : goal.query-returns-in_ok-second-in-Pair-clause-query
 query-returns-in_ok-second-in-Pair-clause-query t c =
