@@ -1,11 +1,12 @@
 // Expressions: signs, brackets, calls, and what follows an operand.
 ghost use Rattle.std.specs.Prelude.{suc};
-ghost use Rattle.grammar_forms.specs.Forms.{after, before, deep, made, maybe, seq};
+ghost use Rattle.grammar_forms.specs.Forms.{after, before, deep, limited, made, maybe, seq};
 ghost use Rattle.sql_lexer.specs.declared.token.Word.TheVariants as word;
 ghost use Rattle.sql_parser_parts.specs.Answers.{AnswersBy, kinds};
 ghost use Rattle.sql_parser.specs.Depths.{Nests, box_tree, deep_view, place_of};
 ghost use Rattle.sql_parser.specs.Tails.{compared_reads, tail_view, tailed_reads};
 ghost use Rattle.sql_tree.specs.Grammar.{Negated, Signed, Whole, add, aggr, aggregates_table, at_place, bracketed, branch, call_of, case, cmp, compare_ops_table, conjunction, counted, disjunction, exists, expr, expr_at, in_brackets, key, membership, mul, neg, negated, null_test, of_table, operator_before, prim, signs_table, tail, un};
+ghost use Rattle.sql_tree.specs.Trees as tree;
 ghost use Rattle.sql_tree.specs.View.{branch_tree};
 ghost use Rattle.vtl_cell.specs.declared.operator.ScalarOp.TheVariants as op;
 
@@ -118,15 +119,12 @@ impl<F: Fn(Place, Tokens<'_>) -> Result<Node<'_>, Unread>> Grammar<F> {
         before(self.counted(inner)?, Word::Close)
     }
 
-    // An aggregate of an expression
-    #[tactic(auto, using(crate::proofs::Views::views), unfolding(sql_tree::specs::Grammar::aggr))]
-    fn aggregate<'t>(&self, tokens: Tokens<'t>) -> Result<Node<'t>, Unread>
+    // An aggregate of an expression other than COUNT
+    #[tactic(auto, using(crate::proofs::Views::views))]
+    fn other_aggregate<'t>(&self, tokens: Tokens<'t>) -> Result<Node<'t>, Unread>
         requires { Nests self.now.budget (F.pre self.now.read) (F.post self.now.read) }
-        ensures { AnswersBy (deep_view box_tree) ((aggr (suc self.now.budget) (expr_at self.now.budget Whole)).reads (kinds tokens.now)) result }
+        ensures { AnswersBy (deep_view box_tree) ((made (λ p. limited (suc self.now.budget) (tree.aggregate p.0 p.1.tree) (suc p.1.depth)) (seq (of_table aggregates_table) (in_brackets (expr_at self.now.budget Whole)))).reads (kinds tokens.now)) result }
     {
-        if let Some(count) = optional(self.count(tokens))? {
-            return Ok(count);
-        }
         let table = [
             (Word::Sum, AggKind::Sum),
             (Word::Avg, AggKind::Avg),
@@ -142,6 +140,18 @@ impl<F: Fn(Place, Tokens<'_>) -> Result<Node<'_>, Unread>> Grammar<F> {
             operand: part.tree,
         };
         node(self.alloc, self.budget, tree, part.depth, operand.rest)
+    }
+
+    // An aggregate
+    #[tactic(auto, unfolding(sql_tree::specs::Grammar::aggr))]
+    fn aggregate<'t>(&self, tokens: Tokens<'t>) -> Result<Node<'t>, Unread>
+        requires { Nests self.now.budget (F.pre self.now.read) (F.post self.now.read) }
+        ensures { AnswersBy (deep_view box_tree) ((aggr (suc self.now.budget) (expr_at self.now.budget Whole)).reads (kinds tokens.now)) result }
+    {
+        if let Some(count) = optional(self.count(tokens))? {
+            return Ok(count);
+        }
+        self.other_aggregate(tokens)
     }
 
     // `"WHEN" expr "THEN" expr`
