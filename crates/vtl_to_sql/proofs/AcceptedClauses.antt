@@ -93,9 +93,9 @@ module _ (p : Settings) (b : Bool) (rs : List Renaming) where
 
   pub renaming_at : (j : Option Joined) (n : NodeTree) (parts : List RenamePart) → AllByRecursion written.IsRenaming parts → IsAt p b rs n → Gives (IsAt p b rs) (renaming_form j n parts)
   unfolding renaming_form
-  renaming_at j n parts written h =
+  renaming_at j n parts are h =
       then (AllByRecursion IsNewName) (IsAt p b rs) (renamings_typed j (components_in n) parts) (renamed_of n)
-      (all-in-turn written.IsRenaming IsNewName (λ done. renaming_known j (components_in n) (old_names done)) (λ done. renaming_named j (components_in n) (old_names done)) [] parts tt written)
+      (all-in-turn written.IsRenaming IsNewName (λ done. renaming_known j (components_in n) (old_names done)) (λ done. renaming_named j (components_in n) (old_names done)) [] parts tt are)
       (λ done named. clause_at (nodes.rename n done) _ (λ t. (inl ((h t).0, named), (h t).1)))
 
   -- ---- `calc`
