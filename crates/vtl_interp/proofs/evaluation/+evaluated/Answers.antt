@@ -1,8 +1,9 @@
-use Rattle.std.proofs.Common.{◌≡◌, Ok, ap, length, map, subst, sym, ◌∙◌}
+use Rattle.std.proofs.Common.{◌≡◌, List, Ok, ap, length, map, subst, sym, ◌∙◌}
 use Rattle.std.proofs.lemmas.List.{length-map}
 use Rattle.vtl_tree.specs.Trees as nodes
 use Rattle.vtl_tree.specs.Trees.{nodes_of, operands_of}
 use Rattle.vtl_tree.specs.NodeView.{node_tree, operand_tree}
+use Rattle.vtl_tree.specs.declared.nodes.JoinOperand.{JoinOperand}
 use Rattle.vtl_tree.specs.declared.nodes.NodeForm.TheVariants as form
 use Rattle.vtl_meaning.specs.Joined.{structures_of}
 use Rattle.vtl_meaning.specs.Made.{AreCombined, IsJoined}
@@ -46,7 +47,7 @@ evaluate-join-requires-clause-from t c =
     let os = c.in-Join.operands in
     let sets = c.in_ok-sets-in-Join.sets in
     subst (λ xs. IsJoinedFrom c.in-Join.spec.kind (under_aliases (map (λ o. o.alias) c.deref-in-Join-3.result.now) (structures_of (map value_view xs))) c.args.node.now.structure) (sym c.deref-in-Join-2.ensures.value)
-    (subst (λ xs. IsJoinedFrom c.in-Join.spec.kind (under_aliases (map (λ o. o.alias) xs) (structures_of (values_view sets))) c.args.node.now.structure) (sym c.deref-in-Join-3.ensures.value)
+    (subst (λ (xs : List JoinOperand). IsJoinedFrom c.in-Join.spec.kind (under_aliases (map (λ o. o.alias) xs) (structures_of (values_view sets))) c.args.node.now.structure) (sym c.deref-in-Join-3.ensures.value)
     (join_named c.args.p.now env c.args.node.now os c.in-Join.spec (values_view sets) c.in-Join.is c.requires.made
     (subst (λ xs. operands_value c.args.p.now env (operands_of (map operand_tree xs)) ≡ Ok (values_view sets)) c.deref-in-Join.ensures.value c.in_ok-sets-in-Join.ensures)))
 
