@@ -275,3 +275,16 @@ module _ (s : Structure) (layout : Layout) (well : IsStructure s) (found : IsLay
 
   pub layout_all_below : (count : ℕ) → count ≡ length layout.columns → All (λ i. i < count) layout.places
   layout_all_below count e = subst (λ m. All (λ i. i < m) layout.places) (sym e) layout_within
+
+-- where a component has no place the column behind the last one is at fault
+pub missing_place : (s : Structure) (fields : List (List ℕ)) (columns : List Component) (n : ℕ) → Ok columns ≡ columns_with s.components [] fields → None ≡ each_some (place_in columns) (columns_of s) → n ≡ length columns → Err (n + 1) ≡ layout_of s fields
+missing_place s fields columns n e h k =
+    ap (λ m. fault (m + 1)) k
+    ∙ ap (λ o. ok_or o (length columns + 1) >>= laid columns) h
+    ∙ ap (λ r. r >>= λ xs. places_in s xs >>= laid xs) e
+  where
+    fault : ℕ → Result Layout ℕ
+    fault m = Err m
+
+    laid : List Component → List ℕ → Result Layout ℕ
+    laid xs places = Ok (record { columns = xs; places = places })

@@ -4,4 +4,4 @@ use Rattle.vtl_csv.specs.InputFields.{components_in}
 use Rattle.vtl_csv.proofs.dataset.columns_for.Given as goal
 
 abbrev pub invariant-loop-column : goal.invariant-loop-column
-invariant-loop-column l = l.columns.items ≡ map column_for (take l.column-index (components_in l.file))
+invariant-loop-column l = l.columns.items ≡ map column_for (components_in (take l.column-index l.file))
