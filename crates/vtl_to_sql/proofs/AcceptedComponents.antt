@@ -20,7 +20,7 @@ use Rattle.vtl_meaning.specs.AggregateShapes as aggregates
 use Rattle.vtl_meaning.specs.AggregateShapes.{made_components}
 use Rattle.vtl_meaning.specs.AnalyticShapes.{analyzed_components, of_measure}
 use Rattle.vtl_tree.specs.Columns.{identifiers_of, kind_named}
-use Rattle.vtl_meaning.specs.Shapes.{calculated_components}
+use Rattle.vtl_meaning.specs.Shapes.{calculated_components, target_of}
 use Rattle.vtl_tree.specs.Trees as nodes
 use Rattle.vtl_tree.specs.Trees.{AnalyticTree}
 use Rattle.vtl_meaning.specs.Turned.{codes_of}
