@@ -46,8 +46,8 @@ into_projected-requires-clause-within c =
     let count = ap length below ∙ length-map s.columns column_for in
     subst (All (λ i. i < length c.in_ok-table.table.columns)) (sym c.deref-in-None.ensures.value) (layout_all_below c.args.structure.now s c.requires.structure c.requires.layout (length c.in_ok-table.table.columns) count)
 
-pub returns-in_ok-into_projected-in-None : goal.returns-in_ok-into_projected-in-None
-returns-in_ok-into_projected-in-None c =
+pub returns : goal.returns
+returns c =
     let s = layout_seen c.args.layout.now in
     let p = c.args.profile.now in
     let same = c.deref-3.ensures.value ∙ c.in_ok-columns.ensures ∙ ap (λ l. read_columns c.args.not_null.now (shown l)) c.deref-2.ensures.value in

@@ -1,4 +1,4 @@
-use Rattle.std.proofs.Common.{◌≡◌, [], List, option_map, sym, ap, ◌∙◌}
+use Rattle.std.proofs.Common.{◌≡◌, [], length, option_map, arith, sym, ap, ◌∙◌}
 use Rattle.std.proofs.lemmas.List.{length-map}
 use Rattle.vtl_lists.specs.Each.{each_some}
 use Rattle.vtl_tree.specs.Shown.{shown}
@@ -14,4 +14,6 @@ returns c =
     let places =
     ap (option_map (λ v. v.items)) (sym c.in-None.is) ∙ c.in_ok-places.ensures ∙ ap (λ l. each_some (place_in (shown l)) (shown c.deref-2.result.now)) c.deref.ensures.value
     ∙ ap (λ l. each_some (place_in columns) (shown l)) c.deref-2.ensures.value ∙ ap (each_some (place_in columns)) c.in_ok-in_order.ensures in
-    missing_place c.args.structure.now c.args.fields.now columns c.len.result header places (c.len.ensures ∙ sym (length-map c.in-Ok.columns.items (λ r. r.now)))
+    let shows = length-map c.in-Ok.columns.items (λ r. r.now) in
+    let size : c.len.result ≡ length columns = omega (arith, c.len.ensures, c.in-Ok.columns.ok.0, shows) in
+    missing_place c.args.structure.now c.args.fields.now columns c.len.result header places size
