@@ -2,7 +2,7 @@
 use Rattle.vtl_to_sql.proofs.Existences.{existence_means}
 use Rattle.vtl_meaning.proofs.SetsOrders.{existence_order}
 use Rattle.sql_tree.specs.Formed.{IsName}
-use Rattle.std.proofs.Common.{◌≡◌, ◌+◌, ◌<◌, ◌^◌, ℕ, true, ◌&&◌, List, [], ◌∷◌, ◌++◌, length, map, Ok, Err, refl, sym, subst, arith, append-nil, length-append, ap, ◌≤◌}
+use Rattle.std.proofs.Common.{◌≡◌, ◌+◌, ◌<◌, ◌^◌, ℕ, true, ◌&&◌, List, [], ◌∷◌, ◌++◌, length, map, Ok, Err, refl, sym, subst, arith, append-nil, length-append, ap, ◌≤◌, ◌∙◌}
 use Rattle.std.specs.Prelude.{fold}
 use Rattle.std.specs.List.{AllByRecursion}
 use Rattle.std.proofs.lemmas.Bool.{and_from}
