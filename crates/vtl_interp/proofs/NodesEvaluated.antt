@@ -1,5 +1,5 @@
 -- What nodes of the program evaluate to.
-use Rattle.std.proofs.Common.{◌≡◌, ℕ, List, [], ◌∷◌, map, Option, Some, None, Result, Ok, rules, refl, sym, ap, subst, ◌∙◌}
+use Rattle.std.proofs.Common.{◌≡◌, ℕ, List, [], ◌∷◌, map, Option, Some, None, Result, Ok, Err, rules, refl, sym, ap, subst, ◌∙◌, ◌⊎◌, inl, inr}
 use Rattle.std.specs.Prelude.{Box, Vec, option_map}
 use Rattle.std.specs.declared.alloc.Global.{Global}
 use Rattle.std.specs.Option.{option_map_or}
@@ -38,11 +38,13 @@ use Rattle.vtl_sets.specs.DataSets.{data_set, with_structure}
 use Rattle.vtl_meaning.specs.Joined.{structures_of}
 use Rattle.vtl_meaning.specs.Made.{AreCombined, IsChoice, IsJoined, IsMade, IsMadeForm, IsMeasured, IsWindowed, node_structures}
 use Rattle.vtl_meaning.specs.Meaning.{form_value, known_in, node_value, nodes_value, operands_value, with_operand}
+use Rattle.vtl_meaning.specs.Operators.{choice_of, pair_of}
+use Rattle.vtl_meaning.specs.Sets.{difference_of, existence_of, symmetric_difference_of}
 use Rattle.vtl_meaning.specs.Shapes.{IsJoinedFrom}
 use Rattle.vtl_interp.specs.Evaluated.{Evaluates, Gives, GivesOne, GivesTwo}
 use Rattle.vtl_interp.specs.Values.{under_aliases}
 use Rattle.vtl_interp.proofs.Environments.{data_looked, known_looked}
-use Rattle.vtl_interp.proofs.Evaluates.{applied, nodes_structures, operands_structures, operands_under, then}
+use Rattle.vtl_interp.proofs.Evaluates.{applied, nodes_structures, operands_structures, operands_under, stops, then}
 
 -- the tree of a node, and of each form that is evaluated
 node_tree-is : (n : Node) → node_tree n ≡ nodes.node n.structure (form_tree n.form)
@@ -208,6 +210,38 @@ pub two_operands : {A : Type 0} (view : A → DataSet) (p : Settings) (env : Env
 two_operands view p env n f t a b d e op r is tree value g k h =
     subst (λ (u : NodeTree). Evaluates view p env u r) (sym (tree_with n f t is tree))
     (applied view p env (nodes.node n.structure t) (op d e) r (value ∙ then p env a d (λ x. with_operand b (node_value p env b) (op x)) g ∙ then p env b e (op d) k) h)
+
+-- `if`
+pub choice_gives : {A : Type 0} (view : A → DataSet) (p : Settings) (env : Environment) (n : Node) (c a b : Box Node Global) (t d o : DataSet) (r : Result A ScalarErr)
+    → n.form ≡ form.Choose c a b → Gives p env (node_tree c.value) t → Gives p env (node_tree a.value) d → Gives p env (node_tree b.value) o
+    → AnswersBy view r (Ok (data_set n.structure (choice_of t d o n.structure))) → Evaluates view p env (node_tree n) r
+choice_gives view p env n c a b t d o r is g h k answer =
+    let tree = nodes.choose (node_tree c.value) (node_tree a.value) (node_tree b.value) in
+    subst (λ (u : NodeTree). Evaluates view p env u r) (sym (tree_with n (form.Choose c a b) tree is (form_tree-Choose c a b)))
+    (applied view p env (nodes.node n.structure tree) (Ok (choice_of t d o n.structure)) r
+    (then p env (node_tree c.value) t (λ x. with_operand (node_tree a.value) (node_value p env (node_tree a.value)) (λ y. with_operand (node_tree b.value) (node_value p env (node_tree b.value)) (λ z. Ok (choice_of x y z n.structure)))) g
+    ∙ then p env (node_tree a.value) d (λ y. with_operand (node_tree b.value) (node_value p env (node_tree b.value)) (λ z. Ok (choice_of t y z n.structure))) h
+    ∙ then p env (node_tree b.value) o (λ z. Ok (choice_of t d z n.structure)) k) answer)
+
+-- the second of two operands has the fault
+two_stop : {A B : Type 0} (view : A → DataSet) (other : B → DataSet) (p : Settings) (env : Environment) (n : Node) (f : NodeForm) (t : FormTree) (a b : NodeTree) (d : DataSet) (op : DataSet → DataSet → Outcome (List Row)) (e : ScalarErr)
+    → n.form ≡ f → form_tree f ≡ t → form_value p env n.structure t ≡ with_operand a (node_value p env a) (λ x. with_operand b (node_value p env b) (op x)) → Gives p env a d → Evaluates view p env b (Err e)
+    → Evaluates other p env (node_tree n) (Err e)
+two_stop view other p env n f t a b d op e is tree value g k =
+    subst (λ (u : NodeTree). Evaluates other p env u (Err e)) (sym (tree_with n f t is tree))
+    (stops view other p env b (nodes.node n.structure t) e (λ fault h. value ∙ then p env a d (λ x. with_operand b (node_value p env b) (op x)) g ∙ ap (λ (m : Outcome (List Row)). with_operand b m (op d)) h) k)
+
+pub second_stops : {A B : Type 0} (view : A → DataSet) (other : B → DataSet) (p : Settings) (env : Environment) (n : Node) (a b : Box Node Global) (d : DataSet) (e : ScalarErr)
+    → ((x : ScalarOp) × n.form ≡ form.Pair x a b) ⊎ ((n.form ≡ form.SetDiff a b) ⊎ ((n.form ≡ form.SymDiff a b) ⊎ ((x : Retain) × n.form ≡ form.ExistsIn a b x)))
+    → Gives p env (node_tree a.value) d → Evaluates view p env (node_tree b.value) (Err e) → Evaluates other p env (node_tree n) (Err e)
+second_stops view other p env n a b d e (inl is) g k =
+    two_stop view other p env n (form.Pair is.0 a b) (nodes.pair is.0 (node_tree a.value) (node_tree b.value)) (node_tree a.value) (node_tree b.value) d (λ x y. pair_of p is.0 x y n.structure) e is.1 (form_tree-Pair is.0 a b) refl g k
+second_stops view other p env n a b d e (inr (inl is)) g k =
+    two_stop view other p env n (form.SetDiff a b) (nodes.set_diff (node_tree a.value) (node_tree b.value)) (node_tree a.value) (node_tree b.value) d (λ x y. Ok (difference_of x y n.structure)) e is (form_tree-SetDiff a b) refl g k
+second_stops view other p env n a b d e (inr (inr (inl is))) g k =
+    two_stop view other p env n (form.SymDiff a b) (nodes.sym_diff (node_tree a.value) (node_tree b.value)) (node_tree a.value) (node_tree b.value) d (λ x y. Ok (symmetric_difference_of x y n.structure)) e is (form_tree-SymDiff a b) refl g k
+second_stops view other p env n a b d e (inr (inr (inr is))) g k =
+    two_stop view other p env n (form.ExistsIn a b is.0) (nodes.exists_in (node_tree a.value) (node_tree b.value) is.0) (node_tree a.value) (node_tree b.value) d (λ x y. Ok (existence_of x y is.0)) e is.1 (form_tree-ExistsIn a b is.0) refl g k
 
 -- ---- a name
 -- a name's node is made over what is held: its structure is that of the data set

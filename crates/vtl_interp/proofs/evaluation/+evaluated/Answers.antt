@@ -1,4 +1,4 @@
-use Rattle.std.proofs.Common.{◌≡◌, List, Ok, ap, length, map, subst, sym, ◌∙◌}
+use Rattle.std.proofs.Common.{rules, ◌≡◌, List, Ok, Err, ap, length, map, subst, sym, ◌∙◌}
 use Rattle.std.proofs.lemmas.List.{length-map}
 use Rattle.vtl_tree.specs.Trees as nodes
 use Rattle.vtl_tree.specs.Trees.{nodes_of, operands_of}
@@ -9,10 +9,10 @@ use Rattle.vtl_meaning.specs.Joined.{structures_of}
 use Rattle.vtl_meaning.specs.Made.{AreCombined, IsJoined}
 use Rattle.vtl_meaning.specs.Meaning.{nodes_value, operands_value}
 use Rattle.vtl_meaning.specs.Shapes.{IsJoinedFrom}
-use Rattle.vtl_interp.specs.Evaluated.{Gives}
+use Rattle.vtl_interp.specs.Evaluated.{Evaluates, Gives}
 use Rattle.vtl_interp.specs.Values.{under_aliases, value_view, values_view}
 use Rattle.vtl_interp.proofs.Evaluates.{operands_named}
-use Rattle.vtl_interp.proofs.NodesEvaluated.{choose_fits, form_tree-Intersect, form_tree-Union, join_fits, join_named, name_gives, name_is_held, several_fit}
+use Rattle.vtl_interp.proofs.NodesEvaluated.{choice_gives, choose_fits, form_tree-Intersect, form_tree-Union, join_fits, join_named, name_gives, name_is_held, second_stops, several_fit}
 use Rattle.vtl_interp.proofs.evaluation.+evaluated.Goals as goal
 
 pub evaluate-unreachable-requires : goal.evaluate-unreachable-requires
@@ -31,6 +31,28 @@ evaluate-choose-requires t c =
     (subst (λ n. Gives c.args.p.now env (node_tree n) v) c.deref.ensures c.in_ok-condition-in-Choose.ensures)
     (subst (λ n. Gives c.args.p.now env (node_tree n) w) c.deref-in-Choose.ensures c.in_ok-first-in-Choose.ensures)
     (subst (λ n. Gives c.args.p.now env (node_tree n) x) c.deref-in-Choose-2.ensures c.in_ok-second-in-Choose.ensures)
+
+pub evaluate-returns-in_ok-second-in-Choose : goal.evaluate-returns-in_ok-second-in-Choose
+evaluate-returns-in_ok-second-in-Choose t c =
+    let env = c.args.known.now.entries in
+    let v = value_view c.in_ok-condition-in-Choose.condition in
+    let w = value_view c.in_ok-first-in-Choose.first in
+    let x = value_view c.in_ok-second-in-Choose.second in
+    choice_gives value_view c.args.p.now env c.args.node.now c.in-Choose.c c.in-Choose.a c.in-Choose.b v w x c.choose.result c.in-Choose.is
+    (subst (λ n. Gives c.args.p.now env (node_tree n) v) c.deref.ensures c.in_ok-condition-in-Choose.ensures)
+    (subst (λ n. Gives c.args.p.now env (node_tree n) w) c.deref-in-Choose.ensures c.in_ok-first-in-Choose.ensures)
+    (subst (λ n. Gives c.args.p.now env (node_tree n) x) c.deref-in-Choose-2.ensures c.in_ok-second-in-Choose.ensures)
+    c.choose.ensures
+
+pub evaluate-returns-in_err-right-in-Pair : goal.evaluate-returns-in_err-right-in-Pair
+evaluate-returns-in_err-right-in-Pair t c =
+    let env = c.args.known.now.entries in
+    let e = c.in_err-right-in-Pair.field-0.0 in
+    let left = value_view c.in_ok-left-in-Pair.left in
+    let passed : c.from_residual-in_err-right-in-Pair.result ≡ Err e = search rules in
+    rw passed (second_stops value_view value_view c.args.p.now env c.args.node.now c.in-Pair.a c.in-Pair.b left e c.in-Pair.is
+    (subst (λ n. Gives c.args.p.now env (node_tree n) left) c.deref-in-Pair.ensures c.in_ok-left-in-Pair.ensures)
+    (subst (λ n. Evaluates value_view c.args.p.now env (node_tree n) (Err e)) c.deref-in-Pair-2.ensures c.in_err-right-in-Pair.ensures))
 
 pub evaluate-join-requires-clause-joined : goal.evaluate-join-requires-clause-joined
 evaluate-join-requires-clause-joined t c =
