@@ -191,7 +191,7 @@ module _ (p : Settings) where
       let rows : List Row = are.0.0 in
       let there : rows_read inputs e.0 ≡ rows = found.0 ∙ ap (λ x. x.1.points) are.0.1 in
       let bytes : List ℕ = are.0.2.0 in
-      let asked : AreAsked e.1 rows = record { set = dataset_good p e.1 bytes rows all.0.lawful are.0.2.1; listed = codes_listed p e.1 bytes rows all.0.lawful are.0.2.1 } in
+      let asked : AreAsked e.1 rows = record { set = dataset_good p e.1 [] bytes rows all.0.lawful are.0.2.1; listed = codes_listed p e.1 bytes rows all.0.lawful are.0.2.1 } in
       (data_read e all.0.lawful all.0.coded (rows_read inputs e.0) (subst (AreAsked e.1) (sym there) asked), taken_of inputs es ds all.1 are.1 found.1)
 
   sets_of : (inputs : Inputs) (es : Named) (ds : Environment) → AreSetsOf es ds → AreFound inputs es ds → sets_read inputs es ≡ ds
