@@ -29,25 +29,29 @@ fn is_true(cell: &Cell) -> bool
     matches!(cell, Cell::Bool(true))
 }
 
-// Puts a copy of a row after those that are kept, where the condition is true, and records the condition's fault.
+// Puts a copy of a row after those that are kept, by way of `room`, where the condition is true, and records the
+// condition's fault.
 fn keep(
     alloc: Global,
     kept: &mut Table,
+    room: &mut Vec<Cell>,
     seen: Seen,
     condition: &Prepared,
     row: &[Cell],
     p: &Profile,
 ) -> Result<Seen, ScalarErr>
-    requires { fits kept.old.columns row.now ≡ true }
+    requires fits { fits kept.old.columns row.now ≡ true }
+    requires empty { room.old.items ≡ [] }
     ensures columns { kept.new.columns ≡ kept.old.columns }
     ensures rows { IfOk result (λ _. kept.new.rows ≡ kept.old.rows ++ (if is_true (value p.now (prepared_exp condition.now) row.now) then row.now ∷ [] else [])) }
+    ensures empty { IfOk result (λ _. room.new.items ≡ []) }
     ensures seen { IfOk result (λ s. seen_of s ≡ join (seen_of seen) (fault_in (value p.now (prepared_exp condition.now) row.now))) }
     ensures err { IfErr result (λ e. e ≡ ScalarErr.OutOfMemory) }
 {
     match Point::of(row).value(alloc, condition, p) {
         Ok(value) => {
             if is_true(value.cell()) {
-                kept.push_copy(row)?;
+                kept.push_copy(row, room)?;
             }
             Ok(seen)
         }
@@ -69,9 +73,18 @@ fn kept_table(
     let prepared = prepare(alloc, condition)?;
     let table = a.table();
     let mut kept = new_table(alloc, made)?;
+    let mut room = Vec::with_capacity(alloc, table.columns().len())?;
     let mut seen = Seen::Nothing;
     for i in 0..table.len() {
-        seen = keep(alloc, &mut kept, seen, &prepared, table.row(i), p)?;
+        seen = keep(
+            alloc,
+            &mut kept,
+            &mut room,
+            seen,
+            &prepared,
+            table.row(i),
+            p,
+        )?;
     }
     seen.unless(kept)
 }

@@ -1,7 +1,7 @@
 // The data set that a CSV file holds.
 //
-// All cells of a file go into one list, each at once where it stays. Room for it is reserved by the lines at the
-// front of the file: a list that doubles would hold twice its cells.
+// The cells of a line are read into one list, which is used again, and move to the table's pages. Room for them is
+// reserved at once, by the length of the lines at the front of the file.
 ghost use Rattle.std.specs.Prelude.{◌≡◌, ◌<◌, ◌≤◌, [], length, map, take, option_map, All, IfOk, IfSome, Ok};
 ghost use Rattle.vtl_rows.specs.Tables.{listed, listed_in};
 ghost use Rattle.vtl_tree.specs.DataSet.{AreOfProfile};

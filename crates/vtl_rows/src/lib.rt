@@ -1,6 +1,6 @@
 //! Tables: columns, and rows of cells, which contracts see as the list of the rows, and nothing of how cells are kept.
 //!
-//! All cells of a table stand in one list. Sorting and the test of a key are fast by guesses and hashes, and right
+//! All cells of a table stand in pages, row after row. Sorting and the test of a key are fast by guesses and hashes, and right
 //! whatever these give; no choice of cells makes them slow. `SharedTable` has several owners, `Tables` holds tables
 //! by name.
 //! It knows a column's name and kind, but no roles, structures or data sets (`vtl_tree`, `vtl_sets`).
