@@ -408,7 +408,8 @@ run_all() {
     names='examples launcher check sentences pages crates edits'
     for folder in "$top"/cases/*/; do
         case $(basename "$folder") in
-            run | engine | translated) ;;
+            # The cases of rulesets are named, as long as these are not run.
+            run | engine | translated | run-rules) ;;
             *) names="$names $(basename "$folder")" ;;
         esac
     done
@@ -453,6 +454,10 @@ for folder in cases/*/; do
     wanted "$word" || continue
     case $word in
         run) for case in cases/run/*/; do run_three_ways "$top/${case%/}"; done ;;
+        run-rules)
+            for case in cases/run-rules/*/; do run_three_ways "$top/${case%/}"; done
+            table types cases/types/structures.txt cases/run-rules/rulesets.csv
+            ;;
         engine) for case in cases/engine/*/; do run "$top/${case%/}"; done ;;
         translated) for case in cases/translated/*/; do translated "$top/${case%/}"; done ;;
         explain)
