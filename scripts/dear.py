@@ -7,16 +7,16 @@ before has all of them proved anew.
 dear.py --watch TOP [COUNT]: looks on while `rt ci`, or another command of rt, proves crates of the checkout TOP, and when
 none has been at work for two minutes, or it is interrupted, says the COUNT dearest of all crates, 40 by default. A prover
 that works in one thread writes a file for each part that it has checked; what it was charged since the file before is that
-part's time. So a proof that began before the looking on has a part of its time alone. `ring of f` are functions that call one
-another and `f`, which are proved together; `drops` are those of values of types within themselves; a file of specs/ or proofs/
-has a line of its own. Provers of edits are not looked at. It runs on Linux."""
+part's time. `ring of f` is what functions that call one another, `f` among them, have in common: their proof, which is one (`ring
+of dropped`: how values of types within themselves are dropped). A file of specs/ or proofs/ has a line of its own. Provers of
+edits are not looked at. It runs on Linux."""
 import bisect
 import collections
 import os
 import re
 import signal
-import sys
 import subprocess
+import sys
 import tempfile
 import time
 
@@ -103,15 +103,16 @@ def part_of(crate, name):
     """The part that a file of a prover is of."""
     words = re.sub(rf"^Rattle-{crate}-|\.oantt$", "", name).split(".")
     if words[0] == "proofs" and len(words) > 2:
-        words = words[1:-1]
+        *words, last = words[1:]
     elif words[:2] == ["specs", "contracts"]:
-        words = words[2:]
+        *words, last = [*words[2:], ""]
     else:
         return f"{crate} {'/'.join(words)}.antt"
-    if words == ["+dropped"]:
-        return f"{crate} drops"
-    ring = [it[1:] for it in words if it.startswith("+")]
-    return f"{crate} ring of {'::'.join([*[it for it in words if it[0] != '+'], *ring])}" if ring else f"{crate} {'::'.join(words)}"
+    place = [it for it in words if it[0] != "+"]
+    ring = [it[1:] for it in words if it[0] == "+"]
+    if ring and last.startswith("Lts-"):
+        return f"{crate} {'::'.join([*place, *last[4:].split('-')])}"
+    return f"{crate} ring of {'::'.join([*place, *ring])}" if ring else f"{crate} {'::'.join(place)}"
 
 
 def crate_at_work(pid, top):
@@ -154,5 +155,5 @@ def watch(top, count):
 
 if __name__ == "__main__":
     if sys.argv[1:2] == ["--watch"]:
-        sys.exit(watch(os.path.realpath(sys.argv[2]), int((sys.argv[3:] or ["40"])[0])))
+        sys.exit(watch(os.path.realpath((sys.argv[2:] or ["."])[0]), int((sys.argv[3:] or ["40"])[0])))
     sys.exit(check(sys.argv[1:]))
