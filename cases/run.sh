@@ -309,6 +309,29 @@ whole() {
     if [ "$code" = 3 ] && diff -r "$case/expected" "$folder/out" >/dev/null; then pass; else fail "scripts/run-whole.sh: exit code $code"; fi
 }
 
+# A run whose standard output is closed and whose first write to a file fails: each file that is there holds a front of its
+# text, and none the line of the status. It is left out where there is no C compiler.
+closed_output() {
+    command -v cc >/dev/null || return
+    cc -O1 -shared -fPIC -o "$made/failing.so" cases/closed/failing_write.c || fail 'cases/closed/failing_write.c is not compiled'
+    case=examples/balance
+    laid_out
+    (cd "$folder" && LD_PRELOAD=$made/failing.so exec "$program" "$1" script.vtl structures.csv in out) >&- 2>"$made/told" </dev/null
+    code=$?
+    if [ "$code" != 6 ]; then
+        fail "closed standard output, by $1: exit code $code, wanted 6"
+        return
+    fi
+    for file in "$folder"/out/*; do
+        name=$(basename "$file")
+        if ! cmp -s -n "$(wc -c <"$file")" "$file" "$case/expected/$name"; then
+            fail "closed standard output, by $1: $name begins with $(head -c 100 "$file")"
+            return
+        fi
+    done
+    pass
+}
+
 # The rows of tables on a page, as docs/sentences.tsv has them.
 rows_of() {
     awk -v table="$2" -v header="$3" -v order="$4" '
@@ -507,6 +530,7 @@ for folder in cases/*/; do
                 done
             fi
             ;;
+        closed) for command in run sqlrun; do closed_output "$command"; done ;;
         prefix) for file in cases/prefix/*.csv; do fronts syntax "${file%.*}.vtl" "$file"; done ;;
         *) for file in "cases/$word"/*.csv; do table "$word" "$file"; done ;;
     esac
