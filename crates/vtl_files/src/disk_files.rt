@@ -159,7 +159,6 @@ impl<'a, R: rt::Files> Files for DiskFiles<'a, R> {
             }
         }
         self.writing = None;
-        self.writing = None;
         self.faults.rise();
         Err(Failed)
     }
