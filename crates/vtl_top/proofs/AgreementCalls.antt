@@ -5,7 +5,7 @@ use Rattle.vtl_files.specs.declared.files.Files.{Ghosts}
 use Rattle.vtl_files.specs.declared.sink.Sink.{Ghosts as Sinks}
 use Rattle.vtl_top.specs.Agreement.{AreTwins, WroteSame}
 use Rattle.vtl_top.specs.Answered.{Adds, Ends}
-use Rattle.vtl_top.specs.Asked.{asked_step}
+use Rattle.vtl_top.specs.Forms.{asked_step}
 use Rattle.vtl_top.specs.Complete.{IsCalm}
 use Rattle.vtl_top.specs.Steps.{Held, Made, status_of}
 use Rattle.vtl_top.specs.Words.{Command, Engine, Run, RunsScript, engine, run}

@@ -12,7 +12,7 @@ use Rattle.vtl_check.specs.Transformations.{transformations}
 use Rattle.vtl_check.specs.Uses.{reads}
 use Rattle.vtl_to_sql.specs.Exports.{exported_as}
 use Rattle.vtl_top.specs.Agreement.{AreTwins, IsOutcomeOf}
-use Rattle.vtl_top.specs.Asked.{asked_step}
+use Rattle.vtl_top.specs.Forms.{asked_step}
 use Rattle.vtl_top.specs.Expected.{IsTextOf, Typed, inputs_step, meant, outputs_of, run_step, statements_in}
 use Rattle.vtl_top.specs.ScriptFile.{whole}
 use Rattle.vtl_top.specs.SqlInputs.{input_structures, rows_by_name}
@@ -26,38 +26,16 @@ use Rattle.vtl_top.proofs.AgreementInputs.{IsDeclared, SameRows, as_input, sets_
 use Rattle.vtl_top.proofs.AgreementStructures.{HaveStructures, nodes_have_structures, outputs_have_structures, results_have_structures}
 use Rattle.vtl_top.proofs.InputLemmas.{inputs_are}
 use Rattle.vtl_top.proofs.MeantLemmas.{accepted_always}
-use Rattle.vtl_top.proofs.Once.{IsNoText, determined}
+use Rattle.vtl_top.proofs.Sure.{engine_sure, files_sure, run_sure}
 
 -- ---- a step that makes files gives one result, where its command does
 abbrev made_of : Result (List File) Status → Result Made Status
 made_of (Ok files) = Ok (only_files files)
 made_of (Err status) = Err status
 
-abbrev files_in : Result Made Status → Result (List File) Status
-files_in (Ok made) = Ok made.files
-files_in (Err status) = Err status
-
-files_again : (given : Result (List File) Status) → files_in (made_of given) ≡ given
-files_again (Ok files) = refl
-files_again (Err status) = refl
-
 made_given : (step : Step (List File)) (held : Held) (given : Result (List File) Status) → step.gives held given → (step >>= λ files. settled (Ok (only_files files))).gives held (made_of given)
 made_given step held (Ok files) is = (Ok files, is, refl)
 made_given step held (Err status) is = (Err status, is, refl)
-
-no_text_run : (r : Run) → IsNoText (Some (run r))
-no_text_run r s e = cc
-
-no_text_engine : (e : Engine) → IsNoText (Some (engine e))
-no_text_engine e s q = cc
-
-run_once : (r : Run) (held : Held) (x y : Result (List File) Status) → (run_step r).gives held x → (run_step r).gives held y → x ≡ y
-run_once r held x y p q =
-    sym (files_again x) ∙ ap files_in (determined (Some (run r)) held (made_of x) (made_of y) (no_text_run r) (made_given (run_step r) held x p) (made_given (run_step r) held y q)) ∙ files_again y
-
-engine_once : (e : Engine) (held : Held) (x y : Result (List File) Status) → (engine_step e).gives held x → (engine_step e).gives held y → x ≡ y
-engine_once e held x y p q =
-    sym (files_again x) ∙ ap files_in (determined (Some (engine e)) held (made_of x) (made_of y) (no_text_engine e) (made_given (engine_step e) held x p) (made_given (engine_step e) held y q)) ∙ files_again y
 
 module _ (r : Run) (e : Engine) (held other : Held) (twins : AreTwins r e held other) where
   -- ---- the script, and its text
@@ -147,10 +125,10 @@ module _ (r : Run) (e : Engine) (held other : Held) (twins : AreTwins r e held o
       ∙ result_same
 
   pub engine_agrees : (given : Result (List File) Status) → (run_step r).gives held given → (engine_step e).gives other given
-  engine_agrees given is = subst (λ x. (engine_step e).gives other x) (one_result ∙ run_once r held run_result given run_there is) engine_there
+  engine_agrees given is = subst (λ x. (engine_step e).gives other x) (one_result ∙ (run_sure r).one held run_result given run_there is) engine_there
 
   pub run_agrees : (given : Result (List File) Status) → (engine_step e).gives other given → (run_step r).gives held given
-  run_agrees given is = subst (λ x. (run_step r).gives held x) (sym one_result ∙ engine_once e other engine_result given engine_there is) run_there
+  run_agrees given is = subst (λ x. (run_step r).gives held x) (sym one_result ∙ (engine_sure e).one other engine_result given engine_there is) run_there
 
   -- ---- and so are the commands
   pub run_makes : (asked_step (Some (run r))).gives held (made_of run_result)
@@ -161,7 +139,7 @@ module _ (r : Run) (e : Engine) (held other : Held) (twins : AreTwins r e held o
 
   pub outcomes_agree : (given found : Result Made Status) → (asked_step (Some (run r))).gives held given → (asked_step (Some (engine e))).gives other found → given ≡ found
   outcomes_agree given found p q =
-      determined (Some (run r)) held given (made_of run_result) (no_text_run r) p run_makes ∙ determined (Some (engine e)) other (made_of run_result) found (no_text_engine e) engine_makes q
+      (files_sure (run_step r) (run_sure r)).one held given (made_of run_result) p run_makes ∙ (files_sure (engine_step e) (engine_sure e)).one other (made_of run_result) found engine_makes q
 
 pub outcome_there : (r : Run) (e : Engine) (held other : Held) → AreTwins r e held other → IsOutcomeOf r e held other
 outcome_there r e held other twins = record { given = made_of (run_result r e held other twins); of_run = run_makes r e held other twins; of_engine = engine_makes r e held other twins }

@@ -195,7 +195,7 @@ module _ (status : Status) (own : is_other (cause status) ≡ false) (held : Hel
     where
       at_built : (built_step s).gives held (Err status) ⊎ ((t : Typed) × (built_step s).gives held (Ok t) × (text_for t).gives held (Err status)) → ByTypes s
       at_built (inl e) = by_types_built s e
-      at_built (inr (t, is, rest)) = absurd (never_ok rest.0 rest.1)
+      at_built (inr (t, is, rest)) = absurd (never_ok rest.0 rest.2)
 
   record ByValues (r : Run) : Type 0 where
     typed : Typed
@@ -296,15 +296,15 @@ module _ {F A X : Type 0} (g : Ghosts F) (a b : F) (step : Step A) (never : (f :
   no_run (st.Range name) t h = if_some_map (g.held a) (λ held. step.gives held (Err (st.Range name))) Q (λ held p. absurd (never Range name held p)) t.came
   no_run status t h = absurd h
 
-pub building_tells : {F X : Type 0} (g : Ghosts F) (a b : F) (s : Source) (view : X → Typed) (told : TypedScript → Type 0) (status : Status) → Takes g a b (built_step s) view (Err status) → TellsRun g a s told status
-building_tells g a b s view told status = no_run g a b (built_step s) never view (λ held. IsTold held s told) status
+pub building_tells : {F X : Type 0} (g : Ghosts F) (a b : F) (s : Source) (view : X → Typed) (told : TypedScript → Type 0) (status : Status) → Takes g a b (built_step s) view (Err status) → TellsRun g a (built_step s) told status
+building_tells g a b s view told status = no_run g a b (built_step s) never view (λ held. IsTold held (built_step s) told) status
   where
     never : (f : EvaluationFault) (name : List ℕ) (held : Held) → (built_step s).gives held (Err (fault_status f name)) → ⊥
     never f name held gives =
         let b = by_types_built (fault_status f name) (own_values f name) held s gives in
         types_give_no_value f name (script_typed (env_over s.settings b.structures) b.tree) b.typing
 
-pub inputs_tell : {F X : Type 0} (g : Ghosts F) (a b c : F) (s : Source) (folder : Path) (p : Settings) (inputs : Named) (view : X → Environment) (told : TypedScript → Type 0) (status : Status) → g.held b ≡ g.held a → Takes g b c (inputs_step folder p [] inputs) view (Err status) → TellsRun g a s told status
-inputs_tell g a b c s folder p inputs view told status same t h =
-    subst (λ o. IfSome o (λ held. IsTold held s told)) same
-    (no_run g b c (inputs_step folder p [] inputs) (λ f name held. never_inputs (fault_status f name) (own_values f name) held folder p [] inputs) view (λ held. IsTold held s told) status t h)
+pub inputs_tell : {F X : Type 0} (g : Ghosts F) (a b c : F) (step : Step Typed) (folder : Path) (p : Settings) (inputs : Named) (view : X → Environment) (told : TypedScript → Type 0) (status : Status) → g.held b ≡ g.held a → Takes g b c (inputs_step folder p [] inputs) view (Err status) → TellsRun g a step told status
+inputs_tell g a b c step folder p inputs view told status same t h =
+    subst (λ o. IfSome o (λ held. IsTold held step told)) same
+    (no_run g b c (inputs_step folder p [] inputs) (λ f name held. never_inputs (fault_status f name) (own_values f name) held folder p [] inputs) view (λ held. IsTold held step told) status t h)

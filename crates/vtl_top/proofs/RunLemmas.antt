@@ -195,7 +195,7 @@ module _ {F X : Type 0} (g : Ghosts F) (s : Source) (view : X → List ℕ) (a b
     pub text_made : (x : X) → IsTextOf (typed_view t) (view x) → Takes g a b (text_step s) view (Ok x)
     text_made x is =
         takes_onward g (built_step s) text_for a b b typed_view view t (Ok x) built
-        (record { reads = nothing_read g b; came = if_some_all (g.held b) (λ held. (text_for (typed_view t)).gives held (Ok (view x))) (λ held. (view x, refl, is)) })
+        (record { reads = nothing_read g b; came = if_some_all (g.held b) (λ held. (text_for (typed_view t)).gives held (Ok (view x))) (λ held. (view x, is, refl)) })
 
 -- ---- what is made of files, or of a text
 module _ {F A X : Type 0} (g : Ghosts F) (a b : F) (step : Step A) (wrap : A → Made) (view : X → A) where

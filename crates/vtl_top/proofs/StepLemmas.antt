@@ -9,11 +9,11 @@ use Rattle.vtl_top.specs.Kinds.{Told, done, no_command, refused, absent, read_fa
 use Rattle.vtl_top.specs.Steps.{File, Made, Step, ◌>>=◌}
 use Rattle.vtl_files.specs.declared.sink.Sink.{Ghosts as Sinks}
 use Rattle.vtl_check.specs.Checked.{TypedScript}
-use Rattle.vtl_top.specs.Answered.{Adds, AddsUpTo, Came, EndsAs, Faulted, Gives, GivesOut, IsMadeBy, OnlyReads, Stops, Takes, Unsaid, WritesAs}
-use Rattle.vtl_top.specs.Asked.{asked_step}
-use Rattle.vtl_top.specs.Expected.{built_step}
-use Rattle.vtl_top.specs.Informed.{HasRun, Informs, IsTold, TellsRun, typed_view}
-use Rattle.vtl_top.specs.Words.{Command, Source, engine, run, sql, sqlrun}
+use Rattle.vtl_top.specs.Answered.{Adds, AddsUpTo, Came, EndsAs, Faulted, Gives, GivesOut, OnlyReads, Stops, Takes, Unsaid, WritesAs}
+use Rattle.vtl_top.specs.Expected.{Typed}
+use Rattle.vtl_top.specs.Forms.{IsMadeBy, Tells, asked_step, form_of, of_itself, of_step, silent}
+use Rattle.vtl_top.specs.Informed.{HasRun, Informed, Informs, IsTold, TellsRun, typed_view}
+use Rattle.vtl_top.specs.Words.{Command}
 
 pub rose_before : (a b c : ℕ) → a ≤ b → Rose b c → Rose a c
 rose_before a b c le rose = omega (arith, le, rose)
@@ -158,13 +158,14 @@ given_not_usage g o b c out between made status w e = subst (λ (s : Status). Gi
 -- ---- what a back end was told
 -- once a run came to its script, whatever became of its files
 pub informed : {F B : Type 0} (g : Ghosts F) (a : F) (told : B → TypedScript → Type 0) (old new : B) (command : Option Command) (status : Status) → Informs g a told old new command st.Done → Informs g a told old new command status
-informed g a told old new None status i = i
-informed g a told old new (Some (run r)) status i = i
-informed g a told old new (Some (sqlrun r)) status i = λ h. i tt
-informed g a told old new (Some (sql s)) status i = i
-informed g a told old new (Some (engine e)) status i = i
+informed {F} {B} g a told old new command status i = by_tells (form_of command).tells i
+  where
+    by_tells : (tells : Tells) → Informed g a told old new tells st.Done → Informed g a told old new tells status
+    by_tells silent i = i
+    by_tells (of_step step) i = λ h. i tt
+    by_tells (of_itself t) i = λ h. i tt
 
 -- a script that was accepted
-pub told_behind : {F : Type 0} (g : Ghosts F) (a b : F) (s : Source) (told : TypedScript → Type 0) (t : TypedScript) (status : Status) → Takes g a b (built_step s) typed_view (Ok t) → (HasRun status → told t) → TellsRun g a s told status
-told_behind g a b s told t status takes f h =
-    if_some_map (g.held a) (λ held. (built_step s).gives held (Ok (typed_view t))) (λ held. IsTold held s told) (λ held p. record { script = t; given = p; told_of = f h }) takes.came
+pub told_behind : {F : Type 0} (g : Ghosts F) (a b : F) (step : Step Typed) (told : TypedScript → Type 0) (t : TypedScript) (status : Status) → Takes g a b step typed_view (Ok t) → (HasRun status → told t) → TellsRun g a step told status
+told_behind g a b step told t status takes f h =
+    if_some_map (g.held a) (λ held. step.gives held (Ok (typed_view t))) (λ held. IsTold held step told) (λ held p. record { script = t; given = p; told_of = f h }) takes.came

@@ -6,7 +6,7 @@ use Rattle.vtl_files.specs.declared.files.Files.{Ghosts}
 use Rattle.vtl_tree.specs.Structures.{Named}
 use Rattle.vtl_check.specs.Uses.{reads}
 use Rattle.vtl_top.specs.Answered.{Adds}
-use Rattle.vtl_top.specs.Asked.{asked_step}
+use Rattle.vtl_top.specs.Forms.{asked_step}
 use Rattle.vtl_top.specs.Expected.{file_in}
 use Rattle.vtl_top.specs.Meant.{IsTextMeant}
 use Rattle.vtl_top.specs.Steps.{File, Held, Made, Name, Path, Text}

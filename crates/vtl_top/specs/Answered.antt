@@ -6,10 +6,10 @@ use Rattle.vtl_files.specs.declared.files.Files.{Ghosts}
 use Rattle.vtl_top.specs.Kinds.{Told, done, no_command, refused, absent, read_fault, write_fault, no_memory, told_by}
 use Rattle.vtl_files.specs.Whole.{TakesFront}
 use Rattle.vtl_files.specs.declared.sink.Sink.{Ghosts as Sinks}
-use Rattle.vtl_top.specs.Asked.{asked_step}
+use Rattle.vtl_top.specs.Forms.{IsMadeBy, asked_step}
 use Rattle.vtl_top.specs.Said.{Hears, Says}
 use Rattle.vtl_top.specs.Steps.{File, Made, Name, Path, Step, Text}
-use Rattle.vtl_top.specs.Words.{Command, engine, run, sql, sqlrun}
+use Rattle.vtl_top.specs.Words.{Command}
 use Rattle.vtl_status.specs.declared.status.Status.{Status}
 
 -- Nothing but counts, place and mark has changed.
@@ -92,14 +92,6 @@ WritesAs g before now files (write_fault path) = AddsUpTo (g.written before) (g.
 WritesAs g before now files _ = ⊥
 
 -- ---- files and a sink
--- what each command makes: files alone, or a text alone
-abbrev pub IsMadeBy : Option Command → Made → Type 0
-IsMadeBy None made = ⊥
-IsMadeBy (Some (run r)) made = made.text ≡ []
-IsMadeBy (Some (sqlrun r)) made = made.text ≡ []
-IsMadeBy (Some (sql s)) made = made.files ≡ []
-IsMadeBy (Some (engine e)) made = made.text ≡ []
-
 -- The text was the cause of a fault of writing: the files were written whole, the sink failed, and took a front of it.
 pub record Unsaid {F O : Type 0} (g : Ghosts F) (o : Sinks O) (before now : F) (out between : O) (made : Made) (path : Name) : Type 0 where
   pub at_sink : path ≡ chars (codes "-")

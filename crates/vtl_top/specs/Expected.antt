@@ -21,7 +21,7 @@ use Rattle.vtl_check.specs.Script.{has_definitions, script_typed}
 use Rattle.vtl_check.specs.Uses.{reads}
 use Rattle.sql_back.specs.Texts.{IsTextFor}
 use Rattle.vtl_top.specs.ScriptFile.{IsParsed, Parsed, faulty, no_text, whole}
-use Rattle.vtl_top.specs.Steps.{File, Held, Name, Path, Step, Text, ◌>>=◌, refused_if, settled}
+use Rattle.vtl_top.specs.Steps.{File, Held, Name, Path, Step, Text, ◌>>=◌, looked, read_as, refused_if, settled}
 use Rattle.vtl_top.specs.Structures.{structures_in}
 use Rattle.vtl_top.specs.Words.{Run, Source}
 use Rattle.vtl_status.specs.declared.status.Status.{Status}
@@ -52,7 +52,7 @@ content path limit held = sized path limit (bytes_at path held)
 -- ---- the steps of a run
 -- the bytes of a file
 abbrev pub read : Path → ℕ → Step Text
-read path limit = record { gives = λ held given. given ≡ content path limit held; reads = λ held named. named ≡ chars path }
+read path limit = looked (content path limit) path
 
 -- the tree of a script file, by what it is read as
 abbrev pub script_in : Path → Parsed ScriptTree → Result ScriptTree Status
@@ -61,7 +61,7 @@ script_in path (faulty done byte) = Err (st.Syntax done byte)
 script_in path (whole script) = Ok script
 
 abbrev pub script_of : Path → Text → Step ScriptTree
-script_of path bytes = record { gives = λ held given. (parsed : Parsed ScriptTree) × IsParsed bytes parsed × (given ≡ script_in path parsed); reads = λ held named. ⊥ }
+script_of path bytes = read_as (IsParsed bytes) (script_in path)
 
 abbrev pub script_step : Path → Step ScriptTree
 script_step path = read path script_limit >>= script_of path
@@ -171,7 +171,7 @@ abbrev pub IsTextOf : Typed → Text → Type 0
 IsTextOf t text = IsTextFor t.settings (reads t.structures t.nodes) (statements_in t) text
 
 abbrev pub text_for : Typed → Step Text
-text_for t = record { gives = λ held given. (text : Text) × (given ≡ Ok text) × IsTextOf t text; reads = λ held named. ⊥ }
+text_for t = read_as (IsTextOf t) (λ text. Ok text)
 
 -- a text of the script of a source. No data set is read.
 abbrev pub text_step : Source → Step Text

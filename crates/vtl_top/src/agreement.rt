@@ -6,7 +6,7 @@
 ghost use Rattle.std.specs.Prelude.{◌≡◌, ◌⊎◌, List, Result, Some};
 ghost use Rattle.vtl_top.specs.Agreement.{AreTwins, IsOutcomeOf, IsPrinted, WroteSame};
 ghost use Rattle.vtl_top.specs.Answered.{Ends};
-ghost use Rattle.vtl_top.specs.Asked.{asked_step};
+ghost use Rattle.vtl_top.specs.Forms.{asked_step};
 ghost use Rattle.vtl_top.specs.Complete.{IsCalm};
 ghost use Rattle.vtl_top.specs.Expected.{run_step};
 ghost use Rattle.vtl_top.specs.SqlRun.{engine_step};

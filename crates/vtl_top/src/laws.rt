@@ -11,7 +11,7 @@ ghost use Rattle.vtl_csv.specs.StructuresFile.{structures_of_file};
 ghost use Rattle.vtl_decimal.specs.declared.number.Fault.{Fault};
 ghost use Rattle.vtl_top.specs.Answered.{Ends};
 ghost use Rattle.vtl_top.specs.Complete.{IsCalm};
-ghost use Rattle.vtl_top.specs.Asked.{asked_step};
+ghost use Rattle.vtl_top.specs.Forms.{asked_step};
 ghost use Rattle.vtl_top.specs.Expected.{IsTextOf, Typed, fault_status, run_step, text_step};
 ghost use Rattle.vtl_top.specs.Meant.{IsAccepted, IsFaulted, IsMeant, IsMistyped, IsTextMeant};
 ghost use Rattle.vtl_top.specs.SqlMeant.{IsExported, IsSqlFaulted, IsSqlMistyped};

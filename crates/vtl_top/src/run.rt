@@ -134,7 +134,7 @@ pub fn prepare<B: Backend, F: Files>(
 ) -> Result<Vec<Output>, Status>
     ensures takes { Takes F.Files files.old files.new (run_step (run_view run.now)) outputs_view result }
     ensures named { IfOk result (λ o. AllByRecursion NamesPath o.items) }
-    ensures told { TellsRun F.Files files.old (source_view run.now.source) (B.told back.new) (status_of result) }
+    ensures told { TellsRun F.Files files.old (built_step (source_view run.now.source)) (B.told back.new) (status_of result) }
 {
     let checked = read_built(alloc, files, &run.source)?;
     let inputs = read_inputs(alloc, files, run.input, &checked)?;
