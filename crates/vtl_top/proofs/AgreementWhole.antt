@@ -13,12 +13,12 @@ use Rattle.vtl_check.specs.Uses.{reads}
 use Rattle.vtl_to_sql.specs.Exports.{exported_as}
 use Rattle.vtl_top.specs.Agreement.{AreTwins, IsOutcomeOf}
 use Rattle.vtl_top.specs.Forms.{asked_step}
-use Rattle.vtl_top.specs.Expected.{IsTextOf, Typed, inputs_step, meant, outputs_of, run_step, statements_in}
+use Rattle.vtl_top.specs.Expected.{IsTextOf, Typed, folder_step, meant, outputs_of, run_step, statements_in}
 use Rattle.vtl_top.specs.ScriptFile.{whole}
 use Rattle.vtl_top.specs.SqlInputs.{input_structures, rows_by_name}
 use Rattle.vtl_top.specs.SqlRun.{engine_step, exports_of, present, sql_checked_step, sql_typing}
 use Rattle.vtl_top.specs.Steps.{File, Held, Made, Path, Step, ◌>>=◌, only_files, settled}
-use Rattle.vtl_top.specs.Words.{Engine, Run, engine, run}
+use Rattle.vtl_top.specs.Words.{Engine, Run, engine, run, settings_of}
 use Rattle.vtl_status.specs.declared.status.Status.{Status}
 use Rattle.vtl_top.proofs.AgreementDeclared.{all_declared, step_declares}
 use Rattle.vtl_top.proofs.AgreementExports.{exports_are_outputs}
@@ -61,7 +61,7 @@ module _ (r : Run) (e : Engine) (held other : Held) (twins : AreTwins r e held o
   each = all_declared es read
 
   shaped : HaveStructures t.nodes
-  shaped = nodes_have_structures r.source.settings t.structures t.tree t.nodes declared twins.script.script.fits
+  shaped = nodes_have_structures (settings_of r.source) t.structures t.tree t.nodes declared twins.script.script.fits
 
   -- ---- what the run gives
   abbrev run_result : Result (List File) Status
@@ -71,7 +71,7 @@ module _ (r : Run) (e : Engine) (held other : Held) (twins : AreTwins r e held o
   run_there = (
     Ok t,
     accepted_always r.source held t twins.script.script,
-    then_gives (inputs_step r.input t.settings [] es) (λ env. settled (outputs_of r.output t.settings (meant t env))) held (sets_in r.input t.settings held [] es) (λ env. outputs_of r.output t.settings (meant t env))
+    then_gives (folder_step r.input t.settings es) (λ env. settled (outputs_of r.output t.settings (meant t env))) held (sets_in r.input t.settings held [] es) (λ env. outputs_of r.output t.settings (meant t env))
         (sets_given r.input t.settings held [] es) (λ env. refl),
   )
 
@@ -93,7 +93,7 @@ module _ (r : Run) (e : Engine) (held other : Held) (twins : AreTwins r e held o
   engine_there = (
     Ok tree,
     checked,
-    then_gives (inputs_step e.input (script_settings tree) [] (input_structures tree)) (λ env. settled (exports_of e.output (script_settings tree) (script_value tree (rows_by_name env)))) other
+    then_gives (folder_step e.input (script_settings tree) (input_structures tree)) (λ env. settled (exports_of e.output (script_settings tree) (script_value tree (rows_by_name env)))) other
         (sets_in e.input (script_settings tree) other [] (input_structures tree)) (λ env. exports_of e.output (script_settings tree) (script_value tree (rows_by_name env)))
         (sets_given e.input (script_settings tree) other [] (input_structures tree)) (λ env. refl),
   )

@@ -7,14 +7,17 @@ use Rattle.vtl_parser.specs.Parsed.{IsFaulty, IsScript}
 use Rattle.vtl_decimal.specs.Settings.{Settings}
 use Rattle.vtl_tree.specs.Environment.{Environment}
 use Rattle.vtl_tree.specs.Structures.{Named}
-use Rattle.vtl_tree.specs.declared.structure.Structure.{Structure}
+use Rattle.vtl_check.specs.Uses.{reads}
+use Rattle.sql_check_parts.specs.Statements.{script_settings}
 use Rattle.sql_tree.specs.Texts as sql_texts
-use Rattle.vtl_top.specs.Expected.{IsTextOf, Typed, built_step, dataset_step, inputs_step, run_step, script_in, script_of, structures_step, text_for, typed_step}
+use Rattle.vtl_top.specs.Expected.{IsTextOf, Typed, built_step, dataset_step, folder_step, inputs_step, run_step, script_in, script_of, structures_step, text_for, typed_step}
 use Rattle.vtl_top.specs.Forms.{asked_step}
 use Rattle.vtl_top.specs.Meant.{IsAccepted}
 use Rattle.vtl_top.specs.ScriptFile.{IsParsed, IsParsedBy, IsSqlParsed, Parsed, faulty, no_text, whole}
+use Rattle.vtl_top.specs.SqlInputs.{input_structures}
 use Rattle.vtl_top.specs.SqlRun.{engine_step, sql_checked_step, sql_in, sql_of}
 use Rattle.vtl_top.specs.Steps.{Behind, File, Held, Made, Path, Step, Text, ◌>>=◌, as_files, looked, only_text, read_as, settled, status_of}
+use Rattle.vtl_top.specs.Wanted.{Placed, all_placed_in}
 use Rattle.vtl_top.specs.Words.{Command, Engine, Run, Source, engine, run, sql, sqlrun}
 use Rattle.vtl_status.specs.declared.status.Status.{Status}
 use Rattle.vtl_top.proofs.MeantLemmas.{accepted_only}
@@ -75,12 +78,15 @@ script_sure path bytes = read_sure (IsParsed bytes) (script_in path) (parsed_onc
 structures_sure : (path : Path) → Sure (structures_step path)
 structures_sure path = then_sure _ _ (looked_sure _ _) (λ bytes. settled_sure _)
 
-dataset_sure : (folder : Path) (p : Settings) (e : List ℕ × Structure) → Sure (dataset_step folder p e)
-dataset_sure folder p e = then_sure _ _ (looked_sure _ _) (λ bytes. settled_sure _)
+dataset_sure : (p : Settings) (w : Placed) → Sure (dataset_step p w)
+dataset_sure p w = then_sure _ _ (looked_sure _ _) (λ bytes. settled_sure _)
 
-inputs_sure : (folder : Path) (p : Settings) (before : Environment) (inputs : Named) → Sure (inputs_step folder p before inputs)
-inputs_sure folder p before [] = settled_sure _
-inputs_sure folder p before (e ∷ rest) = then_sure _ _ (then_sure _ _ (dataset_sure folder p e) (λ points. settled_sure _)) (λ more. inputs_sure folder p more rest)
+inputs_sure : (p : Settings) (before : Environment) (inputs : List Placed) → Sure (inputs_step p before inputs)
+inputs_sure p before [] = settled_sure _
+inputs_sure p before (w ∷ rest) = then_sure _ _ (then_sure _ _ (dataset_sure p w) (λ points. settled_sure _)) (λ more. inputs_sure p more rest)
+
+folder_sure : (folder : Path) (p : Settings) (es : Named) → Sure (folder_step folder p es)
+folder_sure folder p es = inputs_sure p [] (all_placed_in folder es)
 
 typed_sure : (s : Source) → Sure (typed_step s)
 typed_sure s =
@@ -94,7 +100,7 @@ pub built_sure : (s : Source) → Sure (built_step s)
 built_sure s = then_sure _ _ (typed_sure s) (λ t. then_sure _ _ (settled_sure _) (λ built. settled_sure _))
 
 pub run_sure : (r : Run) → Sure (run_step r)
-run_sure r = then_sure _ _ (built_sure r.source) (λ t. then_sure _ _ (inputs_sure _ _ _ _) (λ env. settled_sure _))
+run_sure r = then_sure _ _ (built_sure r.source) (λ t. then_sure _ _ (folder_sure r.input t.settings (reads t.structures t.nodes)) (λ env. settled_sure _))
 
 sql_sure : (path bytes : Text) → Sure (sql_of path bytes)
 sql_sure path bytes = read_sure (IsSqlParsed bytes) (sql_in path) (sql_parsed_once bytes) (parsed_somehow sql_texts.IsScript sql_texts.IsFaulty bytes (sql_read_somehow bytes))
@@ -106,7 +112,7 @@ sql_checked_sure path =
     settled_sure _))
 
 pub engine_sure : (e : Engine) → Sure (engine_step e)
-engine_sure e = then_sure _ _ (sql_checked_sure e.sql) (λ tree. then_sure _ _ (inputs_sure _ _ _ _) (λ env. settled_sure _))
+engine_sure e = then_sure _ _ (sql_checked_sure e.sql) (λ tree. then_sure _ _ (folder_sure e.input (script_settings tree) (input_structures tree)) (λ env. settled_sure _))
 
 pub files_sure : (step : Step (List File)) → Sure step → Sure (as_files step)
 files_sure step sure = then_sure _ _ sure (λ files. settled_sure _)

@@ -19,4 +19,5 @@ pub mod SqlInputs
 pub mod SqlMeant
 pub mod SqlRun
 pub mod Structures
+pub mod Wanted
 pub mod Words

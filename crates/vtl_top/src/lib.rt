@@ -38,7 +38,7 @@ pub use laws::{
 };
 pub use run::read_built;
 pub use top::{vtl, vtl_by, vtl_with};
-pub use words::Source;
+pub use words::{Chosen, Source};
 
 // Words of the product that stand in other crates. This is the only crate that hands on words of another one.
 pub use sql_back::{Bundled, SqlBack, TextEngine};

@@ -105,7 +105,8 @@ pub fn read_typed<F: Files>(
         return Err(unbuilt(alloc, source.script));
     }
     let structures = read_structures_file(alloc, files, source.structures)?;
-    typed(alloc, &script, &structures, &source.profile)
+    let profile = source.chosen.profile(None);
+    typed(alloc, &script, &structures, &profile)
 }
 
 /// The same, where each of its forms is evaluated.
