@@ -37,15 +37,15 @@ use Rattle.vtl_top.specs.Words.{Run, Source, settings_of}
 use Rattle.vtl_status.specs.declared.status.Status.{Status}
 use Rattle.vtl_status.specs.declared.status.Status.TheVariants as st
 use Rattle.vtl_top.proofs.ReadScripts.{if_some_all, settled_given, typing_given}
-use Rattle.vtl_top.proofs.StepLemmas.{nothing_read, takes_onward, takes_stopped}
+use Rattle.vtl_top.proofs.StepLemmas.{misses_none, nothing_read, takes_onward, takes_stopped}
 use Rattle.vtl_top.proofs.MeantLemmas.{after_built, after_plain, after_script, after_structures, after_typing}
 
 module _ {F : Type 0} (g : Ghosts F) (a : F) where
   pub settled_ok : {A X : Type 0} (view : X → A) (x : X) (wanted : Result A Status) → wanted ≡ Ok (view x) → Takes g a a (settled wanted) view (Ok x)
-  settled_ok view x wanted e = record { reads = nothing_read g a; came = if_some_all (g.held a) (λ held. (settled wanted).gives held (Ok (view x))) (λ held. sym e) }
+  settled_ok view x wanted e = record { reads = nothing_read g a; came = if_some_all (g.held a) (λ held. (settled wanted).gives held (Ok (view x))) (λ held. sym e); misses = refl }
 
   pub memory_takes : {A X : Type 0} (view : X → A) (step : Step A) (status : Status) → status ≡ st.Memory → Takes g a a step view (Err status)
-  memory_takes view step status e = record { reads = nothing_read g a; came = subst (λ (s : Status). Came g a a step view (Err s)) (sym e) tt }
+  memory_takes view step status e = record { reads = nothing_read g a; came = subst (λ (s : Status). Came g a a step view (Err s)) (sym e) tt; misses = misses_none g a status st.Memory e refl }
 
   pub unbuilt_takes : {A X : Type 0} (view : X → A) (path : List ℕ) (given : Result A Status) (status : Status) → given ≡ Err (st.Unbuilt (chars path)) → IsOrMemory (st.Unbuilt (chars path)) status → Takes g a a (settled given) view (Err status)
   unbuilt_takes view path given status is (inl e) = memory_takes view (settled given) status e
@@ -53,6 +53,7 @@ module _ {F : Type 0} (g : Ghosts F) (a : F) where
     reads = nothing_read g a;
     came = subst (λ (s : Status). Came g a a (settled given) view (Err s)) (sym e)
         (if_some_all (g.held a) (λ held. (settled given).gives held (Err (st.Unbuilt (chars path)))) (λ held. sym is));
+    misses = misses_none g a status (st.Unbuilt (chars path)) e refl;
   }
 
   -- a test that holds refuses, and one that does not goes on
@@ -195,7 +196,7 @@ module _ {F X : Type 0} (g : Ghosts F) (s : Source) (view : X → List ℕ) (a b
     pub text_made : (x : X) → IsTextOf (typed_view t) (view x) → Takes g a b (text_step s) view (Ok x)
     text_made x is =
         takes_onward g (built_step s) text_for a b b typed_view view t (Ok x) built
-        (record { reads = nothing_read g b; came = if_some_all (g.held b) (λ held. (text_for (typed_view t)).gives held (Ok (view x))) (λ held. (view x, is, refl)) })
+        (record { reads = nothing_read g b; came = if_some_all (g.held b) (λ held. (text_for (typed_view t)).gives held (Ok (view x))) (λ held. (view x, is, refl)); misses = refl })
 
 -- ---- what is made of files, or of a text
 module _ {F A X : Type 0} (g : Ghosts F) (a b : F) (step : Step A) (wrap : A → Made) (view : X → A) where

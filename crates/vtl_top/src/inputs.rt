@@ -124,7 +124,14 @@ pub fn read_all_wanted<F: Files>(
 {
     let mut tables = Tables::new(alloc);
     for i in 0..wanted.len() {
-        match add_input(alloc, files, folder, profile, wanted_at(wanted, i), &mut tables) {
+        match add_input(
+            alloc,
+            files,
+            folder,
+            profile,
+            wanted_at(wanted, i),
+            &mut tables,
+        ) {
             Ok(()) => {}
             Err(status) => return Err(status),
         }
