@@ -1,6 +1,6 @@
 -- Interpreting a script and running its text in SQL come to the same.
-use Rattle.std.proofs.Common.{◌≡◌, ℕ, List, [], map, Some, Result, Ok, Err, refl, sym, ap, subst, ◌∙◌}
-use Rattle.std.proofs.lemmas.Simd.{map-map}
+use Rattle.std.proofs.Common.{◌≡◌, ℕ, List, [], ◌∷◌, ◌++◌, append_assoc, map, Some, Result, Ok, Err, refl, sym, ap, subst, ◌∙◌}
+use Rattle.std.specs.Prelude.{codes, encode_utf8_all}
 use Rattle.std.specs.List.{AllByRecursion}
 use Rattle.vtl_decimal.specs.Settings.{Settings}
 use Rattle.vtl_decimal.specs.declared.number.Fault.{Fault as EvaluationFault}
@@ -12,15 +12,16 @@ use Rattle.sql_check_parts.specs.Statements.{script_settings}
 use Rattle.vtl_meaning.specs.Meaning.{Outputs, meaning}
 use Rattle.vtl_check.specs.Transformations.{transformations}
 use Rattle.vtl_check.specs.Uses.{reads}
+use Rattle.vtl_csv.specs.CsvText.{csv_of}
 use Rattle.vtl_to_sql.specs.Inputs.{AreTaken, sets_read}
 use Rattle.vtl_top.specs.Agreement.{AreSameFiles, AreSameMade, AreTwins, ComeToSame, GivesOne, IsOutcomeOf, behind}
 use Rattle.vtl_top.specs.Forms.{asked_step}
-use Rattle.vtl_top.specs.Expected.{IsTextOf, Typed, folder_step, meant, output_of, outputs_of, run_step, statements_in}
+use Rattle.vtl_top.specs.Expected.{IsTextOf, Typed, file_in, folder_step, meant, output_of, outputs_of, run_step, statements_in}
 use Rattle.vtl_top.specs.Meant.{IsTextMeant}
 use Rattle.vtl_top.specs.ScriptFile.{whole}
 use Rattle.vtl_top.specs.SqlInputs.{input_structures, rows_by_name}
 use Rattle.vtl_top.specs.SqlRun.{engine_step, exports_of, present, sql_checked_step, sql_typing}
-use Rattle.vtl_top.specs.Steps.{File, Held, Made, Path, Step, Text, as_files, only_files, settled}
+use Rattle.vtl_top.specs.Steps.{File, Held, Made, Name, Path, Step, Text, as_files, only_files, settled}
 use Rattle.vtl_top.specs.Words.{Engine, Run, Source, engine, run, settings_of}
 use Rattle.vtl_status.specs.declared.status.Status.{Status}
 use Rattle.vtl_top.proofs.AgreementDeclared.{all_declared, step_declares}
@@ -32,11 +33,20 @@ use Rattle.vtl_top.proofs.MeantLemmas.{accepted_always}
 use Rattle.vtl_top.proofs.Sure.{engine_sure, files_sure, run_sure}
 
 -- ---- what is written in two folders
+file_behind : (folder : Path) (name : Name) → file_in folder name ≡ folder ++ file_in [] name
+file_behind folder name = ap (λ l. l ++ codes ".csv") (append_assoc folder (codes "/") (encode_utf8_all name)) ∙ append_assoc folder (codes "/" ++ encode_utf8_all name) (codes ".csv")
+
+outputs_behind : (folder : Path) (p : Settings) (results : Outputs) → map (output_of folder p) results ≡ map (behind folder) (map (output_of [] p) results)
+outputs_behind folder p [] = refl
+outputs_behind folder p (d ∷ ds) =
+    ap {B = List File} (λ path. (path, csv_of p d.1.structure d.1.points) ∷ map (output_of folder p) ds) (file_behind folder d.0)
+    ∙ ap (λ l. behind folder (output_of [] p d) ∷ l) (outputs_behind folder p ds)
+
 outputs_same : (first second : Path) (p : Settings) (m : Result Outputs (EvaluationFault × List ℕ)) → ComeToSame (AreSameFiles first second) (outputs_of first p m) (outputs_of second p m)
 outputs_same first second p (Ok results) = record {
   files = map (output_of [] p) results;
-  in_first = sym (map-map (behind first) (output_of [] p) results);
-  in_second = sym (map-map (behind second) (output_of [] p) results);
+  in_first = outputs_behind first p results;
+  in_second = outputs_behind second p results;
 }
 outputs_same first second p (Err fault) = refl
 

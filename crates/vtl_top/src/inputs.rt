@@ -46,12 +46,12 @@ pub struct Wanted<'a> {
 // The table of a data set that the bytes of a file hold.
 fn table_in(
     alloc: Global,
-    wanted: Wanted<'_>,
+    wanted: &Wanted<'_>,
     bytes: &[u8],
     profile: &Profile,
 ) -> Result<Table, Status>
-    requires { IsStructure wanted.structure.now }
-    ensures table { IsTableRead wanted.name.now wanted.structure.now (dataset_rows profile.now wanted.structure.now wanted.not_null.now bytes.now) result }
+    requires { IsStructure wanted.now.structure.now }
+    ensures table { IsTableRead wanted.now.name.now wanted.now.structure.now (dataset_rows profile.now wanted.now.structure.now wanted.now.not_null.now bytes.now) result }
     ensures ranges { IfOk result (λ t. AreOfProfile profile.now t.rows) }
 {
     match read_dataset(alloc, bytes, wanted.structure, wanted.not_null, profile) {
@@ -66,11 +66,11 @@ fn read_input<F: Files>(
     files: &mut F,
     folder: &str,
     profile: &Profile,
-    wanted: Wanted<'_>,
+    wanted: &Wanted<'_>,
 ) -> Result<Table, Status>
-    requires { IsStructure wanted.structure.now }
-    ensures takes { Takes F.Files files.old files.new (dataset_step profile.now (wanted_from folder.now wanted)) rows_in result }
-    ensures table { IfOk result (λ t. IsTableOf wanted.structure.now (listed t)) }
+    requires { IsStructure wanted.now.structure.now }
+    ensures takes { Takes F.Files files.old files.new (dataset_step profile.now (wanted_from folder.now wanted.now)) rows_in result }
+    ensures table { IfOk result (λ t. IsTableOf wanted.now.structure.now (listed t)) }
     ensures ranges { IfOk result (λ t. AreOfProfile profile.now t.rows) }
 {
     let path = file_in(alloc, folder, wanted.name)?;
@@ -87,13 +87,13 @@ fn add_input<F: Files>(
     files: &mut F,
     folder: &str,
     profile: &Profile,
-    wanted: Wanted<'_>,
+    wanted: &Wanted<'_>,
     tables: &mut Tables,
 ) -> Result<(), Status>
-    requires structure { IsStructure wanted.structure.now }
-    requires new { table_of wanted.name.now tables.old ≡ None }
-    ensures takes { Takes F.Files files.old files.new (dataset_step profile.now (wanted_from folder.now wanted)) (λ _. rows_named wanted.name.now tables.new) result }
-    ensures put { OnOk result (Adds profile.now wanted.name.now wanted.structure.now tables.old tables.new) }
+    requires structure { IsStructure wanted.now.structure.now }
+    requires new { table_of wanted.now.name.now tables.old ≡ None }
+    ensures takes { Takes F.Files files.old files.new (dataset_step profile.now (wanted_from folder.now wanted.now)) (λ _. rows_named wanted.now.name.now tables.new) result }
+    ensures put { OnOk result (Adds profile.now wanted.now.name.now wanted.now.structure.now tables.old tables.new) }
 {
     match read_input(alloc, files, folder, profile, wanted) {
         Ok(table) => Ok(tables.put(alloc, wanted.name.share()?, table)?),
@@ -124,14 +124,8 @@ pub fn read_all_wanted<F: Files>(
 {
     let mut tables = Tables::new(alloc);
     for i in 0..wanted.len() {
-        match add_input(
-            alloc,
-            files,
-            folder,
-            profile,
-            wanted_at(wanted, i),
-            &mut tables,
-        ) {
+        let one = wanted_at(wanted, i);
+        match add_input(alloc, files, folder, profile, &one, &mut tables) {
             Ok(()) => {}
             Err(status) => return Err(status),
         }

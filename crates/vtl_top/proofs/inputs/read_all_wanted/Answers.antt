@@ -18,24 +18,24 @@ pub add_input-requires-clause-new : goal.add_input-requires-clause-new
 add_input-requires-clause-new g c =
     let ws = c.args.wanted.now in
     let i = c.loop-i.i in
-    let one = c.wanted_at.result in
+    let one = c.wanted_at-one.result in
     let there : i < length ws = omega (arith, c.loop-i-test.true) in
     let within : i < length (all_wanted ws) = omega (arith, c.loop-i-test.true, length-map ws wanted_of) in
-    not_yet c.args.profile.now (all_wanted ws) i (wanted_of one) c.loop-i.tables c.requires c.loop-i.invariant.so within (mapped_at wanted_of ws i one there c.wanted_at.ensures)
+    not_yet c.args.profile.now (all_wanted ws) i (wanted_of one) c.loop-i.tables c.requires c.loop-i.invariant.so within (mapped_at wanted_of ws i one there c.wanted_at-one.ensures)
 
 pub add_input-requires-clause-structure : goal.add_input-requires-clause-structure
 add_input-requires-clause-structure g c =
     let ws = c.args.wanted.now in
-    let one = c.wanted_at.result in
+    let one = c.wanted_at-one.result in
     let there : c.loop-i.i < length ws = omega (arith, c.loop-i-test.true) in
     let within : c.loop-i.i < length (all_wanted ws) = omega (arith, c.loop-i-test.true, length-map ws wanted_of) in
-    structure_at (all_wanted ws) c.loop-i.i (wanted_of one) c.requires within (mapped_at wanted_of ws c.loop-i.i one there c.wanted_at.ensures)
+    structure_at (all_wanted ws) c.loop-i.i (wanted_of one) c.requires within (mapped_at wanted_of ws c.loop-i.i one there c.wanted_at-one.ensures)
 
 pub returns-in-Err-clause-takes : goal.returns-in-Err-clause-takes
 returns-in-Err-clause-takes g c =
     let ws = c.args.wanted.now in
     let i = c.loop-i.i in
-    let one = c.wanted_at.result in
+    let one = c.wanted_at-one.result in
     let folder = c.args.folder.now in
     let p = c.args.profile.now in
     let w = wanted_from folder one in
@@ -43,7 +43,7 @@ returns-in-Err-clause-takes g c =
     let env = map (input_of c.loop-i.tables) (take i (all_wanted ws)) in
     let there : i < length ws = omega (arith, c.loop-i-test.true) in
     let within : i < length all = omega (arith, c.loop-i-test.true, length-map ws (wanted_from folder)) in
-    let here = here_at all i w within (mapped_at (wanted_from folder) ws i one there c.wanted_at.ensures) in
+    let here = here_at all i w within (mapped_at (wanted_from folder) ws i one there c.wanted_at-one.ensures) in
     let first = takes_stopped g.F.Files (dataset_step p w) (λ points. settled (Ok (with_points env (wanted_of one) points))) c.loop-i.files c.add_input.new.files (λ (x : Unit {0}). rows_named one.name.now c.add_input.new.tables) (λ (x : Unit {0}). env) c.in-Err.status c.in-Err.ensures.takes in
     let whole = takes_stopped g.F.Files (one_more_step p env w) (λ more. inputs_step p more (drop (i + 1) all)) c.loop-i.files c.add_input.new.files (λ (x : Unit {0}). env) (λ t. map (input_of t) (all_wanted ws)) c.in-Err.status first in
     c.loop-i.invariant.takes c.add_input.new.files (Err c.in-Err.status)
@@ -53,7 +53,7 @@ pub loop-i-preserved : goal.loop-i-preserved
 loop-i-preserved g c =
     let ws = c.args.wanted.now in
     let i = c.loop-i.i in
-    let one = c.wanted_at.result in
+    let one = c.wanted_at-one.result in
     let folder = c.args.folder.now in
     let p = c.args.profile.now in
     let w = wanted_from folder one in
@@ -63,8 +63,8 @@ loop-i-preserved g c =
     let there : i < length ws = omega (arith, c.loop-i-test.true) in
     let within : i < length all = omega (arith, c.loop-i-test.true, length-map ws (wanted_from folder)) in
     let within_entries : i < length (all_wanted ws) = omega (arith, c.loop-i-test.true, length-map ws wanted_of) in
-    let here = here_at all i w within (mapped_at (wanted_from folder) ws i one there c.wanted_at.ensures) in
-    let more = one_more p (all_wanted ws) i e c.loop-i.tables c.add_input.new.tables c.requires c.loop-i.invariant.so within_entries (mapped_at wanted_of ws i one there c.wanted_at.ensures) c.in-Ok.ensures.put in
+    let here = here_at all i w within (mapped_at (wanted_from folder) ws i one there c.wanted_at-one.ensures) in
+    let more = one_more p (all_wanted ws) i e c.loop-i.tables c.add_input.new.tables c.requires c.loop-i.invariant.so within_entries (mapped_at wanted_of ws i one there c.wanted_at-one.ensures) c.in-Ok.ensures.put in
     let read = settled_ok g.F.Files c.add_input.new.files (λ (x : Unit {0}). map (input_of c.add_input.new.tables) (take (i + 1) (all_wanted ws))) tt (Ok (with_points env e (rows_named e.0 c.add_input.new.tables))) (ap Ok (sym more.env)) in
     let first =
     takes_onward g.F.Files (dataset_step p w) (λ points. settled (Ok (with_points env e points))) c.loop-i.files c.add_input.new.files c.add_input.new.files (λ (x : Unit {0}). rows_named e.0 c.add_input.new.tables)
