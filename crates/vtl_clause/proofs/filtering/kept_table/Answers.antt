@@ -29,8 +29,12 @@ keep-requires c =
     let r = c.row.result.now in
     let rows = c.table-table.result.now.rows in
     let within : c.loop-i.i < length rows = omega (arith, c.len-i-end.ensures.rows, c.loop-i-test.true) in
-    ap (λ cs. fits cs r) (c.loop-i.invariant.columns ∙ ap table_columns c.requires.same)
-    ∙ point_fits (columns_of a) r (holds_at (λ x. is_point (columns_of a) x ≡ true) rows c.loop-i.i r c.table-table.ensures.table.points.typed within c.row.ensures.row)
+    record {
+      fits =
+          ap (λ cs. fits cs r) (c.loop-i.invariant.columns ∙ ap table_columns c.requires.same)
+          ∙ point_fits (columns_of a) r (holds_at (λ x. is_point (columns_of a) x ≡ true) rows c.loop-i.i r c.table-table.ensures.table.points.typed within c.row.ensures.row);
+      empty = c.loop-i.invariant.empty;
+    }
 
 pub loop-i-preserved : goal.loop-i-preserved
 loop-i-preserved c =
@@ -42,6 +46,7 @@ loop-i-preserved c =
     let same = same_at (prepared_exp c.in_ok-prepared.prepared) e c.in_ok-prepared.ensures p r in
     record {
       columns = c.keep.ensures.columns ∙ c.loop-i.invariant.columns;
+      empty = c.in_ok-seen.ensures.empty;
       rows = kept_more (λ x. is_true (value p e x)) rows c.loop-i.i r c.loop-i.kept.rows c.keep.new.kept.rows within c.row.ensures.row c.loop-i.invariant.rows
           (c.in_ok-seen.ensures.rows ∙ ap (λ m. c.loop-i.kept.rows ++ cond (is_true m) (r ∷ []) []) same);
       seen = seen_more (λ x. fault_in (value p e x)) rows c.loop-i.i r (seen_of c.loop-i.seen) (seen_of c.in_ok-seen.seen) within c.row.ensures.row c.loop-i.invariant.seen
