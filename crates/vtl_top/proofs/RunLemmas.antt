@@ -1,5 +1,5 @@
 -- Steps of a run: what they settle, and the data sets that they read.
-use Rattle.std.proofs.Common.{◌≡◌, inl, inr, ℕ, Bool, true, false, not, List, [], Result, Ok, Err, refl, sym, ap, subst, ◌∙◌, chars}
+use Rattle.std.proofs.Common.{◌≡◌, inl, inr, ℕ, Bool, true, false, not, List, Result, Ok, Err, refl, sym, ap, subst, ◌∙◌, chars}
 use Rattle.vtl_files.specs.declared.files.Files.{Ghosts}
 use Rattle.vtl_decimal.specs.declared.number.Fault.TheVariants.{DivZero, Range}
 use Rattle.vtl_decimal.specs.declared.number.Fault.{Fault as EvaluationFault}

@@ -1,5 +1,5 @@
 -- Steps of an engine: what is read of an SQL file is one thing, and the rest of its chain from each place on.
-use Rattle.std.proofs.Common.{◌≡◌, List, [], ℕ, Ok}
+use Rattle.std.proofs.Common.{◌≡◌, List, ℕ, Ok}
 use Rattle.sql_tree.specs.Texts.{IsFaulty, IsScript}
 use Rattle.sql_tree.specs.Trees.{ScriptTree}
 use Rattle.sql_check_parts.specs.Statements.{script_fault, script_settings}

@@ -1,5 +1,5 @@
 -- What a status tells: how a call ended, by what the held bytes give.
-use Rattle.std.specs.Prelude.{◌≡◌, ◌≤◌, ◌⊎◌, false, List, [], ◌∷◌, ◌++◌, Option, None, Some, Result, Ok, Err, IfSome, chars, codes}
+use Rattle.std.specs.Prelude.{◌≡◌, ◌≤◌, ◌⊎◌, false, List, [], ◌∷◌, ◌++◌, Option, Result, Ok, Err, IfSome, chars, codes}
 use Rattle.std.specs.Option.{option_map}
 use Rattle.vtl_files.specs.Outside.{Rose, FaultAt}
 use Rattle.vtl_files.specs.declared.files.Files.{Ghosts}

@@ -1,5 +1,5 @@
 -- What the words and the files that are held give: the outputs of the run or the text in SQL, or the first refusal.
-use Rattle.std.specs.Prelude.{◌≡◌, ℕ, not, List, [], ◌∷◌, ◌++◌, length, map, nat_lt, Option, Some, None, Result, Ok, Err, codes, chars, encode_utf8_all, if◌then◌else◌}
+use Rattle.std.specs.Prelude.{ℕ, not, List, [], ◌∷◌, ◌++◌, length, map, nat_lt, Option, Some, None, Result, Ok, Err, codes, chars, encode_utf8_all, if◌then◌else◌}
 use Rattle.vtl_files.specs.Outside.{bytes_at}
 use Rattle.vtl_decimal.specs.declared.number.Fault.TheVariants.{DivZero, Range}
 use Rattle.vtl_decimal.specs.declared.number.Fault.{Fault as EvaluationFault}

@@ -1,5 +1,5 @@
 -- The outputs of a run, and the text of a script in SQL, in the words of the language: what the script means over its inputs.
-use Rattle.std.specs.Prelude.{◌≡◌, ℕ, false, true, List, [], map, Err, Ok, IsUtf8}
+use Rattle.std.specs.Prelude.{◌≡◌, ℕ, false, true, List, map, Err, Ok, IsUtf8}
 use Rattle.vtl_syntax.specs.Trees.{ScriptTree}
 use Rattle.vtl_parser.specs.Parsed.{IsScript}
 use Rattle.vtl_tree.specs.Environment.{Environment}

@@ -1,5 +1,5 @@
 -- The exports of an engine in the words of the dialect: what the SQL script means over its inputs.
-use Rattle.std.specs.Prelude.{◌≡◌, List, [], map, Err, Ok, Some, IsUtf8}
+use Rattle.std.specs.Prelude.{◌≡◌, List, map, Err, Ok, Some, IsUtf8}
 use Rattle.vtl_files.specs.Outside.{bytes_at}
 use Rattle.vtl_tree.specs.Environment.{Environment}
 use Rattle.vtl_decimal.specs.declared.number.Fault.{Fault}

@@ -1,5 +1,5 @@
 -- What an SQL file and the files that are held give: the exports of its script, or the first refusal.
-use Rattle.std.specs.Prelude.{◌≡◌, List, [], map, Option, Some, None, Result, Ok, Err, chars}
+use Rattle.std.specs.Prelude.{List, map, Option, Some, None, Result, Ok, Err, chars}
 use Rattle.vtl_files.specs.Outside.{bytes_at}
 use Rattle.vtl_decimal.specs.Settings.{Settings}
 use Rattle.vtl_rows.specs.Tables.{Listed}

@@ -1,4 +1,4 @@
-use Rattle.std.proofs.Common.{[], map, subst, Ok}
+use Rattle.std.proofs.Common.{map, subst, Ok}
 use Rattle.sql_tree.specs.View.{script_tree}
 use Rattle.sql_check_parts.specs.Statements.{script_settings}
 use Rattle.sql_engine.specs.InputTables.{rows_given}
