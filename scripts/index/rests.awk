@@ -235,7 +235,7 @@ END {
     list_of("SQL meaning", "What a script of the dialect means over tables: exports, or a fault", "sql_meaning/Scripts/script_value")
     list_of("text for a script", "What a text in SQL of a script of VTL is", "sql_back/Texts/IsTextFor")
     list_of("engine run", "What the words `engine` come to over the held files", "vtl_top/SqlRun/engine_step")
-    list_of("words", "What the words of a command line ask for, and what that comes to", "vtl_top/Words/command_of vtl_top/Asked/asked_step")
+    list_of("words", "What the words of a command line ask for, and what that comes to", "vtl_top/Words/command_of vtl_top/Forms/asked_step")
     list_of("how a call ends", "What a call leaves of files and sink, by its status", "vtl_top/Answered/Ends")
     print "# What promises rest on\n" > page
     print "Printed by `scripts/index.sh`. A promise says what the definitions say that its clause names, and those that these name. So who has" > page

@@ -8,13 +8,12 @@ use sql_back::{Bundled, SqlBack, TextEngine};
 use std::alloc::{AllocError, Global};
 use vtl_backend::Backend;
 use vtl_cell::Cell;
-use vtl_decimal::{Profile, Rounding};
 use vtl_files::MemFiles;
 use vtl_rows::{Inputs, Outputs, SortKey, Table};
 use vtl_scalar::RunErr;
 use vtl_status::Status;
 use vtl_text::Txt;
-use vtl_top::{Source, read_built, read_inputs};
+use vtl_top::{Chosen, Source, read_built, read_inputs};
 
 const FALLING: SortKey = SortKey {
     column: 0,
@@ -86,7 +85,7 @@ fn given_by<B: Backend>(alloc: Global, back: &mut B, lines: &str) -> Result<Outp
     let source = Source {
         script: "script.vtl",
         structures: "structures.csv",
-        profile: Profile::new(6, Rounding::HalfUp).unwrap(),
+        chosen: Chosen::new(None, None).unwrap(),
     };
     let checked = read_built(alloc, &mut files, &source)?;
     let inputs = read_inputs(alloc, &mut files, "in", &checked)?;

@@ -30,6 +30,7 @@ use Rattle.vtl_top.specs.Agreement.{HoldSame}
 use Rattle.vtl_top.specs.Expected.{content, csv_limit, data_set, dataset_step, file_in, inputs_step, one_more_step, points_or_fault, read, sized, with_points}
 use Rattle.vtl_top.specs.SqlInputs.{input_structures, rows_by_name}
 use Rattle.vtl_top.specs.Steps.{Held, Path, Step, ◌>>=◌, settled}
+use Rattle.vtl_top.specs.Wanted.{all_placed_in, placed_in}
 use Rattle.vtl_status.specs.declared.status.Status.{Status}
 use Rattle.vtl_top.proofs.AgreementCodes.{codes_listed}
 use Rattle.vtl_top.proofs.AgreementColumns.{files_fit_alike}
@@ -55,15 +56,15 @@ module _ (folder : Path) (p : Settings) (held : Held) where
   sets_in before [] = Ok before
   sets_in before (e ∷ es) = then_on (one_more_in before e) (λ more. sets_in more es)
 
-  points_given : (e : List ℕ × Structure) → (dataset_step folder p e).gives held (points_in e)
+  points_given : (e : List ℕ × Structure) → (dataset_step p (placed_in folder e)).gives held (points_in e)
   points_given e =
       then_gives (read (file_in folder e.0) csv_limit) (λ bytes. settled (points_or_fault e.0 (dataset_rows p e.1 [] bytes))) held (content (file_in folder e.0) csv_limit held) (λ bytes. points_or_fault e.0 (dataset_rows p e.1 [] bytes)) refl (λ bytes. refl)
 
-  pub sets_given : (before : Environment) (es : Named) → (inputs_step folder p before es).gives held (sets_in before es)
+  pub sets_given : (before : Environment) (es : Named) → (inputs_step p before (all_placed_in folder es)).gives held (sets_in before es)
   sets_given before [] = refl
   sets_given before (e ∷ es) =
-      then_gives (one_more_step folder p before e) (λ more. inputs_step folder p more es) held (one_more_in before e) (λ more. sets_in more es)
-      (then_gives (dataset_step folder p e) (λ points. settled (Ok (with_points before e points))) held (points_in e) (λ points. Ok (with_points before e points)) (points_given e) (λ points. refl)) (λ more. sets_given more es)
+      then_gives (one_more_step p before (placed_in folder e)) (λ more. inputs_step p more (all_placed_in folder es)) held (one_more_in before e) (λ more. sets_in more es)
+      (then_gives (dataset_step p (placed_in folder e)) (λ points. settled (Ok (with_points before e points))) held (points_in e) (λ points. Ok (with_points before e points)) (points_given e) (λ points. refl)) (λ more. sets_given more es)
 
 -- ---- the INPUTs of a text for the data sets
 abbrev pub as_input : List ℕ × Structure → List ℕ × Structure

@@ -19,6 +19,5 @@ printed_are_twins r e held other is =
       script = script;
       sql_file = is.sql_file ∙ ap (λ (m : Made). Some m.text) said;
       input = is.input;
-      output = is.output;
       same = each (λ d. bytes_at (file_in r.input d.0) other ≡ bytes_at (file_in r.input d.0) held) (λ d. is.same d.0) (reads script.typed.structures script.typed.nodes);
     }

@@ -7,7 +7,7 @@ use Rattle.vtl_files.specs.declared.sink.Sink.{Ghosts as Sinks}
 use Rattle.vtl_decimal.specs.declared.number.Fault.{Fault}
 use Rattle.vtl_top.specs.Answered.{Ends, EndsAs, Gives, GivesOut}
 use Rattle.vtl_top.specs.Complete.{IsCalm}
-use Rattle.vtl_top.specs.Asked.{asked_step}
+use Rattle.vtl_top.specs.Forms.{asked_step}
 use Rattle.vtl_top.specs.Expected.{Typed, fault_status, run_step, text_for, text_step}
 use Rattle.vtl_top.specs.Kinds.{Told, absent, done, no_command, no_memory, read_fault, refused, told_by, write_fault}
 use Rattle.vtl_top.specs.Meant.{IsAccepted, IsFaulted, IsMeant}
@@ -17,8 +17,8 @@ use Rattle.vtl_top.specs.Words.{Command, Run, RunsScript, Source, sql}
 use Rattle.vtl_status.specs.declared.status.Status.{Status}
 use Rattle.vtl_status.specs.declared.status.Status.TheVariants as st
 use Rattle.vtl_top.proofs.MeantLemmas.{accepted_always, meant_always}
-use Rattle.vtl_top.proofs.Once.{built_once, one_status}
 use Rattle.vtl_top.proofs.RefusedLemmas.{faulted_always}
+use Rattle.vtl_top.proofs.Sure.{built_sure, one_status}
 
 is_done : (status : Status) → told_by status ≡ done → status ≡ st.Done
 is_done st.Done e = refl
@@ -76,12 +76,12 @@ text_not_refused : (s : Source) (held : Held) (t : Typed) (status : Status) → 
 text_not_refused s held t status is (first, gives, rest) = by_first first gives rest
   where
     by_built : (other : Status) (m : Result Typed Status) → m ≡ Ok t → Behind m (λ x. (text_for x).gives held) (Err other) → ⊥
-    by_built other (Ok x) e (text, given, text_of) = cc
+    by_built other (Ok x) e (text, text_of, given) = cc
     by_built other (Err refusal) e given = cc
 
     by_first : (first : Result (List ℕ) Status) → (text_step s).gives held first → Behind first (λ text. (settled (Ok (only_text text))).gives held) (Err status) → ⊥
     by_first (Ok text) gives rest = cc
-    by_first (Err other) gives rest = by_built other gives.0 (built_once s held gives.0 (Ok t) gives.1 (accepted_always s held t is)) gives.2
+    by_first (Err other) gives rest = by_built other gives.0 ((built_sure s).one held gives.0 (Ok t) gives.1 (accepted_always s held t is)) gives.2
 
 module _ {F O : Type 0} (g : Ghosts F) (o : Sinks O) (a b : F) (out now : O) where
   calm_until : (command : Option Command) (status : Status) (ends : Ends g o a b out now command status) → IsCalm g o a b out now → ¬ Rose (o.faults out) (o.faults ends.between)

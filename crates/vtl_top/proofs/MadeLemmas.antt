@@ -4,7 +4,7 @@ use Rattle.std.specs.Global.{Vec}
 use Rattle.std.specs.Prelude.{IfOk}
 use Rattle.vtl_files.specs.declared.files.Files.{Ghosts}
 use Rattle.vtl_top.specs.Answered.{Takes}
-use Rattle.vtl_top.specs.Asked.{asked_step}
+use Rattle.vtl_top.specs.Forms.{asked_step}
 use Rattle.vtl_top.specs.MadeView.{IsMade, Names, made_view}
 use Rattle.vtl_top.specs.OutputView.{output_view, outputs_view}
 use Rattle.vtl_top.specs.Refusal.{SettlesBy}

@@ -11,7 +11,6 @@ use Rattle.vtl_decimal.specs.Settings.{Settings}
 use Rattle.vtl_syntax.specs.Trees.{ScriptTree}
 use Rattle.vtl_tree.specs.Environment.{Environment}
 use Rattle.vtl_tree.specs.Structures.{Named}
-use Rattle.vtl_tree.specs.declared.structure.Structure.{Structure}
 use Rattle.vtl_csv.specs.InputFile.{Fault, dataset_rows}
 use Rattle.vtl_csv.specs.StructuresFile.{Fault as StructuresFault, structures_of_file}
 use Rattle.vtl_tree.specs.Trees.{NodeTree}
@@ -19,7 +18,7 @@ use Rattle.vtl_meaning.specs.Meaning.{Outputs, is_built}
 use Rattle.vtl_check.specs.Checked.{env_over, TypedScript}
 use Rattle.vtl_check.specs.Script.{has_definitions, script_typed}
 use Rattle.vtl_check.specs.Uses.{reads}
-use Rattle.vtl_top.specs.Expected.{Typed, built_step, csv_limit, dataset_step, fault_status, file_in, inputs_step, meant, one_more_step, outputs_of, points_or_fault, read, run_step, script_in, script_limit, script_of, script_step, sized, structures_limit, structures_step, text_for, text_step, typed_by, typed_or_fault, typed_step, typing_of, unbuilt, with_points}
+use Rattle.vtl_top.specs.Expected.{Typed, built_step, csv_limit, dataset_step, fault_status, file_in, folder_step, inputs_step, meant, one_more_step, outputs_of, points_or_fault, read, run_step, script_in, script_limit, script_of, script_step, sized, structures_limit, structures_step, text_for, text_step, typed_by, typed_or_fault, typed_step, typing_of, unbuilt, with_points}
 use Rattle.vtl_top.specs.Meant.{IsFaulted, IsMistyped, IsRead, IsReady}
 use Rattle.std.specs.Option.{IfSome}
 use Rattle.vtl_files.specs.declared.files.Files.{Ghosts}
@@ -29,7 +28,8 @@ use Rattle.vtl_top.proofs.StepLemmas.{if_some_map}
 use Rattle.vtl_top.specs.ScriptFile.{Parsed, faulty, no_text, whole}
 use Rattle.vtl_top.specs.Steps.{Behind, Held, Path, Step, ◌>>=◌, refused_if, settled}
 use Rattle.vtl_top.specs.Structures.{declared, structures_in}
-use Rattle.vtl_top.specs.Words.{Run, Source}
+use Rattle.vtl_top.specs.Wanted.{Placed, all_placed_in, entry_of}
+use Rattle.vtl_top.specs.Words.{Run, Source, settings_of}
 use Rattle.vtl_status.specs.declared.status.Status.{Status}
 use Rattle.vtl_status.specs.declared.status.Status.TheVariants as st
 use Rattle.vtl_top.proofs.MeantLemmas.{after_built, after_plain, after_script, after_structures, after_typing, passes, ready_from, ready_gives, script_there, source_from}
@@ -135,17 +135,20 @@ module _ (status : Status) (own : is_other (cause status) ≡ false) (held : Hel
   never_ok : {A : Type 0} (x : A) → Never (settled (Ok x))
   never_ok x e = cc
 
-  never_dataset : (folder : Path) (p : Settings) (e : List ℕ × Structure) → Never (dataset_step folder p e)
-  never_dataset folder p e =
-      never_onward (read (file_in folder e.0) csv_limit) (λ bytes. settled (points_or_fault e.0 (dataset_rows p e.1 [] bytes))) (never_read (file_in folder e.0) csv_limit)
-      (λ bytes. never_points e.0 (dataset_rows p e.1 [] bytes))
+  never_dataset : (p : Settings) (w : Placed) → Never (dataset_step p w)
+  never_dataset p w =
+      never_onward (read (file_in w.0 w.1.name) csv_limit) (λ bytes. settled (points_or_fault w.1.name (dataset_rows p w.1.structure w.1.not_null bytes))) (never_read (file_in w.0 w.1.name) csv_limit)
+      (λ bytes. never_points w.1.name (dataset_rows p w.1.structure w.1.not_null bytes))
 
-  pub never_inputs : (folder : Path) (p : Settings) (before : Environment) (inputs : Named) → Never (inputs_step folder p before inputs)
-  never_inputs folder p before [] = never_ok before
-  never_inputs folder p before (e ∷ rest) =
-      never_onward (one_more_step folder p before e) (λ more. inputs_step folder p more rest)
-      (never_onward (dataset_step folder p e) (λ points. settled (Ok (with_points before e points))) (never_dataset folder p e) (λ points. never_ok (with_points before e points)))
-      (λ more. never_inputs folder p more rest)
+  never_inputs : (p : Settings) (before : Environment) (inputs : List Placed) → Never (inputs_step p before inputs)
+  never_inputs p before [] = never_ok before
+  never_inputs p before (w ∷ rest) =
+      never_onward (one_more_step p before w) (λ more. inputs_step p more rest)
+      (never_onward (dataset_step p w) (λ points. settled (Ok (with_points before (entry_of w) points))) (never_dataset p w) (λ points. never_ok (with_points before (entry_of w) points)))
+      (λ more. never_inputs p more rest)
+
+  pub never_folder : (folder : Path) (p : Settings) (es : Named) → Never (folder_step folder p es)
+  never_folder folder p es = never_inputs p [] (all_placed_in folder es)
 
   -- ---- a source is refused so by its typing alone
   record ByTypes (s : Source) : Type 0 where
@@ -158,16 +161,16 @@ module _ (status : Status) (own : is_other (cause status) ≡ false) (held : Hel
   by_types_alone s gives = at_script (refused_at (script_step s.script) (after_script s) held status gives)
     where
       at_typing : (tree : ScriptTree) (structures : Named) → IsRead s held tree structures
-          → (settled (typing_of s tree structures)).gives held (Err status) ⊎ ((nodes : List NodeTree) × (settled (typing_of s tree structures)).gives held (Ok nodes) × (settled (Ok (typed_by tree structures s.settings nodes))).gives held (Err status)) → ByTypes s
+          → (settled (typing_of s tree structures)).gives held (Err status) ⊎ ((nodes : List NodeTree) × (settled (typing_of s tree structures)).gives held (Ok nodes) × (settled (Ok (typed_by tree structures (settings_of s) nodes))).gives held (Err status)) → ByTypes s
       at_typing tree structures is (inl e) = record { tree = tree; structures = structures; is_read = is; typing = e }
-      at_typing tree structures is (inr (nodes, given, e)) = absurd (never_ok (typed_by tree structures s.settings nodes) e)
+      at_typing tree structures is (inr (nodes, given, e)) = absurd (never_ok (typed_by tree structures (settings_of s) nodes) e)
 
       at_structures : (tree : ScriptTree) (u : Unit {0}) → (script_step s.script).gives held (Ok tree) → (refused_if (has_definitions tree) (unbuilt s)).gives held (Ok u)
           → (structures_step s.structures).gives held (Err status) ⊎ ((structures : Named) × (structures_step s.structures).gives held (Ok structures) × (after_structures s tree structures).gives held (Err status)) → ByTypes s
       at_structures tree u script plain (inl e) =
           absurd (never_onward (read s.structures structures_limit) (λ bytes. settled (structures_in s.structures bytes)) (never_read s.structures structures_limit) (never_structures s.structures) e)
       at_structures tree u script plain (inr (structures, is, rest)) =
-          at_typing tree structures (source_from s held tree structures u script plain is) (refused_at (settled (typing_of s tree structures)) (λ nodes. settled (Ok (typed_by tree structures s.settings nodes))) held status rest)
+          at_typing tree structures (source_from s held tree structures u script plain is) (refused_at (settled (typing_of s tree structures)) (λ nodes. settled (Ok (typed_by tree structures (settings_of s) nodes))) held status rest)
 
       at_plain : (tree : ScriptTree) → (script_step s.script).gives held (Ok tree)
           → (refused_if (has_definitions tree) (unbuilt s)).gives held (Err status) ⊎ ((u : Unit {0}) × (refused_if (has_definitions tree) (unbuilt s)).gives held (Ok u) × (after_plain s tree).gives held (Err status)) → ByTypes s
@@ -195,7 +198,7 @@ module _ (status : Status) (own : is_other (cause status) ≡ false) (held : Hel
     where
       at_built : (built_step s).gives held (Err status) ⊎ ((t : Typed) × (built_step s).gives held (Ok t) × (text_for t).gives held (Err status)) → ByTypes s
       at_built (inl e) = by_types_built s e
-      at_built (inr (t, is, rest)) = absurd (never_ok rest.0 rest.1)
+      at_built (inr (t, is, rest)) = absurd (never_ok rest.0 rest.2)
 
   record ByValues (r : Run) : Type 0 where
     typed : Typed
@@ -207,14 +210,14 @@ module _ (status : Status) (own : is_other (cause status) ≡ false) (held : Hel
   by_run r gives = at_built (refused_at (built_step r.source) (after_built r) held status gives)
     where
       at_values : (t : Typed) → (built_step r.source).gives held (Ok t)
-          → (inputs_step r.input t.settings [] (reads t.structures t.nodes)).gives held (Err status)
-          ⊎ ((env : Environment) × (inputs_step r.input t.settings [] (reads t.structures t.nodes)).gives held (Ok env) × (settled (outputs_of r.output t.settings (meant t env))).gives held (Err status)) → ByTypes r.source ⊎ ByValues r
-      at_values t built (inl e) = absurd (never_inputs r.input t.settings [] (reads t.structures t.nodes) e)
+          → (folder_step r.input t.settings (reads t.structures t.nodes)).gives held (Err status)
+          ⊎ ((env : Environment) × (folder_step r.input t.settings (reads t.structures t.nodes)).gives held (Ok env) × (settled (outputs_of r.output t.settings (meant t env))).gives held (Err status)) → ByTypes r.source ⊎ ByValues r
+      at_values t built (inl e) = absurd (never_folder r.input t.settings (reads t.structures t.nodes) e)
       at_values t built (inr (env, is, rest)) = inr (record { typed = t; inputs = env; ready = ready_from r held t env built is; values = rest })
 
       at_built : (built_step r.source).gives held (Err status) ⊎ ((t : Typed) × (built_step r.source).gives held (Ok t) × (after_built r t).gives held (Err status)) → ByTypes r.source ⊎ ByValues r
       at_built (inl e) = inl (by_types_built r.source e)
-      at_built (inr (t, is, rest)) = at_values t is (refused_at (inputs_step r.input t.settings [] (reads t.structures t.nodes)) (λ env. settled (outputs_of r.output t.settings (meant t env))) held status rest)
+      at_built (inr (t, is, rest)) = at_values t is (refused_at (folder_step r.input t.settings (reads t.structures t.nodes)) (λ env. settled (outputs_of r.output t.settings (meant t env))) held status rest)
 
 -- ---- by types
 typing_fault : (i rule : ℕ) (typing : Result (List NodeTree) (ℕ × ℕ)) → Err (st.Mistyped i rule) ≡ typed_or_fault typing → typing ≡ Err (i, rule)
@@ -233,7 +236,7 @@ values_give_no_type i rule folder p (Err fault) e = go fault.0 e
     go Range e = cc
 
 mistyped_by : (s : Source) (held : Held) (i rule : ℕ) → ByTypes (st.Mistyped i rule) refl held s → IsMistyped s held i rule
-mistyped_by s held i rule b = record { tree = b.tree; structures = b.structures; source = b.is_read; fault = typing_fault i rule (script_typed (env_over s.settings b.structures) b.tree) b.typing }
+mistyped_by s held i rule b = record { tree = b.tree; structures = b.structures; source = b.is_read; fault = typing_fault i rule (script_typed (env_over (settings_of s) b.structures) b.tree) b.typing }
 
 pub mistyped_only : (r : Run) (held : Held) (i rule : ℕ) → (run_step r).gives held (Err (st.Mistyped i rule)) → IsMistyped r.source held i rule
 mistyped_only r held i rule gives = go (by_run (st.Mistyped i rule) refl held r gives)
@@ -282,7 +285,7 @@ pub faulted_only : (r : Run) (held : Held) (f : EvaluationFault) (name : List �
 faulted_only r held f name gives = go (by_run (fault_status f name) (own_values f name) held r gives)
   where
     go : ByTypes (fault_status f name) (own_values f name) held r.source ⊎ ByValues (fault_status f name) (own_values f name) held r → IsFaulted r held f name
-    go (inl b) = absurd (types_give_no_value f name (script_typed (env_over r.source.settings b.structures) b.tree) b.typing)
+    go (inl b) = absurd (types_give_no_value f name (script_typed (env_over (settings_of r.source) b.structures) b.tree) b.typing)
     go (inr b) = record { typed = b.typed; inputs = b.inputs; ready = b.ready; means = value_fault f name r.output b.typed.settings (meant b.typed b.inputs) b.values }
 
 pub faulted_always : (r : Run) (held : Held) (f : EvaluationFault) (name : List ℕ) → IsFaulted r held f name → (run_step r).gives held (Err (fault_status f name))
@@ -296,15 +299,15 @@ module _ {F A X : Type 0} (g : Ghosts F) (a b : F) (step : Step A) (never : (f :
   no_run (st.Range name) t h = if_some_map (g.held a) (λ held. step.gives held (Err (st.Range name))) Q (λ held p. absurd (never Range name held p)) t.came
   no_run status t h = absurd h
 
-pub building_tells : {F X : Type 0} (g : Ghosts F) (a b : F) (s : Source) (view : X → Typed) (told : TypedScript → Type 0) (status : Status) → Takes g a b (built_step s) view (Err status) → TellsRun g a s told status
-building_tells g a b s view told status = no_run g a b (built_step s) never view (λ held. IsTold held s told) status
+pub building_tells : {F X : Type 0} (g : Ghosts F) (a b : F) (s : Source) (view : X → Typed) (told : TypedScript → Type 0) (status : Status) → Takes g a b (built_step s) view (Err status) → TellsRun g a (built_step s) told status
+building_tells g a b s view told status = no_run g a b (built_step s) never view (λ held. IsTold held (built_step s) told) status
   where
     never : (f : EvaluationFault) (name : List ℕ) (held : Held) → (built_step s).gives held (Err (fault_status f name)) → ⊥
     never f name held gives =
         let b = by_types_built (fault_status f name) (own_values f name) held s gives in
-        types_give_no_value f name (script_typed (env_over s.settings b.structures) b.tree) b.typing
+        types_give_no_value f name (script_typed (env_over (settings_of s) b.structures) b.tree) b.typing
 
-pub inputs_tell : {F X : Type 0} (g : Ghosts F) (a b c : F) (s : Source) (folder : Path) (p : Settings) (inputs : Named) (view : X → Environment) (told : TypedScript → Type 0) (status : Status) → g.held b ≡ g.held a → Takes g b c (inputs_step folder p [] inputs) view (Err status) → TellsRun g a s told status
-inputs_tell g a b c s folder p inputs view told status same t h =
-    subst (λ o. IfSome o (λ held. IsTold held s told)) same
-    (no_run g b c (inputs_step folder p [] inputs) (λ f name held. never_inputs (fault_status f name) (own_values f name) held folder p [] inputs) view (λ held. IsTold held s told) status t h)
+pub inputs_tell : {F X : Type 0} (g : Ghosts F) (a b c : F) (step : Step Typed) (folder : Path) (p : Settings) (inputs : Named) (view : X → Environment) (told : TypedScript → Type 0) (status : Status) → g.held b ≡ g.held a → Takes g b c (folder_step folder p inputs) view (Err status) → TellsRun g a step told status
+inputs_tell g a b c step folder p inputs view told status same t h =
+    subst (λ o. IfSome o (λ held. IsTold held step told)) same
+    (no_run g b c (folder_step folder p inputs) (λ f name held. never_folder (fault_status f name) (own_values f name) held folder p inputs) view (λ held. IsTold held step told) status t h)

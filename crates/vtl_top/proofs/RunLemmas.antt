@@ -1,5 +1,5 @@
 -- Steps of a run: what they settle, and the data sets that they read.
-use Rattle.std.proofs.Common.{◌≡◌, inl, inr, ℕ, Bool, true, false, not, List, [], Result, Ok, Err, refl, sym, ap, subst, ◌∙◌, chars}
+use Rattle.std.proofs.Common.{◌≡◌, inl, inr, ℕ, Bool, true, false, not, List, Result, Ok, Err, refl, sym, ap, subst, ◌∙◌, chars}
 use Rattle.vtl_files.specs.declared.files.Files.{Ghosts}
 use Rattle.vtl_decimal.specs.declared.number.Fault.TheVariants.{DivZero, Range}
 use Rattle.vtl_decimal.specs.declared.number.Fault.{Fault as EvaluationFault}
@@ -27,25 +27,25 @@ use Rattle.vtl_tree.specs.Structures.{Named}
 use Rattle.vtl_check.specs.Checked.{TypedScript, nodes_of, tree_of}
 use Rattle.vtl_check.specs.Script.{has_definitions}
 use Rattle.vtl_backend.specs.Inputs.{environment_of, inputs_of}
-use Rattle.vtl_top.specs.Expected.{IsTextOf, Typed, built_step, fault_status, inputs_step, meant, outputs_of, points_or_fault, run_step, script_step, structures_step, text_for, text_step, typed_by, typed_step, typing_of, unbuilt}
+use Rattle.vtl_top.specs.Expected.{IsTextOf, Typed, built_step, fault_status, folder_step, meant, outputs_of, points_or_fault, run_step, script_step, structures_step, text_for, text_step, typed_by, typed_step, typing_of, unbuilt}
 use Rattle.vtl_top.specs.InputsRead.{rows_in}
 use Rattle.vtl_top.specs.Kinds.{refused, told_by}
 use Rattle.vtl_top.specs.Refusal.{IsOrMemory, IsTableRead, SettlesBy, faulted, input_refusal}
 use Rattle.vtl_top.specs.Steps.{File, Made, Path, Step, ◌>>=◌, refused_if, settled}
 use Rattle.vtl_top.specs.Informed.{HasRun, typed_view}
-use Rattle.vtl_top.specs.Words.{Run, Source}
+use Rattle.vtl_top.specs.Words.{Run, Source, settings_of}
 use Rattle.vtl_status.specs.declared.status.Status.{Status}
 use Rattle.vtl_status.specs.declared.status.Status.TheVariants as st
 use Rattle.vtl_top.proofs.ReadScripts.{if_some_all, settled_given, typing_given}
-use Rattle.vtl_top.proofs.StepLemmas.{nothing_read, takes_onward, takes_stopped}
+use Rattle.vtl_top.proofs.StepLemmas.{misses_none, nothing_read, takes_onward, takes_stopped}
 use Rattle.vtl_top.proofs.MeantLemmas.{after_built, after_plain, after_script, after_structures, after_typing}
 
 module _ {F : Type 0} (g : Ghosts F) (a : F) where
   pub settled_ok : {A X : Type 0} (view : X → A) (x : X) (wanted : Result A Status) → wanted ≡ Ok (view x) → Takes g a a (settled wanted) view (Ok x)
-  settled_ok view x wanted e = record { reads = nothing_read g a; came = if_some_all (g.held a) (λ held. (settled wanted).gives held (Ok (view x))) (λ held. sym e) }
+  settled_ok view x wanted e = record { reads = nothing_read g a; came = if_some_all (g.held a) (λ held. (settled wanted).gives held (Ok (view x))) (λ held. sym e); misses = refl }
 
   pub memory_takes : {A X : Type 0} (view : X → A) (step : Step A) (status : Status) → status ≡ st.Memory → Takes g a a step view (Err status)
-  memory_takes view step status e = record { reads = nothing_read g a; came = subst (λ (s : Status). Came g a a step view (Err s)) (sym e) tt }
+  memory_takes view step status e = record { reads = nothing_read g a; came = subst (λ (s : Status). Came g a a step view (Err s)) (sym e) tt; misses = misses_none g a status st.Memory e refl }
 
   pub unbuilt_takes : {A X : Type 0} (view : X → A) (path : List ℕ) (given : Result A Status) (status : Status) → given ≡ Err (st.Unbuilt (chars path)) → IsOrMemory (st.Unbuilt (chars path)) status → Takes g a a (settled given) view (Err status)
   unbuilt_takes view path given status is (inl e) = memory_takes view (settled given) status e
@@ -53,6 +53,7 @@ module _ {F : Type 0} (g : Ghosts F) (a : F) where
     reads = nothing_read g a;
     came = subst (λ (s : Status). Came g a a (settled given) view (Err s)) (sym e)
         (if_some_all (g.held a) (λ held. (settled given).gives held (Err (st.Unbuilt (chars path)))) (λ held. sym is));
+    misses = misses_none g a status (st.Unbuilt (chars path)) e refl;
   }
 
   -- a test that holds refuses, and one that does not goes on
@@ -126,19 +127,19 @@ module _ {F X : Type 0} (g : Ghosts F) (s : Source) (view : X → Typed) (a b : 
         plainly c result plain (takes_onward g (structures_step s.structures) (after_structures s (script_tree script)) b c c (λ (x : Declared). x.sets) view structures result u rest)
 
 module _ {F : Type 0} (g : Ghosts F) (s : Source) (a : F) (tree : ScriptTree) (structures : Named) where
-  typed_same : (t : TypedScript) → tree_of t ≡ tree → t.declared ≡ structures → t.settings ≡ s.settings → typed_by tree structures s.settings (nodes_of t) ≡ typed_view t
+  typed_same : (t : TypedScript) → tree_of t ≡ tree → t.declared ≡ structures → t.settings ≡ (settings_of s) → typed_by tree structures (settings_of s) (nodes_of t) ≡ typed_view t
   typed_same t p q u =
-      ap (λ (x : ScriptTree). typed_by x structures s.settings (nodes_of t)) (sym p)
-      ∙ ap (λ (x : Named). typed_by (tree_of t) x s.settings (nodes_of t)) (sym q)
+      ap (λ (x : ScriptTree). typed_by x structures (settings_of s) (nodes_of t)) (sym p)
+      ∙ ap (λ (x : Named). typed_by (tree_of t) x (settings_of s) (nodes_of t)) (sym q)
       ∙ ap (λ (x : Settings). typed_by (tree_of t) t.declared x (nodes_of t)) (sym u)
 
-  pub typed_takes : (result : Result TypedScript Status) → SettlesBy nodes_of (typing_of s tree structures) result → IfOk result (λ t. tree_of t ≡ tree) → IfOk result (λ t. t.declared ≡ structures) → IfOk result (λ t. t.settings ≡ s.settings)
+  pub typed_takes : (result : Result TypedScript Status) → SettlesBy nodes_of (typing_of s tree structures) result → IfOk result (λ t. tree_of t ≡ tree) → IfOk result (λ t. t.declared ≡ structures) → IfOk result (λ t. t.settings ≡ (settings_of s))
       → Takes g a a (after_structures s tree structures) typed_view result
   typed_takes (Ok t) is p q u =
-      takes_onward g (settled (typing_of s tree structures)) (λ nodes. settled (Ok (typed_by tree structures s.settings nodes))) a a a nodes_of typed_view t (Ok t)
-      (settled_ok g a nodes_of t (typing_of s tree structures) is) (settled_ok g a typed_view t (Ok (typed_by tree structures s.settings (nodes_of t))) (ap Ok (typed_same t p q u)))
+      takes_onward g (settled (typing_of s tree structures)) (λ nodes. settled (Ok (typed_by tree structures (settings_of s) nodes))) a a a nodes_of typed_view t (Ok t)
+      (settled_ok g a nodes_of t (typing_of s tree structures) is) (settled_ok g a typed_view t (Ok (typed_by tree structures (settings_of s) (nodes_of t))) (ap Ok (typed_same t p q u)))
   typed_takes (Err status) is p q u =
-      takes_stopped g (settled (typing_of s tree structures)) (λ nodes. settled (Ok (typed_by tree structures s.settings nodes))) a a nodes_of typed_view status
+      takes_stopped g (settled (typing_of s tree structures)) (λ nodes. settled (Ok (typed_by tree structures (settings_of s) nodes))) a a nodes_of typed_view status
       (typing_given g a s tree structures nodes_of (Err status) is)
 
 -- ---- the steps that lead to a script whose forms are evaluated
@@ -171,16 +172,16 @@ module _ {F X : Type 0} (g : Ghosts F) (r : Run) (view : X → List File) (a b :
     built_on : (c : F) (result : Result X Status) → Takes g b c (after_built r (typed_view t)) view result → Takes g a c (run_step r) view result
     built_on c result rest = takes_onward g (built_step r.source) (after_built r) a b c typed_view view t result built rest
 
-    pub inputs_refused : (c : F) (status : Status) → Takes g b c (inputs_step r.input t.settings [] (inputs_of t)) (environment_of t) (Err status) → Takes g a c (run_step r) view (Err status)
+    pub inputs_refused : (c : F) (status : Status) → Takes g b c (folder_step r.input t.settings (inputs_of t)) (environment_of t) (Err status) → Takes g a c (run_step r) view (Err status)
     inputs_refused c status u =
-        built_on c (Err status) (takes_stopped g (inputs_step r.input t.settings [] (inputs_of t)) (λ env. settled (outputs_of r.output t.settings (meant (typed_view t) env))) b c (environment_of t) view status u)
+        built_on c (Err status) (takes_stopped g (folder_step r.input t.settings (inputs_of t)) (λ env. settled (outputs_of r.output t.settings (meant (typed_view t) env))) b c (environment_of t) view status u)
 
-    pub then_results : (c : F) (inputs : NamedTables) (result : Result X Status) → Takes g b c (inputs_step r.input t.settings [] (inputs_of t)) (environment_of t) (Ok inputs)
+    pub then_results : (c : F) (inputs : NamedTables) (result : Result X Status) → Takes g b c (folder_step r.input t.settings (inputs_of t)) (environment_of t) (Ok inputs)
         → SettlesBy view (outputs_of r.output t.settings (script_meaning t inputs)) result → Takes g a c (run_step r) view result
     then_results c inputs result u is =
         let m = script_meaning t inputs in
         built_on c result
-        (takes_onward g (inputs_step r.input t.settings [] (inputs_of t)) (λ env. settled (outputs_of r.output t.settings (meant (typed_view t) env))) b c c (environment_of t) view inputs result u
+        (takes_onward g (folder_step r.input t.settings (inputs_of t)) (λ env. settled (outputs_of r.output t.settings (meant (typed_view t) env))) b c c (environment_of t) view inputs result u
         (settled_given g c view (outputs_of r.output t.settings m) (results_refuse r.output t.settings m) result is))
 
 -- ---- the steps that lead to a text in SQL
@@ -195,7 +196,7 @@ module _ {F X : Type 0} (g : Ghosts F) (s : Source) (view : X → List ℕ) (a b
     pub text_made : (x : X) → IsTextOf (typed_view t) (view x) → Takes g a b (text_step s) view (Ok x)
     text_made x is =
         takes_onward g (built_step s) text_for a b b typed_view view t (Ok x) built
-        (record { reads = nothing_read g b; came = if_some_all (g.held b) (λ held. (text_for (typed_view t)).gives held (Ok (view x))) (λ held. (view x, refl, is)) })
+        (record { reads = nothing_read g b; came = if_some_all (g.held b) (λ held. (text_for (typed_view t)).gives held (Ok (view x))) (λ held. (view x, is, refl)); misses = refl })
 
 -- ---- what is made of files, or of a text
 module _ {F A X : Type 0} (g : Ghosts F) (a b : F) (step : Step A) (wrap : A → Made) (view : X → A) where

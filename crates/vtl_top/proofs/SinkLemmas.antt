@@ -8,7 +8,8 @@ use Rattle.vtl_files.specs.declared.files.Files.{Ghosts as Store}
 use Rattle.vtl_status.specs.StatusLine.{line_of}
 use Rattle.vtl_status.specs.declared.status.Status.{Status}
 use Rattle.vtl_status.specs.declared.status.Status.TheVariants as st
-use Rattle.vtl_top.specs.Answered.{Ends, IsMadeBy}
+use Rattle.vtl_top.specs.Answered.{Ends}
+use Rattle.vtl_top.specs.Forms.{IsMadeBy}
 use Rattle.vtl_top.specs.Said.{Hears, Says}
 use Rattle.vtl_top.specs.Steps.{Made}
 use Rattle.vtl_top.specs.Words.{Command, Engine, Run, RunsScript, engine}

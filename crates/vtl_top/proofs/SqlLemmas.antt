@@ -1,5 +1,5 @@
 -- The steps of an engine, by what its parts answer.
-use Rattle.std.proofs.Common.{◌≡◌, inl, inr, ℕ, List, [], map, Option, Some, None, Result, Ok, Err, refl, sym, ap, subst, ◌∙◌, chars}
+use Rattle.std.proofs.Common.{◌≡◌, inl, inr, ℕ, List, map, Option, Some, None, Result, Ok, Err, refl, sym, ap, subst, ◌∙◌, chars}
 use Rattle.std.specs.Option.{option_map}
 use Rattle.vtl_files.specs.declared.files.Files.{Ghosts}
 use Rattle.vtl_decimal.specs.declared.number.Fault.TheVariants.{DivZero, Range}
@@ -20,14 +20,14 @@ use Rattle.sql_engine.specs.Exported.{shown}
 use Rattle.sql_engine.specs.Runs.{FaultIs, ShowsExports}
 use Rattle.vtl_scalar.specs.declared.run_error.RunErr.{RunErr}
 use Rattle.vtl_scalar.specs.declared.run_error.RunErr.TheVariants as engine
-use Rattle.vtl_top.specs.Answered.{Came, Takes}
-use Rattle.vtl_top.specs.Expected.{fault_status, inputs_step}
+use Rattle.vtl_top.specs.Answered.{Came, Misses, Takes}
+use Rattle.vtl_top.specs.Expected.{fault_status, folder_step}
 use Rattle.vtl_top.specs.Kinds.{refused, told_by}
 use Rattle.vtl_top.specs.Refusal.{IsSqlOf, SettlesBy, faulted, sql_mistyped}
 use Rattle.vtl_top.specs.ScriptFile.{faulty, no_text, whole}
 use Rattle.vtl_top.specs.SqlInputs.{input_structures, rows_by_name}
 use Rattle.vtl_top.specs.SqlRun.{engine_step, exports_of, sql_checked_step, sql_of, sql_step, sql_typing, table_file}
-use Rattle.vtl_top.specs.Steps.{File, Path, settled}
+use Rattle.vtl_top.specs.Steps.{File, Path, settled, status_of}
 use Rattle.vtl_top.specs.Words.{Engine}
 use Rattle.vtl_status.specs.declared.status.Status.{Status}
 use Rattle.vtl_status.specs.declared.status.Status.TheVariants as st
@@ -35,7 +35,7 @@ use Rattle.std.proofs.lemmas.Simd.{map-map}
 use Rattle.vtl_top.proofs.ReadScripts.{if_some_all, settled_given}
 use Rattle.vtl_top.proofs.RunLemmas.{settled_ok}
 use Rattle.vtl_top.proofs.SqlSteps.{after_checked, after_sql}
-use Rattle.vtl_top.proofs.StepLemmas.{nothing_read, takes_onward, takes_stopped}
+use Rattle.vtl_top.proofs.StepLemmas.{misses_none, nothing_read, takes_onward, takes_stopped}
 
 -- ---- the bytes of an SQL file
 module _ {F : Type 0} (g : Ghosts F) (a : F) (path bytes : List ℕ) where
@@ -49,8 +49,14 @@ module _ {F : Type 0} (g : Ghosts F) (a : F) (path bytes : List ℕ) where
       subst (λ (s : Status). Came g a a (sql_of path bytes) script_tree (Err s)) (sym f.4)
       (if_some_all (g.held a) (λ held. (sql_of path bytes).gives held (Err (st.SqlSyntax f.0 f.1))) (λ held. (faulty f.0 f.1, (f.2, f.3), refl)))
 
+  sql_misses : (result : Result SqlScript Status) → IsSqlOf path bytes result → Misses g a a (told_by (status_of result))
+  sql_misses (Ok script) is = refl
+  sql_misses (Err status) (inl e) = misses_none g a status st.Memory e refl
+  sql_misses (Err status) (inr (inl other)) = misses_none g a status (st.NotText (chars path)) other.1 refl
+  sql_misses (Err status) (inr (inr f)) = misses_none g a status (st.SqlSyntax f.0 f.1) f.4 refl
+
   pub sql_given : (result : Result SqlScript Status) → IsSqlOf path bytes result → Takes g a a (sql_of path bytes) script_tree result
-  sql_given result is = record { reads = nothing_read g a; came = sql_came result is }
+  sql_given result is = record { reads = nothing_read g a; came = sql_came result is; misses = sql_misses result is }
 
 -- ---- its typing
 -- a script that is typed has no fault
@@ -122,15 +128,15 @@ module _ {F X : Type 0} (g : Ghosts F) (e : Engine) (view : X → List File) (a 
   sql_unchecked status t = takes_stopped g (sql_checked_step e.sql) (after_checked e) a b checked_tree view status t
 
   module _ (c : CheckedScript) (checked : Takes g a b (sql_checked_step e.sql) checked_tree (Ok c)) (env : NamedTables → Environment) where
-    pub sql_inputs_refused : (d : F) (status : Status) → Takes g b d (inputs_step e.input (script_settings (checked_tree c)) [] (input_structures (checked_tree c))) env (Err status) → Takes g a d (engine_step e) view (Err status)
+    pub sql_inputs_refused : (d : F) (status : Status) → Takes g b d (folder_step e.input (script_settings (checked_tree c)) (input_structures (checked_tree c))) env (Err status) → Takes g a d (engine_step e) view (Err status)
     sql_inputs_refused d status u =
         takes_onward g (sql_checked_step e.sql) (after_checked e) a b d checked_tree view c (Err status) checked
-        (takes_stopped g (inputs_step e.input (script_settings (checked_tree c)) [] (input_structures (checked_tree c))) (λ env. settled (exports_of e.output (script_settings (checked_tree c)) (script_value (checked_tree c) (rows_by_name env)))) b d env view status u)
+        (takes_stopped g (folder_step e.input (script_settings (checked_tree c)) (input_structures (checked_tree c))) (λ env. settled (exports_of e.output (script_settings (checked_tree c)) (script_value (checked_tree c) (rows_by_name env)))) b d env view status u)
 
-    pub then_exports : (d : F) (inputs : NamedTables) (result : Result X Status) → Takes g b d (inputs_step e.input (script_settings (checked_tree c)) [] (input_structures (checked_tree c))) env (Ok inputs)
+    pub then_exports : (d : F) (inputs : NamedTables) (result : Result X Status) → Takes g b d (folder_step e.input (script_settings (checked_tree c)) (input_structures (checked_tree c))) env (Ok inputs)
         → SettlesBy view (exports_of e.output (script_settings (checked_tree c)) (script_value (checked_tree c) (rows_by_name (env inputs)))) result → Takes g a d (engine_step e) view result
     then_exports d inputs result u is =
         let m = script_value (checked_tree c) (rows_by_name (env inputs)) in
         takes_onward g (sql_checked_step e.sql) (after_checked e) a b d checked_tree view c result checked
-        (takes_onward g (inputs_step e.input (script_settings (checked_tree c)) [] (input_structures (checked_tree c))) (λ env. settled (exports_of e.output (script_settings (checked_tree c)) (script_value (checked_tree c) (rows_by_name env)))) b d d env view inputs result u
+        (takes_onward g (folder_step e.input (script_settings (checked_tree c)) (input_structures (checked_tree c))) (λ env. settled (exports_of e.output (script_settings (checked_tree c)) (script_value (checked_tree c) (rows_by_name env)))) b d d env view inputs result u
         (settled_given g d view (exports_of e.output (script_settings (checked_tree c)) m) (exports_refuse e.output (script_settings (checked_tree c)) m) result is))

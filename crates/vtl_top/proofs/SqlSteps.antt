@@ -1,12 +1,12 @@
 -- Steps of an engine: what is read of an SQL file is one thing, and the rest of its chain from each place on.
-use Rattle.std.proofs.Common.{◌≡◌, List, [], ℕ, Ok}
+use Rattle.std.proofs.Common.{◌≡◌, List, ℕ, Ok}
 use Rattle.sql_tree.specs.Texts.{IsFaulty, IsScript}
 use Rattle.sql_tree.specs.Trees.{ScriptTree}
 use Rattle.sql_check_parts.specs.Statements.{script_fault, script_settings}
 use Rattle.sql_meaning.specs.Scripts.{script_value}
 use Rattle.vtl_top.specs.SqlInputs.{input_structures, rows_by_name}
 use Rattle.sql_parser.proofs.Texts.{not_both, one_fault, one_script}
-use Rattle.vtl_top.specs.Expected.{inputs_step}
+use Rattle.vtl_top.specs.Expected.{folder_step}
 use Rattle.vtl_top.specs.ScriptFile.{IsSqlParsed, Parsed}
 use Rattle.vtl_top.specs.SqlRun.{exports_of, sql_typing}
 use Rattle.vtl_top.specs.Steps.{File, Step, ◌>>=◌, settled}
@@ -20,4 +20,4 @@ abbrev pub after_sql : ScriptTree → Step ScriptTree
 after_sql tree = settled (sql_typing (script_fault tree)) >>= λ typed. settled (Ok tree)
 
 abbrev pub after_checked : Engine → ScriptTree → Step (List File)
-after_checked e tree = inputs_step e.input (script_settings tree) [] (input_structures tree) >>= λ env. settled (exports_of e.output (script_settings tree) (script_value tree (rows_by_name env)))
+after_checked e tree = folder_step e.input (script_settings tree) (input_structures tree) >>= λ env. settled (exports_of e.output (script_settings tree) (script_value tree (rows_by_name env)))

@@ -1,19 +1,19 @@
 -- Steps one after the other, and how a call that takes them ends.
-use Rattle.std.proofs.Common.{◌≡◌, ◌≤◌, inl, inr, ℕ, false, List, Option, Some, None, Result, Ok, Err, refl, ◌∙◌, subst, arith}
+use Rattle.std.proofs.Common.{◌≡◌, ◌≤◌, inl, inr, ℕ, false, List, Option, Some, None, Result, Ok, Err, refl, sym, ◌∙◌, subst, arith}
 use Rattle.std.specs.Option.{IfSome}
 use Rattle.vtl_files.specs.Outside.{Rose}
 use Rattle.vtl_files.specs.declared.files.Files.{Ghosts}
 use Rattle.vtl_status.specs.declared.status.Status.{Status}
 use Rattle.vtl_status.specs.declared.status.Status.TheVariants as st
 use Rattle.vtl_top.specs.Kinds.{Told, done, no_command, refused, absent, read_fault, write_fault, no_memory, told_by}
-use Rattle.vtl_top.specs.Steps.{File, Made, Step, ◌>>=◌}
+use Rattle.vtl_top.specs.Steps.{File, Made, Step, ◌>>=◌, status_of}
 use Rattle.vtl_files.specs.declared.sink.Sink.{Ghosts as Sinks}
 use Rattle.vtl_check.specs.Checked.{TypedScript}
-use Rattle.vtl_top.specs.Answered.{Adds, AddsUpTo, Came, EndsAs, Faulted, Gives, GivesOut, IsMadeBy, OnlyReads, Stops, Takes, Unsaid, WritesAs}
-use Rattle.vtl_top.specs.Asked.{asked_step}
-use Rattle.vtl_top.specs.Expected.{built_step}
-use Rattle.vtl_top.specs.Informed.{HasRun, Informs, IsTold, TellsRun, typed_view}
-use Rattle.vtl_top.specs.Words.{Command, Source, engine, run, sql, sqlrun}
+use Rattle.vtl_top.specs.Answered.{Adds, AddsUpTo, Came, EndsAs, Faulted, Gives, GivesOut, Misses, OnlyReads, Stops, Takes, Unsaid, WritesAs}
+use Rattle.vtl_top.specs.Expected.{Typed}
+use Rattle.vtl_top.specs.Forms.{IsMadeBy, Tells, asked_step, form_of, of_itself, of_step, silent}
+use Rattle.vtl_top.specs.Informed.{HasRun, Informed, Informs, IsTold, TellsRun, typed_view}
+use Rattle.vtl_top.specs.Words.{Command}
 
 pub rose_before : (a b c : ℕ) → a ≤ b → Rose b c → Rose a c
 rose_before a b c le rose = omega (arith, le, rose)
@@ -41,6 +41,20 @@ nothing_read g a = record { held = refl; written = refl; misuses = refl; creatin
 
 earlier_fault : {F : Type 0} (g : Ghosts F) (a b c : F) (path : List ℕ) → g.faults a ≤ g.faults b → Faulted g b c path → Faulted g a c path
 earlier_fault g a b c path le f = (f.0, record { in_call = rose_before _ _ _ le f.1.in_call; since_mark = f.1.since_mark; at_path = f.1.at_path })
+
+-- behind what missed nothing
+misses_later : {F : Type 0} (g : Ghosts F) (a b c : F) (told : Told) → g.absences b ≡ g.absences a → Misses g b c told → Misses g a c told
+misses_later g a b c done e m = m ∙ e
+misses_later g a b c no_command e m = m ∙ e
+misses_later g a b c refused e m = m ∙ e
+misses_later g a b c no_memory e m = m ∙ e
+misses_later g a b c (read_fault path) e m = m ∙ e
+misses_later g a b c (write_fault path) e m = m ∙ e
+misses_later g a b c (absent path) e m = subst (λ n. Rose n (g.absences c)) e m
+
+-- where nothing was opened, and the status is this one
+pub misses_none : {F : Type 0} (g : Ghosts F) (a : F) (status wanted : Status) → status ≡ wanted → Misses g a a (told_by wanted) → Misses g a a (told_by status)
+misses_none g a status wanted e m = subst (λ (s : Status). Misses g a a (told_by s)) (sym e) m
 
 module _ {F A B : Type 0} (g : Ghosts F) (step : Step A) (next : A → Step B) where
   -- ---- the first step gave a value
@@ -72,6 +86,7 @@ module _ {F A B : Type 0} (g : Ghosts F) (step : Step A) (next : A → Step B) w
   takes_onward a b c view into x result first second = record {
     reads = only_reads_twice g a b c first.reads second.reads;
     came = then_came a b c first.reads (view x) first.came into result second.came;
+    misses = misses_later g a b c (told_by (status_of result)) first.misses second.misses;
   }
 
   -- ---- the first step gave none
@@ -88,7 +103,7 @@ module _ {F A B : Type 0} (g : Ghosts F) (step : Step A) (next : A → Step B) w
   stays_stopped a b status no_memory s = s
 
   pub takes_stopped : {X Y : Type 0} (a b : F) (view : X → A) (into : Y → B) (status : Status) → Takes g a b step view (Err status) → Takes g a b (step >>= next) into (Err status)
-  takes_stopped a b view into status first = record { reads = first.reads; came = stays_stopped a b status (told_by status) first.came }
+  takes_stopped a b view into status first = record { reads = first.reads; came = stays_stopped a b status (told_by status) first.came; misses = first.misses }
 
 -- ---- how a command ends
 module _ {F O : Type 0} (g : Ghosts F) (o : Sinks O) (a b : F) (out : O) (command : Option Command) (idle : g.creating a ≡ false) where
@@ -142,6 +157,19 @@ pub ends_given : {F O X : Type 0} (g : Ghosts F) (o : Sinks O) (a b c : F) (out 
     → IsMadeBy command (view x) → GivesOut g o b c out between (view x) (told_by status) → EndsAs g o a c out between command status (told_by status)
 ends_given g o a b c out between command view x status t shape w = ends_told g o a b c out between t.reads (view x) command status (told_by status) shape t.came w
 
+-- what is given out opens no file to be read
+pub given_misses : {F O : Type 0} (g : Ghosts F) (o : Sinks O) (a b c : F) (out between : O) (made : Made) (status : Status) → g.absences b ≡ g.absences a → g.absences c ≡ g.absences b → GivesOut g o b c out between made (told_by status) → Misses g a c (told_by status)
+given_misses g o a b c out between made status e f w = go (told_by status) w
+  where
+    go : (told : Told) → GivesOut g o b c out between made told → Misses g a c told
+    go done w = f ∙ e
+    go (write_fault path) w = f ∙ e
+    go no_command w = absurd w
+    go refused w = absurd w
+    go no_memory w = absurd w
+    go (read_fault path) w = absurd w
+    go (absent path) w = absurd w
+
 -- files, and then a text: where the files were not all written, that is how it ended
 pub files_failed : {F O : Type 0} (g : Ghosts F) (o : Sinks O) (b c : F) (out : O) (made : Made) (status : Status) → (status ≡ st.Done → ⊥) → WritesAs g b c made.files (told_by status) → GivesOut g o b c out out made (told_by status)
 files_failed g o b c out made st.Done n w = absurd (n refl)
@@ -158,13 +186,14 @@ given_not_usage g o b c out between made status w e = subst (λ (s : Status). Gi
 -- ---- what a back end was told
 -- once a run came to its script, whatever became of its files
 pub informed : {F B : Type 0} (g : Ghosts F) (a : F) (told : B → TypedScript → Type 0) (old new : B) (command : Option Command) (status : Status) → Informs g a told old new command st.Done → Informs g a told old new command status
-informed g a told old new None status i = i
-informed g a told old new (Some (run r)) status i = i
-informed g a told old new (Some (sqlrun r)) status i = λ h. i tt
-informed g a told old new (Some (sql s)) status i = i
-informed g a told old new (Some (engine e)) status i = i
+informed {F} {B} g a told old new command status i = by_tells (form_of command).tells i
+  where
+    by_tells : (tells : Tells) → Informed g a told old new tells st.Done → Informed g a told old new tells status
+    by_tells silent i = i
+    by_tells (of_step step) i = λ h. i tt
+    by_tells (of_itself t) i = λ h. i tt
 
 -- a script that was accepted
-pub told_behind : {F : Type 0} (g : Ghosts F) (a b : F) (s : Source) (told : TypedScript → Type 0) (t : TypedScript) (status : Status) → Takes g a b (built_step s) typed_view (Ok t) → (HasRun status → told t) → TellsRun g a s told status
-told_behind g a b s told t status takes f h =
-    if_some_map (g.held a) (λ held. (built_step s).gives held (Ok (typed_view t))) (λ held. IsTold held s told) (λ held p. record { script = t; given = p; told_of = f h }) takes.came
+pub told_behind : {F : Type 0} (g : Ghosts F) (a b : F) (step : Step Typed) (told : TypedScript → Type 0) (t : TypedScript) (status : Status) → Takes g a b step typed_view (Ok t) → (HasRun status → told t) → TellsRun g a step told status
+told_behind g a b step told t status takes f h =
+    if_some_map (g.held a) (λ held. step.gives held (Ok (typed_view t))) (λ held. IsTold held step told) (λ held p. record { script = t; given = p; told_of = f h }) takes.came

@@ -1,15 +1,15 @@
 -- What a status tells: how a call ended, by what the held bytes give.
-use Rattle.std.specs.Prelude.{◌≡◌, ◌≤◌, ◌⊎◌, false, List, [], ◌∷◌, ◌++◌, Option, None, Some, Result, Ok, Err, IfSome, chars, codes}
+use Rattle.std.specs.Prelude.{◌≡◌, ◌≤◌, ◌⊎◌, false, List, [], ◌∷◌, ◌++◌, Option, Result, Ok, Err, IfSome, chars, codes}
 use Rattle.std.specs.Option.{option_map}
 use Rattle.vtl_files.specs.Outside.{Rose, FaultAt}
 use Rattle.vtl_files.specs.declared.files.Files.{Ghosts}
 use Rattle.vtl_top.specs.Kinds.{Told, done, no_command, refused, absent, read_fault, write_fault, no_memory, told_by}
 use Rattle.vtl_files.specs.Whole.{TakesFront}
 use Rattle.vtl_files.specs.declared.sink.Sink.{Ghosts as Sinks}
-use Rattle.vtl_top.specs.Asked.{asked_step}
+use Rattle.vtl_top.specs.Forms.{IsMadeBy, asked_step}
 use Rattle.vtl_top.specs.Said.{Hears, Says}
-use Rattle.vtl_top.specs.Steps.{File, Made, Name, Path, Step, Text}
-use Rattle.vtl_top.specs.Words.{Command, engine, run, sql, sqlrun}
+use Rattle.vtl_top.specs.Steps.{File, Made, Name, Path, Step, Text, status_of}
+use Rattle.vtl_top.specs.Words.{Command}
 use Rattle.vtl_status.specs.declared.status.Status.{Status}
 
 -- Nothing but counts, place and mark has changed.
@@ -36,6 +36,11 @@ Absent g before now path = (path ≡ chars (g.place now)) × Rose (g.absences be
 abbrev pub Faulted : {F : Type 0} → Ghosts F → F → F → Name → Type 0
 Faulted g before now path = (path ≡ chars (g.place now)) × FaultAt (g.faults before) (g.faults now) (g.mark now) (g.place now) (g.place now)
 
+-- A file was not there, or `absences` is as before.
+abbrev pub Misses : {F : Type 0} → Ghosts F → F → F → Told → Type 0
+Misses g before now (absent path) = Rose (g.absences before) (g.absences now)
+Misses g before now told = g.absences now ≡ g.absences before
+
 -- Where the held files are told, the step gives this over them.
 abbrev pub Gives : {F A : Type 0} → Ghosts F → F → Step A → Result A Status → Type 0
 Gives g before step given = IfSome (g.held before) (λ held. step.gives held given)
@@ -60,6 +65,7 @@ Came g before now step view (Err status) = Stops g before now step status (told_
 pub record Takes {F X A : Type 0} (g : Ghosts F) (before now : F) (step : Step A) (view : X → A) (result : Result X Status) : Type 0 where
   pub reads : OnlyReads g before now
   pub came : Came g before now step view result
+  pub misses : Misses g before now (told_by (status_of result))
 
 -- ---- a whole call
 -- these files were written, whole and in order
@@ -92,14 +98,6 @@ WritesAs g before now files (write_fault path) = AddsUpTo (g.written before) (g.
 WritesAs g before now files _ = ⊥
 
 -- ---- files and a sink
--- what each command makes: files alone, or a text alone
-abbrev pub IsMadeBy : Option Command → Made → Type 0
-IsMadeBy None made = ⊥
-IsMadeBy (Some (run r)) made = made.text ≡ []
-IsMadeBy (Some (sqlrun r)) made = made.text ≡ []
-IsMadeBy (Some (sql s)) made = made.files ≡ []
-IsMadeBy (Some (engine e)) made = made.text ≡ []
-
 -- The text was the cause of a fault of writing: the files were written whole, the sink failed, and took a front of it.
 pub record Unsaid {F O : Type 0} (g : Ghosts F) (o : Sinks O) (before now : F) (out between : O) (made : Made) (path : Name) : Type 0 where
   pub at_sink : path ≡ chars (codes "-")

@@ -1,5 +1,5 @@
 -- What the words and the files that are held give: the outputs of the run or the text in SQL, or the first refusal.
-use Rattle.std.specs.Prelude.{◌≡◌, ℕ, not, List, [], ◌∷◌, ◌++◌, length, map, nat_lt, Option, Some, None, Result, Ok, Err, codes, chars, encode_utf8_all, if◌then◌else◌}
+use Rattle.std.specs.Prelude.{ℕ, not, List, [], ◌∷◌, ◌++◌, length, map, nat_lt, Option, Some, None, Result, Ok, Err, codes, chars, encode_utf8_all, if◌then◌else◌}
 use Rattle.vtl_files.specs.Outside.{bytes_at}
 use Rattle.vtl_decimal.specs.declared.number.Fault.TheVariants.{DivZero, Range}
 use Rattle.vtl_decimal.specs.declared.number.Fault.{Fault as EvaluationFault}
@@ -21,9 +21,10 @@ use Rattle.vtl_check.specs.Script.{has_definitions, script_typed}
 use Rattle.vtl_check.specs.Uses.{reads}
 use Rattle.sql_back.specs.Texts.{IsTextFor}
 use Rattle.vtl_top.specs.ScriptFile.{IsParsed, Parsed, faulty, no_text, whole}
-use Rattle.vtl_top.specs.Steps.{File, Held, Name, Path, Step, Text, ◌>>=◌, refused_if, settled}
+use Rattle.vtl_top.specs.Steps.{File, Held, Name, Path, Step, Text, ◌>>=◌, looked, read_as, refused_if, settled}
 use Rattle.vtl_top.specs.Structures.{structures_in}
-use Rattle.vtl_top.specs.Words.{Run, Source}
+use Rattle.vtl_top.specs.Wanted.{Placed, all_placed_in, entry_of}
+use Rattle.vtl_top.specs.Words.{Run, Source, settings_of}
 use Rattle.vtl_status.specs.declared.status.Status.{Status}
 use Rattle.vtl_status.specs.declared.status.Status.TheVariants as st
 
@@ -52,7 +53,7 @@ content path limit held = sized path limit (bytes_at path held)
 -- ---- the steps of a run
 -- the bytes of a file
 abbrev pub read : Path → ℕ → Step Text
-read path limit = record { gives = λ held given. given ≡ content path limit held; reads = λ held named. named ≡ chars path }
+read path limit = looked (content path limit) path
 
 -- the tree of a script file, by what it is read as
 abbrev pub script_in : Path → Parsed ScriptTree → Result ScriptTree Status
@@ -61,7 +62,7 @@ script_in path (faulty done byte) = Err (st.Syntax done byte)
 script_in path (whole script) = Ok script
 
 abbrev pub script_of : Path → Text → Step ScriptTree
-script_of path bytes = record { gives = λ held given. (parsed : Parsed ScriptTree) × IsParsed bytes parsed × (given ≡ script_in path parsed); reads = λ held named. ⊥ }
+script_of path bytes = read_as (IsParsed bytes) (script_in path)
 
 abbrev pub script_step : Path → Step ScriptTree
 script_step path = read path script_limit >>= script_of path
@@ -72,24 +73,28 @@ abbrev pub points_or_fault : Name → Result (List Row) Fault → Result (List R
 points_or_fault name (Ok points) = Ok points
 points_or_fault name (Err fault) = Err (st.Input name fault.0 fault.1.0 fault.1.1)
 
--- the points of the data set of this name and structure, from its file in a folder
-abbrev pub dataset_step : Path → Settings → Name × Structure → Step (List Row)
-dataset_step folder p e = read (file_in folder e.0) csv_limit >>= λ bytes. settled (points_or_fault e.0 (dataset_rows p e.1 [] bytes))
+-- the points of a data set, from its file
+abbrev pub dataset_step : Settings → Placed → Step (List Row)
+dataset_step p w = read (file_in w.0 w.1.name) csv_limit >>= λ bytes. settled (points_or_fault w.1.name (dataset_rows p w.1.structure w.1.not_null bytes))
 
 abbrev pub data_set : Structure → List Row → DataSet
 data_set structure points = record { structure = structure; points = points }
 
-abbrev pub with_points : Environment → Name × Structure → List Row → Environment
+abbrev pub with_points : Environment → List ℕ × Structure → List Row → Environment
 with_points before e points = before ++ (e.0, data_set e.1 points) ∷ []
 
 -- the data sets before, and one more behind them
-abbrev pub one_more_step : Path → Settings → Environment → Name × Structure → Step Environment
-one_more_step folder p before e = dataset_step folder p e >>= λ points. settled (Ok (with_points before e points))
+abbrev pub one_more_step : Settings → Environment → Placed → Step Environment
+one_more_step p before w = dataset_step p w >>= λ points. settled (Ok (with_points before (entry_of w) points))
 
--- the data sets before, and behind them those of these names and structures, each read in turn
-abbrev pub inputs_step : Path → Settings → Environment → Named → Step Environment
-inputs_step folder p before [] = settled (Ok before)
-inputs_step folder p before (e ∷ rest) = one_more_step folder p before e >>= λ more. inputs_step folder p more rest
+-- the data sets before, and behind them these, each read in turn
+abbrev pub inputs_step : Settings → Environment → List Placed → Step Environment
+inputs_step p before [] = settled (Ok before)
+inputs_step p before (w ∷ rest) = one_more_step p before w >>= λ more. inputs_step p more rest
+
+-- the data sets of one folder
+abbrev pub folder_step : Path → Settings → Named → Step Environment
+folder_step folder p es = inputs_step p [] (all_placed_in folder es)
 
 -- ---- the outputs
 -- the file of a result in a folder
@@ -128,7 +133,7 @@ typed_by tree structures settings nodes = record { tree = tree; structures = str
 
 -- the typing of a script over structures
 abbrev pub typing_of : Source → ScriptTree → Named → Result (List NodeTree) Status
-typing_of s tree structures = typed_or_fault (script_typed (env_over s.settings structures) tree)
+typing_of s tree structures = typed_or_fault (script_typed (env_over (settings_of s) structures) tree)
 
 -- the status of a script with a form that is not evaluated yet
 abbrev pub unbuilt : Source → Status
@@ -141,7 +146,7 @@ typed_step s =
     refused_if (has_definitions tree) (unbuilt s) >>= λ plain.
     structures_step s.structures >>= λ structures.
     settled (typing_of s tree structures) >>= λ nodes.
-    settled (Ok (typed_by tree structures s.settings nodes))
+    settled (Ok (typed_by tree structures (settings_of s) nodes))
 
 -- the same, where each of its forms is evaluated
 abbrev pub built_step : Source → Step Typed
@@ -162,7 +167,7 @@ meant t env = meaning t.settings (statements_in t) env
 abbrev pub run_step : Run → Step (List File)
 run_step r =
     built_step r.source >>= λ t.
-    inputs_step r.input t.settings [] (reads t.structures t.nodes) >>= λ env.
+    folder_step r.input t.settings (reads t.structures t.nodes) >>= λ env.
     settled (outputs_of r.output t.settings (meant t env))
 
 -- ---- the text in SQL
@@ -171,7 +176,7 @@ abbrev pub IsTextOf : Typed → Text → Type 0
 IsTextOf t text = IsTextFor t.settings (reads t.structures t.nodes) (statements_in t) text
 
 abbrev pub text_for : Typed → Step Text
-text_for t = record { gives = λ held given. (text : Text) × (given ≡ Ok text) × IsTextOf t text; reads = λ held named. ⊥ }
+text_for t = read_as (IsTextOf t) (λ text. Ok text)
 
 -- a text of the script of a source. No data set is read.
 abbrev pub text_step : Source → Step Text

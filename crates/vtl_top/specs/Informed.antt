@@ -1,10 +1,11 @@
 -- What a back end was told of the script that is run.
-use Rattle.std.specs.Prelude.{◌≡◌, ⊤, Option, None, Some, Ok, IfSome}
+use Rattle.std.specs.Prelude.{◌≡◌, ⊤, Option, Ok, IfSome}
 use Rattle.vtl_files.specs.declared.files.Files.{Ghosts}
 use Rattle.vtl_check.specs.Checked.{TypedScript, nodes_of, tree_of}
-use Rattle.vtl_top.specs.Expected.{Typed, built_step, typed_by}
-use Rattle.vtl_top.specs.Steps.{Held}
-use Rattle.vtl_top.specs.Words.{Command, Source, engine, run, sql, sqlrun}
+use Rattle.vtl_top.specs.Expected.{Typed, typed_by}
+use Rattle.vtl_top.specs.Forms.{Tells, form_of, of_itself, of_step, silent}
+use Rattle.vtl_top.specs.Steps.{Held, Step}
+use Rattle.vtl_top.specs.Words.{Command}
 use Rattle.vtl_status.specs.declared.status.Status.{Status}
 use Rattle.vtl_status.specs.declared.status.Status.TheVariants as st
 
@@ -19,20 +20,28 @@ HasRun status = ⊥
 abbrev pub typed_view : TypedScript → Typed
 typed_view t = typed_by (tree_of t) t.declared t.settings (nodes_of t)
 
--- The back end was told of the script that these held files give.
-pub record IsTold (held : Held) (s : Source) (told : TypedScript → Type 0) : Type 0 where
+-- The back end was told of the script that the step gives over these held files.
+pub record IsTold (held : Held) (step : Step Typed) (told : TypedScript → Type 0) : Type 0 where
   pub script : TypedScript
-  pub given : (built_step s).gives held (Ok (typed_view script))
+  pub given : step.gives held (Ok (typed_view script))
   pub told_of : told script
 
--- A run that evaluated its script told the back end of it, where the held files are told.
-abbrev pub TellsRun : {F : Type 0} → Ghosts F → F → Source → (TypedScript → Type 0) → Status → Type 0
-TellsRun g before s told status = HasRun status → IfSome (g.held before) (λ held. IsTold held s told)
+-- It was told of this script.
+pub record IsToldOf (t : Typed) (told : TypedScript → Type 0) : Type 0 where
+  pub script : TypedScript
+  pub same : typed_view script ≡ t
+  pub told_of : told script
 
--- what each command does to the back end: a run in SQL tells it of the script, every other command leaves it as it was
+-- A call that evaluated the step's script told the back end of it, where the held files are told.
+abbrev pub TellsRun : {F : Type 0} → Ghosts F → F → Step Typed → (TypedScript → Type 0) → Status → Type 0
+TellsRun g before step told status = HasRun status → IfSome (g.held before) (λ held. IsTold held step told)
+
+-- what a call does to the back end: it leaves it as it was, or, where it evaluated a script, it told it of this one
+abbrev pub Informed : {F B : Type 0} → Ghosts F → F → (B → TypedScript → Type 0) → (old new : B) → Tells → Status → Type 0
+Informed g before told old new silent status = new ≡ old
+Informed g before told old new (of_step step) status = TellsRun g before step (told new) status
+Informed g before told old new (of_itself t) status = HasRun status → IsToldOf t (told new)
+
+-- what each command does to it
 abbrev pub Informs : {F B : Type 0} → Ghosts F → F → (B → TypedScript → Type 0) → (old new : B) → Option Command → Status → Type 0
-Informs g before told old new None status = new ≡ old
-Informs g before told old new (Some (run r)) status = new ≡ old
-Informs g before told old new (Some (sqlrun r)) status = TellsRun g before r.source (told new) status
-Informs g before told old new (Some (sql s)) status = new ≡ old
-Informs g before told old new (Some (engine e)) status = new ≡ old
+Informs g before told old new command status = Informed g before told old new (form_of command).tells status

@@ -12,6 +12,8 @@ use Rattle.vtl_tree.specs.Structure.{IsStructure, same_name}
 use Rattle.vtl_tree.specs.Structures.{Named}
 use Rattle.vtl_tree.specs.declared.structure.Structure.{Structure}
 use Rattle.vtl_sets.specs.TableOf.{IsTableOf}
+use Rattle.vtl_top.specs.Steps.{Path}
+use Rattle.vtl_top.specs.Wanted.{Placed}
 use Rattle.vtl_top.specs.declared.inputs.Wanted.{Wanted}
 
 -- a data set that is wanted: its name and its structure
@@ -20,6 +22,17 @@ wanted_of w = (w.name.now, w.structure.now)
 
 abbrev pub all_wanted : List Wanted → Named
 all_wanted ws = map wanted_of ws
+
+-- the same with its not-null components, from a folder
+abbrev pub wanted_from : Path → Wanted → Placed
+wanted_from folder w = (folder, record { name = w.name.now; structure = w.structure.now; not_null = w.not_null.now })
+
+abbrev pub all_wanted_from : Path → List Wanted → List Placed
+all_wanted_from folder ws = map (wanted_from folder) ws
+
+-- no component of it is not-null
+abbrev pub IsPlain : Wanted → Type 0
+IsPlain w = w.not_null.now ≡ []
 
 -- data sets that can be read: each has a structure, and their names are distinct
 pub record AreReadable (inputs : Named) : Type 0 where

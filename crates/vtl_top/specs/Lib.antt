@@ -1,8 +1,8 @@
 pub mod Agreement
 pub mod Answered
-pub mod Asked
 pub mod Complete
 pub mod Expected
+pub mod Forms
 pub mod Informed
 pub mod InputsRead
 pub mod Kinds
@@ -19,4 +19,5 @@ pub mod SqlInputs
 pub mod SqlMeant
 pub mod SqlRun
 pub mod Structures
+pub mod Wanted
 pub mod Words

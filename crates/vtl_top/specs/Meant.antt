@@ -1,5 +1,5 @@
 -- The outputs of a run, and the text of a script in SQL, in the words of the language: what the script means over its inputs.
-use Rattle.std.specs.Prelude.{◌≡◌, ℕ, false, true, List, [], map, Err, Ok, IsUtf8}
+use Rattle.std.specs.Prelude.{◌≡◌, ℕ, false, true, List, map, Err, Ok, IsUtf8}
 use Rattle.vtl_syntax.specs.Trees.{ScriptTree}
 use Rattle.vtl_parser.specs.Parsed.{IsScript}
 use Rattle.vtl_tree.specs.Environment.{Environment}
@@ -10,9 +10,9 @@ use Rattle.vtl_check.specs.Script.{has_definitions, script_typed}
 use Rattle.vtl_check.specs.Uses.{reads}
 use Rattle.vtl_meaning.specs.Meaning.{Outputs, is_built}
 use Rattle.std.specs.List.{list_all}
-use Rattle.vtl_top.specs.Expected.{IsTextOf, Typed, content, inputs_step, meant, output_of, script_limit, structures_step}
+use Rattle.vtl_top.specs.Expected.{IsTextOf, Typed, content, folder_step, meant, output_of, script_limit, structures_step}
 use Rattle.vtl_top.specs.Steps.{File, Held, Name, Text}
-use Rattle.vtl_top.specs.Words.{Run, Source}
+use Rattle.vtl_top.specs.Words.{Run, Source, settings_of}
 
 -- The script's tree and the structures are those of the files, and the script defines no rulesets.
 pub record IsRead (s : Source) (held : Held) (tree : ScriptTree) (structures : Named) : Type 0 where
@@ -23,17 +23,17 @@ pub record IsRead (s : Source) (held : Held) (tree : ScriptTree) (structures : N
   pub plain : has_definitions tree ≡ false
   pub declared : (structures_step s.structures).gives held (Ok structures)
 
--- That script is typed over the structures with the settings of the words, and each of its expressions is evaluated.
+-- That script is typed over the structures with the settings of the source, and each of its expressions is evaluated.
 pub record IsAccepted (s : Source) (held : Held) (t : Typed) : Type 0 where
   pub source : IsRead s held t.tree t.structures
-  pub settings : t.settings ≡ s.settings
-  pub fits : script_typed (env_over s.settings t.structures) t.tree ≡ Ok t.nodes
+  pub settings : t.settings ≡ settings_of s
+  pub fits : script_typed (env_over (settings_of s) t.structures) t.tree ≡ Ok t.nodes
   pub built : list_all is_built t.nodes ≡ true
 
 -- And these are the data sets that it reads.
 pub record IsReady (r : Run) (held : Held) (t : Typed) (inputs : Environment) : Type 0 where
   pub script : IsAccepted r.source held t
-  pub read : (inputs_step r.input t.settings [] (reads t.structures t.nodes)).gives held (Ok inputs)
+  pub read : (folder_step r.input t.settings (reads t.structures t.nodes)).gives held (Ok inputs)
 
 -- A script is ready, and its statements mean results over the data sets that it reads; and the files are named after the results
 -- that are written, in order, and hold their CSV texts.
@@ -57,7 +57,7 @@ pub record IsMistyped (s : Source) (held : Held) (statement rule : ℕ) : Type 0
   pub tree : ScriptTree
   pub structures : Named
   pub source : IsRead s held tree structures
-  pub fault : script_typed (env_over s.settings structures) tree ≡ Err (statement, rule)
+  pub fault : script_typed (env_over (settings_of s) structures) tree ≡ Err (statement, rule)
 
 -- A script is typed and evaluated so, and this is a text of it in SQL.
 pub record IsTextMeant (s : Source) (held : Held) (text : Text) : Type 0 where

@@ -31,11 +31,11 @@ use Rattle.vtl_status.specs.declared.status.Status.TheVariants as st
 abbrev pub IsOrMemory : Status → Status → Type 0
 IsOrMemory wanted status = (status ≡ st.Memory) ⊎ (status ≡ wanted)
 
--- what an error at this path is
+-- what an error at the path of this name is
 abbrev pub refusal_of : List ℕ → ReadErr → Status
-refusal_of path e.Absent = st.NoFile (chars path)
-refusal_of path e.TooLong = st.TooLong (chars path)
-refusal_of path e.Failed = st.ReadFault (chars path)
+refusal_of path e.Absent = st.NoFile path
+refusal_of path e.TooLong = st.TooLong path
+refusal_of path e.Failed = st.ReadFault path
 refusal_of path e.OutOfMemory = st.Memory
 
 -- what an error in the file of a data set is

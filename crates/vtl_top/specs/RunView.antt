@@ -9,7 +9,7 @@ use Rattle.vtl_top.specs.declared.words.Setting.{Setting as Option}
 use Rattle.vtl_top.specs.declared.words.Setting.TheVariants as option
 
 abbrev pub source_view : SourceWords → Source
-source_view w = record { script = w.script.now; structures = w.structures.now; settings = w.profile }
+source_view w = record { script = w.script.now; structures = w.structures.now; chosen = w.chosen }
 
 abbrev pub run_view : Words → Run
 run_view w = record { source = source_view w.source; input = w.input.now; output = w.output.now }

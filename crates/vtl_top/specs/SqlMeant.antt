@@ -1,5 +1,5 @@
 -- The exports of an engine in the words of the dialect: what the SQL script means over its inputs.
-use Rattle.std.specs.Prelude.{◌≡◌, List, [], map, Err, Ok, Some, IsUtf8}
+use Rattle.std.specs.Prelude.{◌≡◌, List, map, Err, Ok, Some, IsUtf8}
 use Rattle.vtl_files.specs.Outside.{bytes_at}
 use Rattle.vtl_tree.specs.Environment.{Environment}
 use Rattle.vtl_decimal.specs.declared.number.Fault.{Fault}
@@ -7,7 +7,7 @@ use Rattle.sql_tree.specs.Texts.{IsScript}
 use Rattle.sql_tree.specs.Trees.{ScriptTree}
 use Rattle.sql_check_parts.specs.Statements.{Fault as Breach, IsTypedScript, script_fault, script_settings}
 use Rattle.sql_meaning.specs.Scripts.{Export, script_value}
-use Rattle.vtl_top.specs.Expected.{inputs_step}
+use Rattle.vtl_top.specs.Expected.{folder_step}
 use Rattle.vtl_top.specs.SqlInputs.{input_structures, rows_by_name}
 use Rattle.vtl_top.specs.SqlRun.{export_file}
 use Rattle.vtl_top.specs.Steps.{File, Held, Name, Text}
@@ -24,7 +24,7 @@ pub record IsSqlRead (e : Engine) (held : Held) (script : ScriptTree) : Type 0 w
 pub record IsSqlReady (e : Engine) (held : Held) (script : ScriptTree) (inputs : Environment) : Type 0 where
   pub source : IsSqlRead e held script
   pub typed : IsTypedScript script
-  pub read : (inputs_step e.input (script_settings script) [] (input_structures script)).gives held (Ok inputs)
+  pub read : (folder_step e.input (script_settings script) (input_structures script)).gives held (Ok inputs)
 
 -- The script gives exports over the rows that were read; and the files are named after the exports, in order, and hold their texts.
 pub record IsExported (e : Engine) (held : Held) (files : List File) : Type 0 where

@@ -1,5 +1,5 @@
 -- What an SQL file and the files that are held give: the exports of its script, or the first refusal.
-use Rattle.std.specs.Prelude.{◌≡◌, List, [], map, Option, Some, None, Result, Ok, Err, chars}
+use Rattle.std.specs.Prelude.{List, map, Option, Some, None, Result, Ok, Err, chars}
 use Rattle.vtl_files.specs.Outside.{bytes_at}
 use Rattle.vtl_decimal.specs.Settings.{Settings}
 use Rattle.vtl_rows.specs.Tables.{Listed}
@@ -10,9 +10,9 @@ use Rattle.sql_check_parts.specs.Statements.{Fault, script_fault, script_setting
 use Rattle.sql_meaning.specs.Scripts.{Export, NamedFault, script_value}
 use Rattle.sql_engine.specs.Exported.{shown}
 use Rattle.vtl_top.specs.SqlInputs.{input_structures, rows_by_name}
-use Rattle.vtl_top.specs.Expected.{fault_status, file_in, inputs_step}
+use Rattle.vtl_top.specs.Expected.{fault_status, file_in, folder_step}
 use Rattle.vtl_top.specs.ScriptFile.{IsSqlParsed, Parsed, faulty, no_text, whole}
-use Rattle.vtl_top.specs.Steps.{File, Name, Path, Step, Text, ◌>>=◌, settled}
+use Rattle.vtl_top.specs.Steps.{File, Name, Path, Step, Text, ◌>>=◌, looked, read_as, settled}
 use Rattle.vtl_top.specs.Words.{Engine}
 use Rattle.vtl_status.specs.declared.status.Status.{Status}
 use Rattle.vtl_status.specs.declared.status.Status.TheVariants as st
@@ -24,7 +24,7 @@ present path None = Err (st.NoFile (chars path))
 present path (Some bytes) = Ok bytes
 
 abbrev pub read_whole : Path → Step Text
-read_whole path = record { gives = λ held given. given ≡ present path (bytes_at path held); reads = λ held named. named ≡ chars path }
+read_whole path = looked (λ held. present path (bytes_at path held)) path
 
 -- the tree of an SQL file, by what it is read as
 abbrev pub sql_in : Path → Parsed ScriptTree → Result ScriptTree Status
@@ -33,7 +33,7 @@ sql_in path (faulty done byte) = Err (st.SqlSyntax done byte)
 sql_in path (whole script) = Ok script
 
 abbrev pub sql_of : Path → Text → Step ScriptTree
-sql_of path bytes = record { gives = λ held given. (parsed : Parsed ScriptTree) × IsSqlParsed bytes parsed × (given ≡ sql_in path parsed); reads = λ held named. ⊥ }
+sql_of path bytes = read_as (IsSqlParsed bytes) (sql_in path)
 
 abbrev pub sql_step : Path → Step ScriptTree
 sql_step path = read_whole path >>= sql_of path
@@ -68,5 +68,5 @@ sql_checked_step path =
 abbrev pub engine_step : Engine → Step (List File)
 engine_step e =
     sql_checked_step e.sql >>= λ tree.
-    inputs_step e.input (script_settings tree) [] (input_structures tree) >>= λ env.
+    folder_step e.input (script_settings tree) (input_structures tree) >>= λ env.
     settled (exports_of e.output (script_settings tree) (script_value tree (rows_by_name env)))

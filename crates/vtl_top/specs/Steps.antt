@@ -1,5 +1,5 @@
 -- Steps of a run over the held files.
-use Rattle.std.specs.Prelude.{◌≡◌, ◌⊎◌, ℕ, Bool, List, [], Result, Ok, Err, if◌then◌else◌}
+use Rattle.std.specs.Prelude.{◌≡◌, ◌⊎◌, ℕ, Bool, List, [], Result, Ok, Err, chars, if◌then◌else◌}
 use Rattle.vtl_status.specs.declared.status.Status.{Status}
 use Rattle.vtl_status.specs.declared.status.Status.TheVariants as st
 
@@ -27,9 +27,17 @@ pub record Step (A : Type 0) : Type 1 where
   pub gives : Held → Result A Status → Type 0
   pub reads : Held → Name → Type 0
 
+-- what one path tells of the held bytes
+abbrev pub looked : {A : Type 0} → (Held → Result A Status) → Path → Step A
+looked {A} found path = record { gives = λ held given. given ≡ found held; reads = λ held named. named ≡ chars path }
+
 -- nothing is read
 abbrev pub settled : {A : Type 0} → Result A Status → Step A
 settled {A} result = record { gives = λ held given. given ≡ result; reads = λ held path. ⊥ }
+
+-- what comes of one of these things; there may be several, and no file is read
+abbrev pub read_as : {A P : Type 0} → (P → Type 0) → (P → Result A Status) → Step A
+read_as {A} {P} Is into = record { gives = λ held given. (x : P) × Is x × (given ≡ into x); reads = λ held path. ⊥ }
 
 -- a refusal ends it, and a value goes on
 abbrev pub Behind : {A B : Type 0} → Result A Status → (A → Result B Status → Type 0) → Result B Status → Type 0
@@ -63,3 +71,10 @@ only_files files = record { files = files; text = [] }
 
 abbrev pub only_text : Text → Made
 only_text text = record { files = []; text = text }
+
+-- what a step makes, given out as files or as a text
+abbrev pub as_files : Step (List File) → Step Made
+as_files step = step >>= λ files. settled (Ok (only_files files))
+
+abbrev pub as_text : Step Text → Step Made
+as_text step = step >>= λ text. settled (Ok (only_text text))

@@ -1,5 +1,5 @@
 -- The command that the words of a command line are.
-use Rattle.std.specs.Prelude.{◌≡◌, ◌⊎◌, ℕ, ◌-◌, Bool, not, ◌&&◌, ◌==◌, List, [], ◌∷◌, length, nat_le, Option, Some, None, option_map, codes, if◌then◌else◌}
+use Rattle.std.specs.Prelude.{◌≡◌, ◌⊎◌, ℕ, ◌-◌, Bool, not, ◌&&◌, ◌==◌, List, [], ◌∷◌, length, nat_le, Option, Some, None, option_map, unwrap_or, codes, if◌then◌else◌}
 use Rattle.std.specs.List.{list_all}
 use Rattle.std.specs.Option.{option_and_then}
 use Rattle.vtl_decimal.specs.Settings.{Settings}
@@ -8,11 +8,16 @@ use Rattle.vtl_decimal.specs.declared.settings.Rounding.TheVariants.{Down, HalfE
 use Rattle.vtl_tree.specs.Structure.{same_name}
 use Rattle.vtl_top.specs.Steps.{Path, Text}
 
--- the paths of a script and of its structures, and the settings that it is typed with
+-- what options chose, each or not
+pub record Chosen : Type 0 where
+  pub scale : Option ℕ
+  pub rounding : Option Rounding
+
+-- the paths of a script and of its structures, and what the options chose
 pub record Source : Type 0 where
   pub script : Path
   pub structures : Path
-  pub settings : Settings
+  pub chosen : Chosen
 
 -- a script that is run, from the folder of its inputs into the folder of its outputs
 pub record Run : Type 0 where
@@ -26,7 +31,7 @@ pub record Engine : Type 0 where
   pub input : Path
   pub output : Path
 
--- a command, with its paths and settings: a script is run by the interpreter, or by its text in SQL; its text in SQL is said; an SQL
+-- a command, with its paths and options: a script is run by the interpreter, or by its text in SQL; its text in SQL is said; an SQL
 -- file is run
 pub data Command : Type 0 where
   run : Run → Command
@@ -67,41 +72,54 @@ setting_in name value =
     if same_name name (codes "--scale") then option_map scale (scale_in value)
     else (if same_name name (codes "--round") then option_map rounding (rounding_in value) else None)
 
--- at most nine digits after the point
-abbrev pub settings_with : ℕ → Rounding → Option Settings
-settings_with digits mode = if nat_le digits 9 then Some (record { scale = digits; rounding = mode }) else None
+-- a scale has at most nine digits
+abbrev pub chosen_with : Option ℕ → Option Rounding → Option Chosen
+chosen_with None mode = Some (record { scale = None; rounding = mode })
+chosen_with (Some digits) mode = if nat_le digits 9 then Some (record { scale = Some digits; rounding = mode }) else None
 
--- six digits after the point, and halves go away from zero
-abbrev pub default_settings : Option Settings
-default_settings = settings_with 6 HalfUp
-
--- one option beside the default of the other
-abbrev pub one_set : Setting → Option Settings
-one_set (scale digits) = settings_with digits HalfUp
-one_set (rounding mode) = settings_with 6 mode
+-- one option
+abbrev pub one_set : Setting → Option Chosen
+one_set (scale digits) = chosen_with (Some digits) None
+one_set (rounding mode) = chosen_with None (Some mode)
 
 -- each of the two options once, in either order
-abbrev pub both_set : Setting → Setting → Option Settings
-both_set (scale digits) (rounding mode) = settings_with digits mode
-both_set (rounding mode) (scale digits) = settings_with digits mode
+abbrev pub both_set : Setting → Setting → Option Chosen
+both_set (scale digits) (rounding mode) = chosen_with (Some digits) (Some mode)
+both_set (rounding mode) (scale digits) = chosen_with (Some digits) (Some mode)
 both_set _ _ = None
 
--- the settings that the words behind the paths give: each option at most once, in either order
-abbrev pub settings_in : List Text → Option Settings
-settings_in [] = default_settings
-settings_in (name ∷ value ∷ []) = option_and_then one_set (setting_in name value)
-settings_in (name ∷ value ∷ other ∷ its_value ∷ []) =
+-- what the words behind the paths choose: each option at most once, in either order
+abbrev pub chosen_in : List Text → Option Chosen
+chosen_in [] = chosen_with None None
+chosen_in (name ∷ value ∷ []) = option_and_then one_set (setting_in name value)
+chosen_in (name ∷ value ∷ other ∷ its_value ∷ []) =
     option_and_then (λ first. option_and_then (both_set first) (setting_in other its_value)) (setting_in name value)
-settings_in _ = None
+chosen_in _ = None
+
+-- ---- settings
+-- six digits after the point, and halves go away from zero
+abbrev pub default_settings : Settings
+default_settings = record { scale = 6; rounding = HalfUp }
+
+-- the settings of a run: of scale and rounding each what the options chose, else what the structures file declares, else the default
+abbrev pub settings_for : Chosen → Option Settings → Settings
+settings_for chosen declared = record {
+  scale = unwrap_or chosen.scale (unwrap_or declared default_settings).scale;
+  rounding = unwrap_or chosen.rounding (unwrap_or declared default_settings).rounding;
+}
+
+-- those of a source, whose structures file declares none
+abbrev pub settings_of : Source → Settings
+settings_of s = settings_for s.chosen None
 
 -- ---- commands
-abbrev pub source_with : (script structures : Path) → Settings → Source
-source_with script structures settings = record { script = script; structures = structures; settings = settings }
+abbrev pub source_with : (script structures : Path) → Chosen → Source
+source_with script structures chosen = record { script = script; structures = structures; chosen = chosen }
 
 -- the words behind `sql`: SCRIPT STRUCTURES, each a path, and then options
 abbrev pub source_of : List Text → Option Source
 source_of (script ∷ structures ∷ options) =
-    if list_all is_path (script ∷ structures ∷ []) then option_map (source_with script structures) (settings_in options) else None
+    if list_all is_path (script ∷ structures ∷ []) then option_map (source_with script structures) (chosen_in options) else None
 source_of _ = None
 
 abbrev pub run_with : (input output : Path) → Source → Run

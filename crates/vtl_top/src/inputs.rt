@@ -14,8 +14,8 @@ ghost use Rattle.vtl_backend.specs.Inputs.{AreInRange, AreInputs, Holds, environ
 ghost use Rattle.vtl_meaning.specs.Profiles.{AllAreOfProfile};
 ghost use Rattle.vtl_sets.specs.TableOf.{IsTableOf};
 ghost use Rattle.vtl_top.specs.Answered.{Takes};
-ghost use Rattle.vtl_top.specs.Expected.{dataset_step, inputs_step};
-ghost use Rattle.vtl_top.specs.InputsRead.{Adds, AreReadable, all_wanted, rows_in};
+ghost use Rattle.vtl_top.specs.Expected.{dataset_step, folder_step, inputs_step};
+ghost use Rattle.vtl_top.specs.InputsRead.{Adds, AreReadable, IsPlain, all_wanted, all_wanted_from, rows_in, wanted_from};
 ghost use Rattle.vtl_top.specs.Refusal.{IsTableRead};
 
 use crate::reading::{file_in, read_file};
@@ -32,50 +32,50 @@ use vtl_tree::Structure;
 
 const CSV_LIMIT: usize = 67_108_864;
 
-/// A data set that is read: its name and its structure.
+/// A data set that is read.
 #[derive(Clone, Copy)]
 pub struct Wanted<'a> {
     /// The name.
     pub name: &'a Txt,
     /// The structure.
     pub structure: &'a Structure,
+    /// The names of its not-null components.
+    pub not_null: &'a [Txt],
 }
 
-// The table of the data set of this name that the bytes of a file hold.
+// The table of a data set that the bytes of a file hold.
 fn table_in(
     alloc: Global,
-    name: &Txt,
-    structure: &Structure,
+    wanted: &Wanted<'_>,
     bytes: &[u8],
     profile: &Profile,
 ) -> Result<Table, Status>
-    requires { IsStructure structure.now }
-    ensures table { IsTableRead name.now structure.now (dataset_rows profile.now structure.now [] bytes.now) result }
+    requires { IsStructure wanted.now.structure.now }
+    ensures table { IsTableRead wanted.now.name.now wanted.now.structure.now (dataset_rows profile.now wanted.now.structure.now wanted.now.not_null.now bytes.now) result }
     ensures ranges { IfOk result (λ t. AreOfProfile profile.now t.rows) }
 {
-    match read_dataset(alloc, bytes, structure, &[], profile) {
+    match read_dataset(alloc, bytes, wanted.structure, wanted.not_null, profile) {
         Ok(table) => Ok(table),
-        Err(error) => Err(input_refusal(name, error)),
+        Err(error) => Err(input_refusal(wanted.name, error)),
     }
 }
 
-// The table of the data set of this name, from its file in a folder.
+// The table of a data set, from its file in a folder.
 fn read_input<F: Files>(
     alloc: Global,
     files: &mut F,
     folder: &str,
     profile: &Profile,
-    name: &Txt,
-    structure: &Structure,
+    wanted: &Wanted<'_>,
 ) -> Result<Table, Status>
-    requires { IsStructure structure.now }
-    ensures takes { Takes F.Files files.old files.new (dataset_step folder.now profile.now (name.now, structure.now)) rows_in result }
-    ensures table { IfOk result (λ t. IsTableOf structure.now (listed t)) }
+    requires { IsStructure wanted.now.structure.now }
+    ensures takes { Takes F.Files files.old files.new (dataset_step profile.now (wanted_from folder.now wanted.now)) rows_in result }
+    ensures table { IfOk result (λ t. IsTableOf wanted.now.structure.now (listed t)) }
     ensures ranges { IfOk result (λ t. AreOfProfile profile.now t.rows) }
 {
-    let path = file_in(alloc, folder, name)?;
+    let path = file_in(alloc, folder, wanted.name)?;
     match read_file(alloc, files, path.as_str(), CSV_LIMIT) {
-        Ok(bytes) => table_in(alloc, name, structure, &bytes, profile),
+        Ok(bytes) => table_in(alloc, wanted, &bytes, profile),
         Err(status) => Err(status),
     }
 }
@@ -87,28 +87,25 @@ fn add_input<F: Files>(
     files: &mut F,
     folder: &str,
     profile: &Profile,
-    name: &Txt,
-    structure: &Structure,
+    wanted: &Wanted<'_>,
     tables: &mut Tables,
 ) -> Result<(), Status>
-    requires structure { IsStructure structure.now }
-    requires new { table_of name.now tables.old ≡ None }
-    ensures takes { Takes F.Files files.old files.new (dataset_step folder.now profile.now (name.now, structure.now)) (λ _. rows_named name.now tables.new) result }
-    ensures put { OnOk result (Adds profile.now name.now structure.now tables.old tables.new) }
+    requires structure { IsStructure wanted.now.structure.now }
+    requires new { table_of wanted.now.name.now tables.old ≡ None }
+    ensures takes { Takes F.Files files.old files.new (dataset_step profile.now (wanted_from folder.now wanted.now)) (λ _. rows_named wanted.now.name.now tables.new) result }
+    ensures put { OnOk result (Adds profile.now wanted.now.name.now wanted.now.structure.now tables.old tables.new) }
 {
-    match read_input(alloc, files, folder, profile, name, structure) {
-        Ok(table) => Ok(tables.put(alloc, name.share()?, table)?),
+    match read_input(alloc, files, folder, profile, wanted) {
+        Ok(table) => Ok(tables.put(alloc, wanted.name.share()?, table)?),
         Err(status) => Err(status),
     }
 }
 
-// The name and the structure of the data set at a place.
-fn wanted_at<'a>(wanted: &[Wanted<'a>], i: usize) -> (&'a Txt, &'a Structure)
+fn wanted_at<'a>(wanted: &[Wanted<'a>], i: usize) -> Wanted<'a>
     requires { i < length wanted.now }
-    ensures { (result.0.now, result.1.now) ≡ slice_index_or (all_wanted wanted.now) i (result.0.now, result.1.now) }
+    ensures { result ≡ slice_index_or wanted.now i result }
 {
-    let one = wanted[i];
-    (one.name, one.structure)
+    wanted[i]
 }
 
 /// The tables of data sets, each from its file in a folder, in order.
@@ -120,15 +117,15 @@ pub fn read_all_wanted<F: Files>(
     wanted: &[Wanted<'_>],
 ) -> Result<Tables, Status>
     requires { AreReadable (all_wanted wanted.now) }
-    ensures takes { Takes F.Files files.old files.new (inputs_step folder.now profile.now [] (all_wanted wanted.now)) (λ t. map (input_of t) (all_wanted wanted.now)) result }
+    ensures takes { Takes F.Files files.old files.new (inputs_step profile.now [] (all_wanted_from folder.now wanted.now)) (λ t. map (input_of t) (all_wanted wanted.now)) result }
     ensures names { IfOk result (λ t. keys_of t ≡ keys_of (all_wanted wanted.now)) }
     ensures inputs { IfOk result (λ t. AllByRecursion (λ e. Holds e.1 (table_of e.0 t)) (all_wanted wanted.now)) }
     ensures ranges { IfOk result (λ t. AllAreOfProfile profile.now (map (input_of t) (all_wanted wanted.now))) }
 {
     let mut tables = Tables::new(alloc);
     for i in 0..wanted.len() {
-        let (name, structure) = wanted_at(wanted, i);
-        match add_input(alloc, files, folder, profile, name, structure, &mut tables) {
+        let one = wanted_at(wanted, i);
+        match add_input(alloc, files, folder, profile, &one, &mut tables) {
             Ok(()) => {}
             Err(status) => return Err(status),
         }
@@ -151,12 +148,17 @@ fn input_at(checked: &Checked, i: usize) -> (&Txt, &Structure)
 
 // The data sets that a script reads.
 fn wanted_of(alloc: Global, checked: &Checked) -> Result<Vec<Wanted<'_>>, AllocError>
-    ensures { IfOk result (λ wanted. all_wanted wanted.items ≡ inputs_of checked.now) }
+    ensures entries { IfOk result (λ wanted. all_wanted wanted.items ≡ inputs_of checked.now) }
+    ensures plain { IfOk result (λ wanted. AllByRecursion IsPlain wanted.items) }
 {
     let mut wanted = Vec::new(alloc);
     for i in 0..checked.inputs().len() {
         let (name, structure) = input_at(checked, i);
-        wanted.push(Wanted { name, structure })?;
+        wanted.push(Wanted {
+            name,
+            structure,
+            not_null: &[],
+        })?;
     }
     Ok(wanted)
 }
@@ -168,7 +170,7 @@ pub fn read_inputs<F: Files>(
     folder: &str,
     checked: &Checked,
 ) -> Result<Tables, Status>
-    ensures takes { Takes F.Files files.old files.new (inputs_step folder.now checked.now.settings [] (inputs_of checked.now)) (environment_of checked.now) result }
+    ensures takes { Takes F.Files files.old files.new (folder_step folder.now checked.now.settings (inputs_of checked.now)) (environment_of checked.now) result }
     ensures inputs { IfOk result (λ t. AreInputs checked.now t) }
     ensures ranges { IfOk result (λ t. AreInRange checked.now t) }
 {

@@ -2,23 +2,30 @@
 //
 // That each held file has an outcome is said without choosing one (`expected_is_there`): the tokens of a text are a
 // relation, and nothing decides them outside the program.
-ghost use Rattle.std.specs.Prelude.{◌≡◌, ◌≢◌, ◌≤◌, ◌⊎◌, ℕ, Err, List, Ok, Option, Result, Some};
+ghost use Rattle.std.specs.Prelude.{◌≡◌, ◌≢◌, ◌≤◌, ◌⊎◌, ℕ, [], Err, List, Ok, Option, Result, Some};
 ghost use Rattle.std.specs.Map.{lookup};
 ghost use Rattle.vtl_tree.specs.Structure.{IsStructure, key_width, same_name};
 ghost use Rattle.vtl_tree.specs.Structures.{Named};
 ghost use Rattle.vtl_tree.specs.declared.structure.Structure.{Structure};
+ghost use Rattle.vtl_csv.specs.InputFile.{dataset_rows};
 ghost use Rattle.vtl_csv.specs.StructuresFile.{structures_of_file};
+ghost use Rattle.vtl_check.specs.Uses.{reads};
+ghost use Rattle.vtl_decimal.specs.Settings.{Settings};
+ghost use Rattle.sql_engine.specs.Structures.{structure_of};
+ghost use Rattle.sql_meaning.specs.Scripts.{Inputs, script_value};
+ghost use Rattle.vtl_to_sql.specs.Inputs.{AreTaken, sets_read};
+ghost use Rattle.vtl_to_sql.specs.Scripts.{input_of};
 ghost use Rattle.vtl_decimal.specs.declared.number.Fault.{Fault};
 ghost use Rattle.vtl_top.specs.Answered.{Ends};
 ghost use Rattle.vtl_top.specs.Complete.{IsCalm};
-ghost use Rattle.vtl_top.specs.Asked.{asked_step};
-ghost use Rattle.vtl_top.specs.Expected.{IsTextOf, Typed, fault_status, run_step, text_step};
+ghost use Rattle.vtl_top.specs.Forms.{asked_step};
+ghost use Rattle.vtl_top.specs.Expected.{IsTextOf, Typed, fault_status, meant, outputs_of, run_step, text_step};
 ghost use Rattle.vtl_top.specs.Meant.{IsAccepted, IsFaulted, IsMeant, IsMistyped, IsTextMeant};
 ghost use Rattle.vtl_top.specs.SqlMeant.{IsExported, IsSqlFaulted, IsSqlMistyped};
-ghost use Rattle.vtl_top.specs.SqlRun.{engine_step};
+ghost use Rattle.vtl_top.specs.SqlRun.{engine_step, exports_of};
 ghost use Rattle.sql_check_parts.specs.Rules.{number_of};
 ghost use Rattle.sql_check_parts.specs.Statements.{Fault as Breach};
-ghost use Rattle.vtl_top.specs.Steps.{File, Held, Made, Name, Text, status_of};
+ghost use Rattle.vtl_top.specs.Steps.{File, Held, Made, Name, Path, Text, status_of};
 ghost use Rattle.vtl_top.specs.Words.{Command, Engine, Run, RunsScript, Source, engine, sql};
 ghost use Rattle.vtl_status.specs.declared.status.Status.{Status};
 
@@ -74,6 +81,19 @@ pub fn sql_faults_are_meant()
 /// this breaks, before any input is looked at.
 pub fn sql_breaches_are_refused()
     ensures { (e : Engine) (held : Held) (breach : Breach) → IsSqlMistyped e held breach → (engine_step e).gives held (Err (Status.SqlType breach.0 (number_of breach.1))) }
+{}
+
+/// For every list of bytes an INPUT and the declared structure take the same data set, or have the same fault: the INPUT
+/// that stands for a data set which a structures file declares asks of its file what the structure asks, under any
+/// settings.
+pub fn inputs_take_alike()
+    ensures { (name : Name) (text : Text) (all : Named) (t : Structure) (p : Settings) (bytes : Text) → structures_of_file text ≡ Ok all → lookup (same_name name) all ≡ Some t → dataset_rows p (structure_of (input_of (name, t))) [] bytes ≡ dataset_rows p t [] bytes }
+{}
+
+/// What the text of a script exports, over all rows that its INPUTs take, is in names and bytes what the outputs of the
+/// script are, or the same fault.
+pub fn texts_write_alike()
+    ensures { (s : Source) (held : Held) (text : Text) (is : IsTextMeant s held text) (folder : Path) (inputs : Inputs) → AreTaken inputs (reads is.typed.structures is.typed.nodes) → exports_of folder is.typed.settings (script_value is.text_of.script inputs) ≡ outputs_of folder is.typed.settings (meant is.typed (sets_read inputs (reads is.typed.structures is.typed.nodes))) }
 {}
 
 /// Two outcomes of a command over the same held bytes have the same status, and but for `sql`, whose text may be any text

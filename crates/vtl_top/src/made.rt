@@ -1,15 +1,17 @@
 // What commands make, before anything of it is given out.
 //
 // What a command gives out is files and, after them, a text (`Made`), said of files and sink in one clause: up to a
-// state between, and from there on the line (`Ends`). Which half a command has is one line of `IsMadeBy`.
+// state between, and from there on the line (`Ends`). Which half a command has, and what it tells the back end, is its
+// line in `form_of`.
 //
 // The functions from the words to the outputs are generic over the back end: `run` goes by the interpreter, `sqlrun`
 // by the back end that is handed in. What a back end can show of a script that it was handed (`told` of `Backend`) is
 // its own to say, and the top call hands it on (`Informs`); every other command leaves the back end as it was.
 ghost use Rattle.std.specs.Prelude.{◌≡◌, [], Some, IfOk};
 ghost use Rattle.std.specs.List.{AllByRecursion};
-ghost use Rattle.vtl_top.specs.Answered.{IsMadeBy, Takes};
-ghost use Rattle.vtl_top.specs.Asked.{asked_step};
+ghost use Rattle.vtl_top.specs.Answered.{Takes};
+ghost use Rattle.vtl_top.specs.Expected.{built_step};
+ghost use Rattle.vtl_top.specs.Forms.{IsMadeBy, asked_step};
 ghost use Rattle.vtl_top.specs.MadeView.{IsMade, Names, made_view};
 ghost use Rattle.vtl_top.specs.OutputView.{NamesPath, outputs_view};
 ghost use Rattle.vtl_top.specs.RunView.{command_view, engine_view, run_view, source_view};
@@ -68,7 +70,7 @@ fn make_run<B: Backend, F: Files>(
     ensures takes { Takes F.Files files.old files.new (asked_step (Some (run (run_view asked.now)))) made_view result }
     ensures named { IfOk result Names }
     ensures shape { IfOk result (λ m. m.text.items ≡ []) }
-    ensures told { TellsRun F.Files files.old (source_view asked.now.source) (B.told back.new) (status_of result) }
+    ensures told { TellsRun F.Files files.old (built_step (source_view asked.now.source)) (B.told back.new) (status_of result) }
 {
     match prepare(alloc, back, files, asked) {
         Ok(outputs) => made_of(alloc, outputs, Vec::new(alloc)),

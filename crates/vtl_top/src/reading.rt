@@ -1,4 +1,6 @@
 // The bytes of files.
+//
+// A path is named before its file is opened, so that want of memory never stands in for a file that was not there.
 ghost use Rattle.std.specs.Prelude.{◌≡◌, IfOk, string_bytes};
 ghost use Rattle.vtl_top.specs.Answered.{Takes};
 ghost use Rattle.vtl_top.specs.Expected.{file_in, read};
@@ -29,11 +31,12 @@ pub fn read_whole_file<F: Files>(
 ) -> Result<Vec<u8>, Status>
     ensures { Takes F.Files files.old files.new (read_whole path.now) (λ v. v.items) result }
 {
+    let named = Txt::new(alloc, path)?;
     match read_all(alloc, files, path, usize::MAX) {
         Ok(bytes) => Ok(bytes),
         // A file of more bytes finds no room in memory.
         Err(ReadErr::TooLong) => Err(Status::Memory),
-        Err(error) => Err(refusal(alloc, error, path)),
+        Err(error) => Err(refusal(error, named)),
     }
 }
 
@@ -46,8 +49,9 @@ pub fn read_file<F: Files>(
 ) -> Result<Vec<u8>, Status>
     ensures { Takes F.Files files.old files.new (read path.now limit) (λ v. v.items) result }
 {
+    let named = Txt::new(alloc, path)?;
     match read_all(alloc, files, path, limit) {
         Ok(bytes) => Ok(bytes),
-        Err(error) => Err(refusal(alloc, error, path)),
+        Err(error) => Err(refusal(error, named)),
     }
 }

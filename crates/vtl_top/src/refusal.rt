@@ -9,20 +9,14 @@ use vtl_status::Status;
 use vtl_text::Txt;
 
 /// The status that names the path of a file which was not read.
-pub fn refusal(alloc: Global, error: ReadErr, path: &str) -> Status
-    ensures { IsOrMemory (refusal_of path.now error) result }
+pub fn refusal(error: ReadErr, path: Txt) -> Status
+    ensures { result ≡ refusal_of path error }
 {
-    if let ReadErr::OutOfMemory = error {
-        return Status::Memory;
-    }
-    match Txt::new(alloc, path) {
-        Ok(path) => match error {
-            ReadErr::Absent => Status::NoFile(path),
-            ReadErr::TooLong => Status::TooLong(path),
-            ReadErr::Failed => Status::ReadFault(path),
-            ReadErr::OutOfMemory => Status::Memory,
-        },
-        Err(_) => Status::Memory,
+    match error {
+        ReadErr::Absent => Status::NoFile(path),
+        ReadErr::TooLong => Status::TooLong(path),
+        ReadErr::Failed => Status::ReadFault(path),
+        ReadErr::OutOfMemory => Status::Memory,
     }
 }
 

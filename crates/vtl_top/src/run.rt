@@ -105,7 +105,8 @@ pub fn read_typed<F: Files>(
         return Err(unbuilt(alloc, source.script));
     }
     let structures = read_structures_file(alloc, files, source.structures)?;
-    typed(alloc, &script, &structures, &source.profile)
+    let profile = source.chosen.profile(None);
+    typed(alloc, &script, &structures, &profile)
 }
 
 /// The same, where each of its forms is evaluated.
@@ -134,7 +135,7 @@ pub fn prepare<B: Backend, F: Files>(
 ) -> Result<Vec<Output>, Status>
     ensures takes { Takes F.Files files.old files.new (run_step (run_view run.now)) outputs_view result }
     ensures named { IfOk result (λ o. AllByRecursion NamesPath o.items) }
-    ensures told { TellsRun F.Files files.old (source_view run.now.source) (B.told back.new) (status_of result) }
+    ensures told { TellsRun F.Files files.old (built_step (source_view run.now.source)) (B.told back.new) (status_of result) }
 {
     let checked = read_built(alloc, files, &run.source)?;
     let inputs = read_inputs(alloc, files, run.input, &checked)?;

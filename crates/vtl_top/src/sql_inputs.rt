@@ -1,13 +1,14 @@
 // The data sets that an SQL script reads, from their files.
 ghost use Rattle.std.specs.Prelude.{◌≡◌, [], map, IfOk};
+ghost use Rattle.std.specs.List.{AllByRecursion};
 ghost use Rattle.sql_tree.specs.View.{script_tree, statement_tree};
 ghost use Rattle.sql_meaning.specs.Scripts.{Inputs};
 ghost use Rattle.sql_check_parts.specs.Statements.{script_settings};
 ghost use Rattle.sql_engine.specs.InputTables.{AreInputsInRange, HaveInputTables, rows_given};
 ghost use Rattle.vtl_backend.specs.Inputs.{input_of};
 ghost use Rattle.vtl_top.specs.Answered.{Takes};
-ghost use Rattle.vtl_top.specs.Expected.{inputs_step};
-ghost use Rattle.vtl_top.specs.InputsRead.{all_wanted};
+ghost use Rattle.vtl_top.specs.Expected.{folder_step};
+ghost use Rattle.vtl_top.specs.InputsRead.{IsPlain, all_wanted};
 ghost use Rattle.vtl_top.specs.SqlInputs.{declared_by, input_structures, rows_by_name};
 
 use crate::inputs::{Wanted, read_all_wanted};
@@ -46,13 +47,15 @@ fn inputs_of(alloc: Global, statements: &[Statement]) -> Result<Vec<Input<'_>>, 
 }
 
 fn wanted_of<'a>(alloc: Global, inputs: &'a [Input<'_>]) -> Result<Vec<Wanted<'a>>, AllocError>
-    ensures { IfOk result (λ wanted. all_wanted wanted.items ≡ map declared_by inputs.now) }
+    ensures entries { IfOk result (λ wanted. all_wanted wanted.items ≡ map declared_by inputs.now) }
+    ensures plain { IfOk result (λ wanted. AllByRecursion IsPlain wanted.items) }
 {
     let mut wanted = Vec::with_capacity(alloc, inputs.len())?;
     for input in inputs {
         wanted.push(Wanted {
             name: input.name,
             structure: &input.structure,
+            not_null: &[],
         })?;
     }
     Ok(wanted)
@@ -65,7 +68,7 @@ pub fn read_sql_inputs<F: Files>(
     folder: &str,
     checked: &SqlChecked,
 ) -> Result<Tables, Status>
-    ensures takes { Takes F.Files files.old files.new (inputs_step folder.now checked.now.settings [] (input_structures (script_tree checked.now.script))) (λ t. map (input_of t) (input_structures (script_tree checked.now.script))) result }
+    ensures takes { Takes F.Files files.old files.new (folder_step folder.now checked.now.settings (input_structures (script_tree checked.now.script))) (λ t. map (input_of t) (input_structures (script_tree checked.now.script))) result }
     ensures rows { IfOk result (λ t. rows_given t ≡ rows_by_name (map (input_of t) (input_structures (script_tree checked.now.script)))) }
     ensures tables { IfOk result (λ t. HaveInputTables t (script_tree checked.now.script)) }
     ensures ranges { IfOk result (λ t. AreInputsInRange checked.now.settings t (script_tree checked.now.script)) }

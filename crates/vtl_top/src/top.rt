@@ -9,7 +9,7 @@ ghost use Rattle.std.specs.Prelude.{◌≡◌, ◌≢◌, ◌≤◌, ◌↔◌, 
 ghost use Rattle.sql_back.specs.Texts.{HasTextOf};
 ghost use Rattle.vtl_files.specs.Outside.{Rose};
 ghost use Rattle.vtl_files.specs.Whole.{TakesFront};
-ghost use Rattle.vtl_top.specs.Answered.{Ends, EndsAs, GivesOut, OnlyWrites};
+ghost use Rattle.vtl_top.specs.Answered.{Ends, EndsAs, GivesOut, Misses, OnlyWrites};
 ghost use Rattle.vtl_top.specs.Kinds.{told_by};
 ghost use Rattle.vtl_top.specs.MadeView.{Names, made_view};
 ghost use Rattle.vtl_top.specs.Words.{command_of};
@@ -45,6 +45,8 @@ pub fn vtl<F: Files, O: Sink>(alloc: Global, words: &[String], files: &mut F, ou
     ensures misuses { F.misuses files.new ≡ F.misuses files.old }
     ensures faults { F.faults files.old ≤ F.faults files.new }
     ensures absences { F.absences files.old ≤ F.absences files.new }
+    ensures absent { Misses F.Files files.old files.new (told_by result) }
+    ensures said { O.faults out.old ≤ O.faults out.new }
     ensures usage { (result ≡ Status.Usage) ↔ (command_of (map string_bytes words.now) ≡ None) }
     ensures ends { Ends F.Files O.Sink files.old files.new out.old out.new (command_of (map string_bytes words.now)) result }
 {
@@ -64,6 +66,8 @@ pub fn vtl_with<F: Files, O: Sink, E: TextEngine>(
     ensures misuses { F.misuses files.new ≡ F.misuses files.old }
     ensures faults { F.faults files.old ≤ F.faults files.new }
     ensures absences { F.absences files.old ≤ F.absences files.new }
+    ensures absent { Misses F.Files files.old files.new (told_by result) }
+    ensures said { O.faults out.old ≤ O.faults out.new }
     ensures usage { (result ≡ Status.Usage) ↔ (command_of (map string_bytes words.now) ≡ None) }
     ensures ends { Ends F.Files O.Sink files.old files.new out.old out.new (command_of (map string_bytes words.now)) result }
 
@@ -87,6 +91,10 @@ pub fn vtl_by<B: Backend, F: Files, O: Sink>(
     ensures misuses { F.misuses files.new ≡ F.misuses files.old }
     ensures faults { F.faults files.old ≤ F.faults files.new }
     ensures absences { F.absences files.old ≤ F.absences files.new }
+    ensures said { O.faults out.old ≤ O.faults out.new }
+
+    // A file was looked for and not found only where the status says so.
+    ensures absent { Misses F.Files files.old files.new (told_by result) }
 
     // The words alone decide whether they have a form.
     ensures usage { (result ≡ Status.Usage) ↔ (command_of (map string_bytes words.now) ≡ None) }
@@ -126,6 +134,8 @@ fn answer<B: Backend, F: Files, O: Sink>(
     ensures misuses { F.misuses files.new ≡ F.misuses files.old }
     ensures faults { F.faults files.old ≤ F.faults files.new }
     ensures absences { F.absences files.old ≤ F.absences files.new }
+    ensures absent { Misses F.Files files.old files.new (told_by result) }
+    ensures said { O.faults out.old ≤ O.faults out.new }
     ensures usage { (result ≡ Status.Usage) ↔ (command_of (map string_bytes words.now) ≡ None) }
     ensures ends { EndsAs F.Files O.Sink files.old files.new out.old out.new (command_of (map string_bytes words.now)) result (told_by result) }
     ensures told { Informs F.Files files.old B.told back.old back.new (command_of (map string_bytes words.now)) result }
@@ -149,6 +159,8 @@ fn carry_out<B: Backend, F: Files, O: Sink>(
     ensures misuses { F.misuses files.new ≡ F.misuses files.old }
     ensures faults { F.faults files.old ≤ F.faults files.new }
     ensures absences { F.absences files.old ≤ F.absences files.new }
+    ensures absent { Misses F.Files files.old files.new (told_by result) }
+    ensures said { O.faults out.old ≤ O.faults out.new }
     ensures usage { result ≢ Status.Usage }
     ensures ends { EndsAs F.Files O.Sink files.old files.new out.old out.new (Some (command_view command.now)) result (told_by result) }
     ensures told { Informs F.Files files.old B.told back.old back.new (Some (command_view command.now)) result }
@@ -164,6 +176,7 @@ fn give_out<F: Files, O: Sink>(files: &mut F, out: &mut O, made: Made) -> Status
     requires idle { F.creating files.old ≡ false }
     requires named { Names made }
     ensures writes { OnlyWrites F.Files files.old files.new }
+    ensures said { O.faults out.old ≤ O.faults out.new }
     ensures out { GivesOut F.Files O.Sink files.old files.new out.old out.new (made_view made) (told_by result) }
 {
     let Made {
@@ -183,6 +196,7 @@ fn give_out<F: Files, O: Sink>(files: &mut F, out: &mut O, made: Made) -> Status
 
 // Passes a text to the sink, if there is one.
 fn say<O: Sink>(out: &mut O, text: &[u8]) -> Result<(), Failed>
+    ensures said { O.faults out.old ≤ O.faults out.new }
     ensures whole { OnOk result (Hears O.Sink out.old out.new text.now) }
     ensures failed { OnErr result (Rose (O.faults out.old) (O.faults out.new)) }
     ensures front { OnErr result (TakesFront (O.taken out.old) (O.taken out.new) text.now) }

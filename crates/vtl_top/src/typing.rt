@@ -1,6 +1,6 @@
 // Whether the script is typed over the structures.
 //
-// The settings of a run stand in the typed script alone once it is typed: the words give them to typing, and inputs
+// The settings of a run stand in the typed script alone once it is typed: typing is handed them, and inputs
 // are read and outputs written with what `Checked` holds. So no clause ties two copies of them.
 ghost use Rattle.std.specs.Prelude.{◌≡◌, IfOk, false};
 ghost use Rattle.vtl_syntax.specs.View.{script_tree};

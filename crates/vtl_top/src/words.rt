@@ -1,19 +1,82 @@
 // The words of the command line.
+//
+// What options chose is kept apart from the settings of a run, which come of it and of what the structures file
+// declares.
 ghost use Rattle.std.specs.Prelude.{◌≡◌, ◌∷◌, [], map, option_map, string_bytes};
 ghost use Rattle.vtl_top.specs.RunView.{command_view, engine_view, run_view, setting_view, source_view};
-ghost use Rattle.vtl_top.specs.Words.{both_set, command_of, engine_of, is_path, one_set, rounding, rounding_in, run_of, scale, scale_in, setting_in, settings_in, settings_with, source_of};
+ghost use Rattle.vtl_top.specs.Words.{both_set, chosen_in, chosen_with, command_of, default_settings, engine_of, is_path, one_set, rounding, rounding_in, run_of, scale, scale_in, setting_in, settings_for, source_of};
 
+use std::marker::Model;
 use vtl_decimal::{Profile, Rounding};
 
-/// The paths of a script and of its structures, and the profile that it is typed with.
+/// What options chose: a scale of at most 9, and a rounding, each or not.
+#[derive(Clone, Copy)]
+pub struct Chosen {
+    scale: Option<u8>,
+    rounding: Option<Rounding>,
+}
+
+impl Model for Chosen {
+    ghost use Rattle.std.specs.Prelude.{◌≤◌, IfSome};
+    ghost use Rattle.vtl_top.specs.Words.{Chosen as Choices};
+
+    ghost Value = { Choices };
+
+    ghost view = { λ c. record { scale = c.scale; rounding = c.rounding } };
+
+    ghost invariant = { λ c. IfSome c.scale (λ digits. digits ≤ 9) };
+
+    ghost inverse = { λ v. record { scale = v.scale; rounding = v.rounding } };
+}
+
+impl Chosen {
+    /// These choices, or None where the scale is over 9.
+    pub fn new(scale: Option<u8>, rounding: Option<Rounding>) -> Option<Chosen>
+        ensures { result ≡ chosen_with scale rounding }
+    {
+        match scale {
+            Some(digits) if digits > 9 => None,
+            _ => Some(Chosen { scale, rounding }),
+        }
+    }
+
+    /// The profile of a run: of scale and rounding each what was chosen, else what a structures file declares, else 6 and
+    /// half up.
+    pub fn profile(&self, declared: Option<Profile>) -> Profile
+        ensures { result ≡ settings_for self.now declared }
+    {
+        let start = match declared {
+            Some(profile) => profile,
+            None => default_profile(),
+        };
+        let scale = self.scale.unwrap_or(start.scale());
+        let rounding = self.rounding.unwrap_or(start.rounding());
+        match Profile::new(scale, rounding) {
+            Some(profile) => profile,
+            None => unreachable!(),
+        }
+    }
+}
+
+// Six digits after the point, and halves go away from zero.
+fn default_profile() -> Profile
+    ensures { result ≡ default_settings }
+{
+    match Profile::new(6, Rounding::HalfUp) {
+        Some(profile) => profile,
+        None => unreachable!(),
+    }
+}
+
+/// The paths of a script and of its structures, and what the options chose.
 #[derive(Drop)]
 pub struct Source<'a> {
     /// The path of the script.
     pub script: &'a str,
     /// The path of its structures.
     pub structures: &'a str,
-    /// The profile.
-    pub profile: Profile,
+    /// What the options chose.
+    pub chosen: Chosen,
 }
 
 /// A script that is run, from the folder of its inputs into the folder of its outputs.
@@ -119,11 +182,11 @@ fn source_with<'a>(script: &'a str, structures: &'a str, options: &[String]) -> 
     if !is_path(script) || !is_path(structures) {
         return None;
     }
-    let profile = profile_of(options)?;
+    let chosen = chosen_of(options)?;
     Some(Source {
         script,
         structures,
-        profile,
+        chosen,
     })
 }
 
@@ -182,12 +245,12 @@ fn engine_with<'a>(sql: &'a str, input: &'a str, output: &'a str) -> Option<Engi
     Some(Engine { sql, input, output })
 }
 
-// The profile that options give.
-fn profile_of(options: &[String]) -> Option<Profile>
-    ensures { result ≡ settings_in (map string_bytes options.now) }
+// What options choose.
+fn chosen_of(options: &[String]) -> Option<Chosen>
+    ensures { result ≡ chosen_in (map string_bytes options.now) }
 {
     if options.is_empty() {
-        return profile(6, Rounding::HalfUp);
+        return Chosen::new(None, None);
     }
     if options.len() == 2 {
         return one_set(setting_of(options[0].as_str(), options[1].as_str())?);
@@ -200,29 +263,27 @@ fn profile_of(options: &[String]) -> Option<Profile>
     None
 }
 
-fn profile(scale: u8, rounding: Rounding) -> Option<Profile>
-    ensures { result ≡ settings_with scale rounding }
-{
-    Profile::new(scale, rounding)
-}
-
-// One option, with the default of the other.
-fn one_set(setting: Setting) -> Option<Profile>
+// One option.
+fn one_set(setting: Setting) -> Option<Chosen>
     ensures { result ≡ one_set (setting_view setting) }
 {
     match setting {
-        Setting::Scale(scale) => profile(scale, Rounding::HalfUp),
-        Setting::Rounding(rounding) => profile(6, rounding),
+        Setting::Scale(scale) => Chosen::new(Some(scale), None),
+        Setting::Rounding(rounding) => Chosen::new(None, Some(rounding)),
     }
 }
 
 // Each of the two options once.
-fn both_set(first: Setting, second: Setting) -> Option<Profile>
+fn both_set(first: Setting, second: Setting) -> Option<Chosen>
     ensures { result ≡ both_set (setting_view first) (setting_view second) }
 {
     match (first, second) {
-        (Setting::Scale(scale), Setting::Rounding(rounding)) => profile(scale, rounding),
-        (Setting::Rounding(rounding), Setting::Scale(scale)) => profile(scale, rounding),
+        (Setting::Scale(scale), Setting::Rounding(rounding)) => {
+            Chosen::new(Some(scale), Some(rounding))
+        }
+        (Setting::Rounding(rounding), Setting::Scale(scale)) => {
+            Chosen::new(Some(scale), Some(rounding))
+        }
         _ => None,
     }
 }

@@ -6,10 +6,10 @@ pub returns-clause-engine : goal.returns-clause-engine
 returns-clause-engine c = λ r e held other given twins is. engine_agrees r e held other twins given is
 
 pub returns-clause-run : goal.returns-clause-run
-returns-clause-run c = λ r e held other given twins is. run_agrees r e held other twins given is
+returns-clause-run c = λ r e held other found twins is. run_agrees r e held other twins found is
 
 pub returns-clause-outcome : goal.returns-clause-outcome
-returns-clause-outcome c = outcome_there
+returns-clause-outcome c = λ r e held other twins. outcome_there r e held other twins
 
 pub returns-clause-outcomes : goal.returns-clause-outcomes
 returns-clause-outcomes c = λ r e held other given found twins p q. outcomes_agree r e held other twins given found p q

@@ -1,9 +1,13 @@
-use Rattle.std.proofs.Common.{sym, subst, ◌∙◌, Result}
+use Rattle.std.proofs.Common.{◌≡◌, sym, subst, ◌∙◌, Result}
+use Rattle.std.specs.Prelude.{IfOk}
 use Rattle.vtl_syntax.specs.View.{script_tree}
-use Rattle.vtl_check.specs.Checked.{TypedScript}
+use Rattle.vtl_check.specs.Checked.{TypedScript, env_over, nodes_of}
+use Rattle.vtl_check.specs.Script.{script_typed}
 use Rattle.vtl_top.specs.Answered.{Takes}
-use Rattle.vtl_top.specs.Expected.{typed_step}
+use Rattle.vtl_top.specs.Expected.{typed_or_fault, typed_step}
+use Rattle.vtl_top.specs.Refusal.{SettlesBy}
 use Rattle.vtl_top.specs.RunView.{source_view}
+use Rattle.vtl_top.specs.Words.{settings_of}
 use Rattle.vtl_top.specs.Informed.{typed_view}
 use Rattle.vtl_status.specs.declared.status.Status.{Status}
 use Rattle.vtl_top.proofs.RunLemmas.{passed_on, same_tree, structures_refused, then_typed, typed_takes}
@@ -20,7 +24,12 @@ returns-in_err-structures g c =
 pub returns : goal.returns
 returns g c =
     let s = source_view c.args.source.now in
+    let known = c.in_ok-structures.structures.sets in
+    let tree = script_tree c.in_ok-script.script in
+    let same : c.profile-profile.result ≡ settings_of s = c.profile-profile.ensures in
     then_typed g.F.Files s typed_view c.args.files.now c.read_script.new.files c.in_ok-script.script c.in_ok-script.ensures.takes c.read_structures_file.new.files c.in_ok-structures.structures c.typed.result
     (sym c.defines_rulesets.ensures ∙ c.if-defines_rulesets.false) c.in_ok-structures.ensures
-    (typed_takes g.F.Files s c.read_structures_file.new.files (script_tree c.in_ok-script.script) c.in_ok-structures.structures.sets c.typed.result c.typed.ensures.typing
-    (same_tree c.typed.result c.in_ok-script.script.statements c.typed.ensures.script) c.typed.ensures.declared c.typed.ensures.settings)
+    (typed_takes g.F.Files s c.read_structures_file.new.files tree known c.typed.result
+    (subst (λ p. SettlesBy nodes_of (typed_or_fault (script_typed (env_over p known) tree)) c.typed.result) same c.typed.ensures.typing)
+    (same_tree c.typed.result c.in_ok-script.script.statements c.typed.ensures.script) c.typed.ensures.declared
+    (subst (λ p. IfOk c.typed.result (λ t. t.settings ≡ p)) same c.typed.ensures.settings))

@@ -1,0 +1,48 @@
+-- The form of each command: what its words ask for, what it gives out, and what a back end is told.
+use Rattle.std.specs.Prelude.{◌≡◌, [], Option, Some, None, Err}
+use Rattle.vtl_top.specs.Expected.{Typed, built_step, run_step, text_step}
+use Rattle.vtl_top.specs.SqlRun.{engine_step}
+use Rattle.vtl_top.specs.Steps.{Made, Step, as_files, as_text, settled}
+use Rattle.vtl_top.specs.Words.{Command, engine, run, sql, sqlrun}
+use Rattle.vtl_status.specs.declared.status.Status.TheVariants as st
+
+-- what a command gives out: nothing, files, a text, or files and behind them a text
+pub data Half : Type 0 where
+  nothing : Half
+  files_alone : Half
+  text_alone : Half
+  both : Half
+
+-- what is made has no other part
+abbrev pub IsOfHalf : Half → Made → Type 0
+IsOfHalf nothing made = ⊥
+IsOfHalf files_alone made = made.text ≡ []
+IsOfHalf text_alone made = made.files ≡ []
+IsOfHalf both made = Unit {0}
+
+-- what a back end is told: nothing, the script that a step gives, or a script that stands in no file
+pub data Tells : Type 1 where
+  silent : Tells
+  of_step : Step Typed → Tells
+  of_itself : Typed → Tells
+
+pub record Form : Type 1 where
+  pub step : Step Made
+  pub half : Half
+  pub tells : Tells
+
+-- the form of a command, and of words that are none
+abbrev pub form_of : Option Command → Form
+form_of None = record { step = settled (Err st.Usage); half = nothing; tells = silent }
+form_of (Some (run r)) = record { step = as_files (run_step r); half = files_alone; tells = silent }
+form_of (Some (sqlrun r)) = record { step = as_files (run_step r); half = files_alone; tells = of_step (built_step r.source) }
+form_of (Some (sql s)) = record { step = as_text (text_step s); half = text_alone; tells = silent }
+form_of (Some (engine e)) = record { step = as_files (engine_step e); half = files_alone; tells = silent }
+
+-- what the words ask for
+abbrev pub asked_step : Option Command → Step Made
+asked_step command = (form_of command).step
+
+-- this is of the half that the command gives out
+abbrev pub IsMadeBy : Option Command → Made → Type 0
+IsMadeBy command made = IsOfHalf (form_of command).half made

@@ -1,0 +1,26 @@
+-- The data sets that are read, and the folders of their files.
+use Rattle.std.specs.Prelude.{ℕ, List, [], map}
+use Rattle.vtl_tree.specs.Structures.{Named}
+use Rattle.vtl_tree.specs.declared.structure.Structure.{Structure}
+use Rattle.vtl_top.specs.Steps.{Name, Path}
+
+-- a data set that is read: its name, its structure, and the names of its not-null components
+pub record Wanted : Type 0 where
+  pub name : Name
+  pub structure : Structure
+  pub not_null : List Name
+
+-- with the folder of its file
+abbrev pub Placed : Type 0
+Placed = Path × Wanted
+
+-- its name and its structure
+abbrev pub entry_of : Placed → List ℕ × Structure
+entry_of w = (w.1.name, w.1.structure)
+
+-- data sets of these names and structures without not-null components, in one folder
+abbrev pub placed_in : Path → List ℕ × Structure → Placed
+placed_in folder e = (folder, record { name = e.0; structure = e.1; not_null = [] })
+
+abbrev pub all_placed_in : Path → Named → List Placed
+all_placed_in folder es = map (placed_in folder) es
