@@ -1,0 +1,2 @@
+//! The demonstration.
+#![tactic(auto)]
