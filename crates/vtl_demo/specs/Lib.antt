@@ -1,2 +1,4 @@
+pub mod DataSets
 pub mod Draws
+pub mod Nodes
 pub mod Script
