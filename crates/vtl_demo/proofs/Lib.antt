@@ -1,3 +1,5 @@
+mod Declarable
+mod Drawn
 mod Joined
 mod Meant
 mod Numbered
@@ -6,3 +8,4 @@ mod Points
 mod Products
 mod Spelled
 mod Totals
+mod Words

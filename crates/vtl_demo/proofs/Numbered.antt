@@ -1,7 +1,8 @@
 -- Lists of what is made of each number from one on.
-use Rattle.std.proofs.Common.{◌≡◌, ◌≤◌, ◌<◌, ◌+◌, ◌∙◌, ◌∷◌, [], ℕ, zero, suc, List, Bool, Option, Some, true, false, map, ap, arith, inl, inr, refl, eqb-true, ◌==◌}
+use Rattle.std.proofs.Common.{◌≡◌, ◌≤◌, ◌<◌, ◌+◌, ◌∙◌, ◌∷◌, ◌++◌, [], ℕ, zero, suc, List, Bool, Option, Some, true, false, map, ap, ap₂, sym, arith, inl, inr, refl, eqb-true, ◌==◌}
 use Rattle.std.specs.List.{AllByRecursion, find, range_with_len}
 use Rattle.std.proofs.lemmas.Bool.{cases_Bool}
+use Rattle.std.proofs.lemmas.List.FromFn.{map-range_with_len_more}
 use Rattle.std.proofs.lemmas.Bool.Decides.{nat_tests}
 use Rattle.vtl_lists.specs.Apart.{all_apart}
 use Rattle.vtl_lists.proofs.Aparts.{apart_more}
@@ -35,3 +36,7 @@ apart_made same f from (suc n) unlike =
 pub map_made : {X Y Z : Type 0} (f : Y → Z) (g : X → Y) (h : X → Z) → ((x : X) → f (g x) ≡ h x) → (xs : List X) → map f (map g xs) ≡ map h xs
 map_made f g h is [] = refl
 map_made f g h is (x ∷ xs) = ap (λ z. z ∷ map f (map g xs)) (is x) ∙ ap (λ zs. h x ∷ zs) (map_made f g h is xs)
+
+-- with one more behind
+pub one_more : {X : Type 0} (f : ℕ → X) (from n j : ℕ) (xs : List X) (x : X) → from + n ≡ j → xs ≡ map f (range_with_len from n) → x ≡ f j → xs ++ x ∷ [] ≡ map f (range_with_len from (n + 1))
+one_more f from n j xs x here before is = ap₂ (λ l y. l ++ y ∷ []) before is ∙ sym (map-range_with_len_more f from n j here)

@@ -10,7 +10,7 @@ use Rattle.vtl_grammar.specs.Fits.{Fits, InGrammar}
 use Rattle.vtl_grammar.specs.Grammar.{tokens_of}
 use Rattle.vtl_syntax.specs.Trees.{assignment}
 use Rattle.vtl_syntax.specs.declared.word_groups.AssignKind.TheVariants as assigned
-use Rattle.vtl_grammar.specs.Faults.{WholeScript}
+use Rattle.vtl_parser.specs.Parsed.{IsScript}
 use Rattle.vtl_demo.specs.Script.{joined, multiplied, product, summed, text, tree}
 use Rattle.vtl_demo.proofs.Pieces.{Piece, are_pieces, blank, keyword, long_sign, name, pieces-lexed, sign, text_of, tokens_at}
 
@@ -71,5 +71,10 @@ multiplied_fits = (omega arith, tt, (omega arith, (product_fits, tt)))
 second_fits : InGrammar (assignment (codes "DS_g") assigned.Persistent summed)
 second_fits = record { fits = ((omega arith, multiplied_fits, omega arith), omega arith, tt); shallow = omega arith }
 
-pub spelled : WholeScript tokens None tree
-spelled = record { whole = refl; spelled = record { is = written; each = (first_fits, (second_fits, tt)) } }
+pub spelled : IsScript text tree
+spelled = record {
+  tokens = tokens;
+  bad = None;
+  lexed = lexed;
+  whole = record { whole = refl; spelled = record { is = written; each = (first_fits, (second_fits, tt)) } };
+}

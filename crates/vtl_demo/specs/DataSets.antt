@@ -1,5 +1,5 @@
 -- The two data sets of the demonstration: a point of each for each number from 1 on, by three draws.
-use Rattle.std.specs.Prelude.{ℕ, ◌+◌, ◌-◌, ◌*◌, ◌%◌, pos, List, [], ◌∷◌, map, codes}
+use Rattle.std.specs.Prelude.{ℕ, ◌-◌, ◌*◌, ◌%◌, pos, List, [], ◌∷◌, ◌++◌, map, codes, decimal}
 use Rattle.std.specs.List.{range_with_len}
 use Rattle.vtl_cell.specs.Row.{Row}
 use Rattle.vtl_cell.specs.declared.cell.Cell.TheVariants as c
@@ -41,7 +41,7 @@ declared = (codes "D_A", left_structure) ∷ (codes "D_B", right_structure) ∷ 
 -- ---- points
 -- `G` and a digit
 abbrev pub group_name : ℕ → List ℕ
-group_name digit = 71 ∷ (48 + digit) ∷ []
+group_name digit = codes "G" ++ decimal digit
 
 -- the group and the two factors at a number, each by a draw of its own
 abbrev pub group_at : ℕ → List ℕ
@@ -73,8 +73,11 @@ right_points = for_each right_point
 abbrev pub environment : ℕ → Environment
 environment n = (codes "D_A", data_set left_structure (left_points n)) ∷ (codes "D_B", data_set right_structure (right_points n)) ∷ []
 
+abbrev pub named_tables : Listed → Listed → NamedTables
+named_tables left right = (codes "D_A", left) ∷ (codes "D_B", right) ∷ []
+
 abbrev pub table_for : Structure → List Row → Listed
 table_for s points = record { columns = table_columns s; rows = points }
 
 abbrev pub tables : ℕ → NamedTables
-tables n = (codes "D_A", table_for left_structure (left_points n)) ∷ (codes "D_B", table_for right_structure (right_points n)) ∷ []
+tables n = named_tables (table_for left_structure (left_points n)) (table_for right_structure (right_points n))
