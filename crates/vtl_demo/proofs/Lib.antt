@@ -1,4 +1,5 @@
 mod Declarable
+mod Demonstrated
 mod Drawn
 mod Joined
 mod Meant
@@ -6,6 +7,8 @@ mod Numbered
 mod Pieces
 mod Points
 mod Products
+mod Shown
 mod Spelled
 mod Totals
+mod TypedNodes
 mod Words
