@@ -1,3 +1,4 @@
+mod Accepted
 mod Declarable
 mod Demonstrated
 mod Drawn

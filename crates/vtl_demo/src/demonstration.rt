@@ -41,7 +41,8 @@ fn results<B: Backend>(
     match back.run(alloc, script, &inputs, &mut outputs) {
         Ok(()) => Ok(outputs),
         Err(RunErr::OutOfMemory) => Err(AllocError),
-        Err(_) => unreachable!(),
+        Err(RunErr::DivZero(_)) => unreachable!(),
+        Err(RunErr::Range(_)) => unreachable!(),
     }
 }
 
