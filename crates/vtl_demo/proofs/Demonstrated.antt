@@ -1,11 +1,8 @@
 -- What is asked of the script and its inputs, and what it means, of any script that is the demonstration's.
-use Rattle.std.proofs.Common.{◌≡◌, ◌≤◌, ◌∙◌, ◌∷◌, [], ℕ, true, Result, Ok, Err, List, map, ap, ap₂, refl, subst, sym}
+use Rattle.std.proofs.Common.{◌≡◌, ◌≤◌, ◌∙◌, ℕ, true, Result, Ok, Err, List, map, ap, ap₂, refl, subst, sym}
 use Rattle.std.specs.List.{AllByRecursion, list_all}
 use Rattle.vtl_decimal.specs.declared.number.Fault.{Fault}
 use Rattle.vtl_decimal.specs.declared.number.Fault.TheVariants.{DivZero, Range}
-use Rattle.vtl_tree.specs.Environment.{Environment}
-use Rattle.vtl_tree.specs.Structures.{Named}
-use Rattle.vtl_sets.specs.TableOf.{IsTableOf}
 use Rattle.vtl_meaning.specs.Meaning.{Outputs, is_built, meaning}
 use Rattle.vtl_meaning.specs.Profiles.{AllAreOfProfile}
 use Rattle.vtl_check.specs.Checked.{TypedScript, known_of, nodes_of, tree_of}
@@ -17,9 +14,9 @@ use Rattle.vtl_backend.specs.Runs.{ShowMeaning, Tells, script_meaning}
 use Rattle.vtl_backend.specs.Statements.{is_script_built, statements_of, with_nodes}
 use Rattle.vtl_scalar.specs.declared.run_error.RunErr.{RunErr}
 use Rattle.vtl_scalar.specs.declared.run_error.RunErr.TheVariants as err
-use Rattle.vtl_demo.specs.DataSets.{declared, environment, left_points, left_structure, right_points, right_structure, tables}
-use Rattle.vtl_demo.specs.Nodes.{results, results_with, statements, typed_nodes}
-use Rattle.vtl_demo.specs.Script.{settings, tree}
+use Rattle.vtl_demo.specs.DataSets.{declared, environment, tables}
+use Rattle.vtl_demo.specs.Nodes.{results, results_with, statements}
+use Rattle.vtl_demo.specs.Script.{settings}
 use Rattle.vtl_demo.specs.Typed.{IsDemonstration}
 use Rattle.vtl_demo.proofs.Meant.{meant}
 use Rattle.vtl_demo.proofs.Points.{left_is, left_ranged, right_is, right_ranged}

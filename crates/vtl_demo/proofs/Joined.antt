@@ -1,6 +1,6 @@
 -- The points of the join: one for each number, of the two points with this number.
-use Rattle.std.proofs.Common.{◌≡◌, ◌≤◌, ◌<◌, ◌+◌, ◌∙◌, ◌∷◌, [], ℕ, zero, suc, pos, List, Some, false, filter, map, ap, ap₂, arith, refl}
-use Rattle.std.specs.List.{find, range_with_len}
+use Rattle.std.proofs.Common.{◌≡◌, ◌≤◌, ◌<◌, ◌+◌, ◌∙◌, ◌∷◌, [], ℕ, zero, suc, pos, List, Some, filter, map, ap, ap₂, arith, refl}
+use Rattle.std.specs.List.{range_with_len}
 use Rattle.vtl_cell.specs.Row.{Row}
 use Rattle.vtl_cell.specs.declared.cell.Cell.TheVariants as c
 use Rattle.vtl_cell.proofs.Rows.{same_row-refl}

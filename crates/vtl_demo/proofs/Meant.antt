@@ -1,5 +1,5 @@
 -- The script has no fault over the data sets of at most a million points, and the join has one point for each number.
-use Rattle.std.proofs.Common.{◌≡◌, ◌≤◌, ◌∙◌, ◌∷◌, [], ℕ, List, Result, Ok, length, ap, arith, refl}
+use Rattle.std.proofs.Common.{◌≡◌, ◌≤◌, ◌∙◌, ◌∷◌, [], ℕ, List, Result, Ok, ap, arith}
 use Rattle.std.specs.Prelude.{codes}
 use Rattle.std.specs.List.{range_with_len}
 use Rattle.std.proofs.lemmas.List.FromFn.{length-range_with_len}
@@ -13,7 +13,7 @@ use Rattle.vtl_meaning.specs.Meaning.{Outputs, node_value, stated, with_output}
 use Rattle.vtl_meaning.specs.Operators.{left_of}
 use Rattle.vtl_meaning.specs.Points.{with_points}
 use Rattle.vtl_demo.specs.DataSets.{environment, for_each}
-use Rattle.vtl_demo.specs.Nodes.{HasResults, joined_point, joined_structure, kept_node, kept_structure, multiplied_structure, results, results_with, summed_node, summed_structure, sums, totals_statement}
+use Rattle.vtl_demo.specs.Nodes.{HasResults, joined_point, joined_structure, kept_node, kept_structure, multiplied_structure, summed_node, summed_structure, sums, totals_statement}
 use Rattle.vtl_demo.specs.Script.{settings}
 use Rattle.vtl_demo.proofs.Joined.{joined}
 use Rattle.vtl_demo.proofs.Products.{calculated, kept, kept_point}

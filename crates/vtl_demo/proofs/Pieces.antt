@@ -4,7 +4,7 @@ use Rattle.std.specs.Char.{is_ascii_alphabetic, is_ascii_digit}
 use Rattle.std.specs.List.{list_all, slice_get}
 use Rattle.std.specs.Option.{is_none, is_some, unwrap_or}
 use Rattle.std.proofs.lemmas.Bool.{and_parts, false≢true}
-use Rattle.vtl_text.specs.Words.{is_name, is_word, is_word_character}
+use Rattle.vtl_text.specs.Words.{is_name, is_word_character}
 use Rattle.vtl_lists.specs.Runs.{begins_with}
 use Rattle.vtl_lexer.specs.Found.{IsTokenOf, IsWordKind}
 use Rattle.vtl_lexer.specs.Gaps.{is_white_space, white_space}

@@ -1,5 +1,5 @@
 -- The two data sets are data sets of their structures, with integers of the profile.
-use Rattle.std.proofs.Common.{◌≡◌, ◌≤◌, ◌<◌, ◌+◌, ◌%◌, ◌∷◌, [], ℕ, pos, List, Bool, Ok, true, false, nat_lt, take, ap, arith, inl, inr, refl, sym, subst}
+use Rattle.std.proofs.Common.{◌≡◌, ◌≤◌, ◌<◌, ◌∷◌, [], ℕ, pos, Ok, true, false, nat_lt, arith, inl, inr, refl, sym, subst}
 use Rattle.std.specs.Prelude.{IsOk}
 use Rattle.std.proofs.lemmas.Bool.{cases_Bool}
 use Rattle.std.proofs.lemmas.Bool.Decides.{nat_tests}
@@ -11,7 +11,6 @@ use Rattle.vtl_cell.proofs.Rows.{same_row-is}
 use Rattle.vtl_tree.specs.DataSet.{AreOfProfile, IsDataSet, is_point}
 use Rattle.vtl_tree.specs.Structure.{IsStructure, columns_of}
 use Rattle.vtl_demo.specs.DataSets.{first_factor, group_at, left_point, left_points, left_structure, right_point, right_points, right_structure, second_factor}
-use Rattle.vtl_demo.specs.Draws.{draw}
 use Rattle.vtl_demo.specs.Script.{settings}
 use Rattle.vtl_demo.proofs.Numbered.{apart_made, each_made}
 

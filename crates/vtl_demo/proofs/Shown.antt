@@ -1,5 +1,5 @@
 -- What is said of tables that show results.
-use Rattle.std.proofs.Common.{◌≡◌, ◌++◌, ◌∙◌, ◌∷◌, [], ℕ, List, Option, Some, Ok, length, ap, ap₂, refl, subst, sym}
+use Rattle.std.proofs.Common.{◌≡◌, ◌++◌, ◌∙◌, ◌∷◌, [], ℕ, List, Option, Some, length, ap, ap₂, refl, subst, sym}
 use Rattle.std.specs.Prelude.{codes, flat_map}
 use Rattle.std.specs.List.{AllByRecursion}
 use Rattle.std.specs.Map.{lookup}
@@ -18,7 +18,7 @@ use Rattle.vtl_backend.specs.Runs.{ShowAll, ShowMeaning}
 use Rattle.vtl_backend.specs.Tables.{Shows}
 use Rattle.vtl_demo.specs.DataSets.{declared}
 use Rattle.vtl_demo.specs.Nodes.{HasResults, joined_structure, results, results_with, summed_structure}
-use Rattle.vtl_demo.specs.Said.{AreKnown, line, line_of, part, part_for, part_of}
+use Rattle.vtl_demo.specs.Said.{AreKnown, line_of, part, part_for, part_of}
 use Rattle.vtl_demo.specs.Script.{settings}
 
 -- the data sets that the script reads, and its results

@@ -1,5 +1,5 @@
 -- The text is tokens, and they spell the tree.
-use Rattle.std.proofs.Common.{◌≡◌, [], ◌∷◌, ◌++◌, ℕ, List, None, true, arith, refl}
+use Rattle.std.proofs.Common.{◌≡◌, [], ◌∷◌, ◌++◌, List, None, true, arith, refl}
 use Rattle.std.specs.Prelude.{codes}
 use Rattle.vtl_lexer.specs.Lexed.{IsLexed}
 use Rattle.vtl_lexer.specs.declared.keyword.Keyword.TheVariants as k

@@ -1,10 +1,10 @@
 -- The totals of the groups, which have no fault.
-use Rattle.std.proofs.Common.{◌≡◌, ◌≤◌, ◌<◌, ◌+◌, ◌*◌, ◌∙◌, ◌∷◌, [], ℕ, ℤ, pos, ◌+ℤ◌, List, Bool, Option, None, Ok, true, false, filter, length, map, ap, ap₂, arith, inl, inr, refl, subst, sym}
+use Rattle.std.proofs.Common.{◌≡◌, ◌≤◌, ◌+◌, ◌*◌, ◌∙◌, ◌∷◌, [], ℕ, pos, ◌+ℤ◌, List, Bool, None, Ok, true, filter, length, map, ap, ap₂, arith, inl, inr, refl}
 use Rattle.std.specs.List.{fold, list_all}
 use Rattle.std.proofs.lemmas.Bool.{cases_Bool}
 use Rattle.vtl_decimal.specs.Range.{fit_integer}
 use Rattle.vtl_cell.specs.Groups.{aggregate, group_value, is_integer, total_of, values_of, wholes_of}
-use Rattle.vtl_cell.specs.Outcome.{Outcome, fault_in, faults_by, join, unless}
+use Rattle.vtl_cell.specs.Outcome.{fault_in, join, unless}
 use Rattle.vtl_cell.specs.Row.{Row, column_of}
 use Rattle.vtl_cell.specs.ScalarArithmetic.{integer}
 use Rattle.vtl_cell.specs.declared.cell.Cell.{Cell}

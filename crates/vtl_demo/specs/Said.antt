@@ -1,6 +1,6 @@
 -- What the demonstration says: a line for each of the two back ends, with the name of each result, how many points it has, and how many
 -- bytes its CSV text has.
-use Rattle.std.specs.Prelude.{◌≡◌, ℕ, List, [], ◌++◌, flat_map, length, Option, Some, Result, Ok, Err, codes, decimal, encode_utf8_all}
+use Rattle.std.specs.Prelude.{◌≡◌, ℕ, List, [], ◌++◌, flat_map, length, Some, Result, Ok, Err, codes, decimal, encode_utf8_all}
 use Rattle.std.specs.List.{AllByRecursion}
 use Rattle.std.specs.Map.{lookup}
 use Rattle.std.specs.Option.{option_map_or}

@@ -1,9 +1,8 @@
 -- The script: its text, and the tree that it spells.
-use Rattle.std.specs.Prelude.{ℕ, List, [], ◌∷◌, ◌++◌, Some, None, codes}
+use Rattle.std.specs.Prelude.{ℕ, List, [], ◌∷◌, Some, None, codes}
 use Rattle.vtl_decimal.specs.Settings.{Settings}
 use Rattle.vtl_decimal.specs.declared.settings.Rounding.TheVariants.{HalfUp}
 use Rattle.vtl_syntax.specs.Trees.{Exp, ScriptTree, aggregate, assignment, binary, calc, calc_part, component, join, join_part, keeping, no_calcs, no_exp, no_parts, no_targets, some_exp, targets, with_clause}
-use Rattle.vtl_syntax.specs.declared.parts.Comp.{Comp}
 use Rattle.vtl_syntax.specs.declared.parts.Comp.TheVariants as comp
 use Rattle.vtl_syntax.specs.declared.parts.Keeping.TheVariants as kept
 use Rattle.vtl_syntax.specs.declared.parts.Reference.TheVariants as reference

@@ -1,4 +1,4 @@
-use Rattle.std.proofs.Common.{◌≡◌, ◌+◌, ◌∙◌, ap, arith}
+use Rattle.std.proofs.Common.{◌+◌, ◌∙◌, arith}
 use Rattle.vtl_demo.specs.DataSets.{left_point, right_point}
 use Rattle.vtl_demo.proofs.Numbered.{one_more}
 use Rattle.vtl_demo.proofs.data_sets.fill.Goals as goal

@@ -1,4 +1,4 @@
-use Rattle.std.proofs.Common.{◌≡◌, subst, sym}
+use Rattle.std.proofs.Common.{subst, sym}
 use Rattle.vtl_backend.specs.Inputs.{AreInRange, AreInputs}
 use Rattle.vtl_demo.proofs.Demonstrated.{in_range, inputs_are, only_memory, shows_results}
 use Rattle.vtl_demo.proofs.demonstration.results.Goals as goal
