@@ -2,6 +2,7 @@ mod Accepted
 mod Declarable
 mod Demonstrated
 mod Drawn
+mod Examples
 mod Joined
 mod Meant
 mod Numbered

@@ -76,7 +76,7 @@ group_calm : (p : Row → Bool) (numbers : List ℕ) → length numbers ≤ 1000
 group_calm p numbers few =
     let of = filter (λ i. p (kept_point i)) numbers in
     let cells : map (column_of 2) (filter p (map kept_point numbers)) ≡ map cell_at of =
-        ap (map (column_of 2)) (filter-map p kept_point numbers) ∙ map_made (column_of 2) kept_point cell_at (λ i. refl) of in
+    ap (map (column_of 2)) (filter-map p kept_point numbers) ∙ map_made (column_of 2) kept_point cell_at (λ i. refl) of in
     ap (λ cells. fault_in (group_value settings agg.Sum cells)) cells ∙ calm of (omega (arith, few, fewer (λ i. p (kept_point i)) numbers))
 
 -- groups of which none has a fault

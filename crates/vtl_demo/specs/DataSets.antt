@@ -15,6 +15,7 @@ use Rattle.vtl_tree.specs.declared.structure.Structure.{Structure}
 use Rattle.vtl_sets.specs.DataSets.{data_set}
 use Rattle.vtl_sets.specs.TableOf.{table_columns}
 use Rattle.vtl_demo.specs.Draws.{draw}
+use Rattle.vtl_demo.specs.declared.limits.TheConstants.{MOST_POINTS}
 
 -- ---- structures
 abbrev pub number_id : Component
@@ -58,6 +59,10 @@ left_point i = c.Int (pos i) ∷ c.Text (group_at i) ∷ c.Int (pos (first_facto
 
 abbrev pub right_point : ℕ → Row
 right_point i = c.Int (pos i) ∷ c.Int (pos (second_factor i)) ∷ []
+
+-- how many numbers there may be
+abbrev pub most_points : ℕ
+most_points = MOST_POINTS
 
 -- a point for each number from 1 to n
 abbrev pub for_each : (ℕ → Row) → ℕ → List Row

@@ -50,7 +50,7 @@ fn fill_left(
     requires empty { row.old.items ≡ [] }
     requires names { groups.now ≡ map sets.group_name (range_with_len 0 10) }
     requires state { draws.old.state ≡ state (3 * before) }
-    requires few { before < 1000000 }
+    requires few { before < sets.most_points }
     ensures point { OnOk result (row.new.items ≡ sets.left_point (before + 1)) }
     ensures state { draws.new.state ≡ state (3 * before + 2) }
 {
@@ -66,7 +66,7 @@ fn fill_left(
 fn fill_right(row: &mut Vec<Cell>, draws: &mut Draws, before: u64) -> Result<(), AllocError>
     requires empty { row.old.items ≡ [] }
     requires state { draws.old.state ≡ state (3 * before + 2) }
-    requires few { before < 1000000 }
+    requires few { before < sets.most_points }
     ensures point { OnOk result (row.new.items ≡ sets.right_point (before + 1)) }
     ensures state { draws.new.state ≡ state (3 * (before + 1)) }
 {
@@ -85,7 +85,7 @@ fn fill(
     points: u64,
 ) -> Result<(), AllocError>
     requires names { groups.now ≡ map sets.group_name (range_with_len 0 10) }
-    requires few { points ≤ 1000000 }
+    requires few { points ≤ sets.most_points }
     requires left_empty { left.old.rows ≡ [] }
     requires right_empty { right.old.rows ≡ [] }
     requires left_columns { left.old.columns ≡ table_columns sets.left_structure }
@@ -120,7 +120,7 @@ fn named(alloc: Global, left: Table, right: Table) -> Result<Inputs, AllocError>
 
 /// The tables of both data sets, with so many points each. It fails only if memory runs out.
 pub(crate) fn inputs(alloc: Global, points: u64) -> Result<Inputs, AllocError>
-    requires { points ≤ 1000000 }
+    requires { points ≤ sets.most_points }
     ensures { IfOk result (λ t. t ≡ sets.tables points) }
 {
     let mut left = new_table(alloc, &left_structure(alloc)?)?;

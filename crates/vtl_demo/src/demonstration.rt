@@ -5,6 +5,7 @@ ghost use Rattle.vtl_sets.specs.TableOf.{IsTableOf};
 ghost use Rattle.vtl_check.specs.Checked.{known_of};
 ghost use Rattle.vtl_backend.specs.Runs.{ShowMeaning};
 ghost use Rattle.vtl_csv.specs.CsvText.{csv_of};
+ghost use Rattle.vtl_demo.specs.DataSets.{most_points};
 ghost use Rattle.vtl_demo.specs.Nodes.{results};
 ghost use Rattle.vtl_demo.specs.Said.{AreKnown, IsKnown, line_of, part, part_for, said};
 ghost use Rattle.vtl_demo.specs.Script.{settings};
@@ -21,9 +22,6 @@ use vtl_scalar::RunErr;
 use vtl_text::Txt;
 use vtl_tree::Structure;
 
-/// The most points that a data set may have.
-pub const MOST_POINTS: u64 = 1_000_000;
-
 // The results of the script by a back end. The inputs are let go before anything is said of them.
 fn results<B: Backend>(
     alloc: Global,
@@ -32,7 +30,7 @@ fn results<B: Backend>(
     points: u64,
 ) -> Result<Outputs, AllocError>
     requires script { IsDemonstration script.now }
-    requires few { points ≤ 1000000 }
+    requires few { points ≤ most_points }
     ensures shown { IfOk result (ShowMeaning (results points)) }
     ensures told { OnOk result (B.told back.new script.now) }
 {
@@ -115,7 +113,7 @@ fn line<B: Backend>(
     points: u64,
 ) -> Result<String, AllocError>
     requires script { IsDemonstration script.now }
-    requires few { points ≤ 1000000 }
+    requires few { points ≤ most_points }
     ensures line { IfOk result (λ text. string_bytes text ≡ line_of word.now (results points)) }
     ensures told { OnOk result (B.told back.new script.now) }
 {
@@ -131,7 +129,7 @@ pub fn demonstrate<A: Backend, B: Backend>(
     engine: &mut B,
     points: u64,
 ) -> Result<String, AllocError>
-    requires { points ≤ 1000000 }
+    requires { points ≤ most_points }
     ensures said { IfOk result (λ text. string_bytes text ≡ said points) }
     ensures told { OnOk result (IsToldOf (B.told engine.new)) }
 {

@@ -7,7 +7,7 @@ ghost use Rattle.vtl_check.specs.Uses.{reads};
 ghost use Rattle.vtl_meaning.specs.Meaning.{is_built};
 ghost use Rattle.vtl_parser.specs.Parsed.{IsScript};
 ghost use Rattle.vtl_tree.specs.DataSet.{AreOfProfile, IsDataSet};
-ghost use Rattle.vtl_demo.specs.DataSets.{declared, left_points, left_structure, right_points, right_structure};
+ghost use Rattle.vtl_demo.specs.DataSets.{declared, left_points, left_structure, most_points, right_points, right_structure};
 ghost use Rattle.vtl_demo.specs.Nodes.{HasResults, typed_nodes};
 ghost use Rattle.vtl_demo.specs.Script.{settings, text, tree};
 
@@ -24,11 +24,11 @@ pub fn script_is_accepted()
 pub fn points_are_data_sets()
     ensures left { (n : ℕ) → IsDataSet left_structure (left_points n) }
     ensures right { (n : ℕ) → IsDataSet right_structure (right_points n) }
-    ensures left_ranges { (n : ℕ) → n ≤ 1000000 → AreOfProfile settings (left_points n) }
-    ensures right_ranges { (n : ℕ) → n ≤ 1000000 → AreOfProfile settings (right_points n) }
+    ensures left_ranges { (n : ℕ) → n ≤ most_points → AreOfProfile settings (left_points n) }
+    ensures right_ranges { (n : ℕ) → n ≤ most_points → AreOfProfile settings (right_points n) }
 {}
 
 /// The script has no fault over the data sets of at most a million points, and the join has a point for each number.
 pub fn demonstration_has_no_fault()
-    ensures { (n : ℕ) → n ≤ 1000000 → HasResults n }
+    ensures { (n : ℕ) → n ≤ most_points → HasResults n }
 {}

@@ -11,8 +11,10 @@ mod data_sets;
 mod demonstration;
 mod draws;
 mod laws;
+mod limits;
 mod script;
 mod structures;
 
-pub use demonstration::{MOST_POINTS, demonstrate};
+pub use demonstration::demonstrate;
 pub use laws::{demonstration_has_no_fault, points_are_data_sets, script_is_accepted};
+pub use limits::MOST_POINTS;

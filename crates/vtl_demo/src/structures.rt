@@ -24,12 +24,7 @@ pub(crate) fn word(alloc: Global, text: &str) -> Result<Txt, AllocError>
     Txt::new(alloc, text)
 }
 
-fn component(
-    alloc: Global,
-    name: &str,
-    role: Role,
-    kind: Kind,
-) -> Result<Component, AllocError>
+fn component(alloc: Global, name: &str, role: Role, kind: Kind) -> Result<Component, AllocError>
     requires { list_all is_word_character name.now ≡ true }
     ensures { IfOk result (λ x. x ≡ made name.now role kind) }
 {

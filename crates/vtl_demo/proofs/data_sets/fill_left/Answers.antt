@@ -16,9 +16,9 @@ returns-clause-point c =
     let second_draw : c.draw-factor.result ≡ draw (3 * number - 1) = c.draw-factor.ensures.drawn ∙ ap drawn second in
     let place = c.draw-group.result % 10 in
     let group : c.in_ok-share.field-0 ≡ group_at number =
-        c.in_ok-share.ensures ∙ c.index-groups-group.is ∙ ap (λ l. get_or l place c.index-groups-group.result) c.requires.names
-        ∙ get_or-map-range_with_len group_name 0 10 place place c.index-groups-group.result (omega arith) (omega arith) ∙ ap (λ d. group_name (d % 10)) first_draw in
+    c.in_ok-share.ensures ∙ c.index-groups-group.is ∙ ap (λ l. get_or l place c.index-groups-group.result) c.requires.names
+    ∙ get_or-map-range_with_len group_name 0 10 place place c.index-groups-group.result (omega arith) (omega arith) ∙ ap (λ d. group_name (d % 10)) first_draw in
     let two = two-cells c.args.row.now.items c.push.new.self.items c.push-2.new.self.items _ _ (cell.Int (pos number)) (cell.Text (group_at number)) c.requires.empty c.in_ok-push.ensures.items c.in_ok-push-2.ensures.items
-        (small-cell number (omega (arith, c.requires.few))) (ap cell.Text group) in
+    (small-cell number (omega (arith, c.requires.few))) (ap cell.Text group) in
     third-cell c.push-2.new.self.items c.push-3.new.self.items (cell.Int (pos number)) (cell.Text (group_at number)) _ (cell.Int (pos (first_factor number))) two c.in_ok-push-3.ensures.items
     (small-cell (c.draw-factor.result % 1000) (omega arith) ∙ ap (λ d. cell.Int (pos (d % 1000))) second_draw)
