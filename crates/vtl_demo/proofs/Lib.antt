@@ -1,0 +1,16 @@
+mod Accepted
+mod Declarable
+mod Demonstrated
+mod Drawn
+mod Examples
+mod Joined
+mod Meant
+mod Numbered
+mod Pieces
+mod Points
+mod Products
+mod Shown
+mod Spelled
+mod Totals
+mod TypedNodes
+mod Words
