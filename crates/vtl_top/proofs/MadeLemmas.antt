@@ -3,8 +3,14 @@ use Rattle.std.proofs.Common.{◌≡◌, inl, ℕ, List, [], map, Some, Result, 
 use Rattle.std.specs.Global.{Vec}
 use Rattle.std.specs.Prelude.{IfOk}
 use Rattle.vtl_files.specs.declared.files.Files.{Ghosts}
+use Rattle.vtl_check.specs.Checked.{TypedScript, nodes_of}
+use Rattle.vtl_demo.specs.DataSets.{declared}
+use Rattle.vtl_demo.specs.Script as script
+use Rattle.vtl_demo.specs.Typed as demo
 use Rattle.vtl_top.specs.Answered.{Takes}
-use Rattle.vtl_top.specs.Forms.{asked_step}
+use Rattle.vtl_top.specs.Expected.{typed_by}
+use Rattle.vtl_top.specs.Forms.{asked_step, demonstration}
+use Rattle.vtl_top.specs.Informed.{IsToldOf, typed_view}
 use Rattle.vtl_top.specs.MadeView.{IsMade, Names, made_view}
 use Rattle.vtl_top.specs.OutputView.{output_view, outputs_view}
 use Rattle.vtl_top.specs.Refusal.{SettlesBy}
@@ -40,3 +46,14 @@ module _ (outputs : Vec Output) (text : Vec ℕ) where
 -- what one command takes, the same one takes
 pub of_command : {F : Type 0} (g : Ghosts F) (before now : F) (c d : Command) (result : Result Program Status) → Takes g before now (asked_step (Some c)) made_view result → c ≡ d → Takes g before now (asked_step (Some d)) made_view result
 of_command g before now c d result t e = subst (λ (k : Command). Takes g before now (asked_step (Some k)) made_view result) e t
+
+-- ---- the demonstration
+demonstration_viewed : (t : TypedScript) → demo.IsDemonstration t → typed_view t ≡ demonstration
+demonstration_viewed t is =
+    ap (λ tree. typed_by tree t.declared t.settings (nodes_of t)) is.spells
+    ∙ ap (λ structures. typed_by script.tree structures t.settings (nodes_of t)) is.over
+    ∙ ap (λ settings. typed_by script.tree declared settings (nodes_of t)) is.by
+    ∙ ap (λ nodes. typed_by script.tree declared script.settings nodes) is.gives
+
+pub told_of_demonstration : (told : TypedScript → Type 0) → demo.IsToldOf told → IsToldOf demonstration told
+told_of_demonstration told is = record { script = is.script; same = demonstration_viewed is.script is.demonstration; told_of = is.told_of }

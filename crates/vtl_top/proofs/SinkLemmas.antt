@@ -1,5 +1,5 @@
 -- What a call hands to the sink.
-use Rattle.std.proofs.Common.{◌≡◌, ◌≤◌, inl, inr, List, [], ℕ, Option, Some, None, refl, sym, ap, subst, ◌∙◌}
+use Rattle.std.proofs.Common.{◌≡◌, ◌≤◌, inl, inr, List, [], ℕ, Option, Some, None, Ok, refl, sym, ap, subst, ◌∙◌}
 use Rattle.std.proofs.lemmas.List.{append-nil}
 use Rattle.vtl_files.specs.Outside.{Rose, TakesAll}
 use Rattle.vtl_files.specs.Whole.{TakesFront}
@@ -8,11 +8,14 @@ use Rattle.vtl_files.specs.declared.files.Files.{Ghosts as Store}
 use Rattle.vtl_status.specs.StatusLine.{line_of}
 use Rattle.vtl_status.specs.declared.status.Status.{Status}
 use Rattle.vtl_status.specs.declared.status.Status.TheVariants as st
-use Rattle.vtl_top.specs.Answered.{Ends}
-use Rattle.vtl_top.specs.Forms.{IsMadeBy}
+use Rattle.std.specs.Option.{IfSome}
+use Rattle.vtl_csv.proofs.InputPointLemmas.{ok_same}
+use Rattle.vtl_demo.specs.Said.{said}
+use Rattle.vtl_top.specs.Answered.{Adds, Ends}
+use Rattle.vtl_top.specs.Forms.{IsMadeBy, asked_step}
 use Rattle.vtl_top.specs.Said.{Hears, Says}
-use Rattle.vtl_top.specs.Steps.{Made}
-use Rattle.vtl_top.specs.Words.{Command, Engine, Run, RunsScript, engine}
+use Rattle.vtl_top.specs.Steps.{Held, Made, only_text}
+use Rattle.vtl_top.specs.Words.{Command, Engine, Run, RunsScript, demo, engine}
 
 taken_nothing : (t : Option (List ℕ)) → TakesAll t t []
 taken_nothing None = refl
@@ -40,3 +43,12 @@ run_is_quiet g o a b out now command r runs ends = ends.line ∙ ends.command_en
 
 pub engine_is_quiet : {F S : Type 0} (g : Store F) (o : Ghosts S) (a b : F) (out now : S) (e : Engine) → Ends g o a b out now (Some (engine e)) st.Done → now ≡ out
 engine_is_quiet g o a b out now e ends = ends.line ∙ ends.command_ends.gave.1.silent ends.command_ends.shape
+
+pub demo_is_said : {F S : Type 0} (g : Store F) (o : Ghosts S) (a b : F) (out now : S) (n : ℕ) (held : Held) → g.held a ≡ Some held → Ends g o a b out now (Some (demo n)) st.Done → Adds (g.written a) (g.written b) [] × Hears o out now (said n)
+demo_is_said g o a b out now n held told ends =
+    let made = ends.command_ends.made in
+    let given : (asked_step (Some (demo n))).gives held (Ok made) = subst (λ (h : Option Held). IfSome h (λ held. (asked_step (Some (demo n))).gives held (Ok made))) told ends.command_ends.given in
+    let same : made ≡ only_text (said n) = ok_same given in (
+      subst (λ (m : Made). Adds (g.written a) (g.written b) m.files) same ends.command_ends.gave.0.0,
+      subst (λ s. Hears o out s (said n)) (sym ends.line) (subst (λ (m : Made). Hears o out ends.between m.text) same ends.command_ends.gave.1),
+    )

@@ -18,7 +18,7 @@ use Rattle.vtl_top.specs.SqlInputs.{input_structures}
 use Rattle.vtl_top.specs.SqlRun.{engine_step, sql_checked_step, sql_in, sql_of}
 use Rattle.vtl_top.specs.Steps.{Behind, File, Held, Made, Path, Step, Text, ◌>>=◌, as_files, looked, only_text, read_as, settled, status_of}
 use Rattle.vtl_top.specs.Wanted.{Placed, all_placed_in}
-use Rattle.vtl_top.specs.Words.{Command, Engine, Run, Source, engine, run, sql, sqlrun}
+use Rattle.vtl_top.specs.Words.{Command, Engine, Run, Source, demo, engine, run, sql, sqlrun}
 use Rattle.vtl_status.specs.declared.status.Status.{Status}
 use Rattle.vtl_top.proofs.MeantLemmas.{accepted_only}
 use Rattle.vtl_top.proofs.ReadScripts.{parsed_once}
@@ -125,6 +125,7 @@ sure_or_text (Some (run r)) = inl (files_sure _ (run_sure r))
 sure_or_text (Some (sqlrun r)) = inl (files_sure _ (run_sure r))
 sure_or_text (Some (sql s)) = inr (s, refl)
 sure_or_text (Some (engine e)) = inl (files_sure _ (engine_sure e))
+sure_or_text (Some (demo n)) = inl (settled_sure _)
 
 abbrev pub IsNoText : Option Command → Type 0
 IsNoText command = (s : Source) → (command ≡ Some (sql s) → ⊥)

@@ -1,9 +1,13 @@
 -- The form of each command: what its words ask for, what it gives out, and what a back end is told.
-use Rattle.std.specs.Prelude.{◌≡◌, [], Option, Some, None, Err}
-use Rattle.vtl_top.specs.Expected.{Typed, built_step, run_step, text_step}
+use Rattle.std.specs.Prelude.{◌≡◌, [], Option, Some, None, Ok, Err}
+use Rattle.vtl_demo.specs.DataSets.{declared}
+use Rattle.vtl_demo.specs.Nodes.{typed_nodes}
+use Rattle.vtl_demo.specs.Said.{said}
+use Rattle.vtl_demo.specs.Script as script
+use Rattle.vtl_top.specs.Expected.{Typed, built_step, run_step, text_step, typed_by}
 use Rattle.vtl_top.specs.SqlRun.{engine_step}
-use Rattle.vtl_top.specs.Steps.{Made, Step, as_files, as_text, settled}
-use Rattle.vtl_top.specs.Words.{Command, engine, run, sql, sqlrun}
+use Rattle.vtl_top.specs.Steps.{Made, Step, as_files, as_text, only_text, settled}
+use Rattle.vtl_top.specs.Words.{Command, demo, engine, run, sql, sqlrun}
 use Rattle.vtl_status.specs.declared.status.Status.TheVariants as st
 
 -- what a command gives out: nothing, files, a text, or files and behind them a text
@@ -31,6 +35,10 @@ pub record Form : Type 1 where
   pub half : Half
   pub tells : Tells
 
+-- the script of the demonstration
+abbrev pub demonstration : Typed
+demonstration = typed_by script.tree declared script.settings typed_nodes
+
 -- the form of a command, and of words that are none
 abbrev pub form_of : Option Command → Form
 form_of None = record { step = settled (Err st.Usage); half = nothing; tells = silent }
@@ -38,6 +46,7 @@ form_of (Some (run r)) = record { step = as_files (run_step r); half = files_alo
 form_of (Some (sqlrun r)) = record { step = as_files (run_step r); half = files_alone; tells = of_step (built_step r.source) }
 form_of (Some (sql s)) = record { step = as_text (text_step s); half = text_alone; tells = silent }
 form_of (Some (engine e)) = record { step = as_files (engine_step e); half = files_alone; tells = silent }
+form_of (Some (demo n)) = record { step = settled (Ok (only_text (said n))); half = text_alone; tells = of_itself demonstration }
 
 -- what the words ask for
 abbrev pub asked_step : Option Command → Step Made

@@ -5,7 +5,9 @@ use Rattle.std.specs.Option.{option_and_then}
 use Rattle.vtl_decimal.specs.Settings.{Settings}
 use Rattle.vtl_decimal.specs.declared.settings.Rounding.{Rounding}
 use Rattle.vtl_decimal.specs.declared.settings.Rounding.TheVariants.{Down, HalfEven, HalfUp}
+use Rattle.vtl_time.specs.Numerals.{number_in_digits}
 use Rattle.vtl_tree.specs.Structure.{same_name}
+use Rattle.vtl_demo.specs.DataSets.{most_points}
 use Rattle.vtl_top.specs.Steps.{Path, Text}
 
 -- what options chose, each or not
@@ -32,12 +34,13 @@ pub record Engine : Type 0 where
   pub output : Path
 
 -- a command, with its paths and options: a script is run by the interpreter, or by its text in SQL; its text in SQL is said; an SQL
--- file is run
+-- file is run; the demonstration is run over so many points
 pub data Command : Type 0 where
   run : Run → Command
   sqlrun : Run → Command
   sql : Source → Command
   engine : Engine → Command
+  demo : ℕ → Command
 
 -- the command runs a script, in either way
 abbrev pub RunsScript : Command → Run → Type 0
@@ -139,6 +142,20 @@ abbrev pub engine_of : List Text → Option Engine
 engine_of (file ∷ input ∷ output ∷ []) = if list_all is_path (file ∷ input ∷ output ∷ []) then Some (engine_with file input output) else None
 engine_of _ = None
 
+-- a number of points that the demonstration may have
+abbrev pub may_be_points : ℕ → Option ℕ
+may_be_points n = if nat_le 1 n && nat_le n most_points then Some n else None
+
+-- the decimal of such a number, which has at most seven digits, and no 0 before them
+abbrev pub points_in : Text → Option ℕ
+points_in [] = None
+points_in (b ∷ bs) = if not (b == 48) && nat_le (length (b ∷ bs)) 7 then option_and_then may_be_points (number_in_digits (b ∷ bs)) else None
+
+-- the word behind `demo`: POINTS
+abbrev pub points_of : List Text → Option ℕ
+points_of (word ∷ []) = points_in word
+points_of _ = None
+
 -- the command that the words are, by its name
 abbrev pub command_of : List Text → Option Command
 command_of [] = None
@@ -146,4 +163,5 @@ command_of (name ∷ words) =
     if same_name name (codes "run") then option_map run (run_of words)
     else (if same_name name (codes "sqlrun") then option_map sqlrun (run_of words)
     else (if same_name name (codes "sql") then option_map sql (source_of words)
-    else (if same_name name (codes "engine") then option_map engine (engine_of words) else None)))
+    else (if same_name name (codes "engine") then option_map engine (engine_of words)
+    else (if same_name name (codes "demo") then option_map demo (points_of words) else None))))

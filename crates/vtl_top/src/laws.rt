@@ -16,7 +16,8 @@ ghost use Rattle.sql_meaning.specs.Scripts.{Inputs, script_value};
 ghost use Rattle.vtl_to_sql.specs.Inputs.{AreTaken, sets_read};
 ghost use Rattle.vtl_to_sql.specs.Scripts.{input_of};
 ghost use Rattle.vtl_decimal.specs.declared.number.Fault.{Fault};
-ghost use Rattle.vtl_top.specs.Answered.{Ends};
+ghost use Rattle.vtl_demo.specs.Said.{said};
+ghost use Rattle.vtl_top.specs.Answered.{Adds, Ends};
 ghost use Rattle.vtl_top.specs.Complete.{IsCalm};
 ghost use Rattle.vtl_top.specs.Forms.{asked_step};
 ghost use Rattle.vtl_top.specs.Expected.{IsTextOf, Typed, fault_status, meant, outputs_of, run_step, text_step};
@@ -25,8 +26,9 @@ ghost use Rattle.vtl_top.specs.SqlMeant.{IsExported, IsSqlFaulted, IsSqlMistyped
 ghost use Rattle.vtl_top.specs.SqlRun.{engine_step, exports_of};
 ghost use Rattle.sql_check_parts.specs.Rules.{number_of};
 ghost use Rattle.sql_check_parts.specs.Statements.{Fault as Breach};
+ghost use Rattle.vtl_top.specs.Said.{Hears};
 ghost use Rattle.vtl_top.specs.Steps.{File, Held, Made, Name, Path, Text, status_of};
-ghost use Rattle.vtl_top.specs.Words.{Command, Engine, Run, RunsScript, Source, engine, sql};
+ghost use Rattle.vtl_top.specs.Words.{Command, Engine, Run, RunsScript, Source, demo, engine, sql};
 ghost use Rattle.vtl_status.specs.declared.status.Status.{Status};
 
 use vtl_files::{Files, Sink};
@@ -124,6 +126,11 @@ pub fn calm_calls_are_complete<F: Files, O: Sink>()
 pub fn runs_are_quiet<F: Files, O: Sink>()
     ensures runs { (a b : F) (u v : O) (command : Command) (r : Run) → RunsScript command r → Ends F.Files O.Sink a b u v (Some command) Status.Done → v ≡ u }
     ensures engines { (a b : F) (u v : O) (e : Engine) → Ends F.Files O.Sink a b u v (Some (engine e)) Status.Done → v ≡ u }
+{}
+
+/// A demonstration that is done has handed its two lines to the sink, and written nothing.
+pub fn demonstrations_are_said<F: Files, O: Sink>()
+    ensures { (a b : F) (u v : O) (n : ℕ) (held : Held) → F.held a ≡ Some held → Ends F.Files O.Sink a b u v (Some (demo n)) Status.Done → Adds (F.written a) (F.written b) [] × Hears O.Sink u v (said n) }
 {}
 
 /// What a structures file declares under a name is a structure with at least one identifier.

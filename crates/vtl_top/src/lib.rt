@@ -18,6 +18,7 @@ mod inputs;
 mod laws;
 mod made;
 mod output;
+mod points;
 mod reading;
 mod refusal;
 mod results;
@@ -32,11 +33,12 @@ mod words;
 pub use agreement::{agreeing_calls_end_alike, interpreter_and_sql_agree};
 pub use inputs::read_inputs;
 pub use laws::{
-    calm_calls_are_complete, expected_is_determined, expected_is_there, exports_are_meant,
-    faults_are_meant, inputs_take_alike, mistyped_is_first_fault, output_is_meant, runs_are_quiet,
-    sql_breaches_are_refused, sql_faults_are_meant, structures_have_identifiers, texts_are_meant,
-    texts_write_alike,
+    calm_calls_are_complete, demonstrations_are_said, expected_is_determined, expected_is_there,
+    exports_are_meant, faults_are_meant, inputs_take_alike, mistyped_is_first_fault,
+    output_is_meant, runs_are_quiet, sql_breaches_are_refused, sql_faults_are_meant,
+    structures_have_identifiers, texts_are_meant, texts_write_alike,
 };
+pub use points::Points;
 pub use run::read_built;
 pub use top::{vtl, vtl_by, vtl_with};
 pub use words::{Chosen, Source};

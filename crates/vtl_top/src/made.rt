@@ -7,24 +7,28 @@
 // The functions from the words to the outputs are generic over the back end: `run` goes by the interpreter, `sqlrun`
 // by the back end that is handed in. What a back end can show of a script that it was handed (`told` of `Backend`) is
 // its own to say, and the top call hands it on (`Informs`); every other command leaves the back end as it was.
-ghost use Rattle.std.specs.Prelude.{◌≡◌, [], Some, IfOk};
+ghost use Rattle.std.specs.Prelude.{◌≡◌, [], Some, Ok, IfOk};
 ghost use Rattle.std.specs.List.{AllByRecursion};
+ghost use Rattle.vtl_demo.specs.Said.{said};
 ghost use Rattle.vtl_top.specs.Answered.{Takes};
 ghost use Rattle.vtl_top.specs.Expected.{built_step};
-ghost use Rattle.vtl_top.specs.Forms.{IsMadeBy, asked_step};
+ghost use Rattle.vtl_top.specs.Forms.{IsMadeBy, asked_step, demonstration};
 ghost use Rattle.vtl_top.specs.MadeView.{IsMade, Names, made_view};
 ghost use Rattle.vtl_top.specs.OutputView.{NamesPath, outputs_view};
 ghost use Rattle.vtl_top.specs.RunView.{command_view, engine_view, run_view, source_view};
-ghost use Rattle.vtl_top.specs.Informed.{Informs, TellsRun};
-ghost use Rattle.vtl_top.specs.Steps.{status_of};
+ghost use Rattle.vtl_top.specs.Informed.{HasRun, Informs, IsToldOf, TellsRun};
+ghost use Rattle.vtl_top.specs.Refusal.{SettlesBy};
+ghost use Rattle.vtl_top.specs.Steps.{only_text, status_of};
 ghost use Rattle.vtl_top.specs.Words.{engine, run, sql};
 
 use crate::output::Output;
+use crate::points::Points;
 use crate::run::{prepare, prepare_text};
 use crate::sql_run::prepare_exports;
 use crate::words::{Command, Engine, Run, Source};
 use std::alloc::Global;
 use vtl_backend::Backend;
+use vtl_demo::demonstrate;
 use vtl_files::Files;
 use vtl_interp::Interp;
 use vtl_status::Status;
@@ -41,7 +45,8 @@ pub struct Made {
     pub sink: Txt,
 }
 
-/// Makes all that a command gives out. It reads only. A run goes by the interpreter, a run in SQL by the back end.
+/// Makes all that a command gives out. It reads only. A run goes by the interpreter, a run in SQL by the back end, and the
+/// demonstration by both.
 pub fn make<B: Backend, F: Files>(
     alloc: Global,
     back: &mut B,
@@ -58,6 +63,7 @@ pub fn make<B: Backend, F: Files>(
         Command::SqlRun(run) => make_run(alloc, back, files, run),
         Command::Sql(source) => make_text(alloc, files, source),
         Command::Engine(engine) => make_exports(alloc, files, engine),
+        Command::Demo(points) => make_lines(alloc, back, points),
     }
 }
 
@@ -97,6 +103,18 @@ fn make_exports<F: Files>(alloc: Global, files: &mut F, asked: &Engine<'_>) -> R
     match prepare_exports(alloc, files, asked) {
         Ok(outputs) => made_of(alloc, outputs, Vec::new(alloc)),
         Err(status) => Err(status),
+    }
+}
+
+fn make_lines<B: Backend>(alloc: Global, back: &mut B, points: &Points) -> Result<Made, Status>
+    ensures made { SettlesBy made_view (Ok (only_text (said points.now))) result }
+    ensures named { IfOk result Names }
+    ensures shape { IfOk result (λ m. outputs_view m.outputs ≡ []) }
+    ensures told { HasRun (status_of result) → IsToldOf demonstration (B.told back.new) }
+{
+    match demonstrate(alloc, &mut Interp, back, points.count()) {
+        Ok(lines) => made_of(alloc, Vec::new(alloc), lines.into_bytes()),
+        Err(_) => Err(Status::Memory),
     }
 }
 

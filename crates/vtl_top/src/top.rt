@@ -35,6 +35,8 @@ use vtl_status::{Status, tell};
 /// - `sql SCRIPT STRUCTURES` hands such a text to `out`, whole on Done; it reads no data set.
 /// - `engine SQLFILE IN OUT` runs a text of the SQL dialect: it reads the CSV file of each INPUT, and writes that of each
 ///   EXPORT.
+/// - `demo POINTS` runs a script of its own over data sets of its own of so many points, 1 to a million, in both ways, and
+///   hands a line on each to `out`: what it gave, with its rows and the bytes of its CSV text. It reads and writes no file.
 ///
 /// Options may follow the paths of a script: `--scale D`, the digits of a number after its point (one digit, 6 by
 /// default), and `--round R`, how results are rounded to them (`half_up`, the default, `half_even` or `down`), each at

@@ -4,8 +4,9 @@
 // declares.
 ghost use Rattle.std.specs.Prelude.{◌≡◌, ◌∷◌, [], map, option_map, string_bytes};
 ghost use Rattle.vtl_top.specs.RunView.{command_view, engine_view, run_view, setting_view, source_view};
-ghost use Rattle.vtl_top.specs.Words.{both_set, chosen_in, chosen_with, command_of, default_settings, engine_of, is_path, one_set, rounding, rounding_in, run_of, scale, scale_in, setting_in, settings_for, source_of};
+ghost use Rattle.vtl_top.specs.Words.{both_set, chosen_in, chosen_with, command_of, default_settings, engine_of, is_path, one_set, points_of, rounding, rounding_in, run_of, scale, scale_in, setting_in, settings_for, source_of};
 
+use crate::points::Points;
 use std::marker::Model;
 use vtl_decimal::{Profile, Rounding};
 
@@ -106,6 +107,8 @@ pub enum Command<'a> {
     Sql(Source<'a>),
     /// An SQL file is run.
     Engine(Engine<'a>),
+    /// The demonstration is run over so many points, in both ways.
+    Demo(Points),
 }
 
 // What an option sets.
@@ -125,7 +128,7 @@ fn is_path(word: &str) -> bool
 
 /// The command that the words are, by its name: `run` or `sqlrun`, and SCRIPT STRUCTURES IN OUT, each a path that is not
 /// empty, and then the options `--scale D` and `--round R`, each at most once; `sql`, and SCRIPT STRUCTURES and such
-/// options; or `engine`, and SQLFILE IN OUT.
+/// options; `engine`, and SQLFILE IN OUT; or `demo`, and the decimal of a number of points.
 pub fn command_of(words: &[String]) -> Option<Command<'_>>
     ensures { option_map command_view result ≡ command_of (map string_bytes words.now) }
 {
@@ -162,7 +165,22 @@ fn named<'a>(name: &str, words: &'a [String]) -> Option<Command<'a>>
             None => None,
         };
     }
+    if name == "demo" {
+        return match points_of(words) {
+            Some(points) => Some(Command::Demo(points)),
+            None => None,
+        };
+    }
     None
+}
+
+fn points_of(words: &[String]) -> Option<Points>
+    ensures { result ≡ points_of (map string_bytes words.now) }
+{
+    match words {
+        [word] => Points::of(word.as_str()),
+        _ => None,
+    }
 }
 
 fn source_of(words: &[String]) -> Option<Source<'_>>

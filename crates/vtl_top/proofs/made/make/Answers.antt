@@ -1,7 +1,11 @@
-use Rattle.std.proofs.Common.{ap, sym}
+use Rattle.std.proofs.Common.{Ok, ap, cc, sym}
+use Rattle.vtl_demo.specs.Said.{said}
+use Rattle.vtl_top.specs.MadeView.{made_view}
 use Rattle.vtl_top.specs.RunView.{command_view, engine_view, run_view, source_view}
-use Rattle.vtl_top.specs.Words.{engine, run, sql, sqlrun}
+use Rattle.vtl_top.specs.Steps.{only_text}
+use Rattle.vtl_top.specs.Words.{demo, engine, run, sql, sqlrun}
 use Rattle.vtl_top.proofs.MadeLemmas.{of_command}
+use Rattle.vtl_top.proofs.ReadScripts.{settled_given}
 use Rattle.vtl_top.proofs.made.make.Goals as goal
 
 pub returns-in-Run-clause-takes : goal.returns-in-Run-clause-takes
@@ -19,3 +23,8 @@ returns-in-Sql-clause-takes g c =
 pub returns-in-Engine-clause-takes : goal.returns-in-Engine-clause-takes
 returns-in-Engine-clause-takes g c =
     of_command g.F.Files c.args.files.now c.make_exports.new.files (engine (engine_view c.in-Engine.engine)) (command_view c.args.command.now) c.make_exports.result c.make_exports.ensures.takes (sym (ap command_view c.in-Engine.is))
+
+pub returns-in-Demo-clause-takes : goal.returns-in-Demo-clause-takes
+returns-in-Demo-clause-takes g c =
+    of_command g.F.Files c.args.files.now c.args.files.now (demo c.in-Demo.points) (command_view c.args.command.now) c.make_lines.result
+    (settled_given g.F.Files c.args.files.now made_view (Ok (only_text (said c.in-Demo.points))) (λ status e. cc) c.make_lines.result c.make_lines.ensures.made) (sym (ap command_view c.in-Demo.is))
