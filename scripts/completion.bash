@@ -3,7 +3,7 @@ _vtl() {
     local word=${COMP_WORDS[COMP_CWORD]} before=${COMP_WORDS[COMP_CWORD - 1]} command=${COMP_WORDS[1]} places
     COMPREPLY=()
     if [ "$COMP_CWORD" = 1 ]; then
-        mapfile -t COMPREPLY < <(compgen -W 'run sqlrun sql check engine lint infer help --help --version' -- "$word")
+        mapfile -t COMPREPLY < <(compgen -W 'run sqlrun sql check engine demo lint infer help --help --version' -- "$word")
         return
     fi
     case $before in

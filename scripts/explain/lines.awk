@@ -321,11 +321,19 @@ function usage_line(    paths) {
     tell_status("Usage")
 }
 
+# What is wrong with the words after `demo`.
+function points_fact() {
+    if (ARGC < 3) return "no number"
+    if (ARGC > 3) return quoted(ARGV[3]) " has no place after the number: `demo` takes no options"
+    return quoted(ARGV[2]) " is no number from 1 to 1000000, or has a sign or a 0 before it"
+}
+
 # The first word that has no place.
 function words_fact(paths,    i, seen) {
     if (ARGC < 2) return "no words"
-    if (ARGV[1] !~ /^(run|sqlrun|sql|check)$/) return quoted(ARGV[1]) " is no command"
+    if (ARGV[1] !~ /^(run|sqlrun|sql|check|demo)$/) return quoted(ARGV[1]) " is no command"
     for (i = 1; i < ARGC; i++) if (!is_text(ARGV[i])) return "a word is not UTF-8"
+    if (ARGV[1] == "demo") return points_fact()
     for (i = 2; i < ARGC && i < paths + 2; i++) {
         if (ARGV[i] ~ /^--(scale|round)$/) return quoted(ARGV[i]) " stands for a path"
         if (ARGV[i] == "") return "a path is empty"
