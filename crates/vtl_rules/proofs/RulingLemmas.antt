@@ -1,0 +1,125 @@
+-- What rules make of rows.
+use Rattle.std.proofs.Common.{◌≡◌, ℕ, zero, suc, ◌+◌, ◌<◌, ◌≤◌, Bool, true, cond, List, [], ◌∷◌, ◌++◌, length, map, take, get_or, Option, Some, None, refl, sym, ap, ◌∙◌, subst, arith}
+use Rattle.std.specs.Prelude.{IfSome}
+use Rattle.std.specs.List.{AllByRecursion, cons_option, filter_map, flat_map}
+use Rattle.std.specs.Option.{option_to_list}
+use Rattle.std.proofs.lemmas.Grind.{flat_map-append}
+use Rattle.std.proofs.lemmas.List.{append-nil, take_all, take_more}
+use Rattle.vtl_decimal.specs.Settings.{Settings}
+use Rattle.vtl_decimal.specs.declared.number.Fault.{Fault}
+use Rattle.vtl_cell.specs.Outcome.{Outcome, faults_by, join}
+use Rattle.vtl_cell.specs.Row.{Row}
+use Rattle.vtl_cell.specs.declared.cell.Cell.{Cell}
+use Rattle.vtl_cell.specs.declared.cell.Cell.TheVariants as c
+use Rattle.vtl_rows.specs.Tables.{cells_at, fits}
+use Rattle.vtl_syntax.specs.declared.word_groups.CheckOut.{CheckOut}
+use Rattle.vtl_tree.specs.Columns.{identifiers_of, measures_of, places_in}
+use Rattle.vtl_tree.specs.DataSet.{IsDataSet, is_point}
+use Rattle.vtl_tree.specs.Environment.{DataSet}
+use Rattle.vtl_tree.specs.NodeView.{point_rule_tree}
+use Rattle.vtl_tree.specs.Structure.{IsStructure, columns_of}
+use Rattle.vtl_tree.specs.Trees.{PointRuleTree}
+use Rattle.vtl_tree.specs.declared.rules.DatapointRule.{DatapointRule}
+use Rattle.vtl_tree.specs.declared.structure.Structure.{Structure}
+use Rattle.vtl_tree.proofs.Faults.{faults_by_more}
+use Rattle.vtl_sets.specs.TableOf.{table_columns}
+use Rattle.vtl_sets.proofs.TableLemmas.{point_fits}
+use Rattle.vtl_meaning.specs.Agreement.{values_in}
+use Rattle.vtl_meaning.specs.Points.{cell_or_null}
+use Rattle.vtl_meaning.proofs.Drawn.{AtMostOne}
+use Rattle.vtl_meaning.proofs.LookUps.{named_cells}
+use Rattle.vtl_meaning.proofs.Places.{all_more, key_cells, key_within}
+use Rattle.vtl_rulings.specs.Outputs.{is_shown, output_parts, rule_id, with_ids}
+use Rattle.vtl_rulings.specs.PointChecks.{PointRule, errors_of, point_rules, rule_points, ruled_point, truth_of}
+use Rattle.vtl_rulings.specs.Shaped.{IsPointChecked, IsPointRuleOver}
+use Rattle.vtl_rulings.proofs.PointsKept.{IsRuled, at_each, point_at}
+use Rattle.vtl_rules.specs.Rulings.{Ruling, Wanted, ruling_of, shown_by, wanted_of}
+
+-- rules that give the same
+pub rulings_same : (x y : Ruling) → x.id ≡ y.id → ((p : Settings) (r : Row) → x.truth p r ≡ y.truth p r) → x.code ≡ y.code → x.level ≡ y.level → x ≡ y
+rulings_same x y id truth code level = λ i. record { id = id i; truth = λ p r. truth p r i; code = code i; level = level i }
+
+-- ---- rules by their numbers
+abbrev name_of : PointRuleTree → Option (List ℕ)
+name_of r = r.name
+
+abbrev pub rule_at : ℕ → DatapointRule → PointRule
+rule_at i x = (rule_id (i + 1) x.name, point_rule_tree x)
+
+ids_length : (n : ℕ) (rules : List DatapointRule) → length (with_ids name_of n (map point_rule_tree rules)) ≡ length rules
+ids_length n [] = refl
+ids_length n (r ∷ rs) = ap suc (ids_length (suc n) rs)
+
+numbered_at : (n : ℕ) (rules : List DatapointRule) (i : ℕ) (x : DatapointRule) (d : PointRule) → i < length rules → x ≡ get_or rules i x → get_or (with_ids name_of n (map point_rule_tree rules)) i d ≡ (rule_id (n + i) x.name, point_rule_tree x)
+numbered_at n [] i x d h at = absurd (omega (arith, h))
+numbered_at n (r ∷ rs) zero x d h at =
+    let same : n ≡ n + 0 = omega arith in
+    ap (λ y. (rule_id n y.name, point_rule_tree y)) (sym at) ∙ ap (λ k. (rule_id k x.name, point_rule_tree x)) same
+numbered_at n (r ∷ rs) (suc i) x d h at =
+    let same : suc n + i ≡ n + suc i = omega arith in
+    numbered_at (suc n) rs i x d (omega (arith, h)) at ∙ ap (λ k. (rule_id k x.name, point_rule_tree x)) same
+
+module _ (rules : List DatapointRule) (i : ℕ) (x : DatapointRule) (h : i < length rules) (at : x ≡ get_or rules i x) where
+  abbrev all : List PointRule
+  all = point_rules (map point_rule_tree rules)
+
+  within : i < length all
+  within = let same = ids_length 1 rules in omega (arith, same, h)
+
+  here : get_or all i (rule_at i x) ≡ rule_at i x
+  here = let same : 1 + i ≡ i + 1 = omega arith in numbered_at 1 rules i x (rule_at i x) h at ∙ ap (λ k. (rule_id k x.name, point_rule_tree x)) same
+
+  -- one rule more
+  pub points_more : (g : PointRule → List Row) → flat_map g (take (i + 1) all) ≡ flat_map g (take i all) ++ g (rule_at i x)
+  points_more g =
+      ap (flat_map g) (take_more all i (rule_at i x) within) ∙ flat_map-append g (take i all) (get_or all i (rule_at i x) ∷ []) ∙ ap (λ l. flat_map g (take i all) ++ l) (append-nil (g (get_or all i (rule_at i x))))
+      ∙ ap (λ y. flat_map g (take i all) ++ g y) here
+
+  pub faults_more : (f : PointRule → Option Fault) → faults_by f (take (i + 1) all) ≡ join (faults_by f (take i all)) (f (rule_at i x))
+  faults_more f = faults_by_more f all i (rule_at i x) within ∙ ap (λ y. join (faults_by f (take i all)) (f y)) here
+
+  -- what holds of all rules holds of this one
+  pub rule_holds : (P : PointRule → Type 0) → AllByRecursion P all → P (rule_at i x)
+  rule_holds P every = subst P here (go all i within every)
+    where
+      go : (l : List PointRule) (j : ℕ) → j < length l → AllByRecursion P l → P (get_or l j (rule_at i x))
+      go [] j k e = absurd (omega (arith, k))
+      go (y ∷ l) zero k e = e.0
+      go (y ∷ l) (suc j) k e = go l j (omega (arith, k)) e.1
+
+-- all of them
+pub all_taken : (rules : List DatapointRule) (i : ℕ) → length rules ≤ i → take i (point_rules (map point_rule_tree rules)) ≡ point_rules (map point_rule_tree rules)
+all_taken rules i h = let same = ids_length 1 rules in take_all i (point_rules (map point_rule_tree rules)) (omega (arith, same, h))
+
+-- ---- what is shown of rows
+filter_map_where : {X Y : Type 0} (P : X → Type 0) (f g : X → Option Y) → ((x : X) → P x → f x ≡ g x) → (xs : List X) → AllByRecursion P xs → filter_map f xs ≡ filter_map g xs
+filter_map_where P f g same [] all = refl
+filter_map_where P f g same (x ∷ xs) all = ap (λ o. cons_option o (filter_map f xs)) (same x all.0) ∙ ap (cons_option (g x)) (filter_map_where P f g same xs all.1)
+
+module _ (p : Settings) (o : CheckOut) (a : Structure) (w : IsStructure a) where
+  pub shown_is : (rule : PointRule) (r : Row) → is_point (columns_of a) r ≡ true → shown_by p (wanted_of o a) (ruling_of rule) r ≡ ruled_point o a rule r (cell_or_null (truth_of p rule.1 r))
+  shown_is rule r h =
+      let truth = cell_or_null (truth_of p rule.1 r) in
+      let xs = columns_of a in
+      ap (λ k. cond (is_shown o truth) (Some (k ++ (c.Text rule.0 ∷ output_parts o (cells_at (places_in xs (measures_of a)) r) truth (errors_of rule.1 truth)))) None) (key_cells a a r w (refl, refl) (key_within a r h))
+      ∙ ap (λ ms. cond (is_shown o truth) (Some (take (length (identifiers_of a)) r ++ (c.Text rule.0 ∷ output_parts o ms truth (errors_of rule.1 truth)))) None) (named_cells xs (measures_of a) r)
+
+  pub rows_shown : (rule : PointRule) (d : List Row) → AllByRecursion (λ r. is_point (columns_of a) r ≡ true) d → filter_map (shown_by p (wanted_of o a) (ruling_of rule)) d ≡ filter_map (λ r. ruled_point o a rule r (cell_or_null (truth_of p rule.1 r))) d
+  rows_shown rule d typed = filter_map_where (λ r. is_point (columns_of a) r ≡ true) (shown_by p (wanted_of o a) (ruling_of rule)) (λ r. ruled_point o a rule r (cell_or_null (truth_of p rule.1 r))) (shown_is rule) d typed
+
+-- what is shown fits the columns
+one_fits : (s : Structure) (id : List ℕ) (P : Row → Type 0) (option : Option Row) → ((q : Row) → P q → is_point (columns_of s) q ≡ true) → AtMostOne P (option_to_list option) → IfSome option (λ q. fits (table_columns s) q ≡ true)
+one_fits s id P None f h = tt
+one_fits s id P (Some q) f h = point_fits (columns_of s) q (f q h)
+
+pub shown_fit : (p : Settings) (o : CheckOut) (rules : List PointRuleTree) (a s : Structure) (d : List Row) (i : IsPointChecked p o rules a s) (h : IsDataSet a d) (x : PointRule) → IsPointRuleOver p (columns_of a) x.1
+    → AllByRecursion (λ r. IfSome (shown_by p (wanted_of o a) (ruling_of x) r) (λ q. fits (table_columns s) q ≡ true)) d
+shown_fit p o rules a s d i h x f = go d h.typed (at_each p o rules a s d i h x f)
+  where
+    go : (l : List Row) → AllByRecursion (λ r. is_point (columns_of a) r ≡ true) l → AllByRecursion (λ r. AtMostOne (IsRuled p o rules a s d i h x.0 r) (option_to_list (point_at p o rules a s d i h x r))) l → AllByRecursion (λ r. IfSome (shown_by p (wanted_of o a) (ruling_of x) r) (λ q. fits (table_columns s) q ≡ true)) l
+    go [] typed all = tt
+    go (r ∷ l) typed all = (
+      subst (λ q. IfSome q (λ z. fits (table_columns s) z ≡ true)) (sym (shown_is p o a h.well_formed x r typed.0))
+      (one_fits s x.0 (IsRuled p o rules a s d i h x.0 r) (point_at p o rules a s d i h x r) (λ q t. t.0) all.0),
+      go l typed.1 all.1,
+    )
