@@ -1,10 +1,11 @@
 -- What rules make of rows.
-use Rattle.std.proofs.Common.{◌≡◌, ℕ, zero, suc, ◌+◌, ◌<◌, ◌≤◌, Bool, true, cond, List, [], ◌∷◌, ◌++◌, length, map, take, get_or, Option, Some, None, refl, sym, ap, ◌∙◌, subst, arith}
+use Rattle.std.proofs.Common.{◌≡◌, ℕ, zero, suc, ◌+◌, ◌<◌, ◌≤◌, Bool, true, cond, List, [], ◌∷◌, ◌++◌, length, map, take, get_or, Option, Some, None, refl, sym, ap, ◌∙◌, subst, arith, append_assoc}
 use Rattle.std.specs.Prelude.{IfSome}
 use Rattle.std.specs.List.{AllByRecursion, cons_option, filter_map, flat_map}
 use Rattle.std.specs.Option.{option_to_list}
 use Rattle.std.proofs.lemmas.Grind.{flat_map-append}
 use Rattle.std.proofs.lemmas.List.{append-nil, take_all, take_more}
+use Rattle.std.proofs.lemmas.List.Elements.{filter_map-append}
 use Rattle.vtl_decimal.specs.Settings.{Settings}
 use Rattle.vtl_decimal.specs.declared.number.Fault.{Fault}
 use Rattle.vtl_cell.specs.Outcome.{Outcome, faults_by, join}
@@ -21,7 +22,7 @@ use Rattle.vtl_tree.specs.Structure.{IsStructure, columns_of}
 use Rattle.vtl_tree.specs.Trees.{PointRuleTree}
 use Rattle.vtl_tree.specs.declared.rules.DatapointRule.{DatapointRule}
 use Rattle.vtl_tree.specs.declared.structure.Structure.{Structure}
-use Rattle.vtl_tree.proofs.Faults.{faults_by_more}
+use Rattle.vtl_tree.proofs.Faults.{faults_by_more, join_assoc}
 use Rattle.vtl_sets.specs.TableOf.{table_columns}
 use Rattle.vtl_sets.proofs.TableLemmas.{point_fits}
 use Rattle.vtl_meaning.specs.Agreement.{values_in}
@@ -34,6 +35,24 @@ use Rattle.vtl_rulings.specs.PointChecks.{PointRule, errors_of, point_rules, rul
 use Rattle.vtl_rulings.specs.Shaped.{IsPointChecked, IsPointRuleOver}
 use Rattle.vtl_rulings.proofs.PointsKept.{IsRuled, at_each, point_at}
 use Rattle.vtl_rules.specs.Rulings.{Ruling, Wanted, ruling_of, shown_by, wanted_of}
+
+-- ---- one row more
+pub drawn_more : {X Y : Type 0} (h : X → Option Y) (xs : List X) (i : ℕ) (x : X) (front old new : List Y) → i < length xs → x ≡ get_or xs i x → old ≡ front ++ filter_map h (take i xs) → new ≡ old ++ option_to_list (h x) → new ≡ front ++ filter_map h (take (i + 1) xs)
+drawn_more {Y = Y} h xs i x front old new l at o n =
+    n ∙ ap (λ r. r ++ option_to_list (h x)) o ∙ append_assoc front (filter_map h (take i xs)) (option_to_list (h x)) ∙ ap (λ r. front ++ r) (sym next)
+  where
+    one : (y : Option Y) → cons_option y [] ≡ option_to_list y
+    one None = refl
+    one (Some y) = refl
+
+    next : filter_map h (take (i + 1) xs) ≡ filter_map h (take i xs) ++ option_to_list (h x)
+    next =
+        ap (filter_map h) (take_more xs i x l) ∙ filter_map-append h (take i xs) (get_or xs i x ∷ [])
+        ∙ ap (λ z. filter_map h (take i xs) ++ cons_option (h z) []) (sym at) ∙ ap (λ r. filter_map h (take i xs) ++ r) (one (h x))
+
+pub seen_more : {X : Type 0} (f : X → Option Fault) (xs : List X) (i : ℕ) (x : X) (before old new : Option Fault) → i < length xs → x ≡ get_or xs i x → old ≡ join before (faults_by f (take i xs)) → new ≡ join old (f x) → new ≡ join before (faults_by f (take (i + 1) xs))
+seen_more f xs i x before old new l at o n =
+    n ∙ ap (λ s. join s (f x)) o ∙ join_assoc before (faults_by f (take i xs)) (f x) ∙ ap (λ y. join before (join (faults_by f (take i xs)) (f y))) at ∙ ap (join before) (sym (faults_by_more f xs i x l))
 
 -- rules that give the same
 pub rulings_same : (x y : Ruling) → x.id ≡ y.id → ((p : Settings) (r : Row) → x.truth p r ≡ y.truth p r) → x.code ≡ y.code → x.level ≡ y.level → x ≡ y
@@ -120,6 +139,6 @@ shown_fit p o rules a s d i h x f = go d h.typed (at_each p o rules a s d i h x 
     go [] typed all = tt
     go (r ∷ l) typed all = (
       subst (λ q. IfSome q (λ z. fits (table_columns s) z ≡ true)) (sym (shown_is p o a h.well_formed x r typed.0))
-      (one_fits s x.0 (IsRuled p o rules a s d i h x.0 r) (point_at p o rules a s d i h x r) (λ q t. t.0) all.0),
+          (one_fits s x.0 (IsRuled p o rules a s d i h x.0 r) (point_at p o rules a s d i h x r) (λ q t. t.0) all.0),
       go l typed.1 all.1,
     )

@@ -81,11 +81,7 @@ fn prepare_some(alloc: Global, e: &Option<CompExpr>) -> Result<Option<Prepared>,
 
 impl Rule {
     // The rule of a number, ready to be evaluated.
-    pub(crate) fn of(
-        alloc: Global,
-        number: usize,
-        rule: &DatapointRule,
-    ) -> Result<Rule, AllocError>
+    pub(crate) fn of(alloc: Global, number: usize, rule: &DatapointRule) -> Result<Rule, AllocError>
         ensures { IfOk result (λ x. x ≡ ruling_of (rule_id number rule.now.name, point_rule_tree rule.now)) }
     {
         Ok(Rule {
