@@ -8,11 +8,12 @@ use Rattle.std.proofs.lemmas.List.{append-nil, take_all, take_more}
 use Rattle.std.proofs.lemmas.List.Elements.{filter_map-append}
 use Rattle.vtl_decimal.specs.Settings.{Settings}
 use Rattle.vtl_decimal.specs.declared.number.Fault.{Fault}
-use Rattle.vtl_cell.specs.Outcome.{Outcome, faults_by, join}
+use Rattle.vtl_cell.specs.Outcome.{Outcome, fault_in, faults_by, join}
 use Rattle.vtl_cell.specs.Row.{Row}
 use Rattle.vtl_cell.specs.declared.cell.Cell.{Cell}
 use Rattle.vtl_cell.specs.declared.cell.Cell.TheVariants as c
 use Rattle.vtl_rows.specs.Tables.{cells_at, fits}
+use Rattle.vtl_rows.specs.declared.column.Column.{Column}
 use Rattle.vtl_syntax.specs.declared.word_groups.CheckOut.{CheckOut}
 use Rattle.vtl_tree.specs.Columns.{identifiers_of, measures_of, places_in}
 use Rattle.vtl_tree.specs.DataSet.{IsDataSet, is_point}
@@ -29,10 +30,11 @@ use Rattle.vtl_meaning.specs.Agreement.{values_in}
 use Rattle.vtl_meaning.specs.Points.{cell_or_null}
 use Rattle.vtl_meaning.proofs.Drawn.{AtMostOne}
 use Rattle.vtl_meaning.proofs.LookUps.{named_cells}
-use Rattle.vtl_meaning.proofs.Places.{all_more, key_cells, key_within}
+use Rattle.vtl_meaning.proofs.Places.{key_cells, key_within}
 use Rattle.vtl_rulings.specs.Outputs.{is_shown, output_parts, rule_id, with_ids}
-use Rattle.vtl_rulings.specs.PointChecks.{PointRule, errors_of, point_rules, rule_points, ruled_point, truth_of}
+use Rattle.vtl_rulings.specs.PointChecks.{PointRule, errors_of, point_rules, rule_fault, rule_points, ruled_point, truth_of}
 use Rattle.vtl_rulings.specs.Shaped.{IsPointChecked, IsPointRuleOver}
+use Rattle.vtl_rulings.proofs.Checked.{all_with_ids}
 use Rattle.vtl_rulings.proofs.PointsKept.{IsRuled, at_each, point_at}
 use Rattle.vtl_rules.specs.Rulings.{Ruling, Wanted, ruling_of, shown_by, wanted_of}
 
@@ -111,7 +113,7 @@ pub all_taken : (rules : List DatapointRule) (i : ℕ) → length rules ≤ i �
 all_taken rules i h = let same = ids_length 1 rules in take_all i (point_rules (map point_rule_tree rules)) (omega (arith, same, h))
 
 -- ---- what is shown of rows
-filter_map_where : {X Y : Type 0} (P : X → Type 0) (f g : X → Option Y) → ((x : X) → P x → f x ≡ g x) → (xs : List X) → AllByRecursion P xs → filter_map f xs ≡ filter_map g xs
+pub filter_map_where : {X Y : Type 0} (P : X → Type 0) (f g : X → Option Y) → ((x : X) → P x → f x ≡ g x) → (xs : List X) → AllByRecursion P xs → filter_map f xs ≡ filter_map g xs
 filter_map_where P f g same [] all = refl
 filter_map_where P f g same (x ∷ xs) all = ap (λ o. cons_option o (filter_map f xs)) (same x all.0) ∙ ap (cons_option (g x)) (filter_map_where P f g same xs all.1)
 
@@ -142,3 +144,38 @@ shown_fit p o rules a s d i h x f = go d h.typed (at_each p o rules a s d i h x 
           (one_fits s x.0 (IsRuled p o rules a s d i h x.0 r) (point_at p o rules a s d i h x r) (λ q t. t.0) all.0),
       go l typed.1 all.1,
     )
+
+-- ---- a rule of the walk
+-- the written rules are those of the ruleset, the rows those of the operand, and a rule is the one of its number
+module _ (p : Settings) (o : CheckOut) (rules : List DatapointRule) (a : DataSet) (s : Structure) (i : IsPointChecked p o (map point_rule_tree rules) a.structure s) (h : IsDataSet a.structure a.points)
+  (written : List DatapointRule) (rows : List Row) (n : ℕ) (x : DatapointRule) (wanted : Wanted) (ruling : Ruling) (all_written : written ≡ rules) (all_rows : rows ≡ a.points) (within : n < length written) (at : x ≡ get_or written n x)
+  (is_wanted : wanted ≡ wanted_of o a.structure) (is_ruling : ruling ≡ ruling_of (rule_at n x)) where
+  typed : IsPointRuleOver p (columns_of a.structure) (point_rule_tree x)
+  typed =
+      let over : PointRuleTree → Type 0 = IsPointRuleOver p (columns_of a.structure) in
+      rule_holds written n x within at (λ y. over y.1) (all_with_ids over name_of 1 (map point_rule_tree written) (subst (λ l. AllByRecursion over (map point_rule_tree l)) (sym all_written) i.typed))
+
+  pub rule_fits : (columns : List Column) → columns ≡ table_columns s → AllByRecursion (λ r. IfSome (shown_by p wanted ruling r) (λ q. fits columns q ≡ true)) rows
+  rule_fits columns e =
+      subst (λ cs. AllByRecursion (λ r. IfSome (shown_by p wanted ruling r) (λ q. fits cs q ≡ true)) rows) (sym e)
+      (subst (λ l. AllByRecursion (λ r. IfSome (shown_by p wanted ruling r) (λ q. fits (table_columns s) q ≡ true)) l) (sym all_rows)
+      (subst (λ w. AllByRecursion (λ r. IfSome (shown_by p w ruling r) (λ q. fits (table_columns s) q ≡ true)) a.points) (sym is_wanted)
+      (subst (λ y. AllByRecursion (λ r. IfSome (shown_by p (wanted_of o a.structure) y r) (λ q. fits (table_columns s) q ≡ true)) a.points) (sym is_ruling)
+      (shown_fit p o (map point_rule_tree rules) a.structure s a.points i h (rule_at n x) typed))))
+
+  rule_rows : filter_map (shown_by p wanted ruling) rows ≡ rule_points p o a (rule_at n x)
+  rule_rows =
+      ap (λ l. filter_map (shown_by p wanted ruling) l) all_rows ∙ ap (λ w. filter_map (shown_by p w ruling) a.points) is_wanted ∙ ap (λ y. filter_map (shown_by p (wanted_of o a.structure) y) a.points) is_ruling
+      ∙ rows_shown p o a.structure h.well_formed (rule_at n x) a.points h.typed
+
+  rule_faults : faults_by (λ r. fault_in (ruling.truth p r)) rows ≡ rule_fault p a (rule_at n x)
+  rule_faults = ap (λ l. faults_by (λ r. fault_in (ruling.truth p r)) l) all_rows ∙ ap (λ (y : Ruling). faults_by (λ r. fault_in (y.truth p r)) a.points) is_ruling
+
+  abbrev all_of : List PointRule
+  all_of = point_rules (map point_rule_tree written)
+
+  pub next_rows : (old new : List Row) → old ≡ flat_map (rule_points p o a) (take n all_of) → new ≡ old ++ filter_map (shown_by p wanted ruling) rows → new ≡ flat_map (rule_points p o a) (take (n + 1) all_of)
+  next_rows old new e f = f ∙ ap (λ l. l ++ filter_map (shown_by p wanted ruling) rows) e ∙ ap (λ l. flat_map (rule_points p o a) (take n all_of) ++ l) rule_rows ∙ sym (points_more written n x within at (rule_points p o a))
+
+  pub next_faults : (old new : Option Fault) → old ≡ faults_by (rule_fault p a) (take n all_of) → new ≡ join old (faults_by (λ r. fault_in (ruling.truth p r)) rows) → new ≡ faults_by (rule_fault p a) (take (n + 1) all_of)
+  next_faults old new e f = f ∙ ap (λ s. join s (faults_by (λ r. fault_in (ruling.truth p r)) rows)) e ∙ ap (join (faults_by (rule_fault p a) (take n all_of))) rule_faults ∙ sym (faults_more written n x within at (rule_fault p a))

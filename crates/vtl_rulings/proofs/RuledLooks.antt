@@ -14,13 +14,13 @@ use Rattle.vtl_tree.specs.DataSet.{Distinct, IsDataSet, look}
 use Rattle.vtl_tree.specs.Structure.{columns_of, key_width, same_name}
 use Rattle.vtl_tree.specs.Trees.{PointRuleTree}
 use Rattle.vtl_tree.specs.declared.structure.Structure.{Structure}
-use Rattle.vtl_tree.proofs.LookUps.{look-append}
 use Rattle.vtl_meaning.specs.Agreement.{key_of}
 use Rattle.vtl_meaning.specs.Points.{with_points}
 use Rattle.vtl_meaning.proofs.Drawn.{AtMostOne}
 use Rattle.vtl_meaning.proofs.Kept.{both_all, look_is}
 use Rattle.vtl_meaning.proofs.Looks.{behind_none, look_absent, look_key}
 use Rattle.vtl_meaning.proofs.Places.{all_more, same_name-is, same_name-refl, same_name-sym}
+use Rattle.vtl_meaning.proofs.SetsLooks.{look-append}
 use Rattle.vtl_meaning.proofs.TurnedKept.{all_drawn, front_same}
 use Rattle.vtl_rulings.specs.PointChecks.{PointRule, datapoint_of}
 use Rattle.vtl_rulings.specs.Shaped.{IsPointChecked, IsPointRuleOver}
