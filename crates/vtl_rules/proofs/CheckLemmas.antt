@@ -72,7 +72,7 @@ module _ (p : Settings) (a : Structure) where
 
 -- ---- a row of the walk
 module _ (p : Settings) (spec : CheckSpec) (a : DataSet) (imbalance : Option DataSet) (s : Structure) (i : IsChecked p spec (structure_in imbalance) a.structure s) (h : IsDataSet a.structure a.points) (other : IfSome imbalance (λ e. IsDataSet e.structure e.points))
-  (checking : Checking) (is_checking : checking ≡ checking_of spec a.structure imbalance) where
+    (checking : Checking) (is_checking : checking ≡ checking_of spec a.structure imbalance) where
   abbrev xs : List Component
   xs = columns_of a.structure
 
@@ -90,8 +90,8 @@ module _ (p : Settings) (spec : CheckSpec) (a : DataSet) (imbalance : Option Dat
       (subst (λ o. IfSome o (λ q. fits (table_columns s) q ≡ true)) (sym (row_is r own)) (shown (given r) (check_kept p spec a.structure s imbalance (r ∷ []) i one other).typed))
     where
       shown : (o : Option Row) → AllByRecursion (λ q. is_point (columns_of s) q ≡ true) (cons_option o []) → IfSome o (λ q. fits (table_columns s) q ≡ true)
-      shown None all = tt
-      shown (Some q) all = point_fits (columns_of s) q all.0
+      shown None typed = tt
+      shown (Some q) typed = point_fits (columns_of s) q typed.0
 
   pub rows_are : (rows : List Row) → rows ≡ a.points → filter_map (checked_by p checking) rows ≡ check_of p spec a imbalance
   rows_are rows e = ap (filter_map (checked_by p checking)) e ∙ filter_map_where (λ r. is_point xs r ≡ true) (checked_by p checking) given row_is a.points h.typed

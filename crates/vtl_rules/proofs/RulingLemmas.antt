@@ -8,13 +8,17 @@ use Rattle.std.proofs.lemmas.List.{append-nil, take_all, take_more}
 use Rattle.std.proofs.lemmas.List.Elements.{filter_map-append}
 use Rattle.vtl_decimal.specs.Settings.{Settings}
 use Rattle.vtl_decimal.specs.declared.number.Fault.{Fault}
-use Rattle.vtl_cell.specs.Outcome.{Outcome, fault_in, faults_by, join}
+use Rattle.vtl_cell.specs.Outcome.{Outcome, after, fault_in, faults_by, join}
 use Rattle.vtl_cell.specs.Row.{Row}
 use Rattle.vtl_cell.specs.declared.cell.Cell.{Cell}
 use Rattle.vtl_cell.specs.declared.cell.Cell.TheVariants as c
 use Rattle.vtl_rows.specs.Tables.{cells_at, fits}
 use Rattle.vtl_rows.specs.declared.column.Column.{Column}
 use Rattle.vtl_syntax.specs.declared.word_groups.CheckOut.{CheckOut}
+use Rattle.vtl_tree.specs.CompExp.{CompExp}
+use Rattle.vtl_tree.specs.Value.{value}
+use Rattle.vtl_expr.specs.Prepared.{SameValue}
+use Rattle.vtl_expr.proofs.PointValues.{same_at}
 use Rattle.vtl_tree.specs.Columns.{identifiers_of, measures_of, places_in}
 use Rattle.vtl_tree.specs.DataSet.{IsDataSet, is_point}
 use Rattle.vtl_tree.specs.Environment.{DataSet}
@@ -32,11 +36,11 @@ use Rattle.vtl_meaning.proofs.Drawn.{AtMostOne}
 use Rattle.vtl_meaning.proofs.LookUps.{named_cells}
 use Rattle.vtl_meaning.proofs.Places.{key_cells, key_within}
 use Rattle.vtl_rulings.specs.Outputs.{is_shown, output_parts, rule_id, with_ids}
-use Rattle.vtl_rulings.specs.PointChecks.{PointRule, errors_of, point_rules, rule_fault, rule_points, ruled_point, truth_of}
+use Rattle.vtl_rulings.specs.PointChecks.{PointRule, errors_of, held, point_rules, rule_fault, rule_points, ruled_point, truth_of, under}
 use Rattle.vtl_rulings.specs.Shaped.{IsPointChecked, IsPointRuleOver}
 use Rattle.vtl_rulings.proofs.Checked.{all_with_ids}
 use Rattle.vtl_rulings.proofs.PointsKept.{IsRuled, at_each, point_at}
-use Rattle.vtl_rules.specs.Rulings.{Ruling, Wanted, ruling_of, shown_by, wanted_of}
+use Rattle.vtl_rules.specs.Rulings.{AreSame, Ruling, Wanted, ruling_of, shown_by, wanted_of}
 
 -- ---- one row more
 pub drawn_more : {X Y : Type 0} (h : X → Option Y) (xs : List X) (i : ℕ) (x : X) (front old new : List Y) → i < length xs → x ≡ get_or xs i x → old ≡ front ++ filter_map h (take i xs) → new ≡ old ++ option_to_list (h x) → new ≡ front ++ filter_map h (take (i + 1) xs)
@@ -59,6 +63,15 @@ seen_more f xs i x before old new l at o n =
 -- rules that give the same
 pub rulings_same : (x y : Ruling) → x.id ≡ y.id → ((p : Settings) (r : Row) → x.truth p r ≡ y.truth p r) → x.code ≡ y.code → x.level ≡ y.level → x ≡ y
 rulings_same x y id truth code level = λ i. record { id = id i; truth = λ p r. truth p r i; code = code i; level = level i }
+
+-- ---- prepared conditions
+-- a rule whose antecedent and condition have the same values
+pub truth_same : (antecedent written : Option CompExp) (condition e : CompExp) → AreSame antecedent written → SameValue condition e → (p : Settings) (r : Row) → held p antecedent condition r ≡ held p written e r
+truth_same None None condition e h same p r = same_at condition e same p r
+truth_same None (Some w) condition e h same p r = absurd h
+truth_same (Some w) None condition e h same p r = absurd h
+truth_same (Some v) (Some w) condition e h same p r =
+    ap (λ m. after m (λ t. under t (value p condition r))) (same_at v w h p r) ∙ ap (λ m. after (value p w r) (λ t. under t m)) (same_at condition e same p r)
 
 -- ---- rules by their numbers
 abbrev name_of : PointRuleTree → Option (List ℕ)
@@ -114,8 +127,8 @@ all_taken rules i h = let same = ids_length 1 rules in take_all i (point_rules (
 
 -- ---- what is shown of rows
 pub filter_map_where : {X Y : Type 0} (P : X → Type 0) (f g : X → Option Y) → ((x : X) → P x → f x ≡ g x) → (xs : List X) → AllByRecursion P xs → filter_map f xs ≡ filter_map g xs
-filter_map_where P f g same [] all = refl
-filter_map_where P f g same (x ∷ xs) all = ap (λ o. cons_option o (filter_map f xs)) (same x all.0) ∙ ap (cons_option (g x)) (filter_map_where P f g same xs all.1)
+filter_map_where P f g same [] h = refl
+filter_map_where P f g same (x ∷ xs) h = ap (λ o. cons_option o (filter_map f xs)) (same x h.0) ∙ ap (cons_option (g x)) (filter_map_where P f g same xs h.1)
 
 module _ (p : Settings) (o : CheckOut) (a : Structure) (w : IsStructure a) where
   pub shown_is : (rule : PointRule) (r : Row) → is_point (columns_of a) r ≡ true → shown_by p (wanted_of o a) (ruling_of rule) r ≡ ruled_point o a rule r (cell_or_null (truth_of p rule.1 r))
@@ -138,18 +151,18 @@ pub shown_fit : (p : Settings) (o : CheckOut) (rules : List PointRuleTree) (a s 
 shown_fit p o rules a s d i h x f = go d h.typed (at_each p o rules a s d i h x f)
   where
     go : (l : List Row) → AllByRecursion (λ r. is_point (columns_of a) r ≡ true) l → AllByRecursion (λ r. AtMostOne (IsRuled p o rules a s d i h x.0 r) (option_to_list (point_at p o rules a s d i h x r))) l → AllByRecursion (λ r. IfSome (shown_by p (wanted_of o a) (ruling_of x) r) (λ q. fits (table_columns s) q ≡ true)) l
-    go [] typed all = tt
-    go (r ∷ l) typed all = (
+    go [] typed drawn = tt
+    go (r ∷ l) typed drawn = (
       subst (λ q. IfSome q (λ z. fits (table_columns s) z ≡ true)) (sym (shown_is p o a h.well_formed x r typed.0))
-          (one_fits s x.0 (IsRuled p o rules a s d i h x.0 r) (point_at p o rules a s d i h x r) (λ q t. t.0) all.0),
-      go l typed.1 all.1,
+          (one_fits s x.0 (IsRuled p o rules a s d i h x.0 r) (point_at p o rules a s d i h x r) (λ q t. t.0) drawn.0),
+      go l typed.1 drawn.1,
     )
 
 -- ---- a rule of the walk
 -- the written rules are those of the ruleset, the rows those of the operand, and a rule is the one of its number
 module _ (p : Settings) (o : CheckOut) (rules : List DatapointRule) (a : DataSet) (s : Structure) (i : IsPointChecked p o (map point_rule_tree rules) a.structure s) (h : IsDataSet a.structure a.points)
-  (written : List DatapointRule) (rows : List Row) (n : ℕ) (x : DatapointRule) (wanted : Wanted) (ruling : Ruling) (all_written : written ≡ rules) (all_rows : rows ≡ a.points) (within : n < length written) (at : x ≡ get_or written n x)
-  (is_wanted : wanted ≡ wanted_of o a.structure) (is_ruling : ruling ≡ ruling_of (rule_at n x)) where
+    (written : List DatapointRule) (rows : List Row) (n : ℕ) (x : DatapointRule) (wanted : Wanted) (ruling : Ruling) (all_written : written ≡ rules) (all_rows : rows ≡ a.points) (within : n < length written) (at : x ≡ get_or written n x)
+    (is_wanted : wanted ≡ wanted_of o a.structure) (is_ruling : ruling ≡ ruling_of (rule_at n x)) where
   typed : IsPointRuleOver p (columns_of a.structure) (point_rule_tree x)
   typed =
       let over : PointRuleTree → Type 0 = IsPointRuleOver p (columns_of a.structure) in

@@ -6,6 +6,7 @@ ghost use Rattle.std.specs.Option.{option_map_or, option_to_list};
 ghost use Rattle.std.specs.Prelude.{◌≡◌, ◌<◌, true, ◌++◌, IfErr, IfOk, IfSome, OnOk, option_map};
 ghost use Rattle.vtl_cell.specs.declared.cell.Cell.TheVariants as c;
 ghost use Rattle.vtl_rows.specs.Tables.{fits, listed};
+ghost use Rattle.vtl_tree.specs.DataSet.{IsDataSet};
 ghost use Rattle.vtl_sets.specs.DataSets.{data_set};
 ghost use Rattle.vtl_sets.specs.TableOf.{IsTableOf};
 ghost use Rattle.vtl_rulings.specs.PointChecks.{check_of};
@@ -138,7 +139,7 @@ impl<'a> Checking<'a> {
         imbalance: Option<&'a DataSet>,
         steps: &mut Steps<L>,
     ) -> Result<Checking<'a>, AllocError>
-        ensures { IfOk result (λ x. x ≡ checking_of spec.now a.now (lent imbalance)) }
+        ensures { IfOk result (λ x. x ≡ checking_of spec.now a.now (lent imbalance.entry)) }
     {
         let identifiers = a.identifiers(alloc)?;
         let numbers = match imbalance {
@@ -196,6 +197,15 @@ impl<'a> Checking<'a> {
     }
 }
 
+// The operand of an imbalance is a data set, as it tells of itself.
+fn is_data_set(imbalance: Option<&DataSet>)
+    ensures { IfSome (lent imbalance.entry) (λ d. IsDataSet d.structure d.points) }
+{
+    if let Some(other) = imbalance {
+        other.structure();
+    }
+}
+
 fn checked_table<L: Ledger>(
     alloc: Global,
     op: &DataSet,
@@ -210,8 +220,9 @@ fn checked_table<L: Ledger>(
     requires some { 0 < L.parts }
     requires made { IsChecked p.now spec.now (option_map (λ d. d.structure) (lent imbalance)) op.now.structure made.now }
     ensures table { IfOk result (λ t. IsTableOf made.now (listed t)) }
-    ensures rows { IfOk result (λ t. t.rows ≡ check_of p.now spec.now op.now (lent imbalance)) }
+    ensures rows { IfOk result (λ t. t.rows ≡ check_of p.now spec.now op.now (lent imbalance.entry)) }
 {
+    is_data_set(imbalance);
     let mut steps: Steps<L> = Steps::new(blank);
     let checking = Checking::of(alloc, spec, op.structure(), imbalance, &mut steps)?;
     let table = op.table();
@@ -236,7 +247,7 @@ pub fn check(
     made: &Structure,
 ) -> Result<DataSet, ScalarErr>
     requires { IsChecked p.now spec.now (option_map (λ d. d.structure) (lent imbalance)) op.now.structure made.now }
-    ensures ok { IfOk result (λ d. d ≡ data_set made.now (check_of p.now spec.now op.now (lent imbalance))) }
+    ensures ok { IfOk result (λ d. d ≡ data_set made.now (check_of p.now spec.now op.now (lent imbalance.entry))) }
     ensures err { IfErr result (λ e. e ≡ ScalarErr.OutOfMemory) }
 {
     let table = checked_table::<Brand>(alloc, op, imbalance, spec, p, made, Blank::new(1))?;

@@ -18,7 +18,7 @@ ghost use Rattle.vtl_sets.specs.TableOf.{IsTableOf};
 ghost use Rattle.vtl_meaning.specs.Points.{cell_or_null};
 ghost use Rattle.vtl_rulings.specs.PointChecks.{datapoint_of};
 ghost use Rattle.vtl_rulings.specs.Shaped.{IsPointChecked};
-ghost use Rattle.vtl_rules.specs.Rulings.{shown_by, wanted_of};
+ghost use Rattle.vtl_rules.specs.Rulings.{ruling, shown_by, wanted_of};
 
 use crate::outputs::{is_shown, push_parts};
 use crate::rulings::Rule;
@@ -98,23 +98,23 @@ fn push_point(
     row: &[Cell],
     p: &Profile,
 ) -> Result<(), ScalarErr>
-    requires { IfSome (shown_by p.now wanted.now rule.now row.now) (λ q. fits points.old.table.columns q ≡ true) }
+    requires { IfSome (shown_by p.now wanted.now (ruling rule.now) row.now) (λ q. fits points.old.table.columns q ≡ true) }
     ensures columns { points.new.table.columns ≡ points.old.table.columns }
-    ensures rows { OnOk result (points.new.table.rows ≡ points.old.table.rows ++ option_to_list (shown_by p.now wanted.now rule.now row.now)) }
-    ensures seen { OnOk result (seen_of points.new.seen ≡ join (seen_of points.old.seen) (fault_in (rule.now.truth p.now row.now))) }
+    ensures rows { OnOk result (points.new.table.rows ≡ points.old.table.rows ++ option_to_list (shown_by p.now wanted.now (ruling rule.now) row.now)) }
+    ensures seen { OnOk result (seen_of points.new.seen ≡ join (seen_of points.old.seen) (fault_in ((ruling rule.now).truth p.now row.now))) }
     ensures err { IfErr result (λ e. e ≡ ScalarErr.OutOfMemory) }
 {
     let truth = noted(&mut points.seen, rule.truth(alloc, &Point::of(row), p))?;
     if is_shown(wanted.out, &truth) {
         points.begin(row, &wanted.identifiers)?;
-        points.cells.push(Cell::Text(rule.id().share()?))?;
+        points.cells.push(Cell::Text(rule.id.share()?))?;
         push_parts(
             &mut points.cells,
             wanted.out,
             row,
             &wanted.measures,
             &truth,
-            rule.errors(),
+            &rule.errors,
         )?;
         points.add()?;
     }
@@ -130,10 +130,10 @@ fn push_rule(
     table: &Table,
     p: &Profile,
 ) -> Result<(), ScalarErr>
-    requires { AllByRecursion (λ r. IfSome (shown_by p.now wanted.now rule.now r) (λ q. fits points.old.table.columns q ≡ true)) table.now.rows }
+    requires { AllByRecursion (λ r. IfSome (shown_by p.now wanted.now (ruling rule.now) r) (λ q. fits points.old.table.columns q ≡ true)) table.now.rows }
     ensures columns { points.new.table.columns ≡ points.old.table.columns }
-    ensures rows { OnOk result (points.new.table.rows ≡ points.old.table.rows ++ filter_map (shown_by p.now wanted.now rule.now) table.now.rows) }
-    ensures seen { OnOk result (seen_of points.new.seen ≡ join (seen_of points.old.seen) (faults_by (λ r. fault_in (rule.now.truth p.now r)) table.now.rows)) }
+    ensures rows { OnOk result (points.new.table.rows ≡ points.old.table.rows ++ filter_map (shown_by p.now wanted.now (ruling rule.now)) table.now.rows) }
+    ensures seen { OnOk result (seen_of points.new.seen ≡ join (seen_of points.old.seen) (faults_by (λ r. fault_in ((ruling rule.now).truth p.now r)) table.now.rows)) }
     ensures err { IfErr result (λ e. e ≡ ScalarErr.OutOfMemory) }
 {
     for i in 0..table.len() {

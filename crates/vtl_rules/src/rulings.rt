@@ -1,18 +1,17 @@
 // Rules as they are evaluated.
 //
-// A contract sees a rule by what it gives (`Ruling`): so no contract speaks of how its conditions are kept.
+// A contract sees a rule by what it gives (`ruling`): no other one speaks of how its conditions are kept.
 ghost use Rattle.std.specs.Prelude.{◌≡◌, IfOk, option_map};
 ghost use Rattle.std.specs.Fmt.{decimal};
 ghost use Rattle.vtl_rulings.specs.Outputs.{rule_id};
 ghost use Rattle.vtl_expr.specs.Prepared.{prepared_exp};
-ghost use Rattle.vtl_rules.specs.Rulings.{SameUnder, ruling_of};
+ghost use Rattle.vtl_rules.specs.Rulings.{AreSame, ruling, ruling_of};
 ghost use Rattle.vtl_scalar.specs.Answers.{Answers};
 ghost use Rattle.vtl_tree.specs.NodeView.{point_rule_tree};
 ghost use Rattle.vtl_tree.specs.View.{comp_exp_of};
 
 use crate::outputs::Errors;
 use std::alloc::{AllocError, Global};
-use std::marker::Model;
 use vtl_cell::Cell;
 use vtl_decimal::Profile;
 use vtl_expr::{Point, Prepared, prepare};
@@ -22,10 +21,10 @@ use vtl_tree::{CompExpr, DatapointRule};
 
 // A rule of a datapoint ruleset: its identifier, its conditions, which are prepared, and its errors.
 pub(crate) struct Rule {
-    id: Txt,
+    pub(crate) id: Txt,
     antecedent: Option<Prepared>,
     condition: Prepared,
-    errors: Errors,
+    pub(crate) errors: Errors,
 }
 
 // Written out, so that an owner sees one call.
@@ -38,17 +37,6 @@ impl Drop for Rule {
             errors: _errors,
         } = self;
     }
-}
-
-impl Model for Rule {
-    ghost use Rattle.std.specs.Prelude.{option_map};
-    ghost use Rattle.vtl_expr.specs.Prepared.{prepared_exp};
-    ghost use Rattle.vtl_rulings.specs.PointChecks.{held};
-    ghost use Rattle.vtl_rules.specs.Rulings.{Ruling};
-
-    ghost Value = { Ruling };
-
-    ghost view = { λ x. record { id = x.id; truth = λ p r. held p (option_map prepared_exp x.antecedent) (prepared_exp x.condition) r; code = x.errors.code; level = x.errors.level } };
 }
 
 // A number as text.
@@ -71,7 +59,7 @@ fn rule_id(alloc: Global, number: usize, name: &Option<Txt>) -> Result<Txt, Allo
 
 // An expression that may be absent, prepared.
 fn prepare_some(alloc: Global, e: &Option<CompExpr>) -> Result<Option<Prepared>, AllocError>
-    ensures { IfOk result (λ x. SameUnder (option_map prepared_exp x) (option_map comp_exp_of e.now)) }
+    ensures { IfOk result (λ x. AreSame (option_map prepared_exp x) (option_map comp_exp_of e.now)) }
 {
     match e {
         Some(e) => Ok(Some(prepare(alloc, e)?)),
@@ -82,7 +70,7 @@ fn prepare_some(alloc: Global, e: &Option<CompExpr>) -> Result<Option<Prepared>,
 impl Rule {
     // The rule of a number, ready to be evaluated.
     pub(crate) fn of(alloc: Global, number: usize, rule: &DatapointRule) -> Result<Rule, AllocError>
-        ensures { IfOk result (λ x. x ≡ ruling_of (rule_id number rule.now.name, point_rule_tree rule.now)) }
+        ensures { IfOk result (λ x. ruling x ≡ ruling_of (rule_id number rule.now.name, point_rule_tree rule.now)) }
     {
         Ok(Rule {
             id: rule_id(alloc, number, &rule.name)?,
@@ -92,21 +80,6 @@ impl Rule {
         })
     }
 
-    // The identifier.
-    pub(crate) fn id(&self) -> &Txt
-        ensures { result.now ≡ self.now.id }
-    {
-        &self.id
-    }
-
-    // The errors.
-    pub(crate) fn errors(&self) -> &Errors
-        ensures code { result.now.code ≡ self.now.code }
-        ensures level { result.now.level ≡ self.now.level }
-    {
-        &self.errors
-    }
-
     // The truth value at a point, or its fault. The condition is evaluated only where the antecedent is true.
     pub(crate) fn truth(
         &self,
@@ -114,7 +87,7 @@ impl Rule {
         at: &Point<'_>,
         p: &Profile,
     ) -> Result<Cell, ScalarErr>
-        ensures { Answers result (self.now.truth p.now at.now) }
+        ensures { Answers result ((ruling self.now).truth p.now at.now) }
     {
         let Some(antecedent) = &self.antecedent else {
             return at.cell(alloc, &self.condition, p);

@@ -13,7 +13,7 @@ use Rattle.vtl_sets.proofs.TableLemmas.{answered_is_table}
 use Rattle.vtl_expr.proofs.PointLemmas.{answered_keeps, finished}
 use Rattle.vtl_rulings.specs.PointChecks.{datapoint_of, point_rules, rule_fault, rule_points}
 use Rattle.vtl_rulings.proofs.PointsKept.{datapoint_kept}
-use Rattle.vtl_rules.specs.Rulings.{wanted_of}
+use Rattle.vtl_rules.specs.Rulings.{ruling, wanted_of}
 use Rattle.vtl_rules.proofs.RulingLemmas.{all_taken, next_faults, next_rows, rule_fits}
 use Rattle.vtl_rules.proofs.datapoints.ruled_table.Goals as goal
 
@@ -21,7 +21,7 @@ pub push_rule-requires : goal.push_rule-requires
 push_rule-requires c =
     let within : c.loop-i.i < length c.as_slice-written.result.now = omega (arith, c.len-i-end.ensures, c.loop-i-test.true) in
     let wanted = c.in_ok-wanted.ensures ∙ ap (wanted_of c.args.out) c.structure.ensures.structure in
-    rule_fits c.args.p.now c.args.out c.args.rules.now.rules c.args.a.now c.args.made.now c.requires c.structure.ensures.points c.as_slice-written.result.now c.table-table.result.now.rows c.loop-i.i c.index.result.now c.in_ok-wanted.wanted c.in_ok-rule.rule
+    rule_fits c.args.p.now c.args.out c.args.rules.now.rules c.args.a.now c.args.made.now c.requires c.structure.ensures.points c.as_slice-written.result.now c.table-table.result.now.rows c.loop-i.i c.index.result.now c.in_ok-wanted.wanted (ruling c.in_ok-rule.rule)
     c.as_slice-written.ensures c.table-table.ensures.points within c.index.ensures wanted c.in_ok-rule.ensures c.loop-i.points.table.columns c.loop-i.invariant.columns
 
 pub loop-i-preserved : goal.loop-i-preserved
@@ -39,10 +39,10 @@ loop-i-preserved c =
     record {
       columns = c.push_rule.ensures.columns ∙ c.loop-i.invariant.columns;
       rows =
-          next_rows p o rules a c.args.made.now c.requires c.structure.ensures.points written rows i x c.in_ok-wanted.wanted c.in_ok-rule.rule c.as_slice-written.ensures c.table-table.ensures.points within c.index.ensures wanted c.in_ok-rule.ensures
+          next_rows p o rules a c.args.made.now c.requires c.structure.ensures.points written rows i x c.in_ok-wanted.wanted (ruling c.in_ok-rule.rule) c.as_slice-written.ensures c.table-table.ensures.points within c.index.ensures wanted c.in_ok-rule.ensures
           c.loop-i.points.table.rows c.push_rule.new.points.table.rows c.loop-i.invariant.rows c.in_ok-push_rule.ensures.rows;
       seen =
-          next_faults p o rules a c.args.made.now c.requires c.structure.ensures.points written rows i x c.in_ok-wanted.wanted c.in_ok-rule.rule c.as_slice-written.ensures c.table-table.ensures.points within c.index.ensures wanted c.in_ok-rule.ensures
+          next_faults p o rules a c.args.made.now c.requires c.structure.ensures.points written rows i x c.in_ok-wanted.wanted (ruling c.in_ok-rule.rule) c.as_slice-written.ensures c.table-table.ensures.points within c.index.ensures wanted c.in_ok-rule.ensures
           (seen_of c.loop-i.points.seen) (seen_of c.push_rule.new.points.seen) c.loop-i.invariant.seen c.in_ok-push_rule.ensures.seen;
     }
 

@@ -10,6 +10,6 @@ use Rattle.vtl_rules.proofs.datapoints.ruled_table.Given as goal
 abbrev pub invariant-loop-i : goal.invariant-loop-i
 invariant-loop-i l = record {
   columns : l.points.table.columns ≡ table_columns l.made;
-  rows : l.points.table.rows ≡ flat_map (rule_points l.p l.out l.a) (take l.i (point_rules (map point_rule_tree l.written)));
+  rows : l.points.table.rows ≡ flat_map (rule_points l.p l.fn.out l.a) (take l.i (point_rules (map point_rule_tree l.written)));
   seen : seen_of l.points.seen ≡ faults_by (rule_fault l.p l.a) (take l.i (point_rules (map point_rule_tree l.written)));
 }
