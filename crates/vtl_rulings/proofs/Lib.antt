@@ -1,6 +1,7 @@
 pub mod Checked
 pub mod ChecksKept
 mod Examples
+mod HierarchyExamples
 pub mod Orders
 pub mod PointsKept
 pub mod Profiles

@@ -1,3 +1,7 @@
+pub mod Hierarchies
+pub mod HierarchyChecks
+pub mod Modes
 pub mod Outputs
 pub mod PointChecks
 pub mod Shaped
+pub mod Sides
