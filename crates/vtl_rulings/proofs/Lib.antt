@@ -2,6 +2,7 @@ pub mod Checked
 pub mod ChecksKept
 mod Examples
 mod HierarchyExamples
+pub mod HierarchyOrders
 pub mod Orders
 pub mod PointsKept
 pub mod Profiles

@@ -32,7 +32,7 @@ use Rattle.vtl_rulings.specs.Shaped.{IsChecked}
 pub Perm-filter_map : {X Y : Type 0} (h : X → Option Y) (xs ys : List X) → Perm xs ys → Perm (filter_map h xs) (filter_map h ys)
 Perm-filter_map h xs ys same = chain (Perm-same _ _ (filter_map_drawn h xs)) (chain (Perm-flat_map (λ x. option_to_list (h x)) same) (Perm-same _ _ (sym (filter_map_drawn h ys))))
 
-faults_each : {X : Type 0} (f g : X → Option Fault) → ((x : X) → f x ≡ g x) → (xs : List X) → faults_by f xs ≡ faults_by g xs
+pub faults_each : {X : Type 0} (f g : X → Option Fault) → ((x : X) → f x ≡ g x) → (xs : List X) → faults_by f xs ≡ faults_by g xs
 faults_each f g h xs = ap (λ q. faults_by q xs) (λ i. λ x. h x i)
 
 -- ---- `check_datapoint`

@@ -8,9 +8,13 @@ ghost use Rattle.vtl_cell.specs.Outcome.{after};
 ghost use Rattle.vtl_cell.specs.Outcomes.{Same};
 ghost use Rattle.vtl_cell.specs.Row.{Row, column_of};
 ghost use Rattle.vtl_cell.specs.declared.cell.Cell.TheVariants as c;
+ghost use Rattle.vtl_syntax.specs.declared.statements.HierRule.{HierRule};
 ghost use Rattle.vtl_syntax.specs.declared.word_groups.BasicOut.TheVariants as basic;
 ghost use Rattle.vtl_syntax.specs.declared.word_groups.CheckOut.{CheckOut};
 ghost use Rattle.vtl_syntax.specs.declared.word_groups.CheckOut.TheVariants as out;
+ghost use Rattle.vtl_syntax.specs.declared.word_groups.HierInput.{HierInput};
+ghost use Rattle.vtl_syntax.specs.declared.word_groups.HierOut.TheVariants as points;
+ghost use Rattle.vtl_syntax.specs.declared.word_groups.Mode.{Mode};
 ghost use Rattle.vtl_tree.specs.DataSet.{AreOfProfile, IsDataSet, look};
 ghost use Rattle.vtl_tree.specs.Environment.{DataSet};
 ghost use Rattle.vtl_tree.specs.Structure.{key_width, same_name};
@@ -18,6 +22,8 @@ ghost use Rattle.vtl_tree.specs.Trees.{PointRuleTree};
 ghost use Rattle.vtl_tree.specs.declared.specifications.CheckSpec.{CheckSpec};
 ghost use Rattle.vtl_tree.specs.declared.structure.Structure.{Structure};
 ghost use Rattle.vtl_meaning.specs.Points.{cell_or_null, with_points};
+ghost use Rattle.vtl_rulings.specs.Hierarchies.{hierarchy_of};
+ghost use Rattle.vtl_rulings.specs.HierarchyChecks.{Ruled, check_hierarchy_of};
 ghost use Rattle.vtl_rulings.specs.Outputs.{is_false};
 ghost use Rattle.vtl_rulings.specs.PointChecks.{check_of, datapoint_of, false_without, point_rules, ruled_point, truth_of, truth_place};
 ghost use Rattle.vtl_rulings.specs.Shaped.{IsChecked, IsPointChecked};
@@ -57,4 +63,10 @@ pub fn invalid_is_what_is_false()
 pub fn each_rule_is_at_each_point()
     ensures at { (p : Settings) (o : CheckOut) (rules : List PointRuleTree) (a : DataSet) (s : Structure) (made : List Row) (k : Row) (id : List ℕ) → IsPointChecked p o rules a.structure s → IsDataSet a.structure a.points → datapoint_of p o rules a ≡ Ok made → look (key_width s) made (k ++ c.Text id ∷ []) ≡ option_and_then (λ rule. option_and_then (λ r. ruled_point o a.structure rule r (cell_or_null (truth_of p rule.1 r))) (look (key_width a.structure) a.points k)) (find (λ rule. same_name rule.0 id) (point_rules rules)) }
     ensures only { (p : Settings) (o : CheckOut) (rules : List PointRuleTree) (a : DataSet) (s : Structure) (made : List Row) (j q : Row) → IsPointChecked p o rules a.structure s → IsDataSet a.structure a.points → datapoint_of p o rules a ≡ Ok made → look (key_width s) made j ≡ Some q → (k : Row) × (id : List ℕ) × (is_some (find (λ rule. same_name rule.0 id) (point_rules rules)) ≡ true) × (j ≡ k ++ c.Text id ∷ []) }
+{}
+
+/// The same of checks by hierarchical rules, and of the points that a hierarchy computes, for every mode and input.
+pub fn hierarchies_do_not_see_order()
+    ensures check { (p : Settings) (o : CheckOut) (h : Ruled) (m : Mode) (rules : List HierRule) (a : Structure) (d e : List Row) → IsDataSet a d → Perm d e → Same (check_hierarchy_of p o h m (with_points a d) rules) (check_hierarchy_of p o h m (with_points a e) rules) }
+    ensures computed { (p : Settings) (h : Ruled) (m : Mode) (i : HierInput) (rules : List HierRule) (a s : Structure) (d e : List Row) → IsDataSet a d → Perm d e → Same (hierarchy_of p h m i rules (with_points a d) points.Computed s) (hierarchy_of p h m i rules (with_points a e) points.Computed s) }
 {}

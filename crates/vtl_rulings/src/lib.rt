@@ -1,15 +1,19 @@
-//! What checks mean: `check_datapoint` with a datapoint ruleset, and `check`. Definitions and their laws; it has no code.
+//! What checks and hierarchies mean: `check`, `check_datapoint`, `check_hierarchy` and `hierarchy`. Definitions and their
+//! laws; it has no code.
 //!
-//! A check gives a truth value at each point, or at each point and rule; which points an output shows, and which cells
+//! A check gives a truth value at each point, or at each rule and point; which points an output shows, and which cells
 //! stand behind their identifiers, is said once for all checks (specs/Outputs.antt). Conditions say which structure a
-//! result has (specs/Shaped.antt), not how typing found it.
-//! It knows no tables, no files and no program: `vtl_rules` computes this.
-//! Begin with specs/Outputs.antt, PointChecks.antt and Shaped.antt; proofs/Examples.antt works them out.
+//! result has (specs/Shaped.antt), not how typing found it; of hierarchies they are not said yet.
+//! What a mode makes of items is one table (specs/Modes.antt); a hierarchy is defined by recursion over how deep items
+//! depend on one another (specs/Hierarchies.antt), so no definition speaks of the order in which rules are run.
+//! It knows no tables, no files and no program: `vtl_rules` computes checks.
+//! Begin with specs/Outputs.antt, PointChecks.antt and Shaped.antt, then Modes.antt; proofs/Examples.antt and
+//! HierarchyExamples.antt work them out.
 #![tactic(auto)]
 
 mod laws;
 
 pub use laws::{
     checks_are_of_the_profile, checks_do_not_see_order, checks_keep_data_sets,
-    each_rule_is_at_each_point, invalid_is_what_is_false,
+    each_rule_is_at_each_point, hierarchies_do_not_see_order, invalid_is_what_is_false,
 };
