@@ -2,7 +2,7 @@
 use Rattle.std.proofs.Common.{◌≡◌, ℕ, zero, suc, ◌<◌, Bool, true, cond, List, [], ◌∷◌, ◌++◌, length, take, get_or, Option, Some, None, refl, sym, ap, ◌∙◌, subst}
 use Rattle.std.specs.Prelude.{IfSome, option_map, slice_get}
 use Rattle.std.specs.List.{AllByRecursion, cons_option, find, filter_map, position_or_len}
-use Rattle.std.specs.Option.{option_map_or, option_to_list}
+use Rattle.std.specs.Option.{option_map_or}
 use Rattle.std.proofs.lemmas.List.Folds.{find_at}
 use Rattle.vtl_decimal.specs.Settings.{Settings}
 use Rattle.vtl_cell.specs.Conversion.{as_kind}
@@ -11,10 +11,10 @@ use Rattle.vtl_cell.specs.declared.cell.Cell.{Cell}
 use Rattle.vtl_cell.specs.declared.cell.Cell.TheVariants as c
 use Rattle.vtl_cell.specs.declared.kind.Kind.TheVariants as k
 use Rattle.vtl_rows.specs.Places.{row_at}
-use Rattle.vtl_rows.specs.Tables.{cells_at, fits}
+use Rattle.vtl_rows.specs.Tables.{fits}
 use Rattle.vtl_rows.specs.declared.column.Column.{Column}
-use Rattle.vtl_index.specs.Seekers.{first_meant, is_meant}
-use Rattle.vtl_tree.specs.Columns.{common_identifiers, identifiers_of, places_in}
+use Rattle.vtl_index.specs.Seekers.{is_meant}
+use Rattle.vtl_tree.specs.Columns.{common_identifiers}
 use Rattle.vtl_tree.specs.DataSet.{IsDataSet, is_point}
 use Rattle.vtl_tree.specs.Environment.{DataSet}
 use Rattle.vtl_tree.specs.Structure.{IsStructure, columns_of, key_width}
@@ -23,7 +23,6 @@ use Rattle.vtl_tree.specs.declared.structure.Component.{Component}
 use Rattle.vtl_tree.specs.declared.structure.Structure.{Structure}
 use Rattle.vtl_sets.specs.TableOf.{table_columns}
 use Rattle.vtl_sets.proofs.TableLemmas.{point_fits}
-use Rattle.vtl_meaning.specs.Agreement.{agree_in, first_agreeing}
 use Rattle.vtl_meaning.specs.Points.{cell_or_null}
 use Rattle.vtl_meaning.proofs.LookUps.{named_cells}
 use Rattle.vtl_meaning.proofs.Places.{key_cells, key_within}

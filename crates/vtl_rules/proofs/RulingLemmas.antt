@@ -1,5 +1,5 @@
 -- What rules make of rows.
-use Rattle.std.proofs.Common.{◌≡◌, ℕ, zero, suc, ◌+◌, ◌<◌, ◌≤◌, Bool, true, cond, List, [], ◌∷◌, ◌++◌, length, map, take, get_or, Option, Some, None, refl, sym, ap, ◌∙◌, subst, arith, append_assoc}
+use Rattle.std.proofs.Common.{◌≡◌, ℕ, zero, suc, ◌+◌, ◌<◌, ◌≤◌, true, cond, List, [], ◌∷◌, ◌++◌, length, map, take, get_or, Option, Some, None, refl, sym, ap, ◌∙◌, subst, arith, append_assoc}
 use Rattle.std.specs.Prelude.{IfSome}
 use Rattle.std.specs.List.{AllByRecursion, cons_option, filter_map, flat_map}
 use Rattle.std.specs.Option.{option_to_list}
@@ -8,9 +8,8 @@ use Rattle.std.proofs.lemmas.List.{append-nil, take_all, take_more}
 use Rattle.std.proofs.lemmas.List.Elements.{filter_map-append}
 use Rattle.vtl_decimal.specs.Settings.{Settings}
 use Rattle.vtl_decimal.specs.declared.number.Fault.{Fault}
-use Rattle.vtl_cell.specs.Outcome.{Outcome, after, fault_in, faults_by, join}
+use Rattle.vtl_cell.specs.Outcome.{after, fault_in, faults_by, join}
 use Rattle.vtl_cell.specs.Row.{Row}
-use Rattle.vtl_cell.specs.declared.cell.Cell.{Cell}
 use Rattle.vtl_cell.specs.declared.cell.Cell.TheVariants as c
 use Rattle.vtl_rows.specs.Tables.{cells_at, fits}
 use Rattle.vtl_rows.specs.declared.column.Column.{Column}
@@ -30,7 +29,6 @@ use Rattle.vtl_tree.specs.declared.structure.Structure.{Structure}
 use Rattle.vtl_tree.proofs.Faults.{faults_by_more, join_assoc}
 use Rattle.vtl_sets.specs.TableOf.{table_columns}
 use Rattle.vtl_sets.proofs.TableLemmas.{point_fits}
-use Rattle.vtl_meaning.specs.Agreement.{values_in}
 use Rattle.vtl_meaning.specs.Points.{cell_or_null}
 use Rattle.vtl_meaning.proofs.Drawn.{AtMostOne}
 use Rattle.vtl_meaning.proofs.LookUps.{named_cells}

@@ -1,5 +1,5 @@
 -- What checks and hierarchies by hierarchical rules give for single data sets.
-use Rattle.std.proofs.Common.{◌≡◌, ℕ, pos, true, false, List, [], ◌∷◌, None, Ok, refl}
+use Rattle.std.proofs.Common.{◌≡◌, ℕ, pos, false, List, [], ◌∷◌, None, Ok, refl}
 use Rattle.std.specs.Prelude.{codes}
 use Rattle.std.specs.Fmt.{decimal}
 use Rattle.vtl_decimal.specs.Settings.{Settings}

@@ -1,13 +1,10 @@
-use Rattle.std.proofs.Common.{◌≡◌, ◌<◌, ◌≤◌, ◌∙◌, List, Option, length, map, arith, ap, sym, subst}
+use Rattle.std.proofs.Common.{◌≡◌, ◌<◌, ◌≤◌, ◌∙◌, List, length, map, ap}
 use Rattle.std.specs.List.{flat_map}
 use Rattle.vtl_cell.specs.Outcome.{faults_by}
-use Rattle.vtl_cell.specs.Row.{Row}
 use Rattle.vtl_rows.specs.Tables.{Tabled}
 use Rattle.vtl_scalar.specs.Seen.{seen_of}
-use Rattle.vtl_tree.specs.DataSet.{IsDataSet}
 use Rattle.vtl_tree.specs.NodeView.{point_rule_tree}
 use Rattle.vtl_tree.specs.declared.rules.DatapointRule.{DatapointRule}
-use Rattle.vtl_tree.specs.declared.structure.Structure.{Structure}
 use Rattle.vtl_sets.specs.TableOf.{table_columns}
 use Rattle.vtl_sets.proofs.TableLemmas.{answered_is_table}
 use Rattle.vtl_expr.proofs.PointLemmas.{answered_keeps, finished}
