@@ -7,4 +7,5 @@ pub mod Orders
 pub mod PointsKept
 pub mod Profiles
 pub mod RuledLooks
+pub mod Running
 pub mod Shown

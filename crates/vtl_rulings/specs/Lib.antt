@@ -3,5 +3,6 @@ pub mod HierarchyChecks
 pub mod Modes
 pub mod Outputs
 pub mod PointChecks
+pub mod Running
 pub mod Shaped
 pub mod Sides

@@ -1,13 +1,15 @@
 // Laws of checks.
-ghost use Rattle.std.specs.Prelude.{◌≡◌, ℕ, [], ◌∷◌, ◌++◌, IfOk, List, None, Ok, Option, Some, filter, is_some, option_map, true};
+ghost use Rattle.std.specs.Prelude.{◌≡◌, ◌≤◌, ℕ, [], ◌∷◌, ◌++◌, IfOk, List, None, Ok, Option, Some, filter, is_some, length, map, option_map, true};
 ghost use Rattle.std.specs.List.{filter_map, find};
 ghost use Rattle.std.specs.Option.{IfSome, option_and_then};
 ghost use Rattle.vtl_decimal.specs.Settings.{Settings};
+ghost use Rattle.vtl_lists.specs.Apart.{all_apart};
 ghost use Rattle.vtl_lists.specs.Perm.{Perm};
 ghost use Rattle.vtl_cell.specs.Outcome.{after};
 ghost use Rattle.vtl_cell.specs.Outcomes.{Same};
 ghost use Rattle.vtl_cell.specs.Row.{Row, column_of};
 ghost use Rattle.vtl_cell.specs.declared.cell.Cell.TheVariants as c;
+ghost use Rattle.vtl_cell.specs.declared.kind.Kind.{Kind};
 ghost use Rattle.vtl_syntax.specs.declared.statements.HierRule.{HierRule};
 ghost use Rattle.vtl_syntax.specs.declared.word_groups.BasicOut.TheVariants as basic;
 ghost use Rattle.vtl_syntax.specs.declared.word_groups.CheckOut.{CheckOut};
@@ -22,11 +24,14 @@ ghost use Rattle.vtl_tree.specs.Trees.{PointRuleTree};
 ghost use Rattle.vtl_tree.specs.declared.specifications.CheckSpec.{CheckSpec};
 ghost use Rattle.vtl_tree.specs.declared.structure.Structure.{Structure};
 ghost use Rattle.vtl_meaning.specs.Points.{cell_or_null, with_points};
-ghost use Rattle.vtl_rulings.specs.Hierarchies.{hierarchy_of};
+ghost use Rattle.vtl_rulings.specs.Hierarchies.{computed, hierarchy_of, items_of, items_within};
 ghost use Rattle.vtl_rulings.specs.HierarchyChecks.{Ruled, check_hierarchy_of};
+ghost use Rattle.vtl_rulings.specs.Modes.{Items};
 ghost use Rattle.vtl_rulings.specs.Outputs.{is_false};
 ghost use Rattle.vtl_rulings.specs.PointChecks.{check_of, datapoint_of, false_without, point_rules, ruled_point, truth_of, truth_place};
+ghost use Rattle.vtl_rulings.specs.Running.{AreOrdered, made_in_run, ran};
 ghost use Rattle.vtl_rulings.specs.Shaped.{IsChecked, IsPointChecked};
+ghost use Rattle.vtl_rulings.specs.Sides.{left_item};
 
 /// Checks give data sets of the structure that typing gives: as many cells as columns, each null or of its column's
 /// kind, no identifier null, and each tuple of identifiers once. So `check_datapoint` shows each point and rule at
@@ -69,4 +74,16 @@ pub fn each_rule_is_at_each_point()
 pub fn hierarchies_do_not_see_order()
     ensures check { (p : Settings) (o : CheckOut) (h : Ruled) (m : Mode) (rules : List HierRule) (a : Structure) (d e : List Row) → IsDataSet a d → Perm d e → Same (check_hierarchy_of p o h m (with_points a d) rules) (check_hierarchy_of p o h m (with_points a e) rules) }
     ensures computed { (p : Settings) (h : Ruled) (m : Mode) (i : HierInput) (rules : List HierRule) (a s : Structure) (d e : List Row) → IsDataSet a d → Perm d e → Same (hierarchy_of p h m i rules (with_points a d) points.Computed s) (hierarchy_of p h m i rules (with_points a e) points.Computed s) }
+{}
+
+/// Where rules, of which no two define one item, are run in an order in which none stands before a rule that defines one of
+/// its right items, the run gives what the recursion gives.
+///
+/// - `items`: the items behind all rules are those of the recursion.
+/// - `made`: what each rule computes in the run it computes of these items.
+/// - `depth`: a greater depth than there are rules changes no item.
+pub fn runs_in_order_are_the_recursion()
+    ensures items { (p : Settings) (m : Mode) (kind : Kind) (i : HierInput) (given : Items) (rules order : List HierRule) → AreOrdered order → Perm order rules → all_apart (λ q r. same_name (left_item q) (left_item r)) rules ≡ true → (item : List ℕ) → items_of p m kind i rules given item ≡ ran p m kind i given order item }
+    ensures made { (p : Settings) (m : Mode) (kind : Kind) (i : HierInput) (given : Items) (rules order : List HierRule) → AreOrdered order → Perm order rules → all_apart (λ q r. same_name (left_item q) (left_item r)) rules ≡ true → made_in_run p m kind i given given order ≡ map (computed p m kind (items_of p m kind i rules given)) order }
+    ensures depth { (p : Settings) (m : Mode) (kind : Kind) (i : HierInput) (given : Items) (rules order : List HierRule) → AreOrdered order → Perm order rules → all_apart (λ q r. same_name (left_item q) (left_item r)) rules ≡ true → (item : List ℕ) (n : ℕ) → length rules ≤ n → items_within p m kind i rules given n item ≡ items_of p m kind i rules given item }
 {}

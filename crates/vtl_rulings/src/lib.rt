@@ -16,4 +16,5 @@ mod laws;
 pub use laws::{
     checks_are_of_the_profile, checks_do_not_see_order, checks_keep_data_sets,
     each_rule_is_at_each_point, hierarchies_do_not_see_order, invalid_is_what_is_false,
+    runs_in_order_are_the_recursion,
 };
