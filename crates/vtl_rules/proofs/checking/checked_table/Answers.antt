@@ -1,9 +1,10 @@
-use Rattle.std.proofs.Common.{◌<◌, ◌≤◌, ◌∙◌, List, length, arith, ap, sym, subst, []}
+use Rattle.std.proofs.Common.{◌≡◌, ◌<◌, ◌≤◌, ◌∙◌, List, length, take, arith, ap, sym, subst, []}
 use Rattle.std.specs.List.{filter_map}
 use Rattle.std.proofs.lemmas.List.{take_all}
 use Rattle.vtl_cell.specs.Row.{Row}
 use Rattle.vtl_tree.specs.DataSet.{IsDataSet}
 use Rattle.vtl_tree.specs.declared.structure.Structure.{Structure}
+use Rattle.vtl_rulings.specs.PointChecks.{check_of}
 use Rattle.vtl_rulings.proofs.ChecksKept.{check_kept}
 use Rattle.vtl_rules.specs.Imbalances.{checked_by, checking_of, lent}
 use Rattle.vtl_rules.proofs.CheckLemmas.{row_fits, rows_are}
@@ -36,8 +37,10 @@ returns-clause-rows g c =
     let rows = c.table-table.result.now.rows in
     let past : length rows ≤ c.loop-i.i = omega (arith, c.len-i-end.ensures.rows, c.loop-i-test.false) in
     let same = c.in_ok-checking.ensures ∙ ap (λ (x : Structure). checking_of spec x other) c.structure.ensures.structure in
-    c.loop-i.invariant.rows ∙ ap (filter_map (checked_by c.args.p.now c.in_ok-checking.checking)) (take_all c.loop-i.i rows past)
-    ∙ rows_are c.args.p.now spec c.args.op.now other c.args.made.now c.requires.made c.structure.ensures.points c.is_data_set.ensures c.in_ok-checking.checking same rows c.table-table.ensures.points
+    let f : List Row → List Row = filter_map (checked_by c.args.p.now c.in_ok-checking.checking) in
+    let whole : f (take c.loop-i.i rows) ≡ f rows = ap f (take_all c.loop-i.i rows past) in
+    let meant : f rows ≡ check_of c.args.p.now spec c.args.op.now other = rows_are c.args.p.now spec c.args.op.now other c.args.made.now c.requires.made c.structure.ensures.points c.is_data_set.ensures c.in_ok-checking.checking same rows c.table-table.ensures.points in
+    c.loop-i.invariant.rows ∙ whole ∙ meant
 
 pub returns-clause-table : goal.returns-clause-table
 returns-clause-table g c =
