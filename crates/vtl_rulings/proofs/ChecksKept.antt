@@ -51,7 +51,7 @@ first_measure_is a kind r e h =
     (subst (λ xs. is_point xs r ≡ true) (columns_split a) h)
 
 -- ---- a number
-numeric : (kind : Kind) (v : Cell) → meets k.Num kind ≡ true → IsOf kind v → meets k.Num (kind_of v) ≡ true
+pub numeric : (kind : Kind) (v : Cell) → meets k.Num kind ≡ true → IsOf kind v → meets k.Num (kind_of v) ≡ true
 numeric kind c.Null m h = refl
 numeric k.Int (c.Int n) m h = refl
 numeric k.Num (c.Num n) m h = refl
@@ -61,7 +61,7 @@ numeric k.Day (c.Day x) m h = cc
 numeric k.Period (c.Period x) m h = cc
 numeric kind v m h = cc
 
-number_is : (p : Settings) (v : Cell) → meets k.Num (kind_of v) ≡ true → GivesOf k.Num (as_kind p k.Num v)
+pub number_is : (p : Settings) (v : Cell) → meets k.Num (kind_of v) ≡ true → GivesOf k.Num (as_kind p k.Num v)
 number_is p c.Null h = refl
 number_is p (c.Int n) h = go (fit_number (units p n))
   where

@@ -2,6 +2,8 @@ pub mod Checked
 pub mod ChecksKept
 mod Examples
 mod HierarchyExamples
+pub mod HierarchiesKept
+pub mod HierarchyKeys
 pub mod HierarchyOrders
 pub mod Orders
 pub mod PointsKept
@@ -9,3 +11,4 @@ pub mod Profiles
 pub mod RuledLooks
 pub mod Running
 pub mod Shown
+pub mod SideKinds

@@ -1,4 +1,5 @@
 pub mod Hierarchies
+pub mod HierarchyShapes
 pub mod HierarchyChecks
 pub mod Modes
 pub mod Outputs

@@ -26,6 +26,7 @@ ghost use Rattle.vtl_tree.specs.declared.structure.Structure.{Structure};
 ghost use Rattle.vtl_meaning.specs.Points.{cell_or_null, with_points};
 ghost use Rattle.vtl_rulings.specs.Hierarchies.{computed, hierarchy_of, items_of, items_within};
 ghost use Rattle.vtl_rulings.specs.HierarchyChecks.{Ruled, check_hierarchy_of};
+ghost use Rattle.vtl_rulings.specs.HierarchyShapes.{IsHierarchyChecked};
 ghost use Rattle.vtl_rulings.specs.Modes.{Items};
 ghost use Rattle.vtl_rulings.specs.Outputs.{is_false};
 ghost use Rattle.vtl_rulings.specs.PointChecks.{check_of, datapoint_of, false_without, point_rules, ruled_point, truth_of, truth_place};
@@ -34,11 +35,12 @@ ghost use Rattle.vtl_rulings.specs.Shaped.{IsChecked, IsPointChecked};
 ghost use Rattle.vtl_rulings.specs.Sides.{left_item};
 
 /// Checks give data sets of the structure that typing gives: as many cells as columns, each null or of its column's
-/// kind, no identifier null, and each tuple of identifiers once. So `check_datapoint` shows each point and rule at
-/// most once.
+/// kind, no identifier null, and each tuple of identifiers once. So a check by rules shows each point or combination and
+/// rule at most once.
 pub fn checks_keep_data_sets()
     ensures datapoint { (p : Settings) (o : CheckOut) (rules : List PointRuleTree) (a : DataSet) (s : Structure) (made : List Row) → IsPointChecked p o rules a.structure s → IsDataSet a.structure a.points → datapoint_of p o rules a ≡ Ok made → IsDataSet s made }
     ensures check { (p : Settings) (spec : CheckSpec) (a : DataSet) (imbalance : Option DataSet) (s : Structure) → IsChecked p spec (option_map (λ e. e.structure) imbalance) a.structure s → IsDataSet a.structure a.points → IfSome imbalance (λ e. IsDataSet e.structure e.points) → IsDataSet s (check_of p spec a imbalance) }
+    ensures hierarchy { (p : Settings) (o : CheckOut) (h : Ruled) (m : Mode) (rules : List HierRule) (a : DataSet) (s : Structure) (made : List Row) → IsHierarchyChecked o h rules a.structure s → IsDataSet a.structure a.points → check_hierarchy_of p o h m a rules ≡ Ok made → IsDataSet s made }
 {}
 
 /// Operands whose points stand in another order give the same points up to order, or the same fault.

@@ -3,7 +3,7 @@
 //!
 //! A check gives a truth value at each point, or at each rule and point; which points an output shows, and which cells
 //! stand behind their identifiers, is said once for all checks (specs/Outputs.antt). Conditions say which structure a
-//! result has (specs/Shaped.antt), not how typing found it; of hierarchies they are not said yet.
+//! result has (specs/Shaped.antt, HierarchyShapes.antt), not how typing found it; of `hierarchy` they are not said yet.
 //! What a mode makes of items is one table (specs/Modes.antt); a hierarchy is defined by recursion over how deep items
 //! depend on one another (specs/Hierarchies.antt), so no definition speaks of the order in which rules are run.
 //! It knows no tables, no files and no program: `vtl_rules` computes checks.

@@ -1,4 +1,5 @@
 use Rattle.vtl_rulings.proofs.ChecksKept.{check_kept}
+use Rattle.vtl_rulings.proofs.HierarchiesKept.{check_hierarchy_kept}
 use Rattle.vtl_rulings.proofs.PointsKept.{datapoint_kept}
 use Rattle.vtl_rulings.proofs.laws.checks_keep_data_sets.Goals as goal
 
@@ -7,3 +8,6 @@ returns-clause-datapoint c = λ p o rules a s made i h. datapoint_kept p o rules
 
 pub returns-clause-check : goal.returns-clause-check
 returns-clause-check c = λ p spec a imbalance s i h other. check_kept p spec a.structure s imbalance a.points i h other
+
+pub returns-clause-hierarchy : goal.returns-clause-hierarchy
+returns-clause-hierarchy c = λ p o h m rules a s made i set. check_hierarchy_kept p o h m rules a.structure s a.points i set made
