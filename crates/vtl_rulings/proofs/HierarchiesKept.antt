@@ -44,7 +44,7 @@ use Rattle.vtl_rulings.specs.Outputs.{code_cell, is_shown, level_cell, output_pa
 use Rattle.vtl_rulings.specs.Shaped.{error_measures, ruleid}
 use Rattle.vtl_rulings.specs.Sides.{difference, holds, left_item, left_side, rule_errors}
 use Rattle.vtl_rulings.proofs.Checked.{code_is, errors_fit, given_or_null, level_is, parts_fit, parts_mapped}
-use Rattle.vtl_rulings.proofs.HierarchyKeys.{key_back, key_is_point}
+use Rattle.vtl_rulings.proofs.HierarchyKeys.{combinations_typed, items_are, key_back, key_is_point}
 use Rattle.vtl_rulings.proofs.SideKinds.{AreOf, difference_is, holds_is, left_is}
 
 module _ (p : Settings) (o : CheckOut) (h : Ruled) (m : Mode) (rules : List HierRule) (a s : Structure) (d : List Row) (i : IsHierarchyChecked o h rules a s) (set : IsDataSet a d) where
@@ -71,13 +71,6 @@ module _ (p : Settings) (o : CheckOut) (h : Ruled) (m : Mode) (rules : List Hier
       (point_append (identifiers_of a) (ruleid ∷ []) front (c.Text x.0 ∷ []) (key_is_point h.id a set.well_formed i.itemized.coded row (left_item x.1) t) refl) in
       subst (IsSided x row) (append_assoc front (c.Text x.0 ∷ []) vs) (t, joined_point_is s (others_of s) key vs (columns_split s) (are_others s) own fits, key_of_joined s key vs own)
 
-  items_are : (row : Row) → AreOf h.kind (items_at h operand row)
-  items_are row name = go (find (is_coded a h.id row name) d) refl
-    where
-      go : (found : Option Row) → find (is_coded a h.id row name) d ≡ found → IfSome (option_map (λ r. value_named (columns_of a) r h.measure) found) (IsOf h.kind)
-      go None e = tt
-      go (Some r) e = cell_is_of (place_of h.measure (columns_of a)) h.measure h.kind (columns_of a) r i.itemized.measured (found_is (λ z. is_point (columns_of a) z ≡ true) (is_coded a h.id row name) d r set.typed e)
-
   abbrev point_at : SidedRule → Row → Option Row
   point_at x row = check_point p o h m operand x row
 
@@ -95,7 +88,7 @@ module _ (p : Settings) (o : CheckOut) (h : Ruled) (m : Mode) (rules : List Hier
       go true false = tt
       go true true =
           let n = i.itemized.numeric in
-          let are = items_are row in
+          let are = items_are h a d i.itemized set row in
           let here = items_at h operand row in
           let value = cell_or_null (holds p m h.kind here x.1) in
           let less = cell_or_null (difference p m h.kind here x.1) in
@@ -115,17 +108,11 @@ module _ (p : Settings) (o : CheckOut) (h : Ruled) (m : Mode) (rules : List Hier
   abbrev all_rows : List Row
   all_rows = combinations h.id operand
 
-  rows_typed : AllByRecursion (λ row. is_point left row ≡ true) all_rows
-  rows_typed =
-      let P : Row → Type 0 = λ row. is_point left row ≡ true in
-      let f = values_in a left in
-      once_hold P same_row (map f d) (all_map f P d (all_more (λ r. is_point (columns_of a) r ≡ true) (λ r. P (f r)) (λ r t. other_key_is h.id a r set.well_formed t) d set.typed))
-
   abbrev points : SidedRule → List Row
   points x = filter_map (point_at x) all_rows
 
   at_each : (x : SidedRule) → AllByRecursion (λ row. AtMostOne (IsSided x row) (option_to_list (point_at x row))) all_rows
-  at_each x = all_more (λ row. is_point left row ≡ true) (λ row. AtMostOne (IsSided x row) (option_to_list (point_at x row))) (point_is x) all_rows rows_typed
+  at_each x = all_more (λ row. is_point left row ≡ true) (λ row. AtMostOne (IsSided x row) (option_to_list (point_at x row))) (point_is x) all_rows (combinations_typed h.id a d set)
 
   abbrev IsDrawn : SidedRule → Row → Type 0
   IsDrawn x q = (row : Row) × IsSided x row q

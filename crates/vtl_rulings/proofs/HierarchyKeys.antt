@@ -1,34 +1,40 @@
--- The identifiers of an item's point at a combination.
-use Rattle.std.proofs.Common.{◌≡◌, ◌≤◌, ℕ, zero, suc, Bool, true, false, not, ◌&&◌, ◌||◌, cond, List, [], ◌∷◌, ◌++◌, length, map, take, refl, sym, ap, ◌∙◌, subst, arith, true≢false}
-use Rattle.std.specs.List.{AllByRecursion, filter}
+-- The identifiers of an item's point at a combination, and what there is of the items there.
+use Rattle.std.proofs.Common.{◌≡◌, ◌≤◌, ℕ, zero, suc, Bool, true, false, not, ◌&&◌, ◌||◌, cond, List, [], ◌∷◌, ◌++◌, length, map, take, Option, Some, None, refl, sym, ap, ◌∙◌, subst, arith, true≢false}
+use Rattle.std.specs.Prelude.{IfSome, option_map}
+use Rattle.std.specs.List.{AllByRecursion, filter, find}
 use Rattle.std.proofs.lemmas.List.{append-nil, take_all}
 use Rattle.vtl_lists.specs.Apart.{all_apart}
 use Rattle.vtl_lists.proofs.Aparts.{all_apart-filter}
 use Rattle.vtl_lists.proofs.Sorts.{AllByRecursion-filter}
 use Rattle.vtl_cell.specs.Kinds.{is_null}
-use Rattle.vtl_cell.specs.Row.{Row, column_of}
+use Rattle.vtl_cell.specs.Row.{Row, column_of, same_row}
 use Rattle.vtl_cell.specs.declared.cell.Cell.{Cell}
 use Rattle.vtl_cell.specs.declared.cell.Cell.TheVariants as c
 use Rattle.vtl_cell.specs.declared.kind.Kind.{Kind}
 use Rattle.vtl_cell.specs.declared.kind.Kind.TheVariants as k
 use Rattle.vtl_tree.specs.Columns.{identifiers_of, place_of}
-use Rattle.vtl_tree.specs.DataSet.{is_point}
+use Rattle.vtl_tree.specs.DataSet.{IsDataSet, is_point}
 use Rattle.vtl_tree.specs.Names.{is_among}
-use Rattle.vtl_tree.specs.Structure.{IsStructure, names_of, same_name, same_role}
+use Rattle.vtl_tree.specs.Structure.{IsStructure, columns_of, names_of, same_name, same_role}
 use Rattle.vtl_tree.specs.declared.structure.Component.{Component}
 use Rattle.vtl_tree.specs.declared.structure.Role.TheVariants as role
 use Rattle.vtl_tree.specs.declared.structure.Structure.{Structure}
+use Rattle.vtl_meaning.specs.Agreement.{values_in}
 use Rattle.vtl_meaning.specs.LookUps.{value_named, values_named}
 use Rattle.vtl_meaning.specs.Made.{AreAmong, IsColumnAt}
-use Rattle.vtl_meaning.specs.Turned.{other_identifiers}
-use Rattle.vtl_meaning.proofs.JoinKept.{apart_map}
+use Rattle.vtl_meaning.specs.Points.{with_points}
+use Rattle.vtl_meaning.specs.Turned.{is_coded, other_identifiers}
+use Rattle.vtl_meaning.proofs.JoinKept.{apart_map, once_hold}
+use Rattle.vtl_meaning.proofs.JoinParts.{found_is}
 use Rattle.vtl_meaning.proofs.Kept.{both_all}
 use Rattle.vtl_meaning.proofs.LookUps.{named_cells}
 use Rattle.vtl_meaning.proofs.OwnColumns.{own_among, own_identifiers}
-use Rattle.vtl_meaning.proofs.Places.{IsIdentifier, all_filtered, all_more, are_identifiers, first_cells, identifiers_apart, point_length, same_name-is, same_name-sym}
-use Rattle.vtl_meaning.proofs.TurnedKept.{others_are, others_identify}
+use Rattle.vtl_meaning.proofs.Places.{IsIdentifier, all_filtered, all_map, all_more, are_identifiers, first_cells, identifiers_apart, point_length, same_name-is, same_name-refl, same_name-sym}
+use Rattle.vtl_meaning.proofs.TurnedKept.{other_key_is, others_are, others_identify}
 use Rattle.vtl_meaning.proofs.ValueKinds.{IsOf, cell_is_of, point_from, point_parts}
-use Rattle.vtl_rulings.specs.HierarchyChecks.{key_at, key_cell}
+use Rattle.vtl_rulings.specs.HierarchyChecks.{Ruled, combinations, items_at, key_at, key_cell}
+use Rattle.vtl_rulings.specs.HierarchyShapes.{IsItemized}
+use Rattle.vtl_rulings.proofs.SideKinds.{AreOf}
 
 -- ---- lists
 is_not : (b : Bool) → not b ≡ true → b ≡ false
@@ -146,3 +152,30 @@ module _ (id : List ℕ) (a : Structure) (w : IsStructure a) where
       let passed = subst (AllByRecursion (λ y. is_other y ≡ true)) (sym others_is) (all_filtered is_other ids) in
       let values = both_all (λ y. is_other y ≡ true) Same (λ y. value_named others row y.name ≡ value_named others other y.name) (λ y p q. sym (named row item y p) ∙ q ∙ named other name y p) others passed all in
       sym (whole row t) ∙ all_same (λ y. value_named others row y.name) (λ y. value_named others other y.name) others values ∙ whole other u
+
+  -- and so is the item
+  column_there : (P : Component → Type 0) (place : ℕ) (name : List ℕ) (kind : Kind) (xs : List Component) → IsColumnAt place name kind xs → AllByRecursion P xs → (y : Component) × (y.name ≡ name) × P y
+  column_there P place name kind [] at h = absurd at
+  column_there P zero name kind (x ∷ xs) at h = (x, at.0, h.0)
+  column_there P (suc place) name kind (x ∷ xs) at h = column_there P place name kind xs at h.1
+
+  pub item_back : (row other : Row) (item name : List ℕ) → IsColumnAt (place_of id ids) id k.Text ids → key_at id a row item ≡ key_at id a other name → item ≡ name
+  item_back row other item name coded e =
+      let there = column_there (λ y. cell_at row item y ≡ cell_at other name y) (place_of id ids) id k.Text ids coded (each_same (cell_at row item) (cell_at other name) ids e) in
+      let is : same_name there.0.name id ≡ true = ap (λ l. same_name l id) there.1 ∙ same_name-refl id in
+      let texts : c.Text item ≡ c.Text name = sym (ap (λ b. cond b (c.Text item) (value_named others row there.0.name)) is) ∙ there.2 ∙ ap (λ b. cond b (c.Text name) (value_named others other there.0.name)) is in
+      cc
+
+-- ---- combinations
+pub combinations_typed : (id : List ℕ) (a : Structure) (d : List Row) → IsDataSet a d → AllByRecursion (λ row. is_point (other_identifiers id a) row ≡ true) (combinations id (with_points a d))
+combinations_typed id a d set =
+    let P : Row → Type 0 = λ row. is_point (other_identifiers id a) row ≡ true in
+    let f = values_in a (other_identifiers id a) in
+    once_hold P same_row (map f d) (all_map f P d (all_more (λ r. is_point (columns_of a) r ≡ true) (λ r. P (f r)) (λ r t. other_key_is id a r set.well_formed t) d set.typed))
+
+pub items_are : (h : Ruled) (a : Structure) (d : List Row) → IsItemized h a → IsDataSet a d → (row : Row) → AreOf h.kind (items_at h (with_points a d) row)
+items_are h a d i set row name = go (find (is_coded a h.id row name) d) refl
+  where
+    go : (found : Option Row) → find (is_coded a h.id row name) d ≡ found → IfSome (option_map (λ r. value_named (columns_of a) r h.measure) found) (IsOf h.kind)
+    go None e = tt
+    go (Some r) e = cell_is_of (place_of h.measure (columns_of a)) h.measure h.kind (columns_of a) r i.measured (found_is (λ z. is_point (columns_of a) z ≡ true) (is_coded a h.id row name) d r set.typed e)

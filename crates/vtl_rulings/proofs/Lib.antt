@@ -3,6 +3,7 @@ pub mod ChecksKept
 mod Examples
 mod HierarchyExamples
 pub mod HierarchiesKept
+pub mod HierarchiesMade
 pub mod HierarchyKeys
 pub mod HierarchyOrders
 pub mod Orders

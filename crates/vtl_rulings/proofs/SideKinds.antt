@@ -144,7 +144,7 @@ module _ (p : Settings) where
     pub left_is : IsOf kind (left_side m kind items r)
     left_is = counted_is m kind n (items (left_item r)) (are (left_item r))
 
-    right_is : GivesOf kind (right_side p m kind items r)
+    pub right_is : GivesOf kind (right_side p m kind items r)
     right_is =
         let f : List ℕ → Cell = λ name. counted m kind (items name) in
         sum_is kind n r (map f (right_items r)) (all_map f (IsOf kind) (right_items r) (each (λ name. IsOf kind (f name)) (λ name. counted_is m kind n (items name) (are name)) (right_items r)))

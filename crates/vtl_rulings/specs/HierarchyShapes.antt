@@ -1,4 +1,4 @@
--- What typing gives of checks by hierarchical rules: how the structure of a result fits the operand.
+-- What typing gives of checks by hierarchical rules and of hierarchies: how the structure of a result fits the operand.
 use Rattle.std.specs.Prelude.{◌≡◌, true, List, [], ◌∷◌, ◌++◌}
 use Rattle.vtl_lists.specs.Apart.{all_apart}
 use Rattle.vtl_cell.specs.declared.kind.Kind.{Kind}
@@ -11,10 +11,12 @@ use Rattle.vtl_tree.specs.Pairs.{imbalance}
 use Rattle.vtl_tree.specs.Structure.{IsStructure, columns_of, same_name}
 use Rattle.vtl_tree.specs.declared.structure.Component.{Component}
 use Rattle.vtl_tree.specs.declared.structure.Structure.{Structure}
-use Rattle.vtl_meaning.specs.Made.{HasIdentifiers, IsColumnAt, component_kinds}
+use Rattle.vtl_meaning.specs.Made.{HasIdentifiers, IsAlternative, IsColumnAt, component_kinds}
+use Rattle.vtl_rulings.specs.Hierarchies.{definitions}
 use Rattle.vtl_rulings.specs.HierarchyChecks.{Ruled, sided_rules}
 use Rattle.vtl_rulings.specs.Outputs.{output_parts}
 use Rattle.vtl_rulings.specs.Shaped.{error_measures, ruleid}
+use Rattle.vtl_rulings.specs.Sides.{left_item}
 
 -- of integers or of numbers
 abbrev pub IsNumeric : Kind → Type 0
@@ -41,3 +43,15 @@ pub record IsHierarchyChecked (o : CheckOut) (h : Ruled) (rules : List HierRule)
   -- no two rules have one identifier
   pub apart : all_apart (λ x y. same_name x.0 y.0) (sided_rules rules) ≡ true
   pub shape : s.components ≡ identifiers_of a ++ ruleid ∷ sided_measures o a
+
+-- `hierarchy`: the operand's identifiers and its measure
+pub record IsHierarchyMade (h : Ruled) (rules : List HierRule) (a s : Structure) : Type 0 where
+  pub well_formed : IsStructure s
+  pub identifiers : HasIdentifiers s (identifiers_of a)
+  pub others : component_kinds (others_of s) ≡ h.kind ∷ []
+  pub no_attributes : columns_of s ≡ identifiers_of s ++ measures_of s
+  pub operand : IsAlternative s a s
+  pub itemized : IsItemized h a
+  -- no two rules define one item
+  pub apart : all_apart (λ q r. same_name (left_item q) (left_item r)) (definitions rules) ≡ true
+  pub shape : s.components ≡ identifiers_of a ++ measures_of a

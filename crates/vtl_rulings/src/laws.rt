@@ -15,6 +15,7 @@ ghost use Rattle.vtl_syntax.specs.declared.word_groups.BasicOut.TheVariants as b
 ghost use Rattle.vtl_syntax.specs.declared.word_groups.CheckOut.{CheckOut};
 ghost use Rattle.vtl_syntax.specs.declared.word_groups.CheckOut.TheVariants as out;
 ghost use Rattle.vtl_syntax.specs.declared.word_groups.HierInput.{HierInput};
+ghost use Rattle.vtl_syntax.specs.declared.word_groups.HierOut.{HierOut};
 ghost use Rattle.vtl_syntax.specs.declared.word_groups.HierOut.TheVariants as points;
 ghost use Rattle.vtl_syntax.specs.declared.word_groups.Mode.{Mode};
 ghost use Rattle.vtl_tree.specs.DataSet.{AreOfProfile, IsDataSet, look};
@@ -26,7 +27,7 @@ ghost use Rattle.vtl_tree.specs.declared.structure.Structure.{Structure};
 ghost use Rattle.vtl_meaning.specs.Points.{cell_or_null, with_points};
 ghost use Rattle.vtl_rulings.specs.Hierarchies.{computed, hierarchy_of, items_of, items_within};
 ghost use Rattle.vtl_rulings.specs.HierarchyChecks.{Ruled, check_hierarchy_of};
-ghost use Rattle.vtl_rulings.specs.HierarchyShapes.{IsHierarchyChecked};
+ghost use Rattle.vtl_rulings.specs.HierarchyShapes.{IsHierarchyChecked, IsHierarchyMade};
 ghost use Rattle.vtl_rulings.specs.Modes.{Items};
 ghost use Rattle.vtl_rulings.specs.Outputs.{is_false};
 ghost use Rattle.vtl_rulings.specs.PointChecks.{check_of, datapoint_of, false_without, point_rules, ruled_point, truth_of, truth_place};
@@ -41,6 +42,11 @@ pub fn checks_keep_data_sets()
     ensures datapoint { (p : Settings) (o : CheckOut) (rules : List PointRuleTree) (a : DataSet) (s : Structure) (made : List Row) → IsPointChecked p o rules a.structure s → IsDataSet a.structure a.points → datapoint_of p o rules a ≡ Ok made → IsDataSet s made }
     ensures check { (p : Settings) (spec : CheckSpec) (a : DataSet) (imbalance : Option DataSet) (s : Structure) → IsChecked p spec (option_map (λ e. e.structure) imbalance) a.structure s → IsDataSet a.structure a.points → IfSome imbalance (λ e. IsDataSet e.structure e.points) → IsDataSet s (check_of p spec a imbalance) }
     ensures hierarchy { (p : Settings) (o : CheckOut) (h : Ruled) (m : Mode) (rules : List HierRule) (a : DataSet) (s : Structure) (made : List Row) → IsHierarchyChecked o h rules a.structure s → IsDataSet a.structure a.points → check_hierarchy_of p o h m a rules ≡ Ok made → IsDataSet s made }
+{}
+
+/// So do hierarchies, for every mode, input and output.
+pub fn hierarchies_keep_data_sets()
+    ensures { (p : Settings) (h : Ruled) (m : Mode) (i : HierInput) (rules : List HierRule) (a : DataSet) (o : HierOut) (s : Structure) (made : List Row) → IsHierarchyMade h rules a.structure s → IsDataSet a.structure a.points → hierarchy_of p h m i rules a o s ≡ Ok made → IsDataSet s made }
 {}
 
 /// Operands whose points stand in another order give the same points up to order, or the same fault.
