@@ -82,8 +82,8 @@ module _ {X : Type 0} (keep test : ℕ × X → Bool) (place : ℕ) where
       let same : y ≡ x = cc in
       let here : n ≡ place = omega arith in
       let gone : number others (enumerate_from n (y ∷ ys)) ≡ number all_kept (enumerate_from (n + 1) ys) =
-        ap (λ b. cond (cond b false (keep (n, y)) && test (n, y)) (suc (number others (enumerate_from (n + 1) ys))) (number others (enumerate_from (n + 1) ys))) (eq-eqb n place here)
-        ∙ beyond (n + 1) ys (omega arith) in
+      ap (λ b. cond (cond b false (keep (n, y)) && test (n, y)) (suc (number others (enumerate_from (n + 1) ys))) (number others (enumerate_from (n + 1) ys))) (eq-eqb n place here)
+      ∙ beyond (n + 1) ys (omega arith) in
       ap (λ z. cond (all_kept z) (suc (number all_kept (enumerate_from (n + 1) ys))) (number all_kept (enumerate_from (n + 1) ys))) (ap (λ m. (m, y)) here ∙ ap (λ z. (place, z)) same)
       ∙ ap (λ m. cond (all_kept (place, x)) (suc m) m) (sym gone)
   one_less n (suc i) (y ∷ ys) x e s =

@@ -1,1 +1,5 @@
 mod Counts
+mod Identifiers
+mod Lists
+mod Maps
+mod Runs

@@ -50,9 +50,9 @@ level_fits p e = option_map_or (λ digits. is_some (integer_written p digits)) e
 abbrev pub datapoint_defined : Settings → List Comp → List PointRuleTree → Result (Unit {0}) Rule
 datapoint_defined p variables rules =
     ruled (
-      (rule.RepeatedName, not (all_apart same_name (map name_of variables)))
-      ∷ (rule.WrongLiteral, not (list_all (λ r. level_fits p (point_rule_error r)) rules))
-      ∷ (rule.RepeatedRule, not (are_told_apart (map point_rule_name rules))) ∷ []
+    (rule.RepeatedName, not (all_apart same_name (map name_of variables)))
+    ∷ (rule.WrongLiteral, not (list_all (λ r. level_fits p (point_rule_error r)) rules))
+    ∷ (rule.RepeatedRule, not (are_told_apart (map point_rule_name rules))) ∷ []
     ) (tt {0})
 
 -- a hierarchical rule: its level, then its items

@@ -1,5 +1,5 @@
 -- The order in which the `=` rules of a hierarchical ruleset are computed, and the items that depend on themselves.
-use Rattle.std.specs.Prelude.{◌≡◌, ℕ, zero, suc, Bool, not, ◌&&◌, List, [], ◌∷◌, ◌++◌, length, map, filter, nat_eq, Option, Some, None, Result, Ok, Err, Vec}
+use Rattle.std.specs.Prelude.{◌≡◌, ℕ, zero, suc, Bool, true, not, ◌&&◌, List, [], ◌∷◌, ◌++◌, length, map, filter, nat_eq, Option, Some, None, Result, Ok, Err, Vec}
 use Rattle.std.specs.List.{enumerate_from, find, list_all, list_any, slice_get}
 use Rattle.std.specs.declared.alloc.Global.{Global}
 use Rattle.vtl_lists.specs.Apart.{all_apart}
@@ -11,8 +11,8 @@ use Rattle.check_faults.specs.Rules.{ruled}
 use Rattle.check_faults.specs.declared.rules.Rule.{Rule}
 use Rattle.check_faults.specs.declared.rules.Rule.TheVariants as rule
 use Rattle.check_rules.specs.RuleItems.{defines, is_equation, left_item, right_items}
-use Rattle.check_rules.specs.declared.order.OrderErr.{OrderErr}
-use Rattle.check_rules.specs.declared.order.OrderErr.TheVariants as err
+use Rattle.check_rules.specs.declared.ordering.OrderErr.{OrderErr}
+use Rattle.check_rules.specs.declared.ordering.OrderErr.TheVariants as err
 
 -- a rule with its place among all rules of its ruleset, the first being 0
 abbrev pub Placed : Type 0

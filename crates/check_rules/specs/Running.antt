@@ -76,5 +76,5 @@ IsStep rules done false now = next_behind rules done ≡ None
 -- a rule is the next, and is no longer among those that are known to be ready
 abbrev pub Finishes : List HierRule → (place : ℕ) → Run → Type 0
 Finishes rules place run =
-    (before : BTreeSet ℕ) × IsRunning rules run.order.items [] run.awaited run.free.items before × (contains nat_cmp before place ≡ true)
-    × ((q : ℕ) → contains nat_cmp run.ready q ≡ cond (nat_eq place q) false (contains nat_cmp before q))
+    (before : BTreeSet ℕ) × IsRunning rules run.order.items [] run.awaited run.free.items before × (contains nat_cmp before place ≡ true) × (contains nat_cmp run.ready place ≡ false)
+    × ((q : ℕ) → (q ≡ place → ⊥) → contains nat_cmp run.ready q ≡ contains nat_cmp before q)

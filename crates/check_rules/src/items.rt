@@ -50,7 +50,8 @@ pub(crate) fn items(alloc: Global, rule: &HierRule) -> Result<Vec<Txt>, AllocErr
     let mut items = Vec::new(alloc);
     items.push(left_item(rule).share()?)?;
     items.push(name(&rule.first).share()?)?;
-    for other in rule.others.as_slice() {
+    let others = rule.others.as_slice();
+    for other in others {
         items.push(name(&other.item).share()?)?;
     }
     Ok(items)

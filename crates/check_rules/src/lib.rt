@@ -11,10 +11,10 @@ mod cycle;
 mod definitions;
 mod items;
 mod laws;
-mod order;
+mod ordering;
 mod places;
 mod run;
 
 pub use definitions::{datapoint_defined, hierarchical_defined};
 pub use laws::items_without_order_depend_on_themselves;
-pub use order::{OrderErr, hierarchy_order, order};
+pub use ordering::{OrderErr, hierarchy_order, order};

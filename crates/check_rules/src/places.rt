@@ -11,7 +11,7 @@ use vtl_text::{ByName, List, Txt};
 
 /// Counts an item once more.
 pub(crate) fn count(counts: &mut ByName<usize>, item: &Txt) -> Result<(), AllocError>
-    requires { count_at item.now counts.old < 2 ^ 63 }
+    requires { count_at item.now counts.old + 1 < 2 ^ 64 }
     ensures { OnOk result ((q : Items ℕ) → count_at q counts.new ≡ (if same_text q item.now then count_at q counts.old + 1 else count_at q counts.old)) }
 {
     match counts.get(item).copied() {
@@ -84,10 +84,7 @@ fn note_uses(
 }
 
 /// The places of the `=` rules that have an item on the right, by the items. It fails only if memory runs out.
-pub(crate) fn users(
-    alloc: Global,
-    rules: &[HierRule],
-) -> Result<ByName<List<usize>>, AllocError>
+pub(crate) fn users(alloc: Global, rules: &[HierRule]) -> Result<ByName<List<usize>>, AllocError>
     ensures { IfOk result (AreUsers rules.now) }
 {
     let mut users = ByName::new(alloc);
@@ -100,10 +97,7 @@ pub(crate) fn users(
 }
 
 /// The places of the `=` rules that compute an item, by the items. It fails only if memory runs out.
-pub(crate) fn makers(
-    alloc: Global,
-    rules: &[HierRule],
-) -> Result<ByName<List<usize>>, AllocError>
+pub(crate) fn makers(alloc: Global, rules: &[HierRule]) -> Result<ByName<List<usize>>, AllocError>
     ensures { IfOk result (AreMakers rules.now) }
 {
     let mut makers = ByName::new(alloc);

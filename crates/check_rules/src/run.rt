@@ -68,7 +68,7 @@ pub(crate) fn equations(alloc: Global, rules: &[HierRule]) -> Result<Vec<usize>,
 impl Run {
     /// No rule is done, and none is known to be ready. It fails only if memory runs out.
     fn new(alloc: Global, rules: &[HierRule]) -> Result<Run, AllocError>
-        ensures { IfOk result (Runs rules.now (map (λ x. x.0) (left_behind rules.now []))) }
+        ensures running { IfOk result (Runs rules.now (map (λ x. x.0) (left_behind rules.now []))) }
         ensures order { IfOk result (λ run. run.order.items ≡ []) }
     {
         let awaited = all_awaited(alloc, rules)?;
@@ -91,9 +91,10 @@ impl Run {
         let rule = &rules[place];
         let free = free_from(&self.awaited, rule, self.free[place]);
         self.free[place] = free;
-        if free == right_len(rule) {
-            self.ready.insert(place)?;
+        if free < right_len(rule) {
+            return Ok(());
         }
+        self.ready.insert(place)?;
         Ok(())
     }
 
@@ -133,19 +134,20 @@ impl Run {
     ) -> Result<(), AllocError>
         requires within { place < length rules.now }
         requires users { AreUsers rules.now users.now }
-        requires { Finishes rules.now place self.old }
+        requires ready { Finishes rules.now place self.old }
         ensures running { OnOk result (Runs rules.now [] self.new) }
         ensures order { OnOk result (self.new.order.items ≡ self.old.order.items ++ place ∷ []) }
     {
         let item = left_item(&rules[place]);
         self.order.push(place)?;
         discount(&mut self.awaited, item);
-        if is_free(&self.awaited, item) {
-            if let Some(places) = users.get(item) {
-                self.settle_all(rules, places.as_slice())?;
-            }
+        if !is_free(&self.awaited, item) {
+            return Ok(());
         }
-        Ok(())
+        match users.get(item) {
+            Some(places) => self.settle_all(rules, places.as_slice()),
+            None => Ok(()),
+        }
     }
 
     /// Takes the next rule as done, and tells whether there is one. It fails only if memory runs out.

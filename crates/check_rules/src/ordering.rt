@@ -28,7 +28,7 @@ pub enum OrderErr {
 
 impl From<AllocError> for OrderErr {
     ghost use Rattle.std.specs.Prelude.{◌≡◌};
-    ghost use Rattle.check_rules.specs.declared.order.OrderErr.TheVariants.{OutOfMemory};
+    ghost use Rattle.check_rules.specs.declared.ordering.OrderErr.TheVariants.{OutOfMemory};
 
     ghost from_gives = { λ _ e. e ≡ OutOfMemory };
 
@@ -44,7 +44,7 @@ fn placed(alloc: Global, rules: &[HierRule]) -> Result<Option<Vec<usize>>, Alloc
     let equations = equations(alloc, rules)?;
     let users = users(alloc, rules)?;
     let mut run = Run::started(alloc, rules, &equations)?;
-    for _ in 0..equations.len() {
+    for done in 0..equations.len() {
         if !run.step(rules, &users)? {
             return Ok(None);
         }
