@@ -1,5 +1,6 @@
 mod Counts
 mod Identifiers
+mod Items
 mod Lists
 mod Maps
 mod Runs

@@ -1,5 +1,5 @@
 -- Tests of all items or of one, and lists that are gathered place by place.
-use Rattle.std.proofs.Common.{◌≡◌, ◌⊎◌, inl, inr, ℕ, zero, suc, ◌+◌, ◌<◌, ◌≤◌, Bool, true, false, not, ◌&&◌, ◌||◌, cond, List, [], ◌∷◌, ◌++◌, map, length, take, drop, get_or, Some, None, refl, sym, ap, ◌∙◌, arith, absurd, append_assoc}
+use Rattle.std.proofs.Common.{◌≡◌, ◌⊎◌, inl, inr, ℕ, zero, suc, ◌+◌, ◌<◌, ◌≤◌, Bool, true, false, not, ◌&&◌, ◌||◌, cond, List, [], ◌∷◌, ◌++◌, map, length, take, drop, get_or, Some, None, refl, sym, ap, ◌∙◌, arith, absurd, append_assoc, append-nil}
 use Rattle.std.specs.Prelude.{slice_get, nat_eq, filter}
 use Rattle.std.specs.List.{enumerate_from, flat_map, list_all, list_any}
 use Rattle.std.proofs.lemmas.Bool.{and_cases, and_from, and_parts, and_right, eq-eqb, eqb-true, or_cases, or_left, or_right}
@@ -92,6 +92,11 @@ module _ {X : Type 0} where
       ap (λ l. l ++ flat_map f (enumerate_from (i + 1) (drop (i + 1) xs))) e ∙ append_assoc before (f (i, x)) (flat_map f (enumerate_from (i + 1) (drop (i + 1) xs)))
       ∙ sym (ap (λ l. before ++ flat_map f (enumerate_from i l)) (drop_more xs i x within ∙ ap (λ y. y ∷ drop (i + 1) xs) (sym is)))
       ∙ h
+
+  pub taken_more : {Y : Type 0} (f : X → List Y) (xs : List X) (k : ℕ) (x : X) → slice_get xs k ≡ Some x → flat_map f (take (k + 1) xs) ≡ flat_map f (take k xs) ++ f x
+  taken_more f [] k x e = cc
+  taken_more f (y ∷ ys) zero x e = let same : y ≡ x = cc in append-nil (f y) ∙ ap f same
+  taken_more f (y ∷ ys) (suc k) x e = ap (λ l. f y ++ l) (taken_more f ys k x e) ∙ sym (append_assoc (f y) (flat_map f (take k ys)) (f x))
 
   -- a place for each item that passes
   pub places_kept : (test : ℕ × X → Bool) (xs : List (ℕ × X)) → flat_map (λ x. cond (test x) (x.0 ∷ []) []) xs ≡ map (λ x. x.0) (filter test xs)

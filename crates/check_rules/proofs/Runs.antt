@@ -4,20 +4,27 @@ use Rattle.std.specs.Prelude.{slice_get, nat_eq, nat_lt, filter, unwrap_or}
 use Rattle.std.specs.BTreeMap.{is_at}
 use Rattle.std.specs.BTreeSet.{contains}
 use Rattle.std.specs.List.{enumerate_from, find, flat_map, list_all, list_any}
+use Rattle.std.proofs.lemmas.Map.Lookups.{exact_unsigned}
+use Rattle.std.specs.Cmp.{Equal-is}
 use Rattle.std.specs.Map.{lookup}
 use Rattle.std.specs.Ordering.{nat_cmp}
 use Rattle.std.proofs.lemmas.Bool.{and_cases, and_from, and_parts, cases_eq, cases_lt, eq-eqb, eqb-true, false_from_ne_true, ne_eqb, not-true, or_cases, or_left, or_right}
-use Rattle.std.proofs.lemmas.List.{get_or-replicate, get_or-set_other, get_or-set_same, get_or_past, length-replicate, length-set, take_all}
+use Rattle.std.proofs.lemmas.List.{drop_more, get_or-replicate, get_or-set_other, get_or-set_same, get_or_past, length-replicate, length-set, take_all}
 use Rattle.std.proofs.lemmas.Option.{slice_get_within}
 use Rattle.std.specs.Cmp.Lexicographic.{bytes_decides, nat_list_eq_equiv}
+use Rattle.vtl_lists.specs.Options.{given}
 use Rattle.vtl_text.specs.Texts.{same_text}
 use Rattle.vtl_syntax.specs.declared.statements.HierRule.{HierRule}
 use Rattle.vtl_tree.specs.Structure.{same_name}
-use Rattle.check_rules.specs.Order.{Placed, is_awaited, is_left, is_ready, left_behind, next_behind}
+use Rattle.check_rules.specs.Order.{Placed, is_awaited, is_left, is_ready, left_behind, next_behind, order_behind}
 use Rattle.check_rules.specs.RuleItems.{defines, is_equation, left_item, right_items}
-use Rattle.check_rules.specs.Running.{AreUsers, IsRunning, count_at, is_free_by, is_place_in, number, places_at, places_of, times_computed, uses_of}
+use Rattle.check_rules.specs.Running.{AreUsers, IsRunning, IsStep, count_at, is_free_by, is_place_in, number, places_at, places_of, times_computed, uses_of}
 use Rattle.check_rules.proofs.Counts.{any_numbered, at_place, first_kept, none_kept, one_less, place_is, place_more}
 use Rattle.check_rules.proofs.Lists.{all_at, all_fails, all_more, all_where, among_places, any_at, gathered_at, gathered_from, one_fails, one_passes, place_among}
+
+-- numbers that differ do not tie
+pub not_at : (place q : ℕ) → (q ≡ place → ⊥) → is_at (nat_cmp place) q ≡ false
+not_at place q other = false_from_ne_true (is_at (nat_cmp place) q) (λ e. other (sym (exact_unsigned place q ((Equal-is (nat_cmp place q)).0 e))))
 
 -- ---- what is left, and what is awaited
 module _ (rules : List HierRule) where
@@ -86,6 +93,50 @@ module _ (rules : List HierRule) where
 
       nothing : (i : ℕ) → contains nat_cmp ready i ≡ true → ⊥
       nothing i h = never (sym (ap (λ l. list_any (is_at (nat_cmp i)) l) empty) ∙ h)
+
+  -- ---- the next rule
+  module _ (done : List ℕ) (awaited : List (List ℕ × ℕ)) (free : List ℕ) (ready : BTreeSet ℕ) (run : IsRunning rules done [] awaited free ready) where
+    known_ready : (i : ℕ) (r : HierRule) → slice_get rules i ≡ Some r → is_left done (i, r) ≡ true → is_ready (left_behind rules done) (i, r) ≡ true → contains nat_cmp ready i ≡ true
+    known_ready i r e l h = go (run.all_ready i r e l h)
+      where
+        go : (contains nat_cmp ready i ≡ true) ⊎ (is_place_in [] i ≡ true) → contains nat_cmp ready i ≡ true
+        go (inl c) = c
+        go (inr p) = cc
+
+    pub next_is : (place : ℕ) → contains nat_cmp ready place ≡ true → ((q : ℕ) → contains nat_cmp ready q ≡ true → place ≤ q) → (x : Placed) × (next_behind rules done ≡ Some x) × (x.0 ≡ place)
+    next_is place here least =
+        let f = run.are_ready place here in (
+          (place, f.0),
+          first_kept (is_left done) (is_ready (left_behind rules done)) (enumerate_from 0 rules) place (place, f.0) (rule_at place f.0 f.1) f.2 f.3
+              (λ j y before at kept. false_from_ne_true (is_ready (left_behind rules done) y) (λ t. earlier j y before at kept t)),
+          refl,
+        )
+      where
+        earlier : (j : ℕ) (y : Placed) → j < place → slice_get (enumerate_from 0 rules) j ≡ Some y → is_left done y ≡ true → is_ready (left_behind rules done) y ≡ true → ⊥
+        earlier j y before at kept t =
+            let there = place_is 0 rules j y at in
+            let here : y.0 ≡ j = omega (arith, there.0) in
+            let le = least j (known_ready j y.1 there.1 (ap (λ m. is_left done (m, y.1)) (sym here) ∙ kept) t) in
+            absurd (omega (arith, le, before))
+
+    pub next_none : ((q : ℕ) → contains nat_cmp ready q ≡ false) → next_behind rules done ≡ None
+    next_none empty = none_kept (is_left done) (is_ready (left_behind rules done)) (enumerate_from 0 rules) (λ j y at kept. false_from_ne_true (is_ready (left_behind rules done) y) (λ t. here j y at kept t))
+      where
+        never : false ≡ true → ⊥
+        never e = cc
+
+        here : (j : ℕ) (y : Placed) → slice_get (enumerate_from 0 rules) j ≡ Some y → is_left done y ≡ true → is_ready (left_behind rules done) y ≡ true → ⊥
+        here j y at kept t =
+            let there = place_is 0 rules j y at in
+            let same : y.0 ≡ j = omega (arith, there.0) in
+            never (sym (empty j) ∙ known_ready j y.1 there.1 (ap (λ m. is_left done (m, y.1)) (sym same) ∙ kept) t)
+
+  -- the first of those that are pending is a place
+  pub head_within : (places : List ℕ) (i : ℕ) (done : List ℕ) (awaited : List (List ℕ × ℕ)) (free : List ℕ) (ready : BTreeSet ℕ) → i < length places → IsRunning rules done (drop i places) awaited free ready → get_or places i 0 < length rules
+  head_within places i done awaited free ready h run =
+      let now : IsRunning rules done (get_or places i 0 ∷ drop (i + 1) places) awaited free ready = subst (λ l. IsRunning rules done l awaited free ready) (drop_more places i 0 h) run in
+      let f = now.are_left (get_or places i 0) (or_left (nat_eq (get_or places i 0) (get_or places i 0)) (is_place_in (drop (i + 1) places) (get_or places i 0)) (eq-eqb (get_or places i 0) (get_or places i 0) refl)) in
+      slice_get_within rules (get_or places i 0) f.0 f.1
 
   -- ---- a look at one rule
   module _ (done pending : List ℕ) (awaited : List (List ℕ × ℕ)) (free : List ℕ) (ready : BTreeSet ℕ) (place n : ℕ) (r : HierRule) (at : slice_get rules place ≡ Some r)
@@ -372,3 +423,17 @@ module _ (rules : List HierRule) where
           pub finished_alone : None ≡ lookup (same_text (left_item r)) users → IsRunning rules (done ++ place ∷ []) [] awaited_now free ready
           finished_alone none =
               subst (λ places. IsRunning rules (done ++ place ∷ []) places awaited_now free ready) (ap (λ o. unwrap_or o []) (sym none)) finished_free
+
+-- ---- the order of what is done and what is left
+module _ (rules : List HierRule) (n done : ℕ) (order now : List ℕ) (within : done < n) (total : Option (List ℕ)) (so_far : order_behind (n - done) rules order ≡ total) where
+  one_left : n - done ≡ suc (n - (done + 1))
+  one_left = omega arith
+
+  next_gives : given (next_behind rules order) (λ x. order_behind (n - (done + 1)) rules (order ++ x.0 ∷ [])) None ≡ total
+  next_gives = ap (λ m. order_behind m rules order) (sym one_left) ∙ so_far
+
+  pub step_taken : IsStep rules order true now → order_behind (n - (done + 1)) rules now ≡ total
+  step_taken s = ap (order_behind (n - (done + 1)) rules) s.2 ∙ ap (λ o. given o (λ x. order_behind (n - (done + 1)) rules (order ++ x.0 ∷ [])) None) (sym s.1) ∙ next_gives
+
+  pub step_stuck : IsStep rules order false now → None ≡ total
+  step_stuck s = ap (λ o. given o (λ x. order_behind (n - (done + 1)) rules (order ++ x.0 ∷ [])) None) (sym s) ∙ next_gives

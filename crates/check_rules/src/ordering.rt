@@ -1,7 +1,6 @@
 // The order in which the `=` rules of a hierarchical ruleset are computed.
-ghost use Rattle.std.specs.List.{list_any};
 ghost use Rattle.std.specs.Option.{option_map};
-ghost use Rattle.std.specs.Prelude.{◌≡◌, ◌∷◌, [], IfOk, filter, map};
+ghost use Rattle.std.specs.Prelude.{◌≡◌, ◌++◌, ◌∷◌, [], IfOk, OnOk};
 ghost use Rattle.vtl_lists.specs.Apart.{all_apart};
 ghost use Rattle.vtl_tree.specs.Structure.{same_name};
 ghost use Rattle.check_faults.specs.Answers.{Answers};
@@ -45,12 +44,12 @@ fn placed(alloc: Global, rules: &[HierRule]) -> Result<Option<Vec<usize>>, Alloc
     let users = users(alloc, rules)?;
     let mut run = Run::started(alloc, rules, &equations)?;
     for done in 0..equations.len() {
-        if !run.step(rules, &users)? {
+        let taken = run.step(rules, &users)?;
+        if !taken {
             return Ok(None);
         }
     }
-    let Run { order, .. } = run;
-    Ok(Some(order))
+    Ok(Some(run.into_order()))
 }
 
 /// The places of the `=` rules in the order in which they are computed: again and again the first of those that are
@@ -67,15 +66,24 @@ pub fn order(alloc: Global, rules: &HierRules) -> Result<Vec<usize>, OrderErr>
     }
 }
 
+// Puts the item of an `=` rule behind others.
+fn push_computed(items: &mut Vec<Txt>, rule: &HierRule) -> Result<(), AllocError>
+    ensures { OnOk result (items.new.items ≡ items.old.items ++ computed_items (rule.now ∷ [])) }
+{
+    if !is_equation(rule) {
+        return Ok(());
+    }
+    items.push(left_item(rule).share()?)?;
+    Ok(())
+}
+
 // Whether no two `=` rules compute one item.
 fn computed_differ(alloc: Global, rules: &[HierRule]) -> Result<bool, AllocError>
     ensures { IfOk result (λ b. b ≡ all_apart same_name (computed_items rules.now)) }
 {
     let mut items = Vec::new(alloc);
-    for rule in rules {
-        if is_equation(rule) {
-            items.push(left_item(rule).share()?)?;
-        }
+    for place in 0..rules.len() {
+        push_computed(&mut items, &rules[place])?;
     }
     are_distinct(alloc, &items)
 }

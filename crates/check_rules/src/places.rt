@@ -1,16 +1,16 @@
 // Numbers and places by item.
 ghost use Rattle.std.specs.Prelude.{◌≡◌, ◌+◌, ◌^◌, ◌<◌, ◌-◌, ◌++◌, ◌∷◌, [], if◌then◌else◌, IfOk, OnOk, ℕ, List as Items, cond};
 ghost use Rattle.vtl_text.specs.Texts.{same_text};
-ghost use Rattle.check_rules.specs.RuleItems.{right_items};
-ghost use Rattle.check_rules.specs.Running.{AreMakers, AreUsers, count_at, is_free_by, places_at, places_of};
+ghost use Rattle.check_rules.specs.RuleItems.{defines, left_item, right_items};
+ghost use Rattle.check_rules.specs.Running.{AreMakers, AreUsers, count_at, is_free_by, makes_of, places_at, places_of, uses_of};
 
 use crate::items::{is_equation, left_item, right_item, right_len};
 use std::alloc::{AllocError, Global};
 use vtl_syntax::HierRule;
 use vtl_text::{ByName, List, Txt};
 
-/// Counts an item once more.
-pub(crate) fn count(counts: &mut ByName<usize>, item: &Txt) -> Result<(), AllocError>
+// Counts an item once more.
+fn count(counts: &mut ByName<usize>, item: &Txt) -> Result<(), AllocError>
     requires { count_at item.now counts.old + 1 < 2 ^ 64 }
     ensures { OnOk result ((q : Items ℕ) → count_at q counts.new ≡ (if same_text q item.now then count_at q counts.old + 1 else count_at q counts.old)) }
 {
@@ -21,6 +21,17 @@ pub(crate) fn count(counts: &mut ByName<usize>, item: &Txt) -> Result<(), AllocE
         }
         None => counts.put(item.share()?, 1),
     }
+}
+
+/// Counts the item of an `=` rule once more.
+pub(crate) fn count_rule(counts: &mut ByName<usize>, rule: &HierRule) -> Result<(), AllocError>
+    requires { count_at (left_item rule.now) counts.old + 1 < 2 ^ 64 }
+    ensures { OnOk result ((q : Items ℕ) → count_at q counts.new ≡ (if defines q rule.now then count_at q counts.old + 1 else count_at q counts.old)) }
+{
+    if !is_equation(rule) {
+        return Ok(());
+    }
+    count(counts, left_item(rule))
 }
 
 /// Counts an item once less.
@@ -68,8 +79,8 @@ fn note(
     }
 }
 
-// Notes the place of a rule at each item on its right.
-fn note_uses(
+// Notes the place of a rule at some items.
+fn note_right(
     alloc: Global,
     places: &mut ByName<List<usize>>,
     rule: &HierRule,
@@ -83,15 +94,43 @@ fn note_uses(
     Ok(())
 }
 
+// Notes an `=` rule at each item on its right.
+fn note_uses(
+    alloc: Global,
+    places: &mut ByName<List<usize>>,
+    rule: &HierRule,
+    place: usize,
+) -> Result<(), AllocError>
+    ensures { OnOk result ((q : Items ℕ) → places_at q places.new ≡ places_at q places.old ++ uses_of q (place, rule.now)) }
+{
+    if !is_equation(rule) {
+        return Ok(());
+    }
+    note_right(alloc, places, rule, place)
+}
+
+// Notes an `=` rule at the item that it computes.
+fn note_maker(
+    alloc: Global,
+    places: &mut ByName<List<usize>>,
+    rule: &HierRule,
+    place: usize,
+) -> Result<(), AllocError>
+    ensures { OnOk result ((q : Items ℕ) → places_at q places.new ≡ places_at q places.old ++ makes_of q (place, rule.now)) }
+{
+    if !is_equation(rule) {
+        return Ok(());
+    }
+    note(alloc, places, left_item(rule), place)
+}
+
 /// The places of the `=` rules that have an item on the right, by the items. It fails only if memory runs out.
 pub(crate) fn users(alloc: Global, rules: &[HierRule]) -> Result<ByName<List<usize>>, AllocError>
     ensures { IfOk result (AreUsers rules.now) }
 {
     let mut users = ByName::new(alloc);
-    for (place, rule) in rules.iter().enumerate() {
-        if is_equation(rule) {
-            note_uses(alloc, &mut users, rule, place)?;
-        }
+    for place in 0..rules.len() {
+        note_uses(alloc, &mut users, &rules[place], place)?;
     }
     Ok(users)
 }
@@ -101,10 +140,8 @@ pub(crate) fn makers(alloc: Global, rules: &[HierRule]) -> Result<ByName<List<us
     ensures { IfOk result (AreMakers rules.now) }
 {
     let mut makers = ByName::new(alloc);
-    for (place, rule) in rules.iter().enumerate() {
-        if is_equation(rule) {
-            note(alloc, &mut makers, left_item(rule), place)?;
-        }
+    for place in 0..rules.len() {
+        note_maker(alloc, &mut makers, &rules[place], place)?;
     }
     Ok(makers)
 }

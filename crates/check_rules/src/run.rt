@@ -1,12 +1,12 @@
 // Rules that are put in their order, one after the other.
 ghost use Rattle.std.specs.List.{enumerate_from, list_all};
-ghost use Rattle.std.specs.Prelude.{◌≡◌, ◌<◌, ◌≤◌, ◌++◌, ◌∷◌, [], IfOk, OnOk, ℕ, List as Items, false, length, map, take, true};
-ghost use Rattle.check_rules.specs.Order.{left_behind};
+ghost use Rattle.std.specs.Prelude.{◌≡◌, ◌<◌, ◌≤◌, ◌++◌, ◌∷◌, [], IfOk, OnOk, ℕ, List as Items, cond, false, length, map, take, true};
+ghost use Rattle.check_rules.specs.Order.{is_left, left_behind};
 ghost use Rattle.check_rules.specs.RuleItems.{right_items};
 ghost use Rattle.check_rules.specs.Running.{AreUsers, Finishes, IsStep, Runs, count_at, is_free_by, times_computed};
 
 use crate::items::{is_equation, left_item, right_item, right_len};
-use crate::places::{count, discount, is_free};
+use crate::places::{count_rule, discount, is_free};
 use std::alloc::{AllocError, Global};
 use std::collections::BTreeSet;
 use vtl_syntax::HierRule;
@@ -44,12 +44,20 @@ fn all_awaited(alloc: Global, rules: &[HierRule]) -> Result<ByName<usize>, Alloc
     ensures { IfOk result (λ awaited. (q : Items ℕ) → count_at q awaited ≡ times_computed [] q (enumerate_from 0 rules.now)) }
 {
     let mut awaited = ByName::new(alloc);
-    for rule in rules {
-        if is_equation(rule) {
-            count(&mut awaited, left_item(rule))?;
-        }
+    for place in 0..rules.len() {
+        count_rule(&mut awaited, &rules[place])?;
     }
     Ok(awaited)
+}
+
+fn push_equation(places: &mut Vec<usize>, rule: &HierRule, place: usize) -> Result<(), AllocError>
+    ensures { OnOk result (places.new.items ≡ places.old.items ++ cond (is_left [] (place, rule.now)) (place ∷ []) []) }
+{
+    if !is_equation(rule) {
+        return Ok(());
+    }
+    places.push(place)?;
+    Ok(())
 }
 
 /// The places of the `=` rules. It fails only if memory runs out.
@@ -57,10 +65,8 @@ pub(crate) fn equations(alloc: Global, rules: &[HierRule]) -> Result<Vec<usize>,
     ensures { IfOk result (λ v. v.items ≡ map (λ x. x.0) (left_behind rules.now [])) }
 {
     let mut places = Vec::new(alloc);
-    for (place, rule) in rules.iter().enumerate() {
-        if is_equation(rule) {
-            places.push(place)?;
-        }
+    for place in 0..rules.len() {
+        push_equation(&mut places, &rules[place], place)?;
     }
     Ok(places)
 }
@@ -73,11 +79,13 @@ impl Run {
     {
         let awaited = all_awaited(alloc, rules)?;
         let free = vec![in alloc; 0; rules.len()]?;
+        let ready = BTreeSet::new(alloc);
+        let order = Vec::new(alloc);
         Ok(Run {
             awaited,
             free,
-            ready: BTreeSet::new(alloc),
-            order: Vec::new(alloc),
+            ready,
+            order,
         })
     }
 
@@ -104,8 +112,8 @@ impl Run {
         ensures running { OnOk result (Runs rules.now [] self.new) }
         ensures order { OnOk result (self.new.order.items ≡ self.old.order.items) }
     {
-        for place in places {
-            self.settle(rules, *place)?;
+        for i in 0..places.len() {
+            self.settle(rules, places[i])?;
         }
         Ok(())
     }
@@ -168,5 +176,18 @@ impl Run {
             }
             None => Ok(false),
         }
+    }
+
+    /// The places of the rules that are done, in order.
+    pub(crate) fn into_order(self) -> Vec<usize>
+        ensures { result.items ≡ self.order.items }
+    {
+        let Run {
+            awaited: _awaited,
+            free: _free,
+            ready: _ready,
+            order,
+        } = self;
+        order
     }
 }

@@ -1,0 +1,7 @@
+use Rattle.std.proofs.Common.{◌-◌, arith, refl}
+use Rattle.check_rules.proofs.Items.{right_at}
+use Rattle.check_rules.proofs.items.right_item.Goals as goal
+
+pub returns-else-k-eq0 : goal.returns-else-k-eq0
+returns-else-k-eq0 c =
+    right_at c.args.rule.now c.as_slice.result.now c.args.k (c.args.k - 1) c.index-as_slice-k.result c.name-else-k-eq0.result.now c.as_slice.ensures (omega arith) refl c.requires c.index-as_slice-k.is c.name-else-k-eq0.ensures

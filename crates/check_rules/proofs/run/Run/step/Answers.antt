@@ -1,0 +1,25 @@
+use Rattle.std.proofs.Common.{◌≡◌, ◌≤◌, ℕ, List, [], ◌∷◌, ◌++◌, true, false, refl, ap, sym, subst, ◌∙◌}
+use Rattle.std.specs.BTreeMap.{is_at}
+use Rattle.std.specs.BTreeSet.{contains}
+use Rattle.std.specs.List.{list_any}
+use Rattle.std.specs.Ordering.{nat_cmp}
+use Rattle.std.proofs.lemmas.Map.Keys.{le_from_not_gt}
+use Rattle.std.proofs.lemmas.Option.{slice_get_within}
+use Rattle.check_rules.specs.Running.{IsRunning, Runs}
+use Rattle.check_rules.proofs.Runs.{next_is, next_none, not_at}
+use Rattle.check_rules.proofs.run.Run.step.Goals as goal
+
+pub finish-requires-clause-within : goal.finish-requires-clause-within
+finish-requires-clause-within c =
+    let f = c.requires.running.are_ready c.in-Some.place c.in-Some.ensures.member in
+    slice_get_within c.args.rules.now c.in-Some.place f.0 f.1
+
+pub finish-requires-clause-ready : goal.finish-requires-clause-ready
+finish-requires-clause-ready c =
+    (c.args.self.now.ready, c.requires.running, c.in-Some.ensures.member, c.in-Some.ensures.updates.1, λ q other. c.in-Some.ensures.updates.2 q (not_at c.in-Some.place q other))
+
+pub returns-in_ok-finish-clause-step : goal.returns-in_ok-finish-clause-step
+returns-in_ok-finish-clause-step c =
+    let self = c.args.self.now in
+    let n = next_is c.args.rules.now self.order.items self.awaited self.free.items self.ready c.requires.running c.in-Some.place c.in-Some.ensures.member (λ q there. le_from_not_gt c.in-Some.place q (c.in-Some.ensures.least q there)) in
+    (n.0, n.1, c.in_ok-finish.ensures.order ∙ ap (λ m. self.order.items ++ m ∷ []) (sym n.2))
