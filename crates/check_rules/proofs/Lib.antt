@@ -1,6 +1,8 @@
+mod Circles
 mod Counts
+mod Finding
 mod Identifiers
-mod Items
 mod Lists
 mod Maps
 mod Runs
+mod SideLemmas

@@ -219,7 +219,7 @@ module _ (rules : List HierRule) where
 
   -- ---- one rule more is done
   module _ (done : List ℕ) (place : ℕ) where
-    still_left : (x : Placed) → is_left (done ++ place ∷ []) x ≡ cond (nat_eq x.0 place) false (is_left done x)
+    pub still_left : (x : Placed) → is_left (done ++ place ∷ []) x ≡ cond (nat_eq x.0 place) false (is_left done x)
     still_left x = ap (λ b. not b && is_equation x.1) (place_more done place x.0) ∙ go (list_any (nat_eq x.0) done) (nat_eq x.0 place)
       where
         go : (a b : Bool) → (not (a || b) && is_equation x.1) ≡ cond b false (not a && is_equation x.1)

@@ -1,5 +1,5 @@
 use Rattle.std.proofs.Common.{◌-◌, arith, refl}
-use Rattle.check_rules.proofs.Items.{right_at}
+use Rattle.check_rules.proofs.SideLemmas.{right_at}
 use Rattle.check_rules.proofs.items.right_item.Goals as goal
 
 pub returns-else-k-eq0 : goal.returns-else-k-eq0

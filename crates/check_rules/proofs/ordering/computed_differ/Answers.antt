@@ -1,7 +1,7 @@
 use Rattle.std.proofs.Common.{◌≡◌, ◌++◌, [], ap, sym, ◌∙◌, arith, append-nil}
 use Rattle.std.proofs.lemmas.List.{drop_all}
 use Rattle.check_rules.specs.Order.{computed_items}
-use Rattle.check_rules.proofs.Items.{computed_step}
+use Rattle.check_rules.proofs.SideLemmas.{computed_step}
 use Rattle.check_rules.proofs.ordering.computed_differ.Goals as goal
 
 pub loop-place-init : goal.loop-place-init

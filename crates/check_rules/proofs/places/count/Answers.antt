@@ -2,7 +2,7 @@ use Rattle.std.proofs.Common.{◌≡◌, ◌+◌, ◌++◌, ◌∷◌, [], Some,
 use Rattle.std.specs.List.{list_any}
 use Rattle.std.specs.Map.{keys_of, lookup}
 use Rattle.vtl_text.specs.Texts.{same_text}
-use Rattle.check_rules.proofs.Items.{on_ok}
+use Rattle.check_rules.proofs.SideLemmas.{on_ok}
 use Rattle.check_rules.proofs.Maps.{absent, counted_again, counted_first}
 use Rattle.check_rules.proofs.places.count.Goals as goal
 

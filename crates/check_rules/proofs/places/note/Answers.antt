@@ -2,7 +2,7 @@ use Rattle.std.proofs.Common.{◌≡◌, ◌++◌, ◌∷◌, [], Some, None, ap
 use Rattle.std.specs.List.{list_any}
 use Rattle.std.specs.Map.{keys_of, set_value}
 use Rattle.vtl_text.specs.Texts.{same_text}
-use Rattle.check_rules.proofs.Items.{on_ok}
+use Rattle.check_rules.proofs.SideLemmas.{on_ok}
 use Rattle.check_rules.proofs.Maps.{noted_again, noted_first, unnoted}
 use Rattle.check_rules.proofs.places.note.Goals as goal
 
