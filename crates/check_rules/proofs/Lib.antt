@@ -1,5 +1,6 @@
 mod Circles
 mod Counts
+mod Examples
 mod Finding
 mod Identifiers
 mod Lists
