@@ -71,7 +71,7 @@ module _ {X : Type 0} (keep test : ℕ × X → Bool) (place : ℕ) where
   beyond : (n : ℕ) (xs : List X) → place < n → number others (enumerate_from n xs) ≡ number all_kept (enumerate_from n xs)
   beyond n [] l = refl
   beyond n (x ∷ xs) l =
-      ap (λ b. cond (cond b false (keep (n, x)) && test (n, x)) (suc (number others (enumerate_from (n + 1) xs))) (number others (enumerate_from (n + 1) xs))) (ne_eqb n place (λ e. absurd (omega arith)))
+      ap (λ b. cond (cond b false (keep (n, x)) && test (n, x)) (suc (number others (enumerate_from (n + 1) xs))) (number others (enumerate_from (n + 1) xs))) (ne_eqb n place (λ e. omega (arith, e)))
       ∙ ap (λ m. cond (keep (n, x) && test (n, x)) (suc m) m) (beyond (n + 1) xs (omega arith))
 
   -- with the one at the place they are one more, where that one counts
@@ -84,13 +84,14 @@ module _ {X : Type 0} (keep test : ℕ × X → Bool) (place : ℕ) where
       let gone : number others (enumerate_from n (y ∷ ys)) ≡ number all_kept (enumerate_from (n + 1) ys) =
       ap (λ b. cond (cond b false (keep (n, y)) && test (n, y)) (suc (number others (enumerate_from (n + 1) ys))) (number others (enumerate_from (n + 1) ys))) (eq-eqb n place here)
       ∙ beyond (n + 1) ys (omega arith) in
-      ap (λ z. cond (all_kept z) (suc (number all_kept (enumerate_from (n + 1) ys))) (number all_kept (enumerate_from (n + 1) ys))) (ap (λ m. (m, y)) here ∙ ap (λ z. (place, z)) same)
+      ap (λ m. cond (all_kept (m, y)) (suc (number all_kept (enumerate_from (n + 1) ys))) (number all_kept (enumerate_from (n + 1) ys))) here
+      ∙ ap (λ z. cond (all_kept (place, z)) (suc (number all_kept (enumerate_from (n + 1) ys))) (number all_kept (enumerate_from (n + 1) ys))) same
       ∙ ap (λ m. cond (all_kept (place, x)) (suc m) m) (sym gone)
   one_less n (suc i) (y ∷ ys) x e s =
       ap (λ m. cond (all_kept (n, y)) (suc m) m) (one_less (n + 1) i ys x (omega arith) s)
       ∙ turned (all_kept (n, y)) (all_kept (place, x)) (number others (enumerate_from (n + 1) ys))
       ∙ ap (λ b. cond (all_kept (place, x)) (suc (cond (cond b false (keep (n, y)) && test (n, y)) (suc (number others (enumerate_from (n + 1) ys))) (number others (enumerate_from (n + 1) ys)))) (cond (cond b false (keep (n, y)) && test (n, y)) (suc (number others (enumerate_from (n + 1) ys))) (number others (enumerate_from (n + 1) ys))))
-      (sym (ne_eqb n place (λ q. absurd (omega arith))))
+      (sym (ne_eqb n place (λ q. omega (arith, q))))
     where
       turned : (a b : Bool) (m : ℕ) → cond a (suc (cond b (suc m) m)) (cond b (suc m) m) ≡ cond b (suc (cond a (suc m) m)) (cond a (suc m) m)
       turned true true m = refl

@@ -67,7 +67,7 @@ in_a_circle : IsCycle circular (codes "A" ∷ codes "B" ∷ [])
 in_a_circle =
     taken (codes "A") (through (codes "A") (codes "B") (codes "A") a_of_b (directly (codes "B") (codes "A") b_of_a))
     (taken (codes "B") (through (codes "B") (codes "A") (codes "B") b_of_a (directly (codes "A") (codes "B") a_of_b))
-      (passed (codes "D") (λ d. let u = is_used circular (codes "D") (codes "D") d in d_unused u.0 u.1 u.2 u.3) none))
+    (passed (codes "D") (λ d. let u = is_used circular (codes "D") (codes "D") d in d_unused u.0 u.1 u.2 u.3) none))
 
 -- two rules of one item, though they have an order
 twice : hierarchy_order (rule_of (codes "A") compared.Equal (codes "B") [] ∷ rule_of (codes "A") compared.Equal (codes "C") [] ∷ []) ≡ Err rule.CircularHierarchy

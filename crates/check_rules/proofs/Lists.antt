@@ -13,10 +13,15 @@ module _ {X : Type 0} where
   all_where p q h [] e = refl
   all_where p q h (x ∷ xs) e = let parts = and_parts (p x) (list_all p xs) e in and_from (q x) (list_all q xs) (h x parts.0) (all_where p q h xs parts.1)
 
+  all_next : (p : X → Bool) (xs : List X) (k : ℕ) (x : X) → slice_get xs k ≡ Some x → p x ≡ true → list_all p (take k xs) ≡ true → list_all p (take (suc k) xs) ≡ true
+  all_next p [] k x e t h = cc
+  all_next p (y ∷ ys) zero x e t h = let same : y ≡ x = cc in and_from (p y) true (ap p same ∙ t) refl
+  all_next p (y ∷ ys) (suc k) x e t h = let parts = and_parts (p y) (list_all p (take k ys)) h in and_from (p y) (list_all p (take (suc k) ys)) parts.0 (all_next p ys k x e t parts.1)
+
   pub all_more : (p : X → Bool) (xs : List X) (k : ℕ) (x : X) → slice_get xs k ≡ Some x → p x ≡ true → list_all p (take k xs) ≡ true → list_all p (take (k + 1) xs) ≡ true
-  all_more p [] k x e t h = cc
-  all_more p (y ∷ ys) zero x e t h = let same : y ≡ x = cc in and_from (p y) true (ap p same ∙ t) refl
-  all_more p (y ∷ ys) (suc k) x e t h = let parts = and_parts (p y) (list_all p (take k ys)) h in and_from (p y) (list_all p (take (k + 1) ys)) parts.0 (all_more p ys k x e t parts.1)
+  all_more p xs k x e t h =
+      let next : k + 1 ≡ suc k = omega arith in
+      ap (λ m. list_all p (take m xs)) next ∙ all_next p xs k x e t h
 
   pub all_fails : (p : X → Bool) (xs : List X) (k : ℕ) (x : X) → slice_get xs k ≡ Some x → p x ≡ false → list_all p xs ≡ false
   all_fails p [] k x e t = cc
@@ -93,10 +98,15 @@ module _ {X : Type 0} where
       ∙ sym (ap (λ l. before ++ flat_map f (enumerate_from i l)) (drop_more xs i x within ∙ ap (λ y. y ∷ drop (i + 1) xs) (sym is)))
       ∙ h
 
+  taken_next : {Y : Type 0} (f : X → List Y) (xs : List X) (k : ℕ) (x : X) → slice_get xs k ≡ Some x → flat_map f (take (suc k) xs) ≡ flat_map f (take k xs) ++ f x
+  taken_next f [] k x e = cc
+  taken_next f (y ∷ ys) zero x e = let same : y ≡ x = cc in append-nil (f y) ∙ ap f same
+  taken_next f (y ∷ ys) (suc k) x e = ap (λ l. f y ++ l) (taken_next f ys k x e) ∙ sym (append_assoc (f y) (flat_map f (take k ys)) (f x))
+
   pub taken_more : {Y : Type 0} (f : X → List Y) (xs : List X) (k : ℕ) (x : X) → slice_get xs k ≡ Some x → flat_map f (take (k + 1) xs) ≡ flat_map f (take k xs) ++ f x
-  taken_more f [] k x e = cc
-  taken_more f (y ∷ ys) zero x e = let same : y ≡ x = cc in append-nil (f y) ∙ ap f same
-  taken_more f (y ∷ ys) (suc k) x e = ap (λ l. f y ++ l) (taken_more f ys k x e) ∙ sym (append_assoc (f y) (flat_map f (take k ys)) (f x))
+  taken_more f xs k x e =
+      let next : k + 1 ≡ suc k = omega arith in
+      ap (λ m. flat_map f (take m xs)) next ∙ taken_next f xs k x e
 
   -- a place for each item that passes
   pub places_kept : (test : ℕ × X → Bool) (xs : List (ℕ × X)) → flat_map (λ x. cond (test x) (x.0 ∷ []) []) xs ≡ map (λ x. x.0) (filter test xs)

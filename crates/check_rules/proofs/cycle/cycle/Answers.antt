@@ -15,5 +15,5 @@ loop-place-preserved c =
 pub returns : goal.returns
 returns c =
     let done : Picked (λ item. DependsOn c.args.rules.now item item) (computed_items c.args.rules.now) (c.loop-place.items.items ++ []) =
-        c.loop-place.invariant [] (subst (λ (l : List HierRule). Picked (λ item. DependsOn c.args.rules.now item item) (computed_items l) []) (sym (drop_all c.loop-place.place c.args.rules.now (omega arith))) none) in
+    c.loop-place.invariant [] (subst (λ (l : List HierRule). Picked (λ item. DependsOn c.args.rules.now item item) (computed_items l) []) (sym (drop_all c.loop-place.place c.args.rules.now (omega arith))) none) in
     subst (λ (l : List (List ℕ)). Picked (λ item. DependsOn c.args.rules.now item item) (computed_items c.args.rules.now) l) (append-nil c.loop-place.items.items) done
