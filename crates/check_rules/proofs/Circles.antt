@@ -1,6 +1,6 @@
 -- Rules have an order exactly where no item depends on itself: where no rule is ready, a walk from an item to one that it awaits meets an item
 -- twice.
-use Rattle.std.proofs.Common.{◌≡◌, ◌⊎◌, inl, inr, ℕ, zero, suc, ◌+◌, ◌<◌, ◌≤◌, Bool, true, false, not, ◌&&◌, ◌||◌, cond, List, [], ◌∷◌, ◌++◌, map, length, Option, Some, None, refl, sym, ap, subst, ◌∙◌, arith, absurd}
+use Rattle.std.proofs.Common.{◌≡◌, ◌⊎◌, inl, inr, ℕ, zero, suc, ◌+◌, ◌<◌, ◌≤◌, Bool, true, false, not, ◌&&◌, ◌||◌, cond, List, [], ◌∷◌, ◌++◌, map, length, Option, Some, None, refl, sym, ap, subst, ◌∙◌, arith}
 use Rattle.std.specs.Prelude.{slice_get, nat_eq, filter}
 use Rattle.std.specs.List.{enumerate_from, find, list_all, list_any}
 use Rattle.std.specs.Cmp.Lexicographic.{bytes_decides, nat_list_eq_equiv}
@@ -30,15 +30,16 @@ never e = cc
 module _ {X : Type 0} where
   pub kept_at : (test : X → Bool) (xs : List X) (k : ℕ) (x : X) → slice_get (filter test xs) k ≡ Some x → (j : ℕ) × (slice_get xs j ≡ Some x) × (test x ≡ true)
   kept_at test [] k x e = cc
-  kept_at test (y ∷ ys) k x e = go (test y) refl k e
+  kept_at test (y ∷ ys) k x e = go (test y) refl k e (λ m. kept_at test ys m x)
     where
       later : (j : ℕ) × (slice_get ys j ≡ Some x) × (test x ≡ true) → (j : ℕ) × (slice_get (y ∷ ys) j ≡ Some x) × (test x ≡ true)
       later f = (suc f.0, f.1, f.2)
 
-      go : (b : Bool) → test y ≡ b → (k : ℕ) → slice_get (cond b (y ∷ filter test ys) (filter test ys)) k ≡ Some x → (j : ℕ) × (slice_get (y ∷ ys) j ≡ Some x) × (test x ≡ true)
-      go true t zero e = let same : y ≡ x = cc in (zero, e, ap test (sym same) ∙ t)
-      go true t (suc k) e = later (kept_at test ys k x e)
-      go false t k e = later (kept_at test ys k x e)
+      go : (b : Bool) → test y ≡ b → (k : ℕ) → slice_get (cond b (y ∷ filter test ys) (filter test ys)) k ≡ Some x
+          → ((m : ℕ) → slice_get (filter test ys) m ≡ Some x → (j : ℕ) × (slice_get ys j ≡ Some x) × (test x ≡ true)) → (j : ℕ) × (slice_get (y ∷ ys) j ≡ Some x) × (test x ≡ true)
+      go true t zero e ih = let same : y ≡ x = cc in (zero, e, ap test (sym same) ∙ t)
+      go true t (suc k) e ih = later (ih k e)
+      go false t k e ih = later (ih k e)
 
   pub kept_there : (test : X → Bool) (xs : List X) (j : ℕ) (x : X) → slice_get xs j ≡ Some x → test x ≡ true → (k : ℕ) × (slice_get (filter test xs) k ≡ Some x)
   kept_there test [] j x e t = cc
@@ -111,8 +112,9 @@ module _ (rules : List HierRule) where
       let at = place_is 0 rules g.0 x g.1 in
       let here : g.0 ≡ x.0 = omega (arith, at.0) in
       let there : slice_get rules x.0 ≡ Some x.1 = ap (slice_get rules) (sym here) ∙ at.1 in
+      let start : x.0 ≡ 0 + x.0 = omega arith in
       let same : (λ (y : Placed). cond (nat_eq y.0 x.0) false (is_left done y) && true) ≡ (λ (y : Placed). is_left (done ++ x.0 ∷ []) y && true) = λ k y. sym (still_left rules done x.0 y) k && true in
-      let less = one_less (is_left done) (λ (y : Placed). true) x.0 0 x.0 rules x.1 (omega arith) there in
+      let less = one_less (is_left done) (λ (y : Placed). true) x.0 0 x.0 rules x.1 start there in
       number_kept (is_left done) (enumerate_from 0 rules) ∙ less
       ∙ ap (λ (f : Placed → Bool). cond (is_left done x && true) (suc (number f (enumerate_from 0 rules))) (number f (enumerate_from 0 rules))) same
       ∙ ap (λ b. cond (b && true) (suc (number (λ y. is_left (done ++ x.0 ∷ []) y && true) (enumerate_from 0 rules))) (number (λ y. is_left (done ++ x.0 ∷ []) y && true) (enumerate_from 0 rules))) g.2

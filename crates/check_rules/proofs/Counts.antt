@@ -1,8 +1,8 @@
 -- Items at their places: how many pass a test, which is the first, and what changes where one place more is done.
-use Rattle.std.proofs.Common.{◌≡◌, ◌⊎◌, inl, inr, ℕ, zero, suc, ◌+◌, ◌<◌, ◌≤◌, Bool, true, false, not, ◌&&◌, ◌||◌, cond, List, [], ◌∷◌, ◌++◌, Option, Some, None, refl, sym, ap, ◌∙◌, arith, absurd}
+use Rattle.std.proofs.Common.{◌≡◌, ◌⊎◌, inl, inr, ℕ, zero, suc, ◌+◌, ◌<◌, ◌≤◌, Bool, true, false, not, ◌&&◌, ◌||◌, cond, List, [], ◌∷◌, ◌++◌, Option, Some, None, refl, sym, ap, ◌∙◌, arith}
 use Rattle.std.specs.Prelude.{slice_get, nat_eq, nat_lt, filter}
 use Rattle.std.specs.List.{enumerate_from, find, list_all, list_any}
-use Rattle.std.proofs.lemmas.Bool.{and_parts, eq-eqb, ne_eqb}
+use Rattle.std.proofs.lemmas.Bool.{eq-eqb, lt-ltb, ne_eqb}
 use Rattle.std.proofs.lemmas.Bool.Decides.{eqb_tells}
 use Rattle.std.proofs.lemmas.List.Folds.{list_any-append}
 use Rattle.check_rules.specs.Running.{number}
@@ -56,7 +56,7 @@ module _ {X : Type 0} (keep test : X → Bool) where
       go true c ih = more (test y) ih
         where
           more : (t : Bool) → list_any test (filter keep ys) ≡ nat_lt 0 n → (t || list_any test (filter keep ys)) ≡ nat_lt 0 (cond t (suc n) n)
-          more true ih = refl
+          more true ih = sym (lt-ltb 0 (suc n) (omega arith))
           more false ih = ih
       go false c ih = ih
 

@@ -1,5 +1,5 @@
 -- Tests of all items or of one, and lists that are gathered place by place.
-use Rattle.std.proofs.Common.{◌≡◌, ◌⊎◌, inl, inr, ℕ, zero, suc, ◌+◌, ◌<◌, ◌≤◌, Bool, true, false, not, ◌&&◌, ◌||◌, cond, List, [], ◌∷◌, ◌++◌, map, length, take, drop, get_or, Some, None, refl, sym, ap, ◌∙◌, arith, absurd, append_assoc, append-nil}
+use Rattle.std.proofs.Common.{◌≡◌, ◌⊎◌, inl, inr, ℕ, zero, suc, ◌+◌, ◌<◌, ◌≤◌, Bool, true, false, not, ◌&&◌, ◌||◌, cond, List, [], ◌∷◌, ◌++◌, map, length, take, drop, get_or, Some, None, refl, sym, ap, ◌∙◌, arith, append_assoc, append-nil}
 use Rattle.std.specs.Prelude.{slice_get, nat_eq, filter}
 use Rattle.std.specs.List.{enumerate_from, flat_map, list_all, list_any}
 use Rattle.std.proofs.lemmas.Bool.{and_cases, and_from, and_parts, and_right, eq-eqb, eqb-true, or_cases, or_left, or_right}
@@ -36,11 +36,11 @@ module _ {X : Type 0} where
   -- one of the items that fail
   pub one_fails : (p : X → Bool) (xs : List X) → list_all p xs ≡ false → (k : ℕ) × (x : X) × (slice_get xs k ≡ Some x) × (p x ≡ false)
   one_fails p [] e = cc
-  one_fails p (y ∷ ys) e = go (p y) refl e
+  one_fails p (y ∷ ys) e = go (p y) refl e (one_fails p ys)
     where
-      go : (b : Bool) → p y ≡ b → (b && list_all p ys) ≡ false → (k : ℕ) × (x : X) × (slice_get (y ∷ ys) k ≡ Some x) × (p x ≡ false)
-      go false here e = (zero, y, refl, here)
-      go true here e = let rest = one_fails p ys e in (suc rest.0, rest.1, rest.2, rest.3)
+      go : (b : Bool) → p y ≡ b → (b && list_all p ys) ≡ false → (list_all p ys ≡ false → (k : ℕ) × (x : X) × (slice_get ys k ≡ Some x) × (p x ≡ false)) → (k : ℕ) × (x : X) × (slice_get (y ∷ ys) k ≡ Some x) × (p x ≡ false)
+      go false here e ih = (zero, y, refl, here)
+      go true here e ih = let rest = ih e in (suc rest.0, rest.1, rest.2, rest.3)
 
   -- ---- tests of one item
   pub any_at : (p : X → Bool) (xs : List X) (k : ℕ) (x : X) → slice_get xs k ≡ Some x → p x ≡ true → list_any p xs ≡ true
@@ -50,11 +50,11 @@ module _ {X : Type 0} where
 
   pub one_passes : (p : X → Bool) (xs : List X) → list_any p xs ≡ true → (k : ℕ) × (x : X) × (slice_get xs k ≡ Some x) × (p x ≡ true)
   one_passes p [] e = cc
-  one_passes p (y ∷ ys) e = go (p y) refl e
+  one_passes p (y ∷ ys) e = go (p y) refl e (one_passes p ys)
     where
-      go : (b : Bool) → p y ≡ b → (b || list_any p ys) ≡ true → (k : ℕ) × (x : X) × (slice_get (y ∷ ys) k ≡ Some x) × (p x ≡ true)
-      go true here e = (zero, y, refl, here)
-      go false here e = let rest = one_passes p ys e in (suc rest.0, rest.1, rest.2, rest.3)
+      go : (b : Bool) → p y ≡ b → (b || list_any p ys) ≡ true → (list_any p ys ≡ true → (k : ℕ) × (x : X) × (slice_get ys k ≡ Some x) × (p x ≡ true)) → (k : ℕ) × (x : X) × (slice_get (y ∷ ys) k ≡ Some x) × (p x ≡ true)
+      go true here e ih = (zero, y, refl, here)
+      go false here e ih = let rest = ih e in (suc rest.0, rest.1, rest.2, rest.3)
 
   -- ---- places of items
   -- the places of those that pass

@@ -49,7 +49,7 @@ module _ {T : Type 0} where
 
   some_is : (o : Option T) (x : T) → o ≡ Some x → IsSome o
   some_is None x e = cc
-  some_is (Some y) x e = tt
+  some_is (Some y) x e = refl
 
   -- and where it is in place of another
   pub at_set : (d : T) (q name : List ℕ) (item : T) (es : List (List ℕ × T)) (was : T) → lookup (same_text name) es ≡ Some was

@@ -1,5 +1,5 @@
 -- Rules that are put in their order, one after the other: what each step keeps.
-use Rattle.std.proofs.Common.{◌≡◌, ◌⊎◌, inl, inr, ℕ, zero, suc, ◌+◌, ◌-◌, ◌<◌, ◌≤◌, Bool, true, false, not, ◌&&◌, ◌||◌, cond, List, [], ◌∷◌, ◌++◌, map, length, take, drop, get_or, set, replicate, Option, Some, None, refl, sym, ap, ◌∙◌, subst, arith, absurd, BTreeSet}
+use Rattle.std.proofs.Common.{◌≡◌, ◌⊎◌, inl, inr, ℕ, zero, suc, ◌+◌, ◌-◌, ◌<◌, ◌≤◌, Bool, true, false, not, ◌&&◌, ◌||◌, cond, List, [], ◌∷◌, ◌++◌, map, length, take, drop, get_or, set, replicate, Option, Some, None, refl, sym, ap, ◌∙◌, subst, arith, BTreeSet}
 use Rattle.std.specs.Prelude.{slice_get, nat_eq, nat_lt, filter, unwrap_or}
 use Rattle.std.specs.BTreeMap.{is_at}
 use Rattle.std.specs.BTreeSet.{contains}
@@ -8,7 +8,7 @@ use Rattle.std.proofs.lemmas.Map.Lookups.{exact_unsigned}
 use Rattle.std.specs.Cmp.{Equal-is}
 use Rattle.std.specs.Map.{lookup}
 use Rattle.std.specs.Ordering.{nat_cmp}
-use Rattle.std.proofs.lemmas.Bool.{and_cases, and_from, and_parts, cases_eq, cases_lt, eq-eqb, eqb-true, false_from_ne_true, ne_eqb, not-true, or_cases, or_left, or_right}
+use Rattle.std.proofs.lemmas.Bool.{and_from, and_parts, cases_eq, cases_lt, eq-eqb, eqb-true, false_from_ne_true, lt-ltb, ne_eqb, or_cases, or_left, or_right}
 use Rattle.std.proofs.lemmas.List.{drop_more, get_or-replicate, get_or-set_other, get_or-set_same, get_or_past, length-replicate, length-set, take_all}
 use Rattle.std.proofs.lemmas.Option.{slice_get_within}
 use Rattle.std.specs.Cmp.Lexicographic.{bytes_decides, nat_list_eq_equiv}
@@ -68,10 +68,10 @@ module _ (rules : List HierRule) where
       )
 
   -- ---- the start
-  no_place : (i : ℕ) → get_or (replicate (length rules) 0) i 0 ≡ 0
+  no_place : (i : ℕ) → ◌≡◌ {A = ℕ} (get_or (replicate (length rules) 0) i 0) 0
   no_place i = go (cases_lt i (length rules))
     where
-      go : (i < length rules) ⊎ (length rules ≤ i) → get_or (replicate (length rules) 0) i 0 ≡ 0
+      go : (i < length rules) ⊎ (length rules ≤ i) → ◌≡◌ {A = ℕ} (get_or (replicate (length rules) 0) i 0) 0
       go (inl h) = get_or-replicate (length rules) i 0 0 h
       go (inr h) = let long = length-replicate (length rules) 0 in get_or_past (replicate (length rules) 0) i 0 (omega (arith, long))
 
@@ -231,8 +231,9 @@ module _ (rules : List HierRule) where
     times_less : (r : HierRule) → slice_get rules place ≡ Some r → is_left done (place, r) ≡ true → (item : List ℕ)
         → times_computed done item (enumerate_from 0 rules) ≡ cond (same_name item (left_item r)) (suc (times_computed (done ++ place ∷ []) item (enumerate_from 0 rules))) (times_computed (done ++ place ∷ []) item (enumerate_from 0 rules))
     times_less r at l item =
+        let start : place ≡ 0 + place = omega arith in
         let same : (λ (x : Placed). cond (nat_eq x.0 place) false (is_left done x) && defines item x.1) ≡ (λ (x : Placed). is_left (done ++ place ∷ []) x && defines item x.1) = λ k x. sym (still_left x) k && defines item x.1 in
-        one_less (is_left done) (λ x. defines item x.1) place 0 place rules r (omega arith) at
+        one_less (is_left done) (λ x. defines item x.1) place 0 place rules r start at
         ∙ ap (λ (f : Placed → Bool). cond (is_left done (place, r) && defines item r) (suc (number f (enumerate_from 0 rules))) (number f (enumerate_from 0 rules))) same
         ∙ ap (λ b. cond b (suc (times_computed (done ++ place ∷ []) item (enumerate_from 0 rules))) (times_computed (done ++ place ∷ []) item (enumerate_from 0 rules)))
         (ap (λ b. b && defines item r) l ∙ ap (λ b. b && same_name item (left_item r)) (and_parts (not (list_any (nat_eq place) done)) (is_equation r) l).1)
@@ -246,7 +247,11 @@ module _ (rules : List HierRule) where
       -- its item was awaited
       own_awaited : (x : List ℕ) → same_name x (left_item r) ≡ true → is_settled done x ≡ false
       own_awaited x e =
-          ap not (awaited_is done x ∙ ap (nat_lt 0) (times_less r at here x ∙ ap (λ b. cond b (suc (times_computed (done ++ place ∷ []) x (enumerate_from 0 rules))) (times_computed (done ++ place ∷ []) x (enumerate_from 0 rules))) e))
+          ap not (
+          awaited_is done x
+          ∙ ap (nat_lt 0) (times_less r at here x ∙ ap (λ b. cond b (suc (times_computed (done ++ place ∷ []) x (enumerate_from 0 rules))) (times_computed (done ++ place ∷ []) x (enumerate_from 0 rules))) e)
+          ∙ lt-ltb 0 (suc (times_computed (done ++ place ∷ []) x (enumerate_from 0 rules))) (omega arith)
+          )
 
       -- what was settled stays so
       stays : (x : List ℕ) → is_settled done x ≡ true → is_settled (done ++ place ∷ []) x ≡ true
@@ -437,3 +442,14 @@ module _ (rules : List HierRule) (n done : ℕ) (order now : List ℕ) (within :
 
   pub step_stuck : IsStep rules order false now → None ≡ total
   step_stuck s = ap (λ o. given o (λ x. order_behind (n - (done + 1)) rules (order ++ x.0 ∷ [])) None) (sym s) ∙ next_gives
+
+-- a set without keys has none
+pub holds_none : (s : BTreeSet ℕ) → (0 < length s.keys → false ≡ true) → (q : ℕ) → contains nat_cmp s q ≡ false
+holds_none s h q = go s.keys h
+  where
+    never : false ≡ true → ⊥
+    never e = cc
+
+    go : (xs : List ℕ) → (0 < length xs → false ≡ true) → list_any (is_at (nat_cmp q)) xs ≡ false
+    go [] h = refl
+    go (x ∷ xs) h = absurd (never (h (omega arith)))
