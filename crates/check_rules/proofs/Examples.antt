@@ -85,6 +85,7 @@ item_first : hierarchical_defined whole (rule_of (codes "A") compared.Equal (cod
 item_first = refl
 
 level_first : hierarchical_defined whole (record (rule_of (codes "B") compared.Equal (codes "C") []) { error = record { code = None; level = Some high } } ∷ rule_of (codes "A") compared.Equal (codes "B") (plus (codes "B") ∷ []) ∷ []) ≡ Err rule.WrongLiteral
+unfolding lib.Utf8.encode
 level_first = refl
 
 -- one name twice

@@ -73,14 +73,14 @@ module _ (rules : List HierRule) where
     where
       go : (i < length rules) ⊎ (length rules ≤ i) → ◌≡◌ {A = ℕ} (get_or (replicate (length rules) 0) i 0) 0
       go (inl h) = get_or-replicate (length rules) i 0 0 h
-      go (inr h) = let long = length-replicate (length rules) 0 in get_or_past (replicate (length rules) 0) i 0 (omega (arith, long))
+      go (inr h) = let long = length-replicate {A = ℕ} (length rules) 0 in get_or_past (replicate (length rules) 0) i 0 (omega (arith, long))
 
   pub starts : (awaited : List (List ℕ × ℕ)) (free : List ℕ) (ready : BTreeSet ℕ)
       → ((item : List ℕ) → count_at item awaited ≡ times_computed [] item (enumerate_from 0 rules)) → free ≡ replicate (length rules) 0 → ready.keys ≡ []
       → IsRunning rules [] (map (λ x. x.0) (left_behind rules [])) awaited free ready
   starts awaited free ready counted zeros empty = record {
     counted = counted;
-    many = ap length zeros ∙ length-replicate (length rules) 0;
+    many = ap length zeros ∙ length-replicate {A = ℕ} (length rules) 0;
     passed = λ i r e. ap (λ n. list_all (is_settled []) (take n (right_items r))) (ap (λ l. get_or l i 0) zeros ∙ no_place i);
     are_ready = λ i h. absurd (nothing i h);
     all_ready = λ i r e l h. inr (place_of_left [] i r e l);

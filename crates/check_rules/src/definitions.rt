@@ -60,7 +60,7 @@ fn digits(alloc: Global, number: usize) -> Result<Txt, AllocError>
     ensures { IfOk result (λ t. t ≡ identifier_of number None) }
 {
     let digits = format!(in alloc; "{}", number)?;
-    Txt::new(alloc, digits.as_str())
+    Txt::new(alloc, &digits)
 }
 
 fn identifier(alloc: Global, number: usize, name: &Option<Txt>) -> Result<Txt, AllocError>

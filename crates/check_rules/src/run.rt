@@ -78,7 +78,8 @@ impl Run {
         ensures order { IfOk result (λ run. run.order.items ≡ []) }
     {
         let awaited = all_awaited(alloc, rules)?;
-        let free = vec![in alloc; 0; rules.len()]?;
+        let count = rules.len();
+        let free = vec![in alloc; 0; count]?;
         let ready = BTreeSet::new(alloc);
         let order = Vec::new(alloc);
         Ok(Run {

@@ -14,7 +14,10 @@ loop-at-init c =
     (subst (λ es. Finds (IsMadeOf c.args.rules.now c.args.item.now) (keys_of es) (keys_of c.find_parts.new.found)) c.new-found.ensures c.in_ok-find_parts.ensures)
 
 pub loop-at-preserved : goal.loop-at-preserved
-loop-at-preserved c = ?
+loop-at-preserved c =
+    let there : slice_get (keys_of c.loop-at.found) c.loop-at.at ≡ Some c.in_ok-part.part =
+    slice_get-map (λ e. e.0) c.loop-at.found c.loop-at.at ∙ ap (option_map (λ e. e.0)) c.at.ensures ∙ ap Some (sym c.in_ok-part.ensures) in
+    follow_more c.args.rules.now c.args.item.now c.loop-at.at (keys_of c.loop-at.found) (keys_of c.find_parts-in-loop-at.new.found) c.in_ok-part.part there c.loop-at.invariant c.in_ok-find_parts-2.ensures
 
 pub returns : goal.returns
 returns c =

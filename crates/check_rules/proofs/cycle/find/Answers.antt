@@ -7,5 +7,5 @@ use Rattle.check_rules.proofs.cycle.find.Goals as goal
 pub returns-then-has : goal.returns-then-has
 returns-then-has c = find_old (keys_of c.args.found.now) c.args.part.now (sym c.has.ensures ∙ c.if-has.true)
 
-pub returns-in_ok-share : goal.returns-in_ok-share
-returns-in_ok-share c = on_ok c.put.result c.put.ensures.put (λ put. find_new c.args.found.now c.put.new.self c.args.part.now c.in_ok-share.field-0 put c.in_ok-share.ensures)
+pub returns : goal.returns
+returns c = on_ok c.put.result c.put.ensures.put (λ put. find_new c.args.found.now c.put.new.self c.args.part.now c.in_ok-share.field-0 put c.in_ok-share.ensures)

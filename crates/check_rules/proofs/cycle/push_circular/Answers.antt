@@ -1,4 +1,4 @@
-use Rattle.std.proofs.Common.{◌≡◌, true, false, ⊥, ap, sym, subst, ◌∙◌, ℕ, List}
+use Rattle.std.proofs.Common.{◌≡◌, true, false, ap, sym, subst, ◌∙◌, ℕ, List}
 use Rattle.check_rules.specs.Found.{TellsDependence}
 use Rattle.check_rules.specs.Order.{DependsOn}
 use Rattle.check_rules.specs.RuleItems.{left_item}

@@ -1,5 +1,6 @@
 use Rattle.std.proofs.Common.{◌≡◌, List, length, ◌+◌, ◌++◌, map, [], ap, arith, sym, ◌∙◌, append-nil, ℕ}
 use Rattle.std.proofs.lemmas.List.{drop_all}
+use Rattle.std.proofs.lemmas.Result.{IfOk-weaker}
 use Rattle.vtl_lists.specs.Apart.{all_apart}
 use Rattle.vtl_text.specs.Texts.{same_text}
 use Rattle.check_rules.specs.Definitions.{are_told_apart, identifiers, identifiers_from}
@@ -16,4 +17,4 @@ returns c =
     sym (append-nil c.loop-rule.identifiers.items)
     ∙ sym (ap (λ l. c.loop-rule.identifiers.items ++ identifiers_from (length c.loop-rule.identifiers.items + 1) (map (λ r. r.name) l)) (drop_all c.loop-rule.rule-index c.args.rules.now (omega arith)))
     ∙ c.loop-rule.invariant in
-    ?
+    IfOk-weaker c.are_distinct.result _ _ (λ b e. e ∙ ap (all_apart same_text) (c.deref.ensures.value ∙ all)) c.are_distinct.ensures

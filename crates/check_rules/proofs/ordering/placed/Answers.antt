@@ -13,7 +13,7 @@ loop-done-init c =
     let all : length c.in_ok-equations.equations.items - 0 ≡ length (left_behind rules []) = omega (arith, counted, many) in
     record {
       running = c.in_ok-run.ensures.running;
-      order = ap (λ m. order_behind m rules c.in_ok-run.run.order.items) all ∙ ap (order_behind (length (left_behind rules [])) rules) c.in_ok-run.ensures.order;
+      order = ap (λ m. order_behind m rules c.in_ok-run.run'.order.items) all ∙ ap (order_behind (length (left_behind rules [])) rules) c.in_ok-run.ensures.order;
     }
 
 pub returns-then-not-taken : goal.returns-then-not-taken
