@@ -1,6 +1,6 @@
 -- Names that are found, and the items that an item depends on.
-use Rattle.std.proofs.Common.{◌≡◌, ◌⊎◌, inl, inr, ℕ, zero, suc, ◌+◌, ◌<◌, ◌≤◌, Bool, true, false, not, ◌&&◌, ◌||◌, cond, List, [], ◌∷◌, ◌++◌, map, length, take, drop, get_or, Option, Some, None, refl, sym, ap, subst, ◌∙◌, arith, append_assoc, append-nil, unwrap_or}
-use Rattle.std.specs.Prelude.{slice_get, nat_eq, filter}
+use Rattle.std.proofs.Common.{◌≡◌, ◌⊎◌, inl, inr, ℕ, zero, suc, ◌+◌, ◌<◌, ◌≤◌, Bool, true, false, ◌||◌, cond, List, [], ◌∷◌, ◌++◌, map, length, take, drop, get_or, Option, Some, None, refl, sym, ap, subst, ◌∙◌, arith, append_assoc, append-nil, unwrap_or}
+use Rattle.std.specs.Prelude.{slice_get, nat_eq}
 use Rattle.std.specs.List.{AllByRecursion, enumerate_from, list_any}
 use Rattle.std.specs.Map.{keys_of, lookup}
 use Rattle.std.specs.Cmp.Lexicographic.{bytes_decides, nat_list_eq_equiv}
@@ -13,12 +13,12 @@ use Rattle.vtl_syntax.specs.declared.statements.HierRule.{HierRule}
 use Rattle.vtl_tree.specs.Structure.{same_name}
 use Rattle.check_rules.specs.Found.{Adds, AreWithin, Finds, Has, IsOnRight, IsOnRightAt, TellsDependence}
 use Rattle.check_rules.specs.Order.{DependsOn, IsMadeOf, Picked, Placed, computed_items, directly, none, passed, taken, through}
-use Rattle.check_rules.specs.RuleItems.{defines, is_equation, left_item, right_items}
+use Rattle.check_rules.specs.RuleItems.{defines, is_equation, left_item}
 use Rattle.check_rules.specs.Running.{AreMakers, is_place_in, makes_of, places_at}
 use Rattle.check_rules.proofs.Circles.{then_on}
 use Rattle.check_rules.proofs.Counts.{place_is}
 use Rattle.check_rules.proofs.SideLemmas.{computed_first}
-use Rattle.check_rules.proofs.Lists.{any_at, gathered_at, gathered_from, one_passes}
+use Rattle.check_rules.proofs.Lists.{gathered_at, gathered_from, one_passes}
 use Rattle.check_rules.proofs.Runs.{one_rule, rule_at}
 
 same-true : (a b : List ℕ) → same_name a b ≡ true → a ≡ b

@@ -1,6 +1,6 @@
 -- The identifiers of rules, one behind the other.
-use Rattle.std.proofs.Common.{◌≡◌, ℕ, ◌+◌, ◌<◌, List, [], ◌∷◌, ◌++◌, map, length, drop, get_or, Option, refl, sym, ap, ◌∙◌, append_assoc, append-nil}
-use Rattle.std.proofs.lemmas.List.{drop_all, drop_more, length_push}
+use Rattle.std.proofs.Common.{◌≡◌, ℕ, ◌+◌, ◌<◌, List, [], ◌∷◌, ◌++◌, map, length, drop, get_or, Option, refl, sym, ap, ◌∙◌, append_assoc}
+use Rattle.std.proofs.lemmas.List.{drop_more, length_push}
 use Rattle.vtl_syntax.specs.View.{point_rule_tree}
 use Rattle.vtl_syntax.specs.declared.statements.PointRule.{PointRule}
 use Rattle.check_rules.specs.Definitions.{identifier_of, identifiers, identifiers_from, point_rule_name}

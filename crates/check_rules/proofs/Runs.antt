@@ -1,9 +1,9 @@
 -- Rules that are put in their order, one after the other: what each step keeps.
-use Rattle.std.proofs.Common.{◌≡◌, ◌⊎◌, inl, inr, ℕ, zero, suc, ◌+◌, ◌-◌, ◌<◌, ◌≤◌, Bool, true, false, not, ◌&&◌, ◌||◌, cond, List, [], ◌∷◌, ◌++◌, map, length, take, drop, get_or, set, replicate, Option, Some, None, refl, sym, ap, ◌∙◌, subst, arith, BTreeSet}
-use Rattle.std.specs.Prelude.{slice_get, nat_eq, nat_lt, filter, unwrap_or}
+use Rattle.std.proofs.Common.{◌≡◌, ◌⊎◌, inl, inr, ℕ, suc, ◌+◌, ◌-◌, ◌<◌, ◌≤◌, Bool, true, false, not, ◌&&◌, ◌||◌, cond, List, [], ◌∷◌, ◌++◌, map, length, take, drop, get_or, set, replicate, Option, Some, None, refl, sym, ap, ◌∙◌, subst, arith, BTreeSet}
+use Rattle.std.specs.Prelude.{slice_get, nat_eq, nat_lt, unwrap_or}
 use Rattle.std.specs.BTreeMap.{is_at}
 use Rattle.std.specs.BTreeSet.{contains}
-use Rattle.std.specs.List.{enumerate_from, find, flat_map, list_all, list_any}
+use Rattle.std.specs.List.{enumerate_from, list_all, list_any}
 use Rattle.std.proofs.lemmas.Map.Lookups.{exact_unsigned}
 use Rattle.std.specs.Cmp.{Equal-is}
 use Rattle.std.specs.Map.{lookup}
@@ -20,7 +20,7 @@ use Rattle.check_rules.specs.Order.{Placed, is_awaited, is_left, is_ready, left_
 use Rattle.check_rules.specs.RuleItems.{defines, is_equation, left_item, right_items}
 use Rattle.check_rules.specs.Running.{AreUsers, IsRunning, IsStep, count_at, is_free_by, is_place_in, number, places_at, places_of, times_computed, uses_of}
 use Rattle.check_rules.proofs.Counts.{any_numbered, at_place, first_kept, none_kept, one_less, place_is, place_more}
-use Rattle.check_rules.proofs.Lists.{all_at, all_fails, all_more, all_where, among_places, any_at, gathered_at, gathered_from, one_fails, one_passes, place_among}
+use Rattle.check_rules.proofs.Lists.{all_at, all_fails, all_where, among_places, any_at, gathered_at, gathered_from, one_fails, one_passes, place_among}
 
 -- numbers that differ do not tie
 pub not_at : (place q : ℕ) → (q ≡ place → ⊥) → is_at (nat_cmp place) q ≡ false

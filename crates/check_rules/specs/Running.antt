@@ -1,5 +1,5 @@
 -- What is known while rules are put in their order: how often each item is awaited, who uses it, and which rules are ready.
-use Rattle.std.specs.Prelude.{◌≡◌, ◌<◌, ◌⊎◌, ℕ, suc, Bool, true, false, not, ◌&&◌, cond, List, [], ◌∷◌, ◌++◌, take, length, get_or, nat_eq, nat_lt, Option, None, Some, unwrap_or}
+use Rattle.std.specs.Prelude.{◌≡◌, ◌⊎◌, ℕ, suc, Bool, true, false, not, ◌&&◌, cond, List, [], ◌∷◌, ◌++◌, take, length, get_or, nat_eq, nat_lt, None, Some, unwrap_or}
 use Rattle.std.specs.BTreeSet.{BTreeSet, contains}
 use Rattle.std.specs.List.{enumerate_from, flat_map, list_all, list_any, slice_get}
 use Rattle.std.specs.Map.{lookup}

@@ -78,8 +78,7 @@ impl Run {
         ensures order { IfOk result (λ run. run.order.items ≡ []) }
     {
         let awaited = all_awaited(alloc, rules)?;
-        let count = rules.len();
-        let free = vec![in alloc; 0; count]?;
+        let free = vec![in alloc; 0; rules.len()]?;
         let ready = BTreeSet::new(alloc);
         let order = Vec::new(alloc);
         Ok(Run {

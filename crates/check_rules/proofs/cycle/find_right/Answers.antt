@@ -1,4 +1,4 @@
-use Rattle.std.proofs.Common.{[], arith, subst, take}
+use Rattle.std.proofs.Common.{[], arith, subst}
 use Rattle.std.specs.Map.{keys_of}
 use Rattle.std.proofs.lemmas.Bool.{false≢true}
 use Rattle.std.proofs.lemmas.List.{take_all}

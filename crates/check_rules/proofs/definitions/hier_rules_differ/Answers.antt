@@ -1,10 +1,10 @@
-use Rattle.std.proofs.Common.{◌≡◌, List, length, ◌+◌, ◌++◌, map, [], ap, arith, sym, ◌∙◌, append-nil, ℕ}
+use Rattle.std.proofs.Common.{◌≡◌, length, ◌+◌, ◌++◌, map, ap, arith, sym, ◌∙◌, append-nil}
 use Rattle.std.proofs.lemmas.List.{drop_all}
 use Rattle.std.proofs.lemmas.Result.{IfOk-weaker}
 use Rattle.vtl_lists.specs.Apart.{all_apart}
 use Rattle.vtl_text.specs.Texts.{same_text}
-use Rattle.check_rules.specs.Definitions.{are_told_apart, identifiers, identifiers_from}
-use Rattle.check_rules.proofs.Identifiers.{one_more, point_names}
+use Rattle.check_rules.specs.Definitions.{identifiers, identifiers_from}
+use Rattle.check_rules.proofs.Identifiers.{one_more}
 use Rattle.check_rules.proofs.definitions.hier_rules_differ.Goals as goal
 
 pub loop-rule-preserved : goal.loop-rule-preserved

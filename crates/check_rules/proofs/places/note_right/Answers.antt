@@ -1,4 +1,4 @@
-use Rattle.std.proofs.Common.{◌≡◌, ◌+◌, ◌++◌, ◌∷◌, [], ℕ, List, cond, take, ap, sym, ◌∙◌, arith, append-nil, append_assoc}
+use Rattle.std.proofs.Common.{◌++◌, ◌∷◌, [], ℕ, List, cond, take, ap, sym, ◌∙◌, arith, append-nil, append_assoc}
 use Rattle.std.proofs.lemmas.List.{take_all}
 use Rattle.vtl_text.specs.Texts.{same_text}
 use Rattle.check_rules.specs.RuleItems.{right_items}

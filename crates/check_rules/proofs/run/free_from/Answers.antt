@@ -1,4 +1,4 @@
-use Rattle.std.proofs.Common.{not, ap, sym, ◌∙◌}
+use Rattle.std.proofs.Common.{sym, ◌∙◌}
 use Rattle.check_rules.specs.RuleItems.{right_items}
 use Rattle.check_rules.specs.Running.{is_free_by}
 use Rattle.check_rules.proofs.Lists.{all_fails, all_more}

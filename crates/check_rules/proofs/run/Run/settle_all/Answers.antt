@@ -1,5 +1,5 @@
-use Rattle.std.proofs.Common.{◌≡◌, ◌<◌, ◌∷◌, ◌+◌, drop, get_or, length, ap, arith, subst, sym, ◌∙◌}
-use Rattle.std.proofs.lemmas.List.{drop_all, drop_more, get_or_default}
+use Rattle.std.proofs.Common.{◌<◌, ◌+◌, drop, length, arith, subst, ◌∙◌}
+use Rattle.std.proofs.lemmas.List.{drop_all, drop_more}
 use Rattle.check_rules.specs.Running.{Runs}
 use Rattle.check_rules.proofs.Runs.{head_within}
 use Rattle.check_rules.proofs.run.Run.settle_all.Goals as goal
