@@ -1,0 +1,9 @@
+mod Circles
+mod Counts
+mod Examples
+mod Finding
+mod Identifiers
+mod Lists
+mod Maps
+mod Runs
+mod SideLemmas

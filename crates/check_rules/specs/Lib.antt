@@ -1,0 +1,5 @@
+pub mod Definitions
+pub mod Found
+pub mod Order
+pub mod RuleItems
+pub mod Running
