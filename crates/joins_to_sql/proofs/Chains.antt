@@ -41,8 +41,8 @@ use Rattle.sql_meaning.specs.From.{Joined, fault_at, holds, join_on, joined_rows
 use Rattle.sql_meaning.specs.Scripts.{Data, base_of, tables_in}
 use Rattle.sql_meaning.specs.Tables.{Base}
 use Rattle.sql_meaning.specs.Values.{View, at_rows, value as sql_value}
-use Rattle.rules_to_sql.specs.Names.{AreNamesFormed, Names}
-use Rattle.rules_to_sql.specs.ToSql.{Naming, to_sql}
+use Rattle.expressions_to_sql.specs.Names.{AreNamesFormed, Names}
+use Rattle.expressions_to_sql.specs.ToSql.{Naming, to_sql}
 use Rattle.selects_to_sql.specs.Writable.{CanBeWritten, HaveNames}
 use Rattle.joins_to_sql.specs.Joins.{Placed, all_tied, joins_on, of_many, placed_at, placed_from, width_of}
 use Rattle.selects_to_sql.specs.Queries.{alias_of, source_as}

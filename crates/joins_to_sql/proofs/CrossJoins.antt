@@ -34,8 +34,8 @@ use Rattle.sql_check_parts.specs.Queries.{joined_scope, scope_of}
 use Rattle.sql_check_parts.specs.Scopes.{add_source}
 use Rattle.sql_meaning.specs.From.{kept_of, pairs, source_rows, with_join}
 use Rattle.sql_meaning.specs.Scripts.{Data, base_of, tables_in}
-use Rattle.rules_to_sql.specs.Names.{Names}
-use Rattle.rules_to_sql.specs.ToSql.{Naming}
+use Rattle.expressions_to_sql.specs.Names.{Names}
+use Rattle.expressions_to_sql.specs.ToSql.{Naming}
 use Rattle.selects_to_sql.specs.Writable.{HaveNames}
 use Rattle.joins_to_sql.specs.Joins.{Placed, cross_query, crosses, joined_exps, of_many, placed_from, width_of}
 use Rattle.selects_to_sql.specs.Queries.{alias_of, select_of, source_as}

@@ -32,7 +32,7 @@ use Rattle.sql_tree.specs.Trees.{JoinTree, QueryTree, Text, on}
 use Rattle.sql_tree.specs.declared.word_groups.JoinKind.{JoinKind}
 use Rattle.sql_tree.specs.declared.word_groups.JoinKind.TheVariants as joining
 use Rattle.sql_meaning.specs.Scripts.{Data}
-use Rattle.rules_to_sql.specs.ToSql.{Naming, to_sql}
+use Rattle.expressions_to_sql.specs.ToSql.{Naming, to_sql}
 use Rattle.selects_to_sql.specs.Writable.{HaveNames}
 use Rattle.joins_to_sql.specs.FullJoins.{full_query, key_structure}
 use Rattle.joins_to_sql.specs.Joins.{Placed, all_tied as ties_of, chain_select, joined_exps, joins_on, many_at, placed_at, placed_from, tied_to, width_of}

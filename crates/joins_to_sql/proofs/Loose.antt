@@ -10,8 +10,8 @@ use Rattle.vtl_meaning.specs.Made.{IsColumnAt}
 use Rattle.vtl_meaning.proofs.ValueKinds.{null_is_of, point_from, point_parts}
 use Rattle.sql_check_parts.specs.Scopes.{Scope}
 use Rattle.sql_meaning.specs.From.{nulls}
-use Rattle.rules_to_sql.specs.Names.{AreNamesFormed, Names}
-use Rattle.rules_to_sql.specs.ToSql.{Naming}
+use Rattle.expressions_to_sql.specs.Names.{AreNamesFormed, Names}
+use Rattle.expressions_to_sql.specs.ToSql.{Naming}
 
 abbrev pub loose : Component → Component
 loose x = record { name = x.name; role = role.Measure; kind = x.kind; codes = x.codes }

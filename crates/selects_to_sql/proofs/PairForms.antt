@@ -17,7 +17,7 @@ use Rattle.sql_tree.specs.Trees.{Exp, ItemTree, QueryTree, SelectTree, Text}
 use Rattle.sql_tree.specs.declared.parts.Column.{Column}
 use Rattle.sql_tree.specs.declared.parts.Literal.TheVariants as literal
 use Rattle.sql_tree.specs.declared.word_groups.JoinKind.TheVariants as joining
-use Rattle.rules_to_sql.specs.ToSql.{column_of, operator_to_sql, to_sql}
+use Rattle.expressions_to_sql.specs.ToSql.{column_of, operator_to_sql, to_sql}
 use Rattle.selects_to_sql.specs.Items.{all_of, for_each_two, items_for}
 use Rattle.selects_to_sql.specs.PairItems.{agreement_on, chosen, chosen_from, from_two, joined_by, lead_column, lead_item, namesake_item, not_chosen, paired_from, paired_of, second_item}
 use Rattle.selects_to_sql.specs.Queries.{agree, agrees_on, choose_query, chosen_exps, condition_for, conjunction, first_alias, is_chosen, is_not_chosen, item_as, of_two, pair_query, pairs_select, second_alias, source_as}

@@ -44,8 +44,8 @@ use Rattle.sql_meaning.specs.From as from
 use Rattle.sql_meaning.specs.From.{fault_at, holds, pairs, partners, source_rows}
 use Rattle.sql_meaning.specs.Scripts.{Data, base_of, tables_in}
 use Rattle.sql_meaning.specs.Values.{View, at_rows, value as sql_value}
-use Rattle.rules_to_sql.specs.Names.{AreNamesFormed, Names}
-use Rattle.rules_to_sql.specs.ToSql.{Naming, to_sql}
+use Rattle.expressions_to_sql.specs.Names.{AreNamesFormed, Names}
+use Rattle.expressions_to_sql.specs.ToSql.{Naming, to_sql}
 use Rattle.selects_to_sql.specs.Writable.{AllCanBeWritten, CanBeWritten, HaveNames}
 use Rattle.selects_to_sql.specs.Queries.{agree, agrees_on, condition_for, conjunction, first_alias, of_two, pairs_select, second_alias, source_as}
 use Rattle.selects_to_sql.specs.Runs.{IsTable, entries}

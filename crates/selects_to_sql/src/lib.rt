@@ -3,7 +3,7 @@
 //! A form of expression on data sets becomes a select over one table or over two, of rows or of groups of them. This crate
 //! decides what such a select is made of, how tables are named, and what it is for tables that are made one after the other to
 //! stand for data sets; the crates above make of it joins, groups and windows, sets and scripts. How a component expression is
-//! written it leaves to `rules_to_sql`.
+//! written it leaves to `expressions_to_sql`.
 //! It knows no tree of an expression on data sets, no statement of VTL, and no program that runs either language.
 //! Begin with specs/Queries.antt, Tables.antt and Means.antt, then `queries.rt` and `draft.rt`.
 #![tactic(auto)]
