@@ -1,0 +1,8 @@
+//! What checks mean: `check_datapoint` with a datapoint ruleset, and `check`. Definitions and their laws; it has no code.
+//!
+//! A check gives a truth value at each point, or at each point and rule; which points an output shows, and which cells
+//! stand behind their identifiers, is said once for all checks (specs/Outputs.antt). Conditions say which structure a
+//! result has (specs/Shaped.antt), not how typing found it.
+//! It knows no tables, no files and no program: `vtl_rules` computes this.
+//! Begin with specs/Outputs.antt, PointChecks.antt and Shaped.antt; proofs/Examples.antt works them out.
+#![tactic(auto)]
