@@ -50,7 +50,7 @@ use Rattle.selects_to_sql.specs.Runs.{entries, printable_depth}
 use Rattle.selects_to_sql.proofs.Expressions.{Translates}
 use Rattle.joins_to_sql.proofs.HeldOperands.{AreHeld, IsHeld, alias_new, rows_held, source_behind}
 use Rattle.selects_to_sql.proofs.Identifiers.{AreIdentifiersAt}
-use Rattle.joins_to_sql.proofs.Loose.{all_loose, loose, loose_nulls, loose_point}
+use Rattle.selects_to_sql.proofs.Loose.{all_loose, loose, loose_nulls, loose_point}
 use Rattle.joins_to_sql.proofs.ManySources.{AllApart, alias_is_name, all_columns, columns_more, many_formed, many_names, many_scope, widths}
 use Rattle.selects_to_sql.proofs.Pairs.{no_faults}
 use Rattle.selects_to_sql.proofs.Sources.{AreApart}

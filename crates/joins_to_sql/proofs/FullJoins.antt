@@ -47,7 +47,7 @@ use Rattle.selects_to_sql.proofs.Identifiers.{few_identifiers, identifiers_there
 use Rattle.joins_to_sql.proofs.JoinedColumns.{AllShown, ArePlaced, AreWell, each_plain, first_placed, joined_plain, placed_all, plain_written}
 use Rattle.joins_to_sql.proofs.JoinedRows.{IsFound, first_shown, founds, from_structures, joined_for, joined_values, left_extended, parts_found, shown_from, with_parts}
 use Rattle.joins_to_sql.proofs.KeyColumns.{keep_all, key_columns, key_identifiers, key_is_structure, keyed, keyed_cells}
-use Rattle.joins_to_sql.proofs.Loose.{all_loose}
+use Rattle.selects_to_sql.proofs.Loose.{all_loose}
 use Rattle.selects_to_sql.proofs.OneOperand.{same_functions}
 
 -- the operands have the same identifiers

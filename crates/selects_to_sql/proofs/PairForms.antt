@@ -29,7 +29,7 @@ above : (n k : ℕ) → nat_lt (n + k) n ≡ false
 above n k = le-ltb (n + k) n (omega arith)
 
 -- a column behind those of the first source is one of the second
-second_of : (n k : ℕ) (name : Text) → of_two n (n + k) name ≡ column_of second_alias name
+pub second_of : (n k : ℕ) (name : Text) → of_two n (n + k) name ≡ column_of second_alias name
 second_of n k name = ap (λ b. column_of (if b then first_alias else second_alias) name) (above n k)
 
 -- it stands nowhere else than the first of them
@@ -78,7 +78,7 @@ right_leads p o xs ys (u ∷ us) (m ∷ ms) rest =
 one_agreement : (p : Settings) (xs ys : List Component) (y : Component) → to_sql p (of_two (length xs)) (agrees_on xs ys y) ≡ agreement_on xs y
 one_agreement p xs ys y = ap (λ c. tree.binary (tree.column c) op.Equal (lead_column xs y.name)) (second_of (length xs) (place_of y.name ys) y.name)
 
-agreements : (p : Settings) (xs ys zs : List Component) → to_sql p (of_two (length xs)) (conjunction (map (agrees_on xs ys) zs)) ≡ all_of (map (agreement_on xs) zs)
+pub agreements : (p : Settings) (xs ys zs : List Component) → to_sql p (of_two (length xs)) (conjunction (map (agrees_on xs ys) zs)) ≡ all_of (map (agreement_on xs) zs)
 agreements p xs ys zs = conjunction_to_sql p (of_two (length xs)) (map (agrees_on xs ys) zs) ∙ ap all_of (each_agreement zs)
   where
     each_agreement : (zs : List Component) → map (to_sql p (of_two (length xs))) (map (agrees_on xs ys) zs) ≡ map (agreement_on xs) zs

@@ -93,7 +93,7 @@ fn agreement_on(
 
 /// The identifiers of the second source agree with their namesakes in the first, which has these columns. It fails only
 /// if memory runs out.
-pub(crate) fn agreement(
+pub fn agreement(
     alloc: Global,
     writer: &Writer,
     columns: &[&Component],

@@ -18,7 +18,7 @@ mod pair_queries;
 mod queries;
 mod writer;
 
-pub use conditions::{all_of, between, when};
+pub use conditions::{agreement, all_of, between, when};
 pub use draft::Draft;
 pub use groups::{aggregate, group_columns, group_of, grouped, has_rows};
 pub use items::{own_items, push_item, renamed_items, target_named};
