@@ -1,0 +1,7 @@
+pub mod Checked
+pub mod ChecksKept
+mod Examples
+pub mod Orders
+pub mod PointsKept
+pub mod Profiles
+pub mod Shown

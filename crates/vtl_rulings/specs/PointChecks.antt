@@ -1,5 +1,5 @@
 -- `check_datapoint`: a truth value for each rule and point; and `check`: one for each point.
-use Rattle.std.specs.Prelude.{ℕ, true, false, cond, List, ◌∷◌, ◌++◌, Option, Some, None, Ok}
+use Rattle.std.specs.Prelude.{ℕ, suc, ◌+◌, true, false, cond, List, ◌∷◌, ◌++◌, drop, length, take, Option, Some, None, Ok}
 use Rattle.std.specs.List.{filter_map, flat_map}
 use Rattle.std.specs.Option.{option_map_or}
 use Rattle.vtl_decimal.specs.Settings.{Settings}
@@ -21,7 +21,7 @@ use Rattle.vtl_tree.specs.declared.specifications.CheckSpec.{CheckSpec}
 use Rattle.vtl_tree.specs.declared.structure.Structure.{Structure}
 use Rattle.vtl_meaning.specs.Agreement.{first_agreeing, key_of, values_in}
 use Rattle.vtl_meaning.specs.Points.{cell_or_null}
-use Rattle.vtl_rulings.specs.Outputs.{code_cell, errors_at, is_basic_shown, is_shown, level_cell, output_parts, with_ids}
+use Rattle.vtl_rulings.specs.Outputs.{code_cell, errors_at, is_basic_shown, is_false, is_shown, level_cell, output_parts, with_ids}
 
 -- ---- rules
 -- what holds under an antecedent: where it is false the rule holds, where it is null nothing is known
@@ -65,6 +65,15 @@ rule_fault p a rule = faults_by (λ r. fault_in (truth_of p rule.1 r)) a.points
 -- rule after rule
 abbrev pub datapoint_of : Settings → CheckOut → List PointRuleTree → DataSet → Outcome (List Row)
 datapoint_of p o rules a = unless (faults_by (rule_fault p a) (point_rules rules)) (flat_map (rule_points p o a) (point_rules rules))
+
+-- ---- one output by another
+-- where the truth value stands among the cells of `all_measures`: behind the identifiers, that of the rule and the measures
+abbrev pub truth_place : Structure → ℕ
+truth_place a = key_width a + suc (length (measures_of a))
+
+-- the other cells of a point whose truth value, at this place, is false
+abbrev pub false_without : (place : ℕ) → Row → Option Row
+false_without place r = cond (is_false (column_of place r)) (Some (take place r ++ drop (suc place) r)) None
 
 -- ---- `check`
 -- the measure of the point that agrees, as a number; null where there is none

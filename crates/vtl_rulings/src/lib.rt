@@ -6,3 +6,10 @@
 //! It knows no tables, no files and no program: `vtl_rules` computes this.
 //! Begin with specs/Outputs.antt, PointChecks.antt and Shaped.antt; proofs/Examples.antt works them out.
 #![tactic(auto)]
+
+mod laws;
+
+pub use laws::{
+    checks_are_of_the_profile, checks_do_not_see_order, checks_keep_data_sets,
+    invalid_is_what_is_false,
+};

@@ -1,0 +1,49 @@
+// Laws of checks.
+ghost use Rattle.std.specs.Prelude.{◌≡◌, IfOk, List, None, Ok, Option, Some, filter, option_map};
+ghost use Rattle.std.specs.List.{filter_map};
+ghost use Rattle.std.specs.Option.{IfSome};
+ghost use Rattle.vtl_decimal.specs.Settings.{Settings};
+ghost use Rattle.vtl_lists.specs.Perm.{Perm};
+ghost use Rattle.vtl_cell.specs.Outcome.{after};
+ghost use Rattle.vtl_cell.specs.Outcomes.{Same};
+ghost use Rattle.vtl_cell.specs.Row.{Row, column_of};
+ghost use Rattle.vtl_syntax.specs.declared.word_groups.BasicOut.TheVariants as basic;
+ghost use Rattle.vtl_syntax.specs.declared.word_groups.CheckOut.{CheckOut};
+ghost use Rattle.vtl_syntax.specs.declared.word_groups.CheckOut.TheVariants as out;
+ghost use Rattle.vtl_tree.specs.DataSet.{AreOfProfile, IsDataSet};
+ghost use Rattle.vtl_tree.specs.Environment.{DataSet};
+ghost use Rattle.vtl_tree.specs.Structure.{key_width};
+ghost use Rattle.vtl_tree.specs.Trees.{PointRuleTree};
+ghost use Rattle.vtl_tree.specs.declared.specifications.CheckSpec.{CheckSpec};
+ghost use Rattle.vtl_tree.specs.declared.structure.Structure.{Structure};
+ghost use Rattle.vtl_meaning.specs.Points.{with_points};
+ghost use Rattle.vtl_rulings.specs.Outputs.{is_false};
+ghost use Rattle.vtl_rulings.specs.PointChecks.{check_of, datapoint_of, false_without, truth_place};
+ghost use Rattle.vtl_rulings.specs.Shaped.{IsChecked, IsPointChecked};
+
+/// Checks give data sets of the structure that typing gives: as many cells as columns, each null or of its column's
+/// kind, no identifier null, and each tuple of identifiers once. So `check_datapoint` shows each point and rule at
+/// most once.
+pub fn checks_keep_data_sets()
+    ensures datapoint { (p : Settings) (o : CheckOut) (rules : List PointRuleTree) (a : DataSet) (s : Structure) (made : List Row) → IsPointChecked p o rules a.structure s → IsDataSet a.structure a.points → datapoint_of p o rules a ≡ Ok made → IsDataSet s made }
+    ensures check { (p : Settings) (spec : CheckSpec) (a : DataSet) (imbalance : Option DataSet) (s : Structure) → IsChecked p spec (option_map (λ e. e.structure) imbalance) a.structure s → IsDataSet a.structure a.points → IfSome imbalance (λ e. IsDataSet e.structure e.points) → IsDataSet s (check_of p spec a imbalance) }
+{}
+
+/// Operands whose points stand in another order give the same points up to order, or the same fault.
+pub fn checks_do_not_see_order()
+    ensures datapoint { (p : Settings) (o : CheckOut) (rules : List PointRuleTree) (a : Structure) (d e : List Row) → Perm d e → Same (datapoint_of p o rules (with_points a d)) (datapoint_of p o rules (with_points a e)) }
+    ensures check { (p : Settings) (spec : CheckSpec) (a : Structure) (d e : List Row) → Perm d e → Perm (check_of p spec (with_points a d) None) (check_of p spec (with_points a e) None) }
+    ensures imbalance { (p : Settings) (spec : CheckSpec) (a b s : Structure) (d t e f : List Row) → IsChecked p spec (Some b) a s → IsDataSet b e → Perm d t → Perm e f → Perm (check_of p spec (with_points a d) (Some (with_points b e))) (check_of p spec (with_points a t) (Some (with_points b f))) }
+{}
+
+/// The points of checks hold integers of the profile alone where those of the operand do.
+pub fn checks_are_of_the_profile()
+    ensures datapoint { (p : Settings) (o : CheckOut) (rules : List PointRuleTree) (a s : Structure) (d : List Row) → IsPointChecked p o rules a s → AreOfProfile p d → IfOk (datapoint_of p o rules (with_points a d)) (AreOfProfile p) }
+    ensures check { (p : Settings) (spec : CheckSpec) (imbalance : Option DataSet) (a s : Structure) (d : List Row) → IsChecked p spec (option_map (λ e. e.structure) imbalance) a s → AreOfProfile p d → AreOfProfile p (check_of p spec (with_points a d) imbalance) }
+{}
+
+/// `invalid` shows what is false among all: of `all_measures` without the truth value, of `all` as it stands.
+pub fn invalid_is_what_is_false()
+    ensures datapoint { (p : Settings) (rules : List PointRuleTree) (a : DataSet) → IsDataSet a.structure a.points → datapoint_of p out.Invalid rules a ≡ after (datapoint_of p out.AllMeasures rules a) (λ points. Ok (filter_map (false_without (truth_place a.structure)) points)) }
+    ensures check { (p : Settings) (spec : CheckSpec) (a : DataSet) (imbalance : Option DataSet) → IsDataSet a.structure a.points → check_of p (record spec { output = basic.Invalid }) a imbalance ≡ filter (λ q. is_false (column_of (key_width a.structure) q)) (check_of p (record spec { output = basic.All }) a imbalance) }
+{}
