@@ -20,6 +20,7 @@ use Rattle.vtl_tree.specs.CompExp.{CompExp}
 use Rattle.vtl_tree.specs.Kinds.{exp_kind}
 use Rattle.vtl_tree.specs.Value.{called, value}
 use Rattle.vtl_tree.specs.declared.structure.Component.{Component}
+use Rattle.vtl_tree.proofs.Faults.{join_none}
 use Rattle.vtl_meaning.specs.Made.{AreFor, IsTyped}
 use Rattle.vtl_meaning.specs.Points.{cell_or_null, point_fault, point_of}
 use Rattle.vtl_rulings.specs.Outputs.{code_cell, errors_at, level_cell}
@@ -143,26 +144,21 @@ same_twice None = refl
 same_twice (Some DivZero) = refl
 same_twice (Some Range) = refl
 
-none_behind : (f : Option Fault) → join f None ≡ f
-none_behind None = refl
-none_behind (Some DivZero) = refl
-none_behind (Some Range) = refl
-
 -- beside the truth value they have no fault of their own
 pub errors_at_fault : (p : Settings) (truth : CompExp) (code : Option (List ℕ)) (level : Option ℤ) (r : Row) → join (fault_in (value p truth r)) (point_fault p (error_exps_at truth code level) r) ≡ fault_in (value p truth r)
-errors_at_fault p truth None None r = none_behind (fault_in (value p truth r))
+errors_at_fault p truth None None r = join_none (fault_in (value p truth r))
 errors_at_fault p truth None (Some n) r =
     let f = fault_in (value p truth r) in
-    ap (λ g. join f (join g None)) (level_fault p (value p truth r) n) ∙ ap (join f) (none_behind f) ∙ same_twice f
+    ap (λ g. join f (join g None)) (level_fault p (value p truth r) n) ∙ ap (join f) (join_none f) ∙ same_twice f
 errors_at_fault p truth (Some text) None r =
     let f = fault_in (value p truth r) in
-    ap (λ g. join f (join g None)) (text_fault p (value p truth r) text) ∙ ap (join f) (none_behind f) ∙ same_twice f
+    ap (λ g. join f (join g None)) (text_fault p (value p truth r) text) ∙ ap (join f) (join_none f) ∙ same_twice f
 errors_at_fault p truth (Some text) (Some n) r =
     let m = value p truth r in
     let f = fault_in m in
     ap (λ g. join f (join g (join (fault_in (level_where p m n)) None))) (text_fault p m text)
     ∙ ap (λ g. join f (join f (join g None))) (level_fault p m n)
-    ∙ ap (λ g. join f (join f g)) (none_behind f)
+    ∙ ap (λ g. join f (join f g)) (join_none f)
     ∙ ap (join f) (same_twice f)
     ∙ same_twice f
 
