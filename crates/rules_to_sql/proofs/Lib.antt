@@ -5,3 +5,8 @@ pub mod Errors
 pub mod RuleIds
 pub mod TypedRules
 pub mod PointQueries
+pub mod LeftJoins
+pub mod CheckedRows
+pub mod Imbalances
+pub mod CheckQueries
+pub mod Composed
