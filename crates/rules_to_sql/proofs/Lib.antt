@@ -10,3 +10,4 @@ pub mod CheckedRows
 pub mod Imbalances
 pub mod CheckQueries
 pub mod Composed
+pub mod Forms

@@ -105,8 +105,7 @@ module _ (p : Settings) (law : Translates p) (before : Data) (name : Text) (o : 
 
   exps_written : (rule : PointRule) → IsRule p xs rule → AllCanBeWritten (es rule)
   exps_written rule i =
-      all_append CanBeWritten ids (const (c.Text rule.0) ∷ ruled_parts o a rule.1) (columns_written xs (identifiers_of a))
-      (
+      all_append CanBeWritten ids (const (c.Text rule.0) ∷ ruled_parts o a rule.1) (columns_written xs (identifiers_of a)) (
         record { constants = i.id; shallow = omega arith },
         parts_hold CanBeWritten o ms (truth_exp rule.1) (rule_errors o rule.1) (columns_written xs (measures_of a)) (as_written (truth_exp rule.1) (truth_written rule.1 i.written)) (errors_are_written rule i o),
       )

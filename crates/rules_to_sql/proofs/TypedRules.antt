@@ -40,15 +40,14 @@ module _ (p : Settings) (xs : List Component) where
 
   held_typed : (antecedent : Option CompExp) (condition : CompExp) → IfSome antecedent (IsConditionOver p xs) → IsConditionOver p xs condition → IsTyped p xs (held_exp antecedent condition) × (exp_kind (held_exp antecedent condition) ≡ k.Bool)
   held_typed None condition h i = (boolean_typed condition i (exp_kind condition), boolean_kind condition i.1)
-  held_typed (Some e) condition h i =
-      (
-        (
-          ap (λ b. if b then common_kind (exp_kind condition ∷ k.Bool ∷ []) else None) h.1 ∙ beside_boolean (exp_kind condition) i.1,
-          (h.0, (i.0, (condition_negated e h, tt))),
-          refl,
-        ),
-        refl,
-      )
+  held_typed (Some e) condition h i = (
+    (
+      ap (λ b. if b then common_kind (exp_kind condition ∷ k.Bool ∷ []) else None) h.1 ∙ beside_boolean (exp_kind condition) i.1,
+      (h.0, (i.0, (condition_negated e h, tt))),
+      refl,
+    ),
+    refl,
+  )
 
   pub truth_typed : (rule : PointRuleTree) → IsPointRuleOver p xs rule → IsTyped p xs (truth_exp rule) × (exp_kind (truth_exp rule) ≡ k.Bool)
   truth_typed rule i = held_typed rule.antecedent rule.condition i.antecedent i.condition

@@ -108,8 +108,8 @@ pub fn agreement(
     all_of(alloc, conditions)
 }
 
-// The name of the first component, or none.
-fn name_of_first(alloc: Global, components: &[&Component]) -> Result<Txt, AllocError>
+/// The name of the first component, or none. It fails only if memory runs out.
+pub fn name_of_first(alloc: Global, components: &[&Component]) -> Result<Txt, AllocError>
     ensures { IfOk result (λ t. t ≡ name_of_first (shown components.now)) }
 {
     match components {

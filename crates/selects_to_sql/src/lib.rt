@@ -18,12 +18,12 @@ mod pair_queries;
 mod queries;
 mod writer;
 
-pub use conditions::{agreement, all_of, between, when};
+pub use conditions::{agreement, all_of, between, name_of_first, when};
 pub use draft::Draft;
 pub use groups::{aggregate, group_columns, group_of, grouped, has_rows};
 pub use items::{own_items, push_item, renamed_items, target_named};
 pub use named_items::{push_next, push_own};
-pub use pair_queries::{Operand, choose_query, pair_query};
+pub use pair_queries::{Operand, choose_query, from_two, pair_query};
 pub use queries::{
     calc_query, filter_query, from_one, from_table, left_query, measures_query, no_query,
     one_select, rename_query, sub_query, two_selects,
