@@ -58,14 +58,14 @@ level_is (Some n) = refl
 
 -- what holds of both and of null holds of errors
 pub errors_hold : (P : Cell → Type 0) (code level truth : Cell) → P c.Null → P code → P level → AllByRecursion P (errors_at code level truth)
-errors_hold P code level (c.Bool false) n h i = (h, i, tt)
-errors_hold P code level (c.Bool true) n h i = (n, n, tt)
-errors_hold P code level c.Null n h i = (n, n, tt)
-errors_hold P code level (c.Int x) n h i = (n, n, tt)
-errors_hold P code level (c.Num x) n h i = (n, n, tt)
-errors_hold P code level (c.Text x) n h i = (n, n, tt)
-errors_hold P code level (c.Day x) n h i = (n, n, tt)
-errors_hold P code level (c.Period x) n h i = (n, n, tt)
+errors_hold P code level (c.Bool false) n h i = (h, (i, tt))
+errors_hold P code level (c.Bool true) n h i = (n, (n, tt))
+errors_hold P code level c.Null n h i = (n, (n, tt))
+errors_hold P code level (c.Int x) n h i = (n, (n, tt))
+errors_hold P code level (c.Num x) n h i = (n, (n, tt))
+errors_hold P code level (c.Text x) n h i = (n, (n, tt))
+errors_hold P code level (c.Day x) n h i = (n, (n, tt))
+errors_hold P code level (c.Period x) n h i = (n, (n, tt))
 
 pub errors_fit : (code level truth : Cell) → IsOf k.Text code → IsOf k.Int level → fits_kinds (component_kinds error_measures) (errors_at code level truth) ≡ true
 errors_fit code level (c.Bool false) i j = rw i (rw j refl)

@@ -57,6 +57,10 @@ numeric : (kind : Kind) (v : Cell) → meets k.Num kind ≡ true → IsOf kind v
 numeric kind c.Null m h = refl
 numeric k.Int (c.Int n) m h = refl
 numeric k.Num (c.Num n) m h = refl
+numeric k.Bool (c.Bool x) m h = cc
+numeric k.Text (c.Text x) m h = cc
+numeric k.Day (c.Day x) m h = cc
+numeric k.Period (c.Period x) m h = cc
 numeric kind v m h = cc
 
 number_is : (p : Settings) (v : Cell) → meets k.Num (kind_of v) ≡ true → GivesOf k.Num (as_kind p k.Num v)

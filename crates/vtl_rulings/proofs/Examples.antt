@@ -89,25 +89,25 @@ named = Text (codes "left_over")
 
 -- where the antecedent is false the rule holds, where it is null its value is null; errors stand at a false value alone
 all_checked : datapoint_of scale_six out.All (left_over ∷ []) three_places ≡ Ok (
-  (a ∷ named ∷ c.Bool false ∷ Text (codes "neg") ∷ int 3 ∷ [])
-  ∷ (b ∷ named ∷ c.Bool true ∷ Null ∷ Null ∷ [])
-  ∷ (d ∷ named ∷ Null ∷ Null ∷ Null ∷ []) ∷ []
-)
+    (a ∷ named ∷ c.Bool false ∷ Text (codes "neg") ∷ int 3 ∷ [])
+    ∷ (b ∷ named ∷ c.Bool true ∷ Null ∷ Null ∷ [])
+    ∷ (d ∷ named ∷ Null ∷ Null ∷ Null ∷ []) ∷ []
+    )
 all_checked = refl
 
 with_measures : datapoint_of scale_six out.AllMeasures (left_over ∷ []) three_places ≡ Ok (
-  (a ∷ named ∷ int 1 ∷ minus_one ∷ c.Bool false ∷ Text (codes "neg") ∷ int 3 ∷ [])
-  ∷ (b ∷ named ∷ int 0 ∷ minus_one ∷ c.Bool true ∷ Null ∷ Null ∷ [])
-  ∷ (d ∷ named ∷ Null ∷ int 1 ∷ Null ∷ Null ∷ Null ∷ []) ∷ []
-)
+    (a ∷ named ∷ int 1 ∷ minus_one ∷ c.Bool false ∷ Text (codes "neg") ∷ int 3 ∷ [])
+    ∷ (b ∷ named ∷ int 0 ∷ minus_one ∷ c.Bool true ∷ Null ∷ Null ∷ [])
+    ∷ (d ∷ named ∷ Null ∷ int 1 ∷ Null ∷ Null ∷ Null ∷ []) ∷ []
+    )
 with_measures = refl
 
 -- the second rule has no name: its number among all rules stands for one
 only_wrong : datapoint_of scale_six out.Invalid (left_over ∷ rule None None (of_two op.Greater sold_there left_there) ∷ rule None None (of_two op.Less sold_there left_there) ∷ []) three_places ≡ Ok (
-  (a ∷ named ∷ int 1 ∷ minus_one ∷ Text (codes "neg") ∷ int 3 ∷ [])
-  ∷ (a ∷ Text (decimal 3) ∷ int 1 ∷ minus_one ∷ Null ∷ Null ∷ [])
-  ∷ (b ∷ Text (decimal 3) ∷ int 0 ∷ minus_one ∷ Null ∷ Null ∷ []) ∷ []
-)
+    (a ∷ named ∷ int 1 ∷ minus_one ∷ Text (codes "neg") ∷ int 3 ∷ [])
+    ∷ (a ∷ Text (decimal 3) ∷ int 1 ∷ minus_one ∷ Null ∷ Null ∷ [])
+    ∷ (b ∷ Text (decimal 3) ∷ int 0 ∷ minus_one ∷ Null ∷ Null ∷ []) ∷ []
+    )
 only_wrong = refl
 
 no_points : datapoint_of scale_six out.All (left_over ∷ []) (with_points stock []) ≡ Ok []
@@ -144,9 +144,9 @@ spec o = record { errorcode = Some (codes "e"); errorlevel = None; output = o }
 
 -- an imbalance is a number, and null where its operand lacks the point
 checked : check_of scale_six (spec basic.All) truths (Some differences) ≡
-  (a ∷ c.Bool true ∷ Null ∷ Null ∷ Null ∷ [])
-  ∷ (b ∷ c.Bool false ∷ Num (negsuc 1_999_999) ∷ Text (codes "e") ∷ Null ∷ [])
-  ∷ (d ∷ Null ∷ Num (pos 7_000_000) ∷ Null ∷ Null ∷ []) ∷ []
+    (a ∷ c.Bool true ∷ Null ∷ Null ∷ Null ∷ [])
+    ∷ (b ∷ c.Bool false ∷ Num (negsuc 1_999_999) ∷ Text (codes "e") ∷ Null ∷ [])
+    ∷ (d ∷ Null ∷ Num (pos 7_000_000) ∷ Null ∷ Null ∷ []) ∷ []
 checked = refl
 
 without_imbalance : check_of scale_six (spec basic.Invalid) truths None ≡ (b ∷ c.Bool false ∷ Null ∷ Text (codes "e") ∷ Null ∷ []) ∷ []

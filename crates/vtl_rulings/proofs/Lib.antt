@@ -4,4 +4,5 @@ mod Examples
 pub mod Orders
 pub mod PointsKept
 pub mod Profiles
+pub mod RuledLooks
 pub mod Shown

@@ -1,5 +1,5 @@
 -- Checks do not depend on the order of points.
-use Rattle.std.proofs.Common.{◌≡◌, List, ◌∷◌, Option, Some, None, sym, ap, Ok}
+use Rattle.std.proofs.Common.{◌≡◌, cond, List, ◌∷◌, ◌++◌, Option, Some, None, sym, ap, Ok}
 use Rattle.std.specs.List.{filter_map, find, flat_map}
 use Rattle.std.specs.Option.{option_map_or, option_to_list}
 use Rattle.vtl_decimal.specs.Settings.{Settings}
@@ -19,11 +19,12 @@ use Rattle.vtl_tree.specs.Trees.{PointRuleTree}
 use Rattle.vtl_tree.specs.declared.specifications.CheckSpec.{CheckSpec}
 use Rattle.vtl_tree.specs.declared.structure.Structure.{Structure}
 use Rattle.vtl_tree.proofs.Faults.{Same_unless, faults_by-Perm}
-use Rattle.vtl_meaning.specs.Agreement.{agree_in, first_agreeing}
+use Rattle.vtl_meaning.specs.Agreement.{agree_in, first_agreeing, key_of}
 use Rattle.vtl_meaning.specs.Points.{cell_or_null, with_points}
 use Rattle.vtl_meaning.proofs.JoinAgreements.{agreeing_only, covers}
 use Rattle.vtl_meaning.proofs.JoinOrders.{find_respects}
 use Rattle.vtl_meaning.proofs.TurnedKept.{filter_map_drawn}
+use Rattle.vtl_rulings.specs.Outputs.{code_cell, errors_at, is_basic_shown, level_cell}
 use Rattle.vtl_rulings.specs.PointChecks.{check_of, checked_point, datapoint_of, imbalance_at, point_rules, rule_fault, rule_points, ruled_point, truth_of}
 use Rattle.vtl_rulings.specs.Shaped.{IsChecked}
 
@@ -64,4 +65,6 @@ module _ (p : Settings) (spec : CheckSpec) (a : Structure) where
         chain (Perm-filter_map old d t same) (Perm-same (filter_map old t) (filter_map new t) (ap (λ g. filter_map g t) (λ x. λ r. each r x)))
       where
         point_same : (r : Row) → imbalance_at p a (Some (with_points b e)) r ≡ imbalance_at p a (Some (with_points b f)) r → checked_point p spec a (Some (with_points b e)) r (column_of (key_width a) r) ≡ checked_point p spec a (Some (with_points b f)) r (column_of (key_width a) r)
-        point_same r same = rw same refl
+        point_same r e =
+            let truth = column_of (key_width a) r in
+            ap (λ v. cond (is_basic_shown spec.output truth) (Some (key_of a r ++ (truth ∷ v ∷ errors_at (code_cell spec.errorcode) (level_cell spec.errorlevel) truth))) None) e

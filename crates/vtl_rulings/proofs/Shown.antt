@@ -22,8 +22,8 @@ use Rattle.vtl_tree.specs.declared.structure.Structure.{Structure}
 use Rattle.vtl_meaning.specs.Agreement.{key_of, values_in}
 use Rattle.vtl_meaning.specs.Points.{cell_or_null}
 use Rattle.vtl_meaning.proofs.Places.{key_within}
-use Rattle.vtl_rulings.specs.Outputs.{is_basic_shown, is_false}
-use Rattle.vtl_rulings.specs.PointChecks.{PointRule, check_of, checked_point, datapoint_of, errors_of, false_without, point_rules, rule_fault, rule_points, ruled_point, truth_of, truth_place}
+use Rattle.vtl_rulings.specs.Outputs.{code_cell, errors_at, is_basic_shown, is_false, level_cell}
+use Rattle.vtl_rulings.specs.PointChecks.{PointRule, check_of, checked_point, datapoint_of, errors_of, false_without, imbalance_at, point_rules, rule_fault, rule_points, ruled_point, truth_of, truth_place}
 
 -- ---- a cell between others
 cell_between : (front : Row) (v : Cell) (rest : Row) → column_of (length front) (front ++ v ∷ rest) ≡ v
@@ -43,7 +43,7 @@ without_between front v rest =
 -- ---- `check_datapoint`
 -- cells behind an identifier, measures, and what follows
 module _ (key : Row) (id : Cell) (measures : Row) (place : ℕ) (at : length key + suc (length measures) ≡ place) where
-  front : Row
+  abbrev front : Row
   front = key ++ (id ∷ measures)
 
   place_is : length front ≡ place
@@ -125,11 +125,15 @@ module _ (p : Settings) (spec : CheckSpec) (d : DataSet) (imbalance : Option Dat
 
   shown_from : (rs : List Row) → AllByRecursion (λ r. is_point (columns_of ours) r ≡ true) rs → filter (λ q. is_false (column_of (key_width ours) q)) (filter_map (at (with_all spec)) rs) ≡ filter_map (at (with_invalid spec)) rs
   shown_from [] all = refl
-  shown_from (r ∷ rs) all = rw (truth_kept r _ all.0) (go (is_false (truth r)) (shown_from rs all.1))
+  shown_from (r ∷ rs) all =
+      let rest = imbalance_at p ours imbalance r ∷ errors_at (code_cell spec.errorcode) (level_cell spec.errorlevel) (truth r) in
+      let q = key_of ours r ++ truth r ∷ rest in
+      ap (λ v. cond (is_false v) (q ∷ filter (λ z. is_false (column_of (key_width ours) z)) (filter_map (at (with_all spec)) rs)) (filter (λ z. is_false (column_of (key_width ours) z)) (filter_map (at (with_all spec)) rs))) (truth_kept r rest all.0)
+      ∙ go (is_false (truth r)) q (shown_from rs all.1)
     where
-      go : (b : Bool) → {q : Row} → {l m : List Row} → l ≡ m → cond b (q ∷ l) l ≡ cons_option (cond b (Some q) None) m
-      go true e = ap (λ l. _ ∷ l) e
-      go false e = e
+      go : (b : Bool) (q : Row) → {l m : List Row} → l ≡ m → cond b (q ∷ l) l ≡ cons_option (cond b (Some q) None) m
+      go true q e = ap (λ l. q ∷ l) e
+      go false q e = e
 
   pub check_shows : check_of p (with_invalid spec) d imbalance ≡ filter (λ q. is_false (column_of (key_width ours) q)) (check_of p (with_all spec) d imbalance)
   check_shows = sym (shown_from d.points h.typed)

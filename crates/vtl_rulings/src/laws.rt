@@ -1,24 +1,25 @@
 // Laws of checks.
-ghost use Rattle.std.specs.Prelude.{◌≡◌, IfOk, List, None, Ok, Option, Some, filter, option_map};
-ghost use Rattle.std.specs.List.{filter_map};
-ghost use Rattle.std.specs.Option.{IfSome};
+ghost use Rattle.std.specs.Prelude.{◌≡◌, ℕ, [], ◌∷◌, ◌++◌, IfOk, List, None, Ok, Option, Some, filter, is_some, option_map, true};
+ghost use Rattle.std.specs.List.{filter_map, find};
+ghost use Rattle.std.specs.Option.{IfSome, option_and_then};
 ghost use Rattle.vtl_decimal.specs.Settings.{Settings};
 ghost use Rattle.vtl_lists.specs.Perm.{Perm};
 ghost use Rattle.vtl_cell.specs.Outcome.{after};
 ghost use Rattle.vtl_cell.specs.Outcomes.{Same};
 ghost use Rattle.vtl_cell.specs.Row.{Row, column_of};
+ghost use Rattle.vtl_cell.specs.declared.cell.Cell.TheVariants as c;
 ghost use Rattle.vtl_syntax.specs.declared.word_groups.BasicOut.TheVariants as basic;
 ghost use Rattle.vtl_syntax.specs.declared.word_groups.CheckOut.{CheckOut};
 ghost use Rattle.vtl_syntax.specs.declared.word_groups.CheckOut.TheVariants as out;
-ghost use Rattle.vtl_tree.specs.DataSet.{AreOfProfile, IsDataSet};
+ghost use Rattle.vtl_tree.specs.DataSet.{AreOfProfile, IsDataSet, look};
 ghost use Rattle.vtl_tree.specs.Environment.{DataSet};
-ghost use Rattle.vtl_tree.specs.Structure.{key_width};
+ghost use Rattle.vtl_tree.specs.Structure.{key_width, same_name};
 ghost use Rattle.vtl_tree.specs.Trees.{PointRuleTree};
 ghost use Rattle.vtl_tree.specs.declared.specifications.CheckSpec.{CheckSpec};
 ghost use Rattle.vtl_tree.specs.declared.structure.Structure.{Structure};
-ghost use Rattle.vtl_meaning.specs.Points.{with_points};
+ghost use Rattle.vtl_meaning.specs.Points.{cell_or_null, with_points};
 ghost use Rattle.vtl_rulings.specs.Outputs.{is_false};
-ghost use Rattle.vtl_rulings.specs.PointChecks.{check_of, datapoint_of, false_without, truth_place};
+ghost use Rattle.vtl_rulings.specs.PointChecks.{check_of, datapoint_of, false_without, point_rules, ruled_point, truth_of, truth_place};
 ghost use Rattle.vtl_rulings.specs.Shaped.{IsChecked, IsPointChecked};
 
 /// Checks give data sets of the structure that typing gives: as many cells as columns, each null or of its column's
@@ -46,4 +47,14 @@ pub fn checks_are_of_the_profile()
 pub fn invalid_is_what_is_false()
     ensures datapoint { (p : Settings) (rules : List PointRuleTree) (a : DataSet) → IsDataSet a.structure a.points → datapoint_of p out.Invalid rules a ≡ after (datapoint_of p out.AllMeasures rules a) (λ points. Ok (filter_map (false_without (truth_place a.structure)) points)) }
     ensures check { (p : Settings) (spec : CheckSpec) (a : DataSet) (imbalance : Option DataSet) → IsDataSet a.structure a.points → check_of p (record spec { output = basic.Invalid }) a imbalance ≡ filter (λ q. is_false (column_of (key_width a.structure) q)) (check_of p (record spec { output = basic.All }) a imbalance) }
+{}
+
+/// What `check_datapoint` gives for a tuple `k` of the operand's identifiers and the identifier of a rule.
+///
+/// - `at`: the point of the rule of this identifier at the operand's point with these identifiers, where there is such a
+///   rule and such a point, and the output shows one. So `all` and `all_measures` show each point and rule once.
+/// - `only`: it gives no other points.
+pub fn each_rule_is_at_each_point()
+    ensures at { (p : Settings) (o : CheckOut) (rules : List PointRuleTree) (a : DataSet) (s : Structure) (made : List Row) (k : Row) (id : List ℕ) → IsPointChecked p o rules a.structure s → IsDataSet a.structure a.points → datapoint_of p o rules a ≡ Ok made → look (key_width s) made (k ++ c.Text id ∷ []) ≡ option_and_then (λ rule. option_and_then (λ r. ruled_point o a.structure rule r (cell_or_null (truth_of p rule.1 r))) (look (key_width a.structure) a.points k)) (find (λ rule. same_name rule.0 id) (point_rules rules)) }
+    ensures only { (p : Settings) (o : CheckOut) (rules : List PointRuleTree) (a : DataSet) (s : Structure) (made : List Row) (j q : Row) → IsPointChecked p o rules a.structure s → IsDataSet a.structure a.points → datapoint_of p o rules a ≡ Ok made → look (key_width s) made j ≡ Some q → (k : Row) × (id : List ℕ) × (is_some (find (λ rule. same_name rule.0 id) (point_rules rules)) ≡ true) × (j ≡ k ++ c.Text id ∷ []) }
 {}

@@ -11,5 +11,5 @@ mod laws;
 
 pub use laws::{
     checks_are_of_the_profile, checks_do_not_see_order, checks_keep_data_sets,
-    invalid_is_what_is_false,
+    each_rule_is_at_each_point, invalid_is_what_is_false,
 };

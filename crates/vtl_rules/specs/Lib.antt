@@ -1,0 +1,2 @@
+pub mod Imbalances
+pub mod Rulings
