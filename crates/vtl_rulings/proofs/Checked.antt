@@ -1,11 +1,11 @@
 -- Cells that outputs of checks hold: of their kinds, and of the profile; and which of them are shown.
-use Rattle.std.proofs.Common.{◌≡◌, ℕ, ℤ, suc, Bool, true, false, List, [], ◌∷◌, ◌++◌, map, Option, Some, None, Ok, Err, refl, ap}
+use Rattle.std.proofs.Common.{◌≡◌, ℕ, ℤ, suc, true, false, List, [], ◌∷◌, map, Option, Some, None, Ok, Err, refl}
 use Rattle.std.proofs.lemmas.List.{map-append}
 use Rattle.std.specs.Prelude.{IfOk}
 use Rattle.std.specs.List.{AllByRecursion}
 use Rattle.std.specs.Option.{IfSome}
 use Rattle.vtl_decimal.specs.Settings.{Settings}
-use Rattle.vtl_cell.specs.Outcome.{Outcome, after}
+use Rattle.vtl_cell.specs.Outcome.{Outcome}
 use Rattle.vtl_cell.specs.Profile.{IsOfProfile}
 use Rattle.vtl_cell.specs.Row.{Row}
 use Rattle.vtl_cell.specs.ScalarKinds.{meets}
@@ -26,7 +26,7 @@ use Rattle.vtl_meaning.specs.Made.{component_kinds}
 use Rattle.vtl_meaning.specs.Points.{cell_or_null}
 use Rattle.vtl_meaning.proofs.JoinParts.{fits_append}
 use Rattle.vtl_meaning.proofs.Places.{all_append}
-use Rattle.vtl_meaning.proofs.ValueKinds.{GivesOf, IsOf, after_if, null_is_of, value_is_of}
+use Rattle.vtl_meaning.proofs.ValueKinds.{GivesOf, IsOf, after_if, value_is_of}
 use Rattle.vtl_rulings.specs.Outputs.{code_cell, errors_at, level_cell, output_parts, with_ids}
 use Rattle.vtl_rulings.specs.PointChecks.{held, truth_of, under}
 use Rattle.vtl_rulings.specs.Shaped.{IsConditionOver, IsPointRuleOver, error_measures}

@@ -1,8 +1,7 @@
 -- `check` gives data sets.
-use Rattle.std.proofs.Common.{◌≡◌, ℕ, zero, suc, Bool, true, false, cond, List, [], ◌∷◌, ◌++◌, length, map, take, Option, Some, None, Ok, Err, refl, sym, ap, ◌∙◌, subst}
+use Rattle.std.proofs.Common.{◌≡◌, Bool, true, false, cond, List, [], ◌∷◌, ◌++◌, length, Option, Some, None, Ok, Err, refl, sym, ap, ◌∙◌, subst}
 use Rattle.std.proofs.lemmas.List.{map-append}
 use Rattle.std.specs.Prelude.{ℤ, option_map}
-use Rattle.std.specs.List.{AllByRecursion, find}
 use Rattle.std.specs.Option.{IfSome, option_map_or, option_to_list}
 use Rattle.vtl_decimal.specs.Range.{fit_number}
 use Rattle.vtl_decimal.specs.Settings.{Settings}
@@ -20,7 +19,6 @@ use Rattle.vtl_rows.specs.Tables.{fits_kinds}
 use Rattle.vtl_tree.specs.Columns.{identifiers_of, measures_of, others_of}
 use Rattle.vtl_tree.specs.DataSet.{IsDataSet, is_point}
 use Rattle.vtl_tree.specs.Environment.{DataSet}
-use Rattle.vtl_tree.specs.Pairs.{check_measures}
 use Rattle.vtl_tree.specs.Structure.{columns_of, key_width}
 use Rattle.vtl_tree.specs.declared.specifications.CheckSpec.{CheckSpec}
 use Rattle.vtl_tree.specs.declared.structure.Component.{Component}

@@ -1,6 +1,6 @@
 -- Checks do not depend on the order of points.
-use Rattle.std.proofs.Common.{◌≡◌, cond, List, ◌∷◌, ◌++◌, Option, Some, None, sym, ap, Ok}
-use Rattle.std.specs.List.{filter_map, find, flat_map}
+use Rattle.std.proofs.Common.{◌≡◌, cond, List, ◌∷◌, ◌++◌, Option, Some, None, sym, ap}
+use Rattle.std.specs.List.{filter_map, flat_map}
 use Rattle.std.specs.Option.{option_map_or, option_to_list}
 use Rattle.vtl_decimal.specs.Settings.{Settings}
 use Rattle.vtl_decimal.specs.declared.number.Fault.{Fault}

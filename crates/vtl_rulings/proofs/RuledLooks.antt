@@ -24,7 +24,7 @@ use Rattle.vtl_meaning.proofs.SetsLooks.{look-append}
 use Rattle.vtl_meaning.proofs.TurnedKept.{all_drawn, front_same}
 use Rattle.vtl_rulings.specs.PointChecks.{PointRule, datapoint_of}
 use Rattle.vtl_rulings.specs.Shaped.{IsPointChecked, IsPointRuleOver}
-use Rattle.vtl_rulings.proofs.PointsKept.{IsDrawn, IsRuled, all, all_rules, are_drawn, at_each, datapoint_is, drawn_is, point_at, points, rule_key}
+use Rattle.vtl_rulings.proofs.PointsKept.{IsDrawn, IsRuled, all, all_rules, are_drawn, at_each, datapoint_is, drawn_is, point_at, points}
 
 or_none : {X : Type 0} (o : Option X) → option_or o None ≡ o
 or_none None = refl

@@ -1,5 +1,5 @@
 -- What one output shows, told from another: `invalid` shows what is false among all.
-use Rattle.std.proofs.Common.{◌≡◌, ℕ, suc, ◌+◌, ◌≤◌, Bool, true, false, cond, List, [], ◌∷◌, ◌++◌, length, length-append, drop, filter, take, Option, Some, None, Ok, refl, sym, ap, ◌∙◌, append_assoc}
+use Rattle.std.proofs.Common.{◌≡◌, ℕ, suc, ◌+◌, Bool, true, false, cond, List, [], ◌∷◌, ◌++◌, length, length-append, drop, filter, take, Option, Some, None, Ok, refl, sym, ap, ◌∙◌, append_assoc}
 use Rattle.std.proofs.Math.Seq.{take-append_seam}
 use Rattle.std.proofs.lemmas.List.{length-map, length-take-le}
 use Rattle.std.proofs.lemmas.List.Elements.{filter_map-append}
@@ -22,7 +22,7 @@ use Rattle.vtl_tree.specs.declared.structure.Structure.{Structure}
 use Rattle.vtl_meaning.specs.Agreement.{key_of, values_in}
 use Rattle.vtl_meaning.specs.Points.{cell_or_null}
 use Rattle.vtl_meaning.proofs.Places.{key_within}
-use Rattle.vtl_rulings.specs.Outputs.{code_cell, errors_at, is_basic_shown, is_false, level_cell}
+use Rattle.vtl_rulings.specs.Outputs.{code_cell, errors_at, is_false, level_cell}
 use Rattle.vtl_rulings.specs.PointChecks.{PointRule, check_of, checked_point, datapoint_of, errors_of, false_without, imbalance_at, point_rules, rule_fault, rule_points, ruled_point, truth_of, truth_place}
 
 -- ---- a cell between others
