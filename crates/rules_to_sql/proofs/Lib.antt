@@ -11,3 +11,4 @@ pub mod Imbalances
 pub mod CheckQueries
 pub mod Composed
 pub mod Forms
+pub mod Numbered
