@@ -45,7 +45,7 @@ use Rattle.rules_to_sql.specs.CheckQueries.{checked_exps, checked_where}
 use Rattle.rules_to_sql.specs.Conditions.{error_exps_at, negated}
 use Rattle.rules_to_sql.specs.Writable.{AreErrorsHeld}
 use Rattle.rules_to_sql.proofs.Columns.{columns_sure, for_append, for_more, own_among, points_append}
-use Rattle.rules_to_sql.proofs.Errors.{errors_at_are, errors_at_fault, errors_at_for, errors_at_written, negated_typed}
+use Rattle.rules_to_sql.proofs.ErrorExps.{errors_at_are, errors_at_fault, errors_at_for, errors_at_written, negated_typed}
 use Rattle.rules_to_sql.proofs.LeftJoins.{rows_where}
 use Rattle.rules_to_sql.proofs.Lists.{all_shown, each_sure, faults_same, no_faults, shown_points}
 use Rattle.rules_to_sql.proofs.Truths.{negated_fault, negated_true}

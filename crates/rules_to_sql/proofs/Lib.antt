@@ -1,7 +1,7 @@
 pub mod Lists
 pub mod Columns
 pub mod Truths
-pub mod Errors
+pub mod ErrorExps
 pub mod RuleIds
 pub mod TypedRules
 pub mod PointQueries

@@ -50,7 +50,7 @@ use Rattle.rules_to_sql.specs.Conditions.{error_exps, error_exps_at, negated, tr
 use Rattle.rules_to_sql.specs.PointQueries.{datapoint_query, rule_errors, ruled_exps, ruled_parts, ruled_select}
 use Rattle.rules_to_sql.specs.Writable.{CanRuleBeWritten}
 use Rattle.rules_to_sql.proofs.Columns.{columns_sure, for_append, for_like, for_parts, kinds_behind, own_among, points_append}
-use Rattle.rules_to_sql.proofs.Errors.{errors_are, errors_at_are, errors_at_fault, errors_at_for, errors_at_written, errors_for, errors_sure, errors_written, negated_typed}
+use Rattle.rules_to_sql.proofs.ErrorExps.{errors_are, errors_at_are, errors_at_fault, errors_at_for, errors_at_written, errors_for, errors_sure, errors_written, negated_typed}
 use Rattle.rules_to_sql.proofs.Lists.{all_shown, appended_is, each_sure, faults_same, shown_points}
 use Rattle.rules_to_sql.proofs.Truths.{negated_fault, negated_true, truth_is}
 use Rattle.rules_to_sql.proofs.TypedRules.{IsRule, all_rules, as_written, negated_written, truth_typed, truth_written}

@@ -200,7 +200,8 @@ fn push_checked(
     push_next(items, imbalance, columns)?;
     push_next(items, code_at(alloc, truth, &spec.errorcode)?, columns)?;
     let level = level_at(alloc, writer, truth, spec.errorlevel)?;
-    push_next(items, level, columns)
+    push_next(items, level, columns)?;
+    Ok(())
 }
 
 // The condition of the points that an output shows.

@@ -3,7 +3,7 @@
 // Where only points are shown at which a rule does not hold, its truth value is the condition of its select, and errors are
 // constants. Elsewhere every point is shown, and the truth value stands in items alone: as a column, and as the test of each
 // error that is written.
-ghost use Rattle.std.specs.Prelude.{◌≡◌, ◌∷◌, [], map, pos, IfOk, OnOk};
+ghost use Rattle.std.specs.Prelude.{◌≡◌, ◌++◌, ◌∷◌, [], map, pos, IfOk, OnOk};
 ghost use Rattle.std.specs.Option.{option_map};
 ghost use Rattle.vtl_tree.specs.NodeView.{point_rule_tree};
 ghost use Rattle.vtl_tree.specs.Shown.{shown};
@@ -61,7 +61,8 @@ fn push_errors(
     ensures { OnOk result (AreNext items.old.items items.new.items (errors_as rule.now.errorcode rule.now.errorlevel) (shown columns.now)) }
 {
     push_next(items, code(alloc, &rule.errorcode)?, columns)?;
-    push_next(items, level(alloc, writer, rule.errorlevel)?, columns)
+    push_next(items, level(alloc, writer, rule.errorlevel)?, columns)?;
+    Ok(())
 }
 
 // Adds a rule's truth value, and its errors where it does not hold.
@@ -76,7 +77,40 @@ fn push_truth(
 {
     push_next(items, truth(alloc, writer, rule)?, columns)?;
     push_next(items, code_at(alloc, writer, rule)?, columns)?;
-    push_next(items, level_at(alloc, writer, rule)?, columns)
+    push_next(items, level_at(alloc, writer, rule)?, columns)?;
+    Ok(())
+}
+
+// Adds the measures, and a rule's errors as constants.
+fn push_invalid(
+    alloc: Global,
+    writer: &Writer,
+    items: &mut Vec<Item>,
+    rule: &DatapointRule,
+    measures: &[&Component],
+    columns: &[&Component],
+) -> Result<(), AllocError>
+    ensures { OnOk result (AreNext items.old.items items.new.items (own_columns (shown measures.now) ++ errors_as rule.now.errorcode rule.now.errorlevel) (shown columns.now)) }
+{
+    push_own(writer, items, measures, columns)?;
+    push_errors(alloc, writer, items, rule, columns)?;
+    Ok(())
+}
+
+// Adds the measures, and a rule's truth value with its errors.
+fn push_measured(
+    alloc: Global,
+    writer: &Writer,
+    items: &mut Vec<Item>,
+    rule: &DatapointRule,
+    measures: &[&Component],
+    columns: &[&Component],
+) -> Result<(), AllocError>
+    ensures { OnOk result (AreNext items.old.items items.new.items (own_columns (shown measures.now) ++ (truth_as writer.now (point_rule_tree rule.now) ∷ errors_as_at (truth_as writer.now (point_rule_tree rule.now)) rule.now.errorcode rule.now.errorlevel)) (shown columns.now)) }
+{
+    push_own(writer, items, measures, columns)?;
+    push_truth(alloc, writer, items, rule, columns)?;
+    Ok(())
 }
 
 // Adds what an output shows of a rule behind the identifiers.
@@ -92,15 +126,9 @@ fn push_parts(
     ensures { OnOk result (AreNext items.old.items items.new.items (output_parts output (own_columns (shown measures.now)) (truth_as writer.now (point_rule_tree rule.now)) (rule_errors_as output (truth_as writer.now (point_rule_tree rule.now)) rule.now.errorcode rule.now.errorlevel)) (shown columns.now)) }
 {
     match output {
-        CheckOut::Invalid => {
-            push_own(writer, items, measures, columns)?;
-            push_errors(alloc, writer, items, rule, columns)
-        }
+        CheckOut::Invalid => push_invalid(alloc, writer, items, rule, measures, columns),
         CheckOut::All => push_truth(alloc, writer, items, rule, columns),
-        CheckOut::AllMeasures => {
-            push_own(writer, items, measures, columns)?;
-            push_truth(alloc, writer, items, rule, columns)
-        }
+        CheckOut::AllMeasures => push_measured(alloc, writer, items, rule, measures, columns),
     }
 }
 
