@@ -19,7 +19,7 @@ use Rattle.vtl_tree.specs.declared.structure.Component.{Component}
 use Rattle.vtl_tree.specs.declared.structure.Structure.{Structure}
 use Rattle.vtl_rulings.specs.Outputs.{output_parts}
 use Rattle.vtl_rulings.specs.PointChecks.{PointRule, point_rules}
-use Rattle.vtl_rulings.proofs.Shown.{parts_mapped}
+use Rattle.vtl_rulings.proofs.Checked.{parts_mapped}
 use Rattle.sql_tree.specs.Trees as tree
 use Rattle.sql_tree.specs.Trees.{Exp, SelectTree, Text, on}
 use Rattle.sql_tree.specs.declared.word_groups.JoinKind.TheVariants as joining

@@ -1,5 +1,5 @@
 -- The query of `check_datapoint` means it.
-use Rattle.std.proofs.Common.{◌≡◌, ◌<◌, ◌^◌, Bool, true, List, [], ◌∷◌, ◌++◌, length, map, Option, Some, None, Ok, refl, sym, ap, ◌∙◌, arith, append_assoc}
+use Rattle.std.proofs.Common.{◌≡◌, ◌<◌, ◌^◌, Bool, true, false, List, [], ◌∷◌, ◌++◌, length, map, Option, Some, None, Ok, refl, sym, ap, ◌∙◌, arith, append_assoc}
 use Rattle.std.specs.List.{AllByRecursion, filter}
 use Rattle.vtl_decimal.specs.Settings.{Settings}
 use Rattle.vtl_decimal.specs.declared.number.Fault.{Fault}
@@ -33,7 +33,7 @@ use Rattle.vtl_meaning.proofs.Places.{all_append, each}
 use Rattle.vtl_rulings.specs.Outputs.{code_cell, errors_at, is_false, is_shown, level_cell, output_parts, rule_id, with_ids}
 use Rattle.vtl_rulings.specs.PointChecks.{PointRule, datapoint_of, errors_of, point_rules, rule_fault, rule_points, truth_of}
 use Rattle.vtl_rulings.specs.Shaped.{IsPointChecked, error_measures, ruled_measures, ruleid}
-use Rattle.vtl_rulings.proofs.Shown.{parts_hold, parts_mapped}
+use Rattle.vtl_rulings.proofs.Checked.{parts_hold, parts_mapped}
 use Rattle.sql_tree.specs.Formed.{IsName}
 use Rattle.sql_tree.specs.Trees.{Text}
 use Rattle.sql_meaning.specs.Scripts.{Data}

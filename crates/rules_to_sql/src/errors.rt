@@ -38,7 +38,8 @@ pub(crate) fn no_code(alloc: Global) -> Result<SqlExpr, AllocError>
     ensures { IfOk result (λ e. expr_tree e ≡ null_like (text_as [])) }
 {
     let empty = Txt::new(alloc, "")?;
-    null_like(alloc, SqlExpr::Constant(Constant::Text(empty)))
+    let value = text_as(&empty)?;
+    null_like(alloc, value)
 }
 
 /// No level. It fails only if memory runs out.
