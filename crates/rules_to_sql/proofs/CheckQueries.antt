@@ -1,5 +1,5 @@
 -- The queries of `check` mean it.
-use Rattle.std.proofs.Common.{◌≡◌, ◌≤◌, ◌+◌, ℕ, List, [], ◌∷◌, ◌++◌, length, map, Option, Some, None, Ok, refl, sym, ap, ◌∙◌, subst, append-nil}
+use Rattle.std.proofs.Common.{◌+◌, ℕ, List, [], ◌++◌, length, map, Option, Some, None, Ok, refl, sym, ap, ◌∙◌, append-nil}
 use Rattle.std.proofs.lemmas.List.{map-id}
 use Rattle.vtl_decimal.specs.Settings.{Settings}
 use Rattle.vtl_cell.specs.Outcome.{after}
@@ -11,9 +11,8 @@ use Rattle.vtl_tree.specs.Columns.{measures_of}
 use Rattle.vtl_tree.specs.CompExp.{CompExp}
 use Rattle.vtl_tree.specs.DataSet.{AreOfProfile, IsDataSet}
 use Rattle.vtl_tree.specs.Pairs.{check_measures}
-use Rattle.vtl_tree.specs.Structure.{IsStructure, columns_of, key_width}
+use Rattle.vtl_tree.specs.Structure.{columns_of, key_width}
 use Rattle.vtl_tree.specs.declared.specifications.CheckSpec.{CheckSpec}
-use Rattle.vtl_tree.specs.declared.structure.Component.{Component}
 use Rattle.vtl_tree.specs.declared.structure.Structure.{Structure}
 use Rattle.vtl_meaning.specs.Made.{AreFor, IsColumnAt}
 use Rattle.vtl_meaning.specs.Points.{each_point, with_points}

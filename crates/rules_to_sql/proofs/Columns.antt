@@ -1,13 +1,12 @@
 -- Expressions one behind the other, as the columns of a result.
-use Rattle.std.proofs.Common.{◌≡◌, ℕ, List, [], ◌∷◌, ◌++◌, Option, Some, None, refl, ap, ◌∙◌, subst, sym, arith}
+use Rattle.std.proofs.Common.{◌≡◌, ℕ, List, [], ◌∷◌, ◌++◌, refl, ap, ◌∙◌, subst, sym}
 use Rattle.std.proofs.lemmas.List.{map-append}
 use Rattle.vtl_decimal.specs.Settings.{Settings}
-use Rattle.vtl_cell.specs.Outcome.{fault_in}
 use Rattle.vtl_cell.specs.Row.{Row}
 use Rattle.vtl_cell.specs.declared.kind.Kind.{Kind}
 use Rattle.vtl_syntax.specs.declared.word_groups.CheckOut.{CheckOut}
 use Rattle.vtl_syntax.specs.declared.word_groups.CheckOut.TheVariants as out
-use Rattle.vtl_tree.specs.Columns.{columns_named, identifiers_of, others_of, place_of}
+use Rattle.vtl_tree.specs.Columns.{columns_named, identifiers_of, others_of}
 use Rattle.vtl_tree.specs.CompExp.{CompExp}
 use Rattle.vtl_tree.specs.Kinds.{exp_kind}
 use Rattle.vtl_tree.specs.Structure.{IsStructure, columns_of}

@@ -6,7 +6,6 @@ use Rattle.std.proofs.lemmas.List.{get_or-append-add}
 use Rattle.vtl_decimal.specs.Settings.{Settings}
 use Rattle.vtl_cell.specs.Conversion.{as_kind}
 use Rattle.vtl_cell.specs.Kinds.{is_of}
-use Rattle.vtl_cell.specs.Outcome.{Outcome}
 use Rattle.vtl_cell.specs.Profile.{IsOfProfile}
 use Rattle.vtl_cell.specs.Row.{Row, column_of, same_row}
 use Rattle.vtl_cell.specs.ScalarArithmetic.{number}
@@ -19,7 +18,7 @@ use Rattle.vtl_rows.specs.Tables.{cells_at}
 use Rattle.vtl_scalar.proofs.FaultLemmas.{integer_is_a_number}
 use Rattle.vtl_tree.specs.ClauseShapes.{first_kind}
 use Rattle.vtl_tree.specs.Columns.{common_identifiers, has_identifier, identifiers_of, measures_of, places_in}
-use Rattle.vtl_tree.specs.CompExp.{CompExp, column}
+use Rattle.vtl_tree.specs.CompExp.{column}
 use Rattle.vtl_tree.specs.DataSet.{AreOfProfile, IsDataSet, is_point, look}
 use Rattle.vtl_tree.specs.Environment.{DataSet}
 use Rattle.vtl_tree.specs.Kinds.{exp_kind}

@@ -1,10 +1,9 @@
 -- Rules are numbered one by one.
-use Rattle.std.proofs.Common.{◌≡◌, ℕ, zero, suc, ◌+◌, ◌<◌, List, [], ◌∷◌, ◌++◌, length, map, get_or, take, refl, sym, ap, ◌∙◌, arith}
+use Rattle.std.proofs.Common.{◌≡◌, ℕ, zero, suc, ◌+◌, ◌<◌, List, [], ◌∷◌, ◌++◌, length, map, get_or, take, sym, ap, ◌∙◌, arith}
 use Rattle.std.proofs.lemmas.List.{map-append}
 use Rattle.vtl_decimal.specs.Settings.{Settings}
 use Rattle.vtl_syntax.specs.declared.word_groups.CheckOut.{CheckOut}
 use Rattle.vtl_tree.specs.NodeView.{point_rule_tree}
-use Rattle.vtl_tree.specs.Trees.{PointRuleTree}
 use Rattle.vtl_tree.specs.declared.rules.DatapointRule.{DatapointRule}
 use Rattle.vtl_tree.specs.declared.structure.Component.{Component}
 use Rattle.vtl_rulings.specs.Outputs.{rule_id, with_ids}

@@ -1,5 +1,5 @@
 -- The expression of a rule has the truth value of the rule.
-use Rattle.std.proofs.Common.{◌≡◌, Bool, true, false, List, [], ◌∷◌, Option, Some, None, Ok, Err, refl, ap, ◌∙◌}
+use Rattle.std.proofs.Common.{◌≡◌, true, false, [], ◌∷◌, Option, Some, None, Ok, Err, refl}
 use Rattle.vtl_decimal.specs.Settings.{Settings}
 use Rattle.vtl_cell.specs.Conversion.{as_kind}
 use Rattle.vtl_cell.specs.Outcome.{Outcome, after, fault_in}
@@ -18,7 +18,7 @@ use Rattle.vtl_tree.specs.Value.{called, value}
 use Rattle.vtl_meaning.specs.Points.{cell_or_null}
 use Rattle.vtl_rulings.specs.Outputs.{is_false}
 use Rattle.vtl_rulings.specs.PointChecks.{held, truth_of, under}
-use Rattle.rules_to_sql.specs.Conditions.{boolean, boolean_by, held_exp, negated, truth_exp}
+use Rattle.rules_to_sql.specs.Conditions.{boolean, boolean_by, held_exp, truth_exp}
 
 -- a boolean stays what it is
 stays : (p : Settings) (m : Outcome Cell) → after m (as_kind p k.Bool) ≡ m

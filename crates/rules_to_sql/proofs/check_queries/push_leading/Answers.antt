@@ -1,12 +1,8 @@
-use Rattle.std.proofs.Common.{[], ◌∷◌, List, length, subst, sym, take}
+use Rattle.std.proofs.Common.{subst}
 use Rattle.std.proofs.lemmas.List.{take_all}
-use Rattle.vtl_tree.specs.Columns.{place_of}
 use Rattle.vtl_tree.specs.Shown.{shown}
-use Rattle.sql_tree.specs.Trees as tree
-use Rattle.sql_tree.specs.Trees.{Exp}
 use Rattle.selects_to_sql.specs.NamedItems.{AreNext}
-use Rattle.selects_to_sql.specs.Queries.{of_two}
-use Rattle.selects_to_sql.proofs.NamedItems.{each_more, next_behind, none_behind}
+use Rattle.selects_to_sql.proofs.NamedItems.{none_behind}
 use Rattle.rules_to_sql.specs.Items.{columns_as, columns_of_two}
 use Rattle.rules_to_sql.proofs.check_queries.push_leading.Goals as goal
 

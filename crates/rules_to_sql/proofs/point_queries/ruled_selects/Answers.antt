@@ -26,8 +26,8 @@ loop-rule-preserved c =
     let done = ruled_selects_as p o ids ms ys table 1 (map point_rule_tree (take i rules)) in (
       number,
       ap (map select_tree) c.in_ok-push.ensures.items
-      ∙ map-append select_tree c.loop-rule.selects.items (select ∷ [])
-      ∙ ap (λ (l : List SelectTree). l ++ select_tree select ∷ []) c.loop-rule.invariant.1
-      ∙ ap (λ (x : SelectTree). done ++ x ∷ []) (c.in_ok-ruled_select.ensures ∙ ap written number)
-      ∙ sym (selects_more p o ids ms ys table rules i rule c.loop-rule-test.true c.rule-item.is),
+          ∙ map-append select_tree c.loop-rule.selects.items (select ∷ [])
+          ∙ ap (λ (l : List SelectTree). l ++ select_tree select ∷ []) c.loop-rule.invariant.1
+          ∙ ap (λ (x : SelectTree). done ++ x ∷ []) (c.in_ok-ruled_select.ensures ∙ ap written number)
+          ∙ sym (selects_more p o ids ms ys table rules i rule c.loop-rule-test.true c.rule-item.is),
     )
