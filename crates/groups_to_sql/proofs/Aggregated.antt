@@ -39,7 +39,7 @@ use Rattle.vtl_tree.specs.Trees.{AggTree}
 use Rattle.check_laws.proofs.Columns.{at-place, kind-found}
 use Rattle.vtl_meaning.proofs.GroupLooks.{all_points, one_key}
 use Rattle.vtl_meaning.proofs.GroupPoints.{kept_are, point_is}
-use Rattle.rules_to_sql.proofs.OverGroups.{group_fits, group_formed, group_kind, group_value_is}
+use Rattle.expressions_to_sql.proofs.OverGroups.{group_fits, group_formed, group_kind, group_value_is}
 use Rattle.vtl_meaning.proofs.OwnColumns.{columns_apart, own_among}
 use Rattle.vtl_meaning.proofs.Places.{all_more, columns_split, identifiers_apart}
 use Rattle.vtl_meaning.proofs.ValueKinds.{point_parts}
@@ -51,13 +51,13 @@ use Rattle.sql_check_laws.specs.Fits.{IsCondition, IsMaybeCondition, IsSeen}
 use Rattle.sql_check_parts.specs.Kinds.{kind_in}
 use Rattle.sql_meaning.specs.Groups.{rows_with}
 use Rattle.sql_meaning.specs.Groups as sql
-use Rattle.rules_to_sql.specs.Names.{Names}
+use Rattle.expressions_to_sql.specs.Names.{Names}
 use Rattle.sql_check_parts.specs.Queries.{is_grouped}
 use Rattle.sql_check_parts.specs.Scopes.{Scope, grouping_of, or_null}
 use Rattle.sql_meaning.specs.Scripts.{Data, base_of, tables_in}
 use Rattle.sql_meaning.specs.Selects.{having_fault, kept_keys}
 use Rattle.sql_meaning.specs.Tables.{Base}
-use Rattle.rules_to_sql.specs.ToSql.{aggregate_to_sql, group_columns, to_sql}
+use Rattle.expressions_to_sql.specs.ToSql.{aggregate_to_sql, group_columns, to_sql}
 use Rattle.sql_meaning.specs.Values.{View, at_groups, place_in, value as sql_value}
 use Rattle.selects_to_sql.specs.Writable.{CanBeWritten, HaveNames}
 use Rattle.groups_to_sql.specs.Grouped.{aggregate_query, aggregated_exps, kept_where, made_exp, where_rows}

@@ -12,7 +12,7 @@ use Rattle.vtl_tree.specs.declared.structure.Component.{Component}
 use Rattle.vtl_tree.specs.declared.structure.Structure.{Structure}
 use Rattle.vtl_meaning.specs.Aggregates.{call_for}
 use Rattle.vtl_tree.specs.Columns.{columns_named, identifiers_of, others_of}
-use Rattle.rules_to_sql.specs.ToSql.{group_columns, to_sql}
+use Rattle.expressions_to_sql.specs.ToSql.{group_columns, to_sql}
 use Rattle.vtl_tree.specs.Trees.{AggTree}
 use Rattle.vtl_tree.specs.declared.specifications.AggItems.{AggItems}
 use Rattle.vtl_meaning.proofs.Places.{IsIdentifier, IsOther, are_identifiers, are_others, columns_split}

@@ -55,7 +55,7 @@ use Rattle.sql_meaning.specs.Scripts.{Data, base_of, tables_in}
 use Rattle.sql_meaning.specs.Selects.{having_fault, kept_keys}
 use Rattle.sql_meaning.specs.Tables.{Base}
 use Rattle.sql_meaning.specs.Values.{at_groups, at_rows, place_in, value as sql_value}
-use Rattle.rules_to_sql.specs.ToSql.{column_of as sql_column, group_columns}
+use Rattle.expressions_to_sql.specs.ToSql.{column_of as sql_column, group_columns}
 use Rattle.selects_to_sql.specs.Writable.{HaveNames}
 use Rattle.selects_to_sql.specs.Queries.{all_to_sql, first_alias, items_as, of_one, source_as}
 use Rattle.selects_to_sql.specs.Runs.{IsTable, printable_depth}

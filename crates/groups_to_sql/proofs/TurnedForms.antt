@@ -7,7 +7,7 @@ use Rattle.vtl_tree.specs.declared.structure.Structure.{Structure}
 use Rattle.vtl_tree.specs.Columns.{identifiers_of, measures_of}
 use Rattle.vtl_meaning.specs.Turned.{codes_of, other_identifiers}
 use Rattle.sql_tree.specs.Trees.{Exp, Text}
-use Rattle.rules_to_sql.specs.ToSql.{group_columns}
+use Rattle.expressions_to_sql.specs.ToSql.{group_columns}
 use Rattle.selects_to_sql.specs.Items.{first_column, from_one}
 use Rattle.selects_to_sql.specs.Queries.{first_alias, items_as, source_as}
 use Rattle.groups_to_sql.specs.Turned.{coded_item, is_filled, kept_groups, pivot_query, text_constant, unpivot_query, unpivoted_select}

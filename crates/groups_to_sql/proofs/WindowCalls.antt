@@ -39,14 +39,14 @@ use Rattle.vtl_tree.specs.Columns.{identifiers_of, kind_named, others_of, place_
 use Rattle.sql_check_laws.specs.Fits.{IsSeen, IsWindowTyped}
 use Rattle.vtl_meaning.specs.Groups.{places_named}
 use Rattle.vtl_meaning.specs.Made.{IsColumnAt, IsNamedColumn, IsWindowOver, is_ordered, is_suited, is_unframed}
-use Rattle.rules_to_sql.specs.Names.{Names}
+use Rattle.expressions_to_sql.specs.Names.{Names}
 use Rattle.vtl_meaning.specs.Windows as points
 use Rattle.vtl_meaning.specs.Windows.{default_frame, frame_in, key_in, keys_in, op_value, stand_of}
 use Rattle.vtl_meaning.specs.Points.{with_points}
 use Rattle.vtl_meaning.specs.Reaches.{is_near, is_near_bound, is_near_frame, is_near_operator}
 use Rattle.sql_check_parts.specs.Scopes.{Scope, found, is_empty, or_null}
 use Rattle.sql_meaning.specs.Scripts.{Data, base_of}
-use Rattle.rules_to_sql.specs.ToSql.{group_columns}
+use Rattle.expressions_to_sql.specs.ToSql.{group_columns}
 use Rattle.sql_meaning.specs.Values.{View, at_rows, place_in}
 use Rattle.sql_meaning.specs.Windows as sql
 use Rattle.sql_meaning.specs.Windows.{call_value, cells_of, count_of, default_cell, framed, is_falling, key_of, keys_of, partition_of, place_within, stand_in, window_value}
@@ -64,10 +64,10 @@ use Rattle.sql_tree.specs.Trees.{Text}
 use Rattle.sql_tree.specs.declared.parts.Column.{Column}
 use Rattle.sql_tree.specs.declared.windows.Window.{Window}
 use Rattle.sql_tree.specs.declared.windows.WindowKey.{WindowKey}
-use Rattle.rules_to_sql.proofs.FormedConstants.{literal_formed}
+use Rattle.expressions_to_sql.proofs.FormedConstants.{literal_formed}
 use Rattle.vtl_meaning.proofs.OwnColumns.{columns_apart, own_columns}
 use Rattle.vtl_meaning.proofs.Places.{all_append, all_front, all_more, columns_split}
-use Rattle.rules_to_sql.proofs.WrittenConstants.{integer_there, literal_is, member_kind}
+use Rattle.expressions_to_sql.proofs.WrittenConstants.{integer_there, literal_is, member_kind}
 use Rattle.selects_to_sql.specs.Writable.{HaveNames}
 use Rattle.selects_to_sql.specs.Queries.{first_alias, of_one}
 use Rattle.groups_to_sql.specs.Windowed.{bound_to_sql, call_to_sql, default_to_sql, direction_of, frame_to_sql, framed_to_sql, is_listed, key_to_sql, order_to_sql, over_to_sql, rising_key, sees_order}

@@ -31,7 +31,7 @@ use Rattle.vtl_tree.specs.Columns.{identifiers_of, others_of, place_of}
 use Rattle.sql_check_parts.specs.Expressions.{site}
 use Rattle.vtl_tree.specs.Kinds.{exp_kind, given_kind}
 use Rattle.vtl_meaning.specs.Made.{AreValuesOver, IsTyped, IsValueOver, IsWindowOver, IsWindowed}
-use Rattle.rules_to_sql.specs.Names.{Names}
+use Rattle.expressions_to_sql.specs.Names.{Names}
 use Rattle.vtl_meaning.specs.Windows.{keys_in}
 use Rattle.vtl_meaning.specs.Windows as points
 use Rattle.vtl_meaning.specs.Points.{with_points}
@@ -39,7 +39,7 @@ use Rattle.vtl_meaning.specs.Reaches.{AreNear, IsNear, IsNearValue, is_near_oper
 use Rattle.sql_check_parts.specs.Scopes.{Scope, or_null}
 use Rattle.sql_meaning.specs.Scripts.{Data, base_of}
 use Rattle.sql_meaning.specs.Tables.{Base}
-use Rattle.rules_to_sql.specs.ToSql.{to_sql}
+use Rattle.expressions_to_sql.specs.ToSql.{to_sql}
 use Rattle.vtl_tree.specs.Trees as nodes
 use Rattle.vtl_tree.specs.Trees.{AnalyticTree, ItemTree, ValueTree}
 use Rattle.sql_meaning.specs.Values.{at_rows}

@@ -6,7 +6,7 @@ use Rattle.vtl_tree.specs.declared.expression.AggCall.{AggCall}
 use Rattle.vtl_tree.specs.declared.structure.Component.{Component}
 use Rattle.vtl_tree.specs.declared.structure.Role.TheVariants as role
 use Rattle.vtl_meaning.specs.Aggregates.{call_for}
-use Rattle.rules_to_sql.specs.ToSql.{aggregate_to_sql}
+use Rattle.expressions_to_sql.specs.ToSql.{aggregate_to_sql}
 use Rattle.vtl_tree.specs.declared.specifications.AggItems.{AggItems}
 use Rattle.sql_tree.specs.Trees.{Exp, ItemTree, Text, constant}
 use Rattle.sql_tree.specs.declared.parts.Constant.TheVariants as constants

@@ -10,7 +10,7 @@ use Rattle.vtl_tree.specs.Columns.{columns_named, identifiers_of, measures_of}
 use Rattle.vtl_meaning.specs.Turned.{codes_of, other_identifiers}
 use Rattle.sql_tree.specs.Trees.{Text, Exp, QueryTree, SelectTree, aggregate, binary, branch, case_when, constant, is_null, no_branches}
 use Rattle.sql_tree.specs.declared.parts.Constant.TheVariants as constants
-use Rattle.rules_to_sql.specs.ToSql.{group_columns}
+use Rattle.expressions_to_sql.specs.ToSql.{group_columns}
 use Rattle.selects_to_sql.specs.Items.{first_column}
 use Rattle.selects_to_sql.specs.Queries.{all_to_sql, first_alias, items_as, of_one, select_as, source_as}
 use Rattle.selects_to_sql.specs.Groups.{has_rows, grouped_as}

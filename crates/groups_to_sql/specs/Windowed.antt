@@ -12,10 +12,10 @@ use Rattle.vtl_tree.specs.declared.structure.Structure.{Structure}
 use Rattle.vtl_tree.specs.Names.{is_among}
 use Rattle.vtl_meaning.specs.Analytics.{value_for}
 use Rattle.vtl_tree.specs.Columns.{identifiers_of}
-use Rattle.rules_to_sql.specs.Constants.{literal_to_sql}
+use Rattle.expressions_to_sql.specs.Constants.{literal_to_sql}
 use Rattle.vtl_meaning.specs.Made.{is_ordered}
 use Rattle.vtl_meaning.specs.Windows.{frame_in}
-use Rattle.rules_to_sql.specs.ToSql.{column_of, group_columns, to_sql}
+use Rattle.expressions_to_sql.specs.ToSql.{column_of, group_columns, to_sql}
 use Rattle.vtl_tree.specs.Trees as nodes
 use Rattle.vtl_tree.specs.Trees.{AnalyticTree, ValueTree}
 use Rattle.vtl_tree.specs.declared.calls.AnalyticCall.{AnalyticCall}

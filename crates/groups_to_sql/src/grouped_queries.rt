@@ -10,7 +10,7 @@ ghost use Rattle.vtl_tree.specs.View.{comp_exp_of};
 ghost use Rattle.vtl_tree.specs.declared.structure.Structure.{Structure as StructureOf};
 ghost use Rattle.vtl_tree.specs.NodeView.{agg_tree};
 ghost use Rattle.vtl_meaning.specs.Aggregates.{measure_call, target_named};
-ghost use Rattle.rules_to_sql.specs.ToSql.{aggregate_to_sql};
+ghost use Rattle.expressions_to_sql.specs.ToSql.{aggregate_to_sql};
 ghost use Rattle.sql_tree.specs.View.{expr_tree, item_tree, query_tree};
 ghost use Rattle.groups_to_sql.specs.Grouped.{aggregate_query, kept_where, where_rows};
 ghost use Rattle.groups_to_sql.specs.GroupedItems.{aggregated_items, aggregated_value, call_value, made_value};

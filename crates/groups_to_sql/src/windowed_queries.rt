@@ -4,7 +4,7 @@ ghost use Rattle.vtl_tree.specs.Structure.{columns_of};
 ghost use Rattle.vtl_tree.specs.NodeView.{analytic_tree, value_tree as made_tree};
 ghost use Rattle.sql_tree.specs.Trees.{column, expression, window};
 ghost use Rattle.sql_tree.specs.View.{item_tree, query_tree, value_tree};
-ghost use Rattle.rules_to_sql.specs.ToSql.{column_of};
+ghost use Rattle.expressions_to_sql.specs.ToSql.{column_of};
 ghost use Rattle.selects_to_sql.specs.Queries.{first_alias};
 ghost use Rattle.groups_to_sql.specs.Windowed.{analytic_item, analytic_query, made_to_sql, window_to_sql};
 ghost use Rattle.groups_to_sql.specs.WindowItems.{analytic_items};

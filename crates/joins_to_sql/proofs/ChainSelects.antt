@@ -32,7 +32,7 @@ use Rattle.selects_to_sql.proofs.Exact.{IsExactly}
 use Rattle.selects_to_sql.proofs.Expressions.{Translates}
 use Rattle.selects_to_sql.proofs.Givens.{AreGiven}
 use Rattle.joins_to_sql.proofs.HeldOperands.{AreHeld, IsHeld, rows_held}
-use Rattle.joins_to_sql.proofs.Loose.{all_loose, loose_formed, loose_names, loose_point}
+use Rattle.selects_to_sql.proofs.Loose.{all_loose, loose_formed, loose_names, loose_point}
 use Rattle.joins_to_sql.proofs.ManySources.{alias_is_name, all_columns, many_scope}
 use Rattle.selects_to_sql.proofs.SelectItems.{IsFrom}
 use Rattle.selects_to_sql.proofs.Selects.{IsPointOf, expressions_give}

@@ -41,8 +41,8 @@ use Rattle.sql_meaning.specs.From.{Joined, fault_at, holds, join_on, joined_rows
 use Rattle.sql_meaning.specs.Scripts.{Data, base_of, tables_in}
 use Rattle.sql_meaning.specs.Tables.{Base}
 use Rattle.sql_meaning.specs.Values.{View, at_rows, value as sql_value}
-use Rattle.rules_to_sql.specs.Names.{AreNamesFormed, Names}
-use Rattle.rules_to_sql.specs.ToSql.{Naming, to_sql}
+use Rattle.expressions_to_sql.specs.Names.{AreNamesFormed, Names}
+use Rattle.expressions_to_sql.specs.ToSql.{Naming, to_sql}
 use Rattle.selects_to_sql.specs.Writable.{CanBeWritten, HaveNames}
 use Rattle.joins_to_sql.specs.Joins.{Placed, all_tied, joins_on, of_many, placed_at, placed_from, width_of}
 use Rattle.selects_to_sql.specs.Queries.{alias_of, source_as}
@@ -50,7 +50,7 @@ use Rattle.selects_to_sql.specs.Runs.{entries, printable_depth}
 use Rattle.selects_to_sql.proofs.Expressions.{Translates}
 use Rattle.joins_to_sql.proofs.HeldOperands.{AreHeld, IsHeld, alias_new, rows_held, source_behind}
 use Rattle.selects_to_sql.proofs.Identifiers.{AreIdentifiersAt}
-use Rattle.joins_to_sql.proofs.Loose.{all_loose, loose, loose_nulls, loose_point}
+use Rattle.selects_to_sql.proofs.Loose.{all_loose, loose, loose_nulls, loose_point}
 use Rattle.joins_to_sql.proofs.ManySources.{AllApart, alias_is_name, all_columns, columns_more, many_formed, many_names, many_scope, widths}
 use Rattle.selects_to_sql.proofs.Pairs.{no_faults}
 use Rattle.selects_to_sql.proofs.Sources.{AreApart}

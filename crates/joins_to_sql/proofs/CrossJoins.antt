@@ -34,8 +34,8 @@ use Rattle.sql_check_parts.specs.Queries.{joined_scope, scope_of}
 use Rattle.sql_check_parts.specs.Scopes.{add_source}
 use Rattle.sql_meaning.specs.From.{kept_of, pairs, source_rows, with_join}
 use Rattle.sql_meaning.specs.Scripts.{Data, base_of, tables_in}
-use Rattle.rules_to_sql.specs.Names.{Names}
-use Rattle.rules_to_sql.specs.ToSql.{Naming}
+use Rattle.expressions_to_sql.specs.Names.{Names}
+use Rattle.expressions_to_sql.specs.ToSql.{Naming}
 use Rattle.selects_to_sql.specs.Writable.{HaveNames}
 use Rattle.joins_to_sql.specs.Joins.{Placed, cross_query, crosses, joined_exps, of_many, placed_from, width_of}
 use Rattle.selects_to_sql.specs.Queries.{alias_of, select_of, source_as}
@@ -47,7 +47,7 @@ use Rattle.selects_to_sql.proofs.Givens.{AreGiven}
 use Rattle.joins_to_sql.proofs.HeldOperands.{AreHeld, alias_new, all_named, rows_held, sets_apart, source_behind}
 use Rattle.joins_to_sql.proofs.JoinedColumns.{AllShown, ArePlaced, AreWell, each_plain, joined_plain, placed_all, plain_written}
 use Rattle.joins_to_sql.proofs.JoinedRows.{from_structures, joined_for, joined_values}
-use Rattle.joins_to_sql.proofs.Loose.{all_loose, loose_formed, loose_names, loose_point}
+use Rattle.selects_to_sql.proofs.Loose.{all_loose, loose_formed, loose_names, loose_point}
 use Rattle.joins_to_sql.proofs.ManySources.{alias_is_name, all_columns, many_formed, many_names, many_scope, widths}
 use Rattle.selects_to_sql.proofs.SelectItems.{IsFrom}
 use Rattle.selects_to_sql.proofs.Selects.{IsPointOf, expressions_give}

@@ -32,7 +32,7 @@ use Rattle.sql_tree.specs.Trees.{JoinTree, QueryTree, Text, on}
 use Rattle.sql_tree.specs.declared.word_groups.JoinKind.{JoinKind}
 use Rattle.sql_tree.specs.declared.word_groups.JoinKind.TheVariants as joining
 use Rattle.sql_meaning.specs.Scripts.{Data}
-use Rattle.rules_to_sql.specs.ToSql.{Naming, to_sql}
+use Rattle.expressions_to_sql.specs.ToSql.{Naming, to_sql}
 use Rattle.selects_to_sql.specs.Writable.{HaveNames}
 use Rattle.joins_to_sql.specs.FullJoins.{full_query, key_structure}
 use Rattle.joins_to_sql.specs.Joins.{Placed, all_tied as ties_of, chain_select, joined_exps, joins_on, many_at, placed_at, placed_from, tied_to, width_of}
@@ -47,7 +47,7 @@ use Rattle.selects_to_sql.proofs.Identifiers.{few_identifiers, identifiers_there
 use Rattle.joins_to_sql.proofs.JoinedColumns.{AllShown, ArePlaced, AreWell, each_plain, first_placed, joined_plain, placed_all, plain_written}
 use Rattle.joins_to_sql.proofs.JoinedRows.{IsFound, first_shown, founds, from_structures, joined_for, joined_values, left_extended, parts_found, shown_from, with_parts}
 use Rattle.joins_to_sql.proofs.KeyColumns.{keep_all, key_columns, key_identifiers, key_is_structure, keyed, keyed_cells}
-use Rattle.joins_to_sql.proofs.Loose.{all_loose}
+use Rattle.selects_to_sql.proofs.Loose.{all_loose}
 use Rattle.selects_to_sql.proofs.OneOperand.{same_functions}
 
 -- the operands have the same identifiers

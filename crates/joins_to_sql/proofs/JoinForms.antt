@@ -17,7 +17,7 @@ use Rattle.sql_tree.specs.Trees as tree
 use Rattle.sql_tree.specs.Trees.{Text}
 use Rattle.sql_tree.specs.declared.word_groups.JoinKind.{JoinKind}
 use Rattle.sql_tree.specs.declared.word_groups.JoinKind.TheVariants as joining
-use Rattle.rules_to_sql.specs.ToSql.{Naming, column_of, to_sql}
+use Rattle.expressions_to_sql.specs.ToSql.{Naming, column_of, to_sql}
 use Rattle.joins_to_sql.specs.FullJoins.{full_query, key_structure}
 use Rattle.selects_to_sql.specs.Items.{all_of}
 use Rattle.joins_to_sql.specs.JoinItems.{Aliased, aliased, aliased_around, column_from, columns_from, columns_from_all, crossed_query, crossed_with, joined_on, joined_query, joined_values, joined_with, keyed_query, number_around, referred_query, tied_with}

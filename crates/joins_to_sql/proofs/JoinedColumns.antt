@@ -25,7 +25,7 @@ use Rattle.sql_meaning.specs.From.{nulls}
 use Rattle.selects_to_sql.specs.Writable.{AllCanBeWritten, CanBeWritten}
 use Rattle.joins_to_sql.specs.Joins.{Placed, columns_at, columns_in, joined_exps, placed_at, placed_around, placed_from, width_of, without}
 use Rattle.joins_to_sql.proofs.Chains.{cells_or_nulls}
-use Rattle.joins_to_sql.proofs.Loose.{all_loose, column_loose}
+use Rattle.selects_to_sql.proofs.Loose.{all_loose, column_loose}
 use Rattle.selects_to_sql.proofs.OneOperand.{kind_at}
 use Rattle.selects_to_sql.proofs.Pairs.{column_later}
 

@@ -20,7 +20,7 @@ use Rattle.sql_tree.specs.declared.word_groups.JoinKind.TheVariants as joining
 use Rattle.joins_to_sql.specs.Joins.{Placed, columns_in, joined_exps, placed_around, placed_from, width_of, without}
 use Rattle.joins_to_sql.proofs.Chains.{cells_or_nulls, extended_by}
 use Rattle.joins_to_sql.proofs.JoinedColumns.{AllShown, ArePlaced, AreWell, Shows, are_attributes_part, are_identifiers_part, are_measures_part, columns_kinds, for_kinds, of_kinds_append, parts_values, structures_in}
-use Rattle.joins_to_sql.proofs.Loose.{all_loose, loose, loose_nulls}
+use Rattle.selects_to_sql.proofs.Loose.{all_loose, loose, loose_nulls}
 
 -- ---- a row with a part of each operand
 

@@ -5,7 +5,7 @@ use Rattle.vtl_tree.specs.Structure.{columns_of, names_of}
 use Rattle.vtl_tree.specs.declared.structure.Component.{Component}
 use Rattle.vtl_tree.specs.declared.structure.Structure.{Structure}
 use Rattle.vtl_tree.specs.Columns.{identifiers_of}
-use Rattle.rules_to_sql.specs.ToSql.{group_columns}
+use Rattle.expressions_to_sql.specs.ToSql.{group_columns}
 use Rattle.vtl_meaning.proofs.Places.{are_identifiers}
 use Rattle.sql_tree.specs.Trees.{Text}
 use Rattle.joins_to_sql.specs.FullJoins.{key_exps, key_select, keys_query, once_query, or_spare}

@@ -1,5 +1,4 @@
 pub mod ManySources
-pub mod Loose
 pub mod Ties
 pub mod HeldOperands
 pub mod Chains

@@ -22,7 +22,7 @@ use Rattle.sql_check_parts.specs.Scopes.{Scope}
 use Rattle.sql_meaning.specs.Groups.{keys_by, rows_with}
 use Rattle.sql_meaning.specs.Scripts.{Data, base_of}
 use Rattle.sql_meaning.specs.Tables.{Base}
-use Rattle.rules_to_sql.specs.ToSql.{group_columns}
+use Rattle.expressions_to_sql.specs.ToSql.{group_columns}
 use Rattle.joins_to_sql.specs.FullJoins.{once_query}
 use Rattle.selects_to_sql.specs.Queries.{all_to_sql, first_alias, items_as, of_one, source_as}
 use Rattle.selects_to_sql.specs.Runs.{IsTable}

@@ -45,7 +45,7 @@ use Rattle.joins_to_sql.proofs.HeldOperands.{AreHeld, IsHeld}
 use Rattle.selects_to_sql.proofs.Identifiers.{few_identifiers, fewer, identifiers_there}
 use Rattle.joins_to_sql.proofs.JoinedColumns.{AllShown, ArePlaced, AreWell, Shows, around_all, each_plain, first_placed, joined_plain, plain_written}
 use Rattle.joins_to_sql.proofs.JoinedRows.{IsFound, all_there, around_structures, first_shown, founds, inner_extended, joined_for, joined_values, left_extended, parts_found, shown_around, with_parts}
-use Rattle.joins_to_sql.proofs.Loose.{all_loose}
+use Rattle.selects_to_sql.proofs.Loose.{all_loose}
 use Rattle.selects_to_sql.proofs.OneOperand.{same_functions}
 
 -- ---- all but one of several

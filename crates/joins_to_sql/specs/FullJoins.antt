@@ -11,7 +11,7 @@ use Rattle.vtl_tree.specs.declared.structure.Structure.{Structure}
 use Rattle.vtl_tree.specs.Columns.{common_identifiers, columns_named, identifiers_of}
 use Rattle.sql_tree.specs.Trees.{QueryTree, SelectTree, Text}
 use Rattle.sql_tree.specs.declared.word_groups.JoinKind.TheVariants as joining
-use Rattle.rules_to_sql.specs.ToSql.{group_columns}
+use Rattle.expressions_to_sql.specs.ToSql.{group_columns}
 use Rattle.joins_to_sql.specs.Joins.{chain_select, joined_exps, placed_at, placed_from, width_of}
 use Rattle.selects_to_sql.specs.Queries.{all_to_sql, first_alias, items_as, of_one, own_columns, select_of, source_as}
 use Rattle.selects_to_sql.specs.Groups.{grouped_as}

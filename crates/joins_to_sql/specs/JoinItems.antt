@@ -11,7 +11,7 @@ use Rattle.sql_tree.specs.Trees as tree
 use Rattle.sql_tree.specs.Trees.{Exp, JoinTree, QueryTree, Text}
 use Rattle.sql_tree.specs.declared.word_groups.JoinKind.{JoinKind}
 use Rattle.sql_tree.specs.declared.word_groups.JoinKind.TheVariants as joining
-use Rattle.rules_to_sql.specs.ToSql.{column_of}
+use Rattle.expressions_to_sql.specs.ToSql.{column_of}
 use Rattle.joins_to_sql.specs.declared.join_items.Picked.{Picked}
 use Rattle.joins_to_sql.specs.declared.join_operands.Aliased as declared
 use Rattle.selects_to_sql.specs.Items.{all_of}

@@ -10,7 +10,7 @@ use Rattle.vtl_tree.specs.Columns.{common_identifiers, column_behind, column_nam
 use Rattle.vtl_meaning.specs.Made.{attributes_of}
 use Rattle.sql_tree.specs.Trees.{JoinTree, QueryTree, SelectTree, Text, cross, on}
 use Rattle.sql_tree.specs.declared.word_groups.JoinKind.{JoinKind}
-use Rattle.rules_to_sql.specs.ToSql.{Naming, column_of, to_sql}
+use Rattle.expressions_to_sql.specs.ToSql.{Naming, column_of, to_sql}
 use Rattle.selects_to_sql.specs.Queries.{conjunction, equal, select_of, source_as, alias_of}
 
 -- ---- many sources

@@ -4,7 +4,7 @@ ghost use Rattle.vtl_tree.specs.Shown.{shown};
 ghost use Rattle.vtl_tree.specs.Structure.{columns_of, of_role};
 ghost use Rattle.sql_tree.specs.View.{expr_tree, item_tree};
 ghost use Rattle.sql_tree.specs.Trees as tree;
-ghost use Rattle.rules_to_sql.specs.ToSql.{column_of};
+ghost use Rattle.expressions_to_sql.specs.ToSql.{column_of};
 ghost use Rattle.selects_to_sql.specs.Items.{all_of};
 ghost use Rattle.joins_to_sql.specs.JoinItems.{aliased_of, column_from, columns_from, columns_from_all, picked_column, tied_with};
 ghost use Rattle.selects_to_sql.specs.Queries.{items_as};

@@ -4,7 +4,7 @@
 // equalities with columns of the reference; a cross join has no ON. Aliases are numbered, since there may be many.
 //
 // Rows behind a left join are no points, since identifiers are null in them; proofs take their columns as measures
-// (proofs/Loose.antt), and one proof of a chain of joins serves inner, left and full (proofs/Chains.antt).
+// (Loose.antt of `selects_to_sql`), and one proof of a chain of joins serves inner, left and full (proofs/Chains.antt).
 ghost use Rattle.std.specs.Prelude.{◌≡◌, ◌<◌, ◌++◌, [], length, map, slice_get, IfOk, OnOk};
 ghost use Rattle.vtl_tree.specs.Shown.{shown};
 ghost use Rattle.sql_tree.specs.View.{join_tree, query_tree};

@@ -1,6 +1,5 @@
-pub mod Constants
-pub mod ToSql
-pub mod Names
-pub mod Held
-pub mod Aliases
-pub mod CallForms
+pub mod Conditions
+pub mod PointQueries
+pub mod CheckQueries
+pub mod Items
+pub mod Writable

@@ -1,22 +1,18 @@
-//! Rules and all other component expressions of VTL as expressions of the SQL dialect, with the law that they mean the same.
+//! Translates rules: ruleset calls of VTL, and `check`, as queries of the SQL dialect, and says what these queries mean.
 //!
-//! An expression of a point, or of a group, is written with one operator for each of its own, so that its SQL stays
-//! readable; over any columns that name the components it has the kind and the value that it has in VTL, faults
-//! included, fits where it stands, and can be printed. Which select it stands in is for others to decide.
-//! It knows no data sets, no nodes and no scripts of either language.
-//! Begin with specs/ToSql.antt and Constants.antt, then `laws.rt`.
+//! A datapoint ruleset becomes one query with a select for each of its rules, so that all of them are evaluated in one table
+//! and in one phase of each select: the truth value of a rule stands in WHERE alone, or in items alone. `check` is one select.
+//! This crate decides how a truth value is written and where errors stand; what a rule means it takes from `vtl_rulings`, how
+//! a condition is written from `expressions_to_sql`, and what a select means from `selects_to_sql`.
+//! It knows no tree of an expression on data sets, no script, and no program that runs either language.
+//! Begin with specs/Conditions.antt, PointQueries.antt and CheckQueries.antt, then `point_queries.rt`, and proofs/Composed.antt,
+//! by which the tables of a call mean it.
 #![tactic(auto)]
 
-mod aliases;
-mod constants;
-mod forms;
-mod laws;
-mod texts;
-mod translation;
+mod check_queries;
+mod conditions;
+mod errors;
+mod point_queries;
 
-pub use aliases::Aliases;
-pub use constants::{const_to_sql, literal_to_sql};
-pub use laws::{
-    depths_grow_by_one, kinds_stay, translations_are_formed, translations_fit, values_stay,
-};
-pub use translation::comp_to_sql;
+pub use check_queries::{check_query, imbalance_query};
+pub use point_queries::datapoint_query;

@@ -13,6 +13,7 @@ use Rattle.vtl_cell.specs.Row.{Row, column_of}
 use Rattle.vtl_decimal.specs.Settings.{Settings}
 use Rattle.vtl_cell.specs.declared.cell.Cell.{Cell}
 use Rattle.vtl_cell.specs.declared.cell.Cell.TheVariants as c
+use Rattle.vtl_cell.specs.declared.kind.Kind.{Kind}
 use Rattle.vtl_cell.specs.declared.kind.Kind.TheVariants as k
 use Rattle.vtl_cell.specs.declared.operator.ScalarOp.TheVariants as op
 use Rattle.vtl_lists.proofs.Perms.{Perm-append_back, Perm-append_comm, Perm-append_front, Perm-same}
@@ -232,16 +233,17 @@ module _ (p : Settings) (law : Translates p) (before : Data) (x y : Text) (t o s
 
 -- ---- the condition's measure
 
-one_measure : (ms : List Component) → kinds_in ms ≡ k.Bool ∷ [] → (rest : List Component) → IsColumnAt 0 (name_of_first ms) k.Bool (ms ++ rest)
-one_measure [] h rest = cc
-one_measure (m ∷ []) h rest = let kind : m.kind ≡ k.Bool = cc in (refl, kind)
-one_measure (m ∷ n ∷ ms) h rest = cc
+-- of a structure that has one measure, of this kind
+one_measure : (kind : Kind) (ms : List Component) → kinds_in ms ≡ kind ∷ [] → (rest : List Component) → IsColumnAt 0 (name_of_first ms) kind (ms ++ rest)
+one_measure kind [] h rest = cc
+one_measure kind (m ∷ []) h rest = let same : m.kind ≡ kind = cc in (refl, same)
+one_measure kind (m ∷ n ∷ ms) h rest = cc
 
-measure_at : (t : Structure) → kinds_in (measures_of t) ≡ k.Bool ∷ [] → IsColumnAt (key_width t) (name_of_first (measures_of t)) k.Bool (columns_of t)
-measure_at t h =
-    let at = column_later 0 (name_of_first (measures_of t)) k.Bool (identifiers_of t) (others_of t) (one_measure (measures_of t) h (of_role role.Attribute t)) in
+pub measure_at : (t : Structure) (kind : Kind) → kinds_in (measures_of t) ≡ kind ∷ [] → IsColumnAt (key_width t) (name_of_first (measures_of t)) kind (columns_of t)
+measure_at t kind h =
+    let at = column_later 0 (name_of_first (measures_of t)) kind (identifiers_of t) (others_of t) (one_measure kind (measures_of t) h (of_role role.Attribute t)) in
     let same : length (identifiers_of t) + 0 ≡ key_width t = omega arith in
-    subst (λ xs. IsColumnAt (key_width t) (name_of_first (measures_of t)) k.Bool xs) (sym (columns_split t)) (subst (λ n. IsColumnAt n (name_of_first (measures_of t)) k.Bool (identifiers_of t ++ others_of t)) same at)
+    subst (λ xs. IsColumnAt (key_width t) (name_of_first (measures_of t)) kind xs) (sym (columns_split t)) (subst (λ n. IsColumnAt n (name_of_first (measures_of t)) kind (identifiers_of t ++ others_of t)) same at)
 
 -- of a boolean or null
 denied : (p : Settings) (v : Cell) → is_of k.Bool v ≡ true → (is_true (called p k.Bool (Ok v ∷ Ok (c.Bool false) ∷ Ok (c.Bool true) ∷ []) op.If) ≡ not (is_true (Ok v))) × (fault_in (called p k.Bool (Ok v ∷ Ok (c.Bool false) ∷ Ok (c.Bool true) ∷ []) op.If) ≡ None)
@@ -262,14 +264,14 @@ module _ (p : Settings) (law : Translates p) (before : Data) (x y z : Text) (t a
   taken r false = refl
 
   is_test : (o : Structure) → IsTest p (columns_of t ++ columns_of o) (Some (is_chosen t))
-  is_test o = (column_front (key_width t) (name_of_first (measures_of t)) k.Bool (columns_of t) (columns_of o) (measure_at t i.tested), refl, record { constants = tt; shallow = omega arith })
+  is_test o = (column_front (key_width t) (name_of_first (measures_of t)) k.Bool (columns_of t) (columns_of o) (measure_at t k.Bool i.tested), refl, record { constants = tt; shallow = omega arith })
 
   is_contrary : (o : Structure) → IsTest p (columns_of t ++ columns_of o) (Some (is_not_chosen t))
   is_contrary o = ((refl, ((is_test o).0, (tt, (tt, tt))), refl), refl, record { constants = (tt, (tt, (tt, tt))); shallow = omega arith })
 
   cell_same : (r q : Row) → is_point (columns_of t) r ≡ true → column_of (key_width t) (r ++ q) ≡ column_of (key_width t) r
   cell_same r q w =
-      let within = column_within (key_width t) (name_of_first (measures_of t)) k.Bool (columns_of t) (measure_at t i.tested) in
+      let within = column_within (key_width t) (name_of_first (measures_of t)) k.Bool (columns_of t) (measure_at t k.Bool i.tested) in
       let wide = point_length (columns_of t) r w in
       get_or_append_left r q c.Null (key_width t) (omega (arith, within, wide))
 
@@ -278,7 +280,7 @@ module _ (p : Settings) (law : Translates p) (before : Data) (x y z : Text) (t a
 
   calm_contrary : (r q : Row) → is_point (columns_of t) r ≡ true → (is_true (value p (is_not_chosen t) (r ++ q)) ≡ not (is_first_chosen t r)) × (fault_in (value p (is_not_chosen t) (r ++ q)) ≡ None)
   calm_contrary r q w =
-      let kind = cell_is_of (key_width t) (name_of_first (measures_of t)) k.Bool (columns_of t) r (measure_at t i.tested) w in
+      let kind = cell_is_of (key_width t) (name_of_first (measures_of t)) k.Bool (columns_of t) r (measure_at t k.Bool i.tested) w in
       let both = denied p (column_of (key_width t) r) kind in
       subst (λ v. (is_true (called p k.Bool (Ok v ∷ Ok (c.Bool false) ∷ Ok (c.Bool true) ∷ []) op.If) ≡ not (is_first_chosen t r)) × (fault_in (called p k.Bool (Ok v ∷ Ok (c.Bool false) ∷ Ok (c.Bool true) ∷ []) op.If) ≡ None)) (sym (cell_same r q w)) both
 

@@ -17,8 +17,8 @@ use Rattle.vtl_tree.specs.declared.structure.Component.{Component}
 use Rattle.vtl_tree.specs.Kinds.{exp_kind}
 use Rattle.vtl_meaning.specs.Made.{IsTyped}
 use Rattle.check_laws.specs.Depths.{comp_depth}
-use Rattle.rules_to_sql.specs.Held.{HoldsValues}
-use Rattle.rules_to_sql.specs.ToSql.{Naming, to_sql}
+use Rattle.expressions_to_sql.specs.Held.{HoldsValues}
+use Rattle.expressions_to_sql.specs.ToSql.{Naming, to_sql}
 use Rattle.selects_to_sql.specs.Writable.{CanBeWritten, most_depth}
 use Rattle.selects_to_sql.specs.Items.{all_of, both_of}
 use Rattle.selects_to_sql.specs.Queries.{both, conjunction}

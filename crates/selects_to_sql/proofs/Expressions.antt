@@ -15,11 +15,11 @@ use Rattle.sql_check_parts.specs.Scopes.{Scope, Tables}
 use Rattle.sql_meaning.specs.Tables.{Base}
 use Rattle.sql_meaning.specs.Values.{at_rows, value}
 use Rattle.check_laws.specs.Depths.{comp_depth}
-use Rattle.rules_to_sql.specs.Held.{HoldsValues}
-use Rattle.rules_to_sql.specs.Names.{AreNamesFormed, Names}
-use Rattle.rules_to_sql.specs.ToSql.{Naming, to_sql}
-use Rattle.rules_to_sql.proofs.ExpressionDepths.{depth_grows}
-use Rattle.rules_to_sql.proofs.OverPoints.{point_fits, point_formed, point_kind, point_value}
+use Rattle.expressions_to_sql.specs.Held.{HoldsValues}
+use Rattle.expressions_to_sql.specs.Names.{AreNamesFormed, Names}
+use Rattle.expressions_to_sql.specs.ToSql.{Naming, to_sql}
+use Rattle.expressions_to_sql.proofs.ExpressionDepths.{depth_grows}
+use Rattle.expressions_to_sql.proofs.OverPoints.{point_fits, point_formed, point_kind, point_value}
 
 -- an expression has in SQL its kind and its value, breaks no rule, has the form of the grammar, and is at most one deeper
 pub record Translates (p : Settings) : Type 0 where

@@ -12,7 +12,7 @@ use Rattle.vtl_meaning.specs.Operators.{calculated_exp, for_measures, measured_e
 use Rattle.vtl_tree.specs.Trees.{ItemTree as Target, MeasureTree}
 use Rattle.vtl_tree.specs.declared.clauses.SubItem.{SubItem}
 use Rattle.sql_tree.specs.Trees.{Text}
-use Rattle.rules_to_sql.specs.ToSql.{to_sql}
+use Rattle.expressions_to_sql.specs.ToSql.{to_sql}
 use Rattle.selects_to_sql.specs.Items.{all_of, calculated_item, first_column, for_each_two, from_table, items_for, measured_item, renamed_item, value_equality}
 use Rattle.selects_to_sql.specs.Queries.{calc_query, conjunction, filter_query, has_value, item_as, left_query, measures_query, of_one, rename_query, sub_query}
 use Rattle.selects_to_sql.proofs.Conjunctions.{conjunction_to_sql}

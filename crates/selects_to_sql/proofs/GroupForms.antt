@@ -2,7 +2,7 @@
 use Rattle.std.proofs.Common.{◌≡◌, List, [], ◌∷◌, refl, ap}
 use Rattle.vtl_tree.specs.Structure.{names_of}
 use Rattle.vtl_tree.specs.declared.structure.Component.{Component}
-use Rattle.rules_to_sql.specs.ToSql.{column_of, group_columns}
+use Rattle.expressions_to_sql.specs.ToSql.{column_of, group_columns}
 use Rattle.selects_to_sql.specs.Queries.{first_alias}
 use Rattle.selects_to_sql.specs.Groups.{group_of}
 

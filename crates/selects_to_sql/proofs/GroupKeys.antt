@@ -23,13 +23,13 @@ use Rattle.vtl_meaning.proofs.ValueKinds.{cell_is_of}
 use Rattle.sql_tree.specs.Formed.{IsColumn}
 use Rattle.sql_tree.specs.declared.parts.Column.{Column}
 use Rattle.sql_check_laws.specs.Fits.{IsSeen}
-use Rattle.rules_to_sql.specs.Names.{Names}
+use Rattle.expressions_to_sql.specs.Names.{Names}
 use Rattle.sql_check_parts.specs.Scopes.{Scope, or_null}
 use Rattle.sql_meaning.specs.Scripts.{Data, base_of}
 use Rattle.sql_meaning.specs.Tables.{Base}
-use Rattle.rules_to_sql.specs.ToSql.{group_columns}
+use Rattle.expressions_to_sql.specs.ToSql.{group_columns}
 use Rattle.sql_meaning.specs.Values.{at_groups, place_in, value as sql_value}
-use Rattle.rules_to_sql.proofs.OverGroups.{group_fits, group_value_is}
+use Rattle.expressions_to_sql.proofs.OverGroups.{group_fits, group_value_is}
 use Rattle.selects_to_sql.specs.Writable.{HaveNames}
 use Rattle.selects_to_sql.specs.Queries.{all_to_sql, first_alias, of_one}
 use Rattle.selects_to_sql.specs.Groups.{has_rows}

@@ -16,6 +16,7 @@ pub mod PairForms
 pub mod Identifiers
 pub mod Conjunctions
 pub mod Subs
+pub mod Loose
 pub mod Pairs
 pub mod TwoOperands
 pub mod Choices

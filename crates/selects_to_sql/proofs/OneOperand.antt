@@ -35,8 +35,8 @@ use Rattle.sql_check_parts.specs.Scopes.{add_source, columns_of as table_columns
 use Rattle.sql_meaning.specs.From.{condition_fault, kept, source_rows}
 use Rattle.sql_meaning.specs.Scripts.{Data, base_of, no_table, tables_in}
 use Rattle.sql_meaning.specs.Values.{at_rows, value as sql_value}
-use Rattle.rules_to_sql.specs.Names.{Names}
-use Rattle.rules_to_sql.specs.ToSql.{to_sql}
+use Rattle.expressions_to_sql.specs.Names.{Names}
+use Rattle.expressions_to_sql.specs.ToSql.{to_sql}
 use Rattle.selects_to_sql.specs.Writable.{AllCanBeWritten, CanBeWritten, HaveNames}
 use Rattle.selects_to_sql.specs.Queries as queries
 use Rattle.selects_to_sql.specs.Queries.{all_to_sql, calc_query, copy_query, filter_query, first_alias, items_as, left_query, measures_query, of_one, points_query, rename_query, select_as, select_of, source_as}

@@ -17,7 +17,7 @@ use Rattle.sql_tree.specs.Trees.{Exp, ItemTree, QueryTree, SelectTree, Text}
 use Rattle.sql_tree.specs.declared.parts.Column.{Column}
 use Rattle.sql_tree.specs.declared.parts.Literal.TheVariants as literal
 use Rattle.sql_tree.specs.declared.word_groups.JoinKind.TheVariants as joining
-use Rattle.rules_to_sql.specs.ToSql.{column_of, operator_to_sql, to_sql}
+use Rattle.expressions_to_sql.specs.ToSql.{column_of, operator_to_sql, to_sql}
 use Rattle.selects_to_sql.specs.Items.{all_of, for_each_two, items_for}
 use Rattle.selects_to_sql.specs.PairItems.{agreement_on, chosen, chosen_from, from_two, joined_by, lead_column, lead_item, namesake_item, not_chosen, paired_from, paired_of, second_item}
 use Rattle.selects_to_sql.specs.Queries.{agree, agrees_on, choose_query, chosen_exps, condition_for, conjunction, first_alias, is_chosen, is_not_chosen, item_as, of_two, pair_query, pairs_select, second_alias, source_as}
@@ -29,7 +29,7 @@ above : (n k : ℕ) → nat_lt (n + k) n ≡ false
 above n k = le-ltb (n + k) n (omega arith)
 
 -- a column behind those of the first source is one of the second
-second_of : (n k : ℕ) (name : Text) → of_two n (n + k) name ≡ column_of second_alias name
+pub second_of : (n k : ℕ) (name : Text) → of_two n (n + k) name ≡ column_of second_alias name
 second_of n k name = ap (λ b. column_of (if b then first_alias else second_alias) name) (above n k)
 
 -- it stands nowhere else than the first of them
@@ -78,7 +78,7 @@ right_leads p o xs ys (u ∷ us) (m ∷ ms) rest =
 one_agreement : (p : Settings) (xs ys : List Component) (y : Component) → to_sql p (of_two (length xs)) (agrees_on xs ys y) ≡ agreement_on xs y
 one_agreement p xs ys y = ap (λ c. tree.binary (tree.column c) op.Equal (lead_column xs y.name)) (second_of (length xs) (place_of y.name ys) y.name)
 
-agreements : (p : Settings) (xs ys zs : List Component) → to_sql p (of_two (length xs)) (conjunction (map (agrees_on xs ys) zs)) ≡ all_of (map (agreement_on xs) zs)
+pub agreements : (p : Settings) (xs ys zs : List Component) → to_sql p (of_two (length xs)) (conjunction (map (agrees_on xs ys) zs)) ≡ all_of (map (agreement_on xs) zs)
 agreements p xs ys zs = conjunction_to_sql p (of_two (length xs)) (map (agrees_on xs ys) zs) ∙ ap all_of (each_agreement zs)
   where
     each_agreement : (zs : List Component) → map (to_sql p (of_two (length xs))) (map (agrees_on xs ys) zs) ≡ map (agreement_on xs) zs

@@ -44,8 +44,8 @@ use Rattle.sql_meaning.specs.From as from
 use Rattle.sql_meaning.specs.From.{fault_at, holds, pairs, partners, source_rows}
 use Rattle.sql_meaning.specs.Scripts.{Data, base_of, tables_in}
 use Rattle.sql_meaning.specs.Values.{View, at_rows, value as sql_value}
-use Rattle.rules_to_sql.specs.Names.{AreNamesFormed, Names}
-use Rattle.rules_to_sql.specs.ToSql.{Naming, to_sql}
+use Rattle.expressions_to_sql.specs.Names.{AreNamesFormed, Names}
+use Rattle.expressions_to_sql.specs.ToSql.{Naming, to_sql}
 use Rattle.selects_to_sql.specs.Writable.{AllCanBeWritten, CanBeWritten, HaveNames}
 use Rattle.selects_to_sql.specs.Queries.{agree, agrees_on, condition_for, conjunction, first_alias, of_two, pairs_select, second_alias, source_as}
 use Rattle.selects_to_sql.specs.Runs.{IsTable, entries}
@@ -146,10 +146,10 @@ module _ (p : Settings) (law : Translates p) (before : Data) (x y : Text) (a b s
   abbrev pub scope : Scope
   scope = two_scope (columns_of a) (columns_of b)
 
-  abbrev v : View
+  abbrev pub v : View
   v = at_rows (base_of p before) scope
 
-  abbrev tie : Exp
+  abbrev pub tie : Exp
   tie = to_sql p at (agree a b)
 
   abbrev pub joins : List JoinTree
@@ -193,10 +193,10 @@ module _ (p : Settings) (law : Translates p) (before : Data) (x y : Text) (a b s
       ∙ agree_value p (columns_of a) (columns_of b) r q f g (identifiers_of b) ours theirs
       ∙ ap (λ z. Ok (c.Bool (same_row z (key r)))) (key_cells b b q other.well_formed (refl, refl) (key_within b q g))
 
-  one_row : (r : Row) → is_point (columns_of a) r ≡ true → partners (λ l z. holds v tie (l ++ z)) from.beside e r ≡ beside a (with_points b e) r
+  pub one_row : (r : Row) → is_point (columns_of a) r ≡ true → partners (λ l z. holds v tie (l ++ z)) from.beside e r ≡ beside a (with_points b e) r
   one_row r f = matches (λ q. holds v tie (r ++ q)) r (key r) (key_width b) e (all_more (λ q. is_point (columns_of b) q ≡ true) (λ q. holds v tie (r ++ q) ≡ same_row (take (key_width b) q) (key r)) (λ q g. ap is_true (tie_is r q f g)) e other.typed) other.distinct
 
-  no_fault : faults_by (fault_at v tie) (pairs d e) ≡ None
+  pub no_fault : faults_by (fault_at v tie) (pairs d e) ≡ None
   no_fault =
       no_faults (λ r. is_point (columns_of a) r ≡ true) (fault_at v tie) d e
       (λ r f. all_more (λ q. is_point (columns_of b) q ≡ true) (λ q. fault_at v tie (r ++ q) ≡ None) (λ q g. ap fault_in (tie_is r q f g)) e other.typed) set.typed
@@ -238,7 +238,7 @@ module _ (p : Settings) (law : Translates p) (before : Data) (x y : Text) (a b s
 
   -- ---- its form
 
-  formed : AreNamesFormed at columns
+  pub formed : AreNamesFormed at columns
   formed = two_formed (length (columns_of a)) columns (all_append (λ z. IsName z.name) (columns_of a) (columns_of b) na nb)
 
   joins_typed : (condition : Option CompExp) → AreJoinsTyped p (tables_in before) (first_scope (tables_in before) (it condition)) joins
@@ -249,7 +249,7 @@ module _ (p : Settings) (law : Translates p) (before : Data) (x y : Text) (a b s
       let fits = condition_fits p law at columns formed scope names (tables_in before) (agree a b) agree_typed boolean agree_written in
       rw first (rw second ((refl, refl), fits, tt))
 
-  from_is : (condition : Option CompExp) → IsTest p columns condition → IsFrom p before scope (it condition)
+  pub from_is : (condition : Option CompExp) → IsTest p columns condition → IsFrom p before scope (it condition)
   from_is condition test =
       let known : (table_columns (tables_in before) x ≡ Some (entries (columns_of a))) = known_there p law before x a d there named.0 set.well_formed na in
       record {

@@ -25,8 +25,8 @@ use Rattle.sql_check_parts.specs.Expressions.{site}
 use Rattle.sql_check_parts.specs.Scopes.{Scope, Tables}
 use Rattle.sql_meaning.specs.From.{source_rows}
 use Rattle.sql_meaning.specs.Scripts.{Data, base_of}
-use Rattle.rules_to_sql.specs.Names.{AreNamesFormed, Names}
-use Rattle.rules_to_sql.specs.ToSql.{Naming, to_sql}
+use Rattle.expressions_to_sql.specs.Names.{AreNamesFormed, Names}
+use Rattle.expressions_to_sql.specs.ToSql.{Naming, to_sql}
 use Rattle.selects_to_sql.specs.Writable.{AllCanBeWritten, CanBeWritten}
 use Rattle.selects_to_sql.specs.Queries.{all_to_sql, condition_for, select_of}
 use Rattle.selects_to_sql.specs.Runs.{printable_depth}

@@ -17,7 +17,7 @@ use Rattle.sql_lexer.specs.Spelling.{is_name}
 use Rattle.sql_tree.specs.Formed.{IsName}
 use Rattle.sql_check_parts.specs.Scopes.{Scope, found, numbered}
 use Rattle.sql_meaning.specs.Values.{place_in}
-use Rattle.rules_to_sql.specs.Names.{AreNamesFormed, Names}
+use Rattle.expressions_to_sql.specs.Names.{AreNamesFormed, Names}
 use Rattle.selects_to_sql.specs.Writable.{HaveNames}
 use Rattle.selects_to_sql.specs.Queries.{first_alias, of_one, of_two, second_alias}
 use Rattle.selects_to_sql.specs.Runs.{entries}

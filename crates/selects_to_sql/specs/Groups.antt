@@ -6,7 +6,7 @@ use Rattle.sql_tree.specs.Trees.{Exp, ItemTree, SelectTree, aggregate, constant}
 use Rattle.sql_tree.specs.declared.parts.Column.{Column}
 use Rattle.sql_tree.specs.declared.parts.Constant.TheVariants as constants
 use Rattle.sql_tree.specs.declared.parts.Source.{Source}
-use Rattle.rules_to_sql.specs.ToSql.{column_of}
+use Rattle.expressions_to_sql.specs.ToSql.{column_of}
 use Rattle.selects_to_sql.specs.Queries.{first_alias}
 
 -- a select of groups of all rows of a source

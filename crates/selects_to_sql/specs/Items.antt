@@ -11,7 +11,7 @@ use Rattle.vtl_tree.specs.CompExp.{CompExp, const}
 use Rattle.sql_tree.specs.Trees as tree
 use Rattle.sql_tree.specs.Trees.{Exp, ItemTree, QueryTree, SelectTree, Text}
 use Rattle.sql_tree.specs.declared.parts.Constant.TheVariants as constant
-use Rattle.rules_to_sql.specs.ToSql.{Naming, column_of, to_sql}
+use Rattle.expressions_to_sql.specs.ToSql.{Naming, column_of, to_sql}
 use Rattle.selects_to_sql.specs.Queries.{all_to_sql, first_alias, item_as, items_as, of_one, select_as, source_as}
 
 -- ---- items

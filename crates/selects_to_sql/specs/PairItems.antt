@@ -14,7 +14,7 @@ use Rattle.sql_tree.specs.Trees as tree
 use Rattle.sql_tree.specs.Trees.{Exp, ItemTree, JoinTree, SelectTree, Text}
 use Rattle.sql_tree.specs.declared.parts.Constant.TheVariants as constant
 use Rattle.sql_tree.specs.declared.word_groups.JoinKind.TheVariants as joining
-use Rattle.rules_to_sql.specs.ToSql.{column_of, to_sql}
+use Rattle.expressions_to_sql.specs.ToSql.{column_of, to_sql}
 use Rattle.selects_to_sql.specs.Items.{all_of, for_each_two}
 use Rattle.selects_to_sql.specs.Queries.{first_alias, item_as, name_of_first, of_two, second_alias, select_as, source_as}
 

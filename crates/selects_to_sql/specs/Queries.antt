@@ -17,7 +17,7 @@ use Rattle.vtl_tree.specs.declared.clauses.SubItem.{SubItem}
 use Rattle.sql_tree.specs.Trees.{Text, Exp, ItemTree, JoinTree, QueryTree, SelectTree, expression, on}
 use Rattle.sql_tree.specs.declared.parts.Source.{Source}
 use Rattle.sql_tree.specs.declared.word_groups.JoinKind.TheVariants as joining
-use Rattle.rules_to_sql.specs.ToSql.{Naming, column_of, of_source, to_sql}
+use Rattle.expressions_to_sql.specs.ToSql.{Naming, column_of, of_source, to_sql}
 use Rattle.std.specs.Fmt.{decimal}
 use Rattle.sql_meaning.specs.Scripts.{dollar}
 

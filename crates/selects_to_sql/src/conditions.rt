@@ -93,7 +93,7 @@ fn agreement_on(
 
 /// The identifiers of the second source agree with their namesakes in the first, which has these columns. It fails only
 /// if memory runs out.
-pub(crate) fn agreement(
+pub fn agreement(
     alloc: Global,
     writer: &Writer,
     columns: &[&Component],
@@ -108,8 +108,8 @@ pub(crate) fn agreement(
     all_of(alloc, conditions)
 }
 
-// The name of the first component, or none.
-fn name_of_first(alloc: Global, components: &[&Component]) -> Result<Txt, AllocError>
+/// The name of the first component, or none. It fails only if memory runs out.
+pub fn name_of_first(alloc: Global, components: &[&Component]) -> Result<Txt, AllocError>
     ensures { IfOk result (λ t. t ≡ name_of_first (shown components.now)) }
 {
     match components {

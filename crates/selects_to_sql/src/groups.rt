@@ -2,7 +2,7 @@
 ghost use Rattle.std.specs.Prelude.{◌≡◌, map, IfOk};
 ghost use Rattle.std.specs.Option.{option_map};
 ghost use Rattle.vtl_tree.specs.Shown.{shown};
-ghost use Rattle.rules_to_sql.specs.ToSql.{group_columns};
+ghost use Rattle.expressions_to_sql.specs.ToSql.{group_columns};
 ghost use Rattle.sql_tree.specs.Trees.{aggregate};
 ghost use Rattle.sql_tree.specs.View.{expr_tree, item_tree, select_tree};
 ghost use Rattle.selects_to_sql.specs.Queries.{first_alias, source_as};

@@ -8,7 +8,7 @@ ghost use Rattle.vtl_tree.specs.Columns.{identifiers_of, measures_of};
 ghost use Rattle.vtl_meaning.specs.Operators.{target_named, value_exp, with_measure};
 ghost use Rattle.vtl_tree.specs.NodeView.{item_tree as target_tree, measure_tree, value_tree};
 ghost use Rattle.sql_tree.specs.View.{expr_tree, item_tree};
-ghost use Rattle.rules_to_sql.specs.ToSql.{to_sql};
+ghost use Rattle.expressions_to_sql.specs.ToSql.{to_sql};
 ghost use Rattle.selects_to_sql.specs.Items.{calculated_item, for_each_two, measured_item, renamed_item, own_item, own_items};
 ghost use Rattle.selects_to_sql.specs.Queries.{item_as, of_one};
 

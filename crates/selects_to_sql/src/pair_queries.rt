@@ -53,8 +53,8 @@ fn joined(
     })
 }
 
-// A select from a table and a further source.
-fn from_two(
+/// A select from a table and a further source. It fails only if memory runs out.
+pub fn from_two(
     alloc: Global,
     writer: &Writer,
     items: Vec<Item>,

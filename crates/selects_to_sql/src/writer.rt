@@ -2,13 +2,13 @@
 ghost use Rattle.std.specs.Prelude.{◌≡◌, IfOk};
 ghost use Rattle.sql_tree.specs.Trees.{column};
 ghost use Rattle.sql_tree.specs.View.{expr_tree};
-ghost use Rattle.rules_to_sql.specs.Constants.{const_to_sql, literal_to_sql};
-ghost use Rattle.rules_to_sql.specs.ToSql.{column_of, to_sql};
+ghost use Rattle.expressions_to_sql.specs.Constants.{const_to_sql, literal_to_sql};
+ghost use Rattle.expressions_to_sql.specs.ToSql.{column_of, to_sql};
 ghost use Rattle.vtl_tree.specs.View.{comp_exp_of};
 ghost use Rattle.selects_to_sql.specs.Queries.{alias_of, first_alias, of_one, of_two, second_alias, source_as};
 
 use crate::draft::numbered;
-use rules_to_sql::{Aliases, comp_to_sql, const_to_sql, literal_to_sql};
+use expressions_to_sql::{Aliases, comp_to_sql, const_to_sql, literal_to_sql};
 use sql_tree::{Column, Literal, Source, SqlExpr};
 use std::alloc::{AllocError, Global};
 use std::marker::Model;

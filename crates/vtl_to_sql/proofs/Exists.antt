@@ -29,7 +29,7 @@ use Rattle.sql_meaning.specs.From.{fault_at, holds}
 use Rattle.sql_meaning.specs.Outcomes.{operated}
 use Rattle.sql_meaning.specs.Tables.{Base}
 use Rattle.sql_meaning.specs.Values.{View, at_rows, is_there, is_tied, place_in, value as sql_value}
-use Rattle.rules_to_sql.specs.ToSql as to_sql
+use Rattle.expressions_to_sql.specs.ToSql as to_sql
 use Rattle.selects_to_sql.specs.Writable.{HaveNames}
 use Rattle.selects_to_sql.specs.Queries.{first_alias, second_alias, source_as}
 use Rattle.vtl_to_sql.specs.Sets.{is_matched, tied}

@@ -31,7 +31,7 @@ use Rattle.vtl_tree.specs.Pairs.{contains}
 use Rattle.vtl_tree.specs.Columns.{column_behind, column_named, columns_named, identifiers_of, measures_of}
 use Rattle.vtl_meaning.specs.Operators.{calculated_exp, calculated_exps, for_measures, measured_exps, pair_exps, value_exp, with_measure, with_namesake}
 use Rattle.vtl_tree.specs.Trees.{FormTree, ItemTree, MeasureTree, NodeTree, OperandTree, nodes_of, operands_of, structure_of}
-use Rattle.rules_to_sql.specs.Held.{AllHold, HoldsValues, IsMemberHeld, OperandsHold, asks_a_set}
+use Rattle.expressions_to_sql.specs.Held.{AllHold, HoldsValues, IsMemberHeld, OperandsHold, asks_a_set}
 use Rattle.vtl_to_sql.specs.Accepted.{AllHoldValues, FormHoldsParts, HoldsParts, NodesHoldParts, OperandsHoldParts}
 
 -- ---- lists

@@ -29,7 +29,7 @@ use Rattle.sql_check_parts.specs.Statements.{scale_of, scale_written, settings_o
 use Rattle.sql_meaning.specs.Scripts.{Data, Export, Inputs, NamedFault, base_of, export_of, fault_name, input_table, no_table, or_named, script_value, sort_key, statements_made}
 use Rattle.sql_meaning.specs.Scripts as sql
 use Rattle.sql_meaning.specs.Selects.{query_value}
-use Rattle.rules_to_sql.proofs.WrittenConstants.{integer_there}
+use Rattle.expressions_to_sql.proofs.WrittenConstants.{integer_there}
 use Rattle.vtl_to_sql.specs.Conditions.{IsTranslated}
 use Rattle.vtl_to_sql.specs.Exports.{exported, exported_as, tables_read}
 use Rattle.vtl_to_sql.specs.Means.{AreNamed, AreStored, ScriptGives}

@@ -14,7 +14,7 @@ use Rattle.vtl_tree.specs.Trees as nodes
 use Rattle.vtl_tree.specs.Trees.{AnalyticTree, FormTree, NodeTree, NodeTrees, OperandTrees, ValueTree, structure_of}
 use Rattle.vtl_tree.specs.declared.calls.AnalyticOp.{AnalyticOp}
 use Rattle.vtl_meaning.specs.AnalyticShapes.{default_in}
-use Rattle.rules_to_sql.specs.Held.{HoldsValues}
+use Rattle.expressions_to_sql.specs.Held.{HoldsValues}
 use Rattle.vtl_to_sql.specs.Conditions.{HasFewTables}
 
 -- ---- which forms are translated so far. Each form has its line, so that no new one is passed over.

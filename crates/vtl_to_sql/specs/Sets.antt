@@ -12,7 +12,7 @@ use Rattle.sql_tree.specs.Trees as tree
 use Rattle.sql_tree.specs.Trees.{Text, Exp, QueryTree, SelectTree, exists, unary}
 use Rattle.sql_tree.specs.declared.parts.Constant.TheVariants as constant
 use Rattle.sql_tree.specs.declared.parts.Equality.{Equality}
-use Rattle.rules_to_sql.specs.ToSql.{column_of}
+use Rattle.expressions_to_sql.specs.ToSql.{column_of}
 use Rattle.selects_to_sql.specs.Queries.{first_alias, second_alias, source_as, of_one, items_as, select_as, all_to_sql, select_of}
 
 -- ---- set operators: points for which another operand has a point with the same identifiers, or has none

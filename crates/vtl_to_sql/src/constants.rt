@@ -8,7 +8,7 @@ ghost use Rattle.vtl_tree.specs.View.{comp_exp_of};
 ghost use Rattle.vtl_tree.specs.NodeView.{analytic_tree, node_tree, value_tree};
 ghost use Rattle.vtl_meaning.specs.Operators.{value_exp};
 ghost use Rattle.vtl_check.specs.Checked.{nodes_of};
-ghost use Rattle.rules_to_sql.specs.Held.{HoldsValues};
+ghost use Rattle.expressions_to_sql.specs.Held.{HoldsValues};
 ghost use Rattle.vtl_to_sql.specs.Accepted.{AnalyticHoldsValues, AreHeld, HoldsParts, MadeHoldsValues, OperatorHoldsValue};
 
 use std::alloc::Global;

@@ -3,7 +3,7 @@
 //!
 //! An expression on data sets is the tables of its operands and then one query. This crate decides which query that is,
 //! how tables are named, and in what order statements stand; how a component expression is written it leaves to
-//! `rules_to_sql`, and how a table is found to an engine.
+//! `expressions_to_sql`, and how a table is found to an engine.
 //! Its code takes a script that the checker accepted and asks the checker's functions about structures; it knows no
 //! text, no file, and no program that runs either language.
 //! Begin with specs/FormQueries.antt, Tables.antt and Scripts.antt, then Means.antt and src/laws.rt.

@@ -3,7 +3,7 @@ use Rattle.std.specs.Option.{option_map}
 use Rattle.std.proofs.lemmas.Result.{IfOk-weaker}
 use Rattle.vtl_tree.specs.Structure.{columns_of}
 use Rattle.vtl_tree.specs.NodeView.{agg_tree}
-use Rattle.rules_to_sql.specs.ToSql.{group_columns}
+use Rattle.expressions_to_sql.specs.ToSql.{group_columns}
 use Rattle.sql_tree.specs.View.{expr_tree}
 use Rattle.groups_to_sql.specs.Grouped.{kept_where}
 use Rattle.groups_to_sql.specs.GroupedItems.{aggregated_items}

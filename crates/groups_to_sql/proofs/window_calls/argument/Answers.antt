@@ -1,7 +1,7 @@
 use Rattle.std.proofs.Common.{ap, sym, ◌∙◌}
 use Rattle.std.proofs.lemmas.Result.{IfOk-weaker}
 use Rattle.std.proofs.lemmas.Str.{chars-nil}
-use Rattle.rules_to_sql.specs.ToSql.{column_of}
+use Rattle.expressions_to_sql.specs.ToSql.{column_of}
 use Rattle.selects_to_sql.specs.Queries.{first_alias}
 use Rattle.groups_to_sql.specs.Windowed.{argument_of}
 use Rattle.groups_to_sql.proofs.window_calls.argument.Goals as goal

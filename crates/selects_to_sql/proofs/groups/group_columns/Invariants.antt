@@ -1,5 +1,5 @@
 use Rattle.std.proofs.Common.{◌≡◌, take}
-use Rattle.rules_to_sql.specs.ToSql.{group_columns}
+use Rattle.expressions_to_sql.specs.ToSql.{group_columns}
 use Rattle.selects_to_sql.specs.Queries.{first_alias}
 use Rattle.selects_to_sql.proofs.groups.group_columns.Given as goal
 

@@ -2,7 +2,7 @@ use Rattle.std.proofs.Common.{ap, map, sym, Some, ◌∙◌}
 use Rattle.std.proofs.lemmas.Result.{IfOk-weaker}
 use Rattle.vtl_tree.specs.View.{comp_exp_of}
 use Rattle.sql_tree.specs.View.{item_tree}
-use Rattle.rules_to_sql.specs.ToSql.{to_sql}
+use Rattle.expressions_to_sql.specs.ToSql.{to_sql}
 use Rattle.selects_to_sql.specs.Items.{from_table}
 use Rattle.selects_to_sql.specs.Queries.{of_one}
 use Rattle.selects_to_sql.proofs.Forms.{filter_written}

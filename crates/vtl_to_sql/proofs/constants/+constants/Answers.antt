@@ -3,7 +3,7 @@ use Rattle.std.specs.List.{AllByRecursion}
 use Rattle.vtl_tree.specs.View.{comp_exp_of}
 use Rattle.vtl_tree.specs.NodeView.{node_tree, value_tree}
 use Rattle.vtl_meaning.specs.Operators.{value_exp}
-use Rattle.rules_to_sql.specs.Held.{HoldsValues}
+use Rattle.expressions_to_sql.specs.Held.{HoldsValues}
 use Rattle.vtl_to_sql.specs.Accepted.{HoldsParts}
 use Rattle.vtl_to_sql.proofs.HeldConstants.{calc_node_held, intersect_node_held, join_node_held, measures_node_held, pair_node_held, union_node_held}
 use Rattle.vtl_to_sql.proofs.constants.+constants.Goals as goal

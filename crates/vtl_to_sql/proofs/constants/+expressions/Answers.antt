@@ -1,7 +1,7 @@
 use Rattle.std.proofs.Common.{subst}
 use Rattle.std.specs.List.{AllByRecursion}
 use Rattle.vtl_tree.specs.View.{comp_exp_of}
-use Rattle.rules_to_sql.specs.Held.{HoldsValues}
+use Rattle.expressions_to_sql.specs.Held.{HoldsValues}
 use Rattle.vtl_to_sql.proofs.HeldConstants.{apply_held}
 use Rattle.vtl_to_sql.proofs.constants.+expressions.Goals as goal
 

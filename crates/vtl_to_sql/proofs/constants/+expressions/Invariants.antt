@@ -1,7 +1,7 @@
 use Rattle.std.proofs.Common.{drop}
 use Rattle.std.specs.List.{AllByRecursion}
 use Rattle.vtl_tree.specs.View.{comp_exp_of}
-use Rattle.rules_to_sql.specs.Held.{HoldsValues}
+use Rattle.expressions_to_sql.specs.Held.{HoldsValues}
 use Rattle.vtl_to_sql.proofs.constants.+expressions.Given as goal
 
 abbrev pub invariant-expressions_are_held-loop-e : goal.invariant-expressions_are_held-loop-e

@@ -3,7 +3,7 @@ use Rattle.std.specs.List.{AllByRecursion}
 use Rattle.vtl_tree.specs.NodeView.{value_tree}
 use Rattle.vtl_tree.specs.declared.clauses.CalcItem.{CalcItem}
 use Rattle.vtl_meaning.specs.Operators.{value_exp}
-use Rattle.rules_to_sql.specs.Held.{HoldsValues}
+use Rattle.expressions_to_sql.specs.Held.{HoldsValues}
 use Rattle.vtl_to_sql.specs.Accepted.{MadeHoldsValues}
 use Rattle.vtl_to_sql.proofs.constants.targets_are_held.Given as goal
 

@@ -1,0 +1,6 @@
+pub mod Constants
+pub mod ToSql
+pub mod Names
+pub mod Held
+pub mod Aliases
+pub mod CallForms
