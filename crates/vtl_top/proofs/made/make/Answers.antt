@@ -1,4 +1,4 @@
-use Rattle.std.proofs.Common.{Ok, ap, cc, sym}
+use Rattle.std.proofs.Common.{Ok, ap, sym}
 use Rattle.vtl_demo.specs.Said.{said}
 use Rattle.vtl_top.specs.MadeView.{made_view}
 use Rattle.vtl_top.specs.RunView.{command_view, engine_view, run_view, source_view}
