@@ -1,6 +1,6 @@
 #!/bin/sh
 # Runs all of cases/ and examples/ by the built programs, in less than a minute: cases/run.sh [NAME ..], where a NAME is a
-# folder of cases/, `examples`, `launcher`, `check`, or `sentences`, `pages`, `crates`, for which no program is needed.
+# folder of cases/, `examples`, `launcher`, `check`, or `sentences`, `pages`, `crates`, `edits`, for which no program is needed.
 # Prints what differs, the longest chain of libraries, and at the end 'N passed, M failed'.
 top=$(CDPATH='' cd -- "$(dirname -- "$0")/.." && pwd) || exit 1
 vtl=$top/crates/vtl/out/vtl
@@ -309,6 +309,29 @@ whole() {
     if [ "$code" = 3 ] && diff -r "$case/expected" "$folder/out" >/dev/null; then pass; else fail "scripts/run-whole.sh: exit code $code"; fi
 }
 
+# A run whose standard output is closed and whose first write to a file fails: each file that is there holds a front of its
+# text, and none the line of the status. It is left out where there is no C compiler.
+closed_output() {
+    command -v cc >/dev/null || return
+    cc -O1 -shared -fPIC -o "$made/failing.so" cases/closed/failing_write.c || fail 'cases/closed/failing_write.c is not compiled'
+    case=examples/balance
+    laid_out
+    (cd "$folder" && LD_PRELOAD=$made/failing.so exec "$program" "$1" script.vtl structures.csv in out) >&- 2>"$made/told" </dev/null
+    code=$?
+    if [ "$code" != 6 ]; then
+        fail "closed standard output, by $1: exit code $code, wanted 6"
+        return
+    fi
+    for file in "$folder"/out/*; do
+        name=$(basename "$file")
+        if ! cmp -s -n "$(wc -c <"$file")" "$file" "$case/expected/$name"; then
+            fail "closed standard output, by $1: $name begins with $(head -c 100 "$file")"
+            return
+        fi
+    done
+    pass
+}
+
 # The rows of tables on a page, as docs/sentences.tsv has them.
 rows_of() {
     awk -v table="$2" -v header="$3" -v order="$4" '
@@ -405,10 +428,11 @@ wanted() { case " $names " in *" $1 "*) ;; *) return 1 ;; esac; }
 
 # All of it, in three parts side by side.
 run_all() {
-    names='examples launcher check sentences pages crates'
+    names='examples launcher check sentences pages crates edits'
     for folder in "$top"/cases/*/; do
         case $(basename "$folder") in
-            run | engine | translated) ;;
+            # The cases of rulesets are named, as long as these are not run.
+            run | engine | translated | run-rules) ;;
             *) names="$names $(basename "$folder")" ;;
         esac
     done
@@ -435,7 +459,7 @@ names=$*
 needs_programs() {
     for name in $names; do
         case $name in
-            sentences | pages | crates) ;;
+            sentences | pages | crates | edits) ;;
             *) return 0 ;;
         esac
     done
@@ -453,6 +477,10 @@ for folder in cases/*/; do
     wanted "$word" || continue
     case $word in
         run) for case in cases/run/*/; do run_three_ways "$top/${case%/}"; done ;;
+        run-rules)
+            for case in cases/run-rules/*/; do run_three_ways "$top/${case%/}"; done
+            table types cases/types/structures.txt cases/run-rules/rulesets.csv
+            ;;
         engine) for case in cases/engine/*/; do run "$top/${case%/}"; done ;;
         translated) for case in cases/translated/*/; do translated "$top/${case%/}"; done ;;
         explain)
@@ -502,6 +530,7 @@ for folder in cases/*/; do
                 done
             fi
             ;;
+        closed) for command in run sqlrun; do closed_output "$command"; done ;;
         prefix) for file in cases/prefix/*.csv; do fronts syntax "${file%.*}.vtl" "$file"; done ;;
         *) for file in "cases/$word"/*.csv; do table "$word" "$file"; done ;;
     esac
@@ -602,6 +631,15 @@ if wanted crates; then
     read -r count libraries <"$made/said"
     echo "the longest chain has $count libraries: $libraries"
     within "$count" 17 "libraries in the longest chain"
+fi
+# An edit that a change of its crate has left behind would show nothing.
+if wanted edits; then
+    if edits/try.sh --stands >"$made/said" 2>&1; then
+        pass
+    else
+        fail "edits cannot be applied:"
+        cat "$made/said"
+    fi
 fi
 echo "$passed passed, $failed failed"
 [ "$failed" = 0 ]

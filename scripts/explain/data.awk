@@ -4,6 +4,13 @@
 function input_line(dataset, number, column, kind,    path, named, key) {
     path = inputs "/" dataset ".csv"
     if (at_hand ~ /input /) readable[path]
+    if (!(path in readable) || !((of_engine ? script : structures) in readable)) {
+        tell("where", shown(path, 200))
+        tell("broken", kind ": " (("wrong", kind) in broken ? broken["wrong", kind] : broken["input", kind]))
+        tell("here", "not all that was read are files that can be read once more")
+        tell("change", change["input", kind])
+        return
+    }
     read_declarations()
     begin_records(path)
     read_header()
@@ -86,15 +93,16 @@ function value_habit(sort, text) {
     if (text ~ /^[-+]?[0-9.]+ *%$/) return "percent"
     if (text ~ /^[-+]?[0-9]+,[0-9]+$/) return "decimal_comma"
     if (text ~ /^[-+]?[0-9][0-9]?[0-9]?([ ,.'][0-9][0-9][0-9])+([.,][0-9]+)?$/) return "group_mark"
-    scale = scale_of_call()
-    rounding = "half_up"
+    scale = option_of_call("--scale", 6)
+    rounding = option_of_call("--round", "half_up")
     text = value_of(sort, text)
     return text == "range" || text == "fraction" ? text : ""
 }
 
-function scale_of_call(    i) {
-    for (i = 2; i < ARGC - 1; i++) if (ARGV[i] == "--scale") return ARGV[i + 1]
-    return 6
+# What stands behind an option of the call, or what is taken without it.
+function option_of_call(option, otherwise,    i) {
+    for (i = 2; i < ARGC - 1; i++) if (ARGV[i] == option) return ARGV[i + 1]
+    return otherwise
 }
 
 # What is said of a habit, where it is said, about a field.

@@ -9,7 +9,8 @@ function take_script() {
     read_statements()
 }
 
-# Whether the script cannot be read once more, since it came by a pipe; then its status is all that is told.
+# Whether the script, or the text of the dialect, cannot be read once more, since it came by a pipe; then its status is all
+# that is told.
 function is_gone(status) {
     if (script in readable) return 0
     tell("where", shown(script, 200))
@@ -158,8 +159,13 @@ function type_line(number, rule) {
     tell_statement(script, number)
     narrow(number)
     if (focus_to - focus_from < whole_to - whole_from) tell("part", code_of_focus() " at " place_of_token(focus_from))
-    tell("here", names_here(number, rule))
-    tell_advice(rule)
+    if (structures in readable) {
+        tell("here", names_here(number, rule))
+        tell_advice(rule)
+    } else {
+        tell("here", "the structures file is no file that can be read once more")
+        tell_rule("types", rule)
+    }
 }
 
 # The narrowest part that is refused, as it stands where it stands on one line.
@@ -298,7 +304,7 @@ function near_file(path,    name, count, i, set, names, other) {
 
 # `error: not text: PATH`: the first line that is not UTF-8.
 function not_text_line(path,    line, number) {
-    while ((getline line < file_path(path)) > 0) {
+    while (path in readable && (getline line < file_path(path)) > 0) {
         number++
         if (is_text(line)) continue
         tell("where", shown(path, 200) ", line " number)

@@ -14,6 +14,8 @@ function narrow(number,    token) {
     whole_to = focus_to
     for (token = first_token[number]; token <= last_token[number]; token++) if (token_text[token] == "\"..\"") return
     if (ENVIRON["VTL_PROGRAM"] == "" || ENVIRON["VTL_ROOM"] == "" || symbol[first_token[number]] == "define") return
+    # What came by a pipe cannot be read by a trial.
+    if (!(structures in readable)) return
     focus_head = spelled_tokens(first_token[number], focus_from - 1)
     focus_tail = ""
     while (trials < most_trials() && narrowed_once()) ;

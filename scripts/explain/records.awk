@@ -27,7 +27,7 @@ function next_record(    end) {
 function begin_line() {
     while (1) {
         if (!waiting) {
-            if ((getline left < source) <= 0) return 0
+            if (source == "" || (getline left < source) <= 0) return 0
             file_line++
             if (file_line == 1) sub(/^\357\273\277/, "", left)
             waiting = 1

@@ -6,7 +6,7 @@ function window() { return 512 }
 
 # Reads the lines of a script; there are none where it cannot be read.
 function read_script(path,    line, start) {
-    while ((getline line < file_path(path)) > 0) {
+    while (path in readable && (getline line < file_path(path)) > 0) {
         rows++
         script_line[rows] = line
         line_start[rows] = start + 0

@@ -2,6 +2,7 @@
 
 # `error: sql syntax after DONE statements at byte BYTE`
 function sql_syntax_line(done, byte,    key) {
+    if (is_gone("SqlSyntax")) return
     read_sql_grammar()
     read_script(script)
     row = row_of(byte)
@@ -61,6 +62,7 @@ function fault_here() {
 
 # `error: sql type in statement STATEMENT rule RULE`
 function sql_type_line(number, rule) {
+    if (is_gone("SqlType")) return
     take_sql()
     gather_tables(number - 1)
     tell_sql_statement(number)

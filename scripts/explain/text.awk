@@ -113,7 +113,7 @@ function is_text(text) {
     return text !~ /[\200-\377]/
 }
 
-# A path that no awk takes for a stream of its own; none where the file cannot be read once more.
+# A path that no awk takes for a stream of its own; nothing where the file cannot be read once more.
 function file_path(path) {
     if (!(path in readable)) return ""
     return path ~ /^[.\/]/ ? path : "./" path

@@ -1,4 +1,7 @@
 // A `finish` that fails leaves the file unfinished: closing gives no answer in Rust, so `DiskFiles` flushes first.
+//
+// A file that could not be written is closed at once, though it is still being created: where standard output is closed,
+// such a file has its number, and what is then said would be written into it.
 ghost use Rattle.std.specs.Prelude.{◌≡◌, false, None, is_some, [], string_bytes};
 
 use crate::count::Count;
@@ -16,6 +19,7 @@ pub struct DiskFiles<'a, R: rt::Files> {
     rt: &'a R,
     reading: Option<R::File>,
     writing: Option<R::File>,
+    creating: bool,
     faults: Count,
     absences: Count,
     misuses: Count,
@@ -38,6 +42,7 @@ impl<'a, R: rt::Files> DiskFiles<'a, R> {
             rt,
             reading: None,
             writing: None,
+            creating: false,
             faults: Count::new(),
             absences: Count::new(),
             misuses: Count::new(),
@@ -58,7 +63,7 @@ impl<'a, R: rt::Files> Files for DiskFiles<'a, R> {
 
     ghost misuses = { λ files. files.misuses };
 
-    ghost creating = { λ files. is_some files.writing };
+    ghost creating = { λ files. files.creating };
 
     ghost place = { λ files. string_bytes files.place };
 
@@ -105,7 +110,7 @@ impl<'a, R: rt::Files> Files for DiskFiles<'a, R> {
         self.place = name;
         self.mark = self.faults;
         self.reading = None;
-        if self.writing.is_some() {
+        if self.creating {
             self.misuses.rise();
             self.faults.rise();
             return Err(Failed);
@@ -113,6 +118,7 @@ impl<'a, R: rt::Files> Files for DiskFiles<'a, R> {
         match fs::File::create(self.rt, self.place.as_str()) {
             Ok(file) => {
                 self.writing = Some(file);
+                self.creating = true;
                 Ok(())
             }
             Err(_) => {
@@ -123,31 +129,37 @@ impl<'a, R: rt::Files> Files for DiskFiles<'a, R> {
     }
 
     fn write(&mut self, piece: &[u8]) -> Result<usize, Failed> {
-        let Some(file) = &mut self.writing else {
+        if !self.creating {
             self.misuses.rise();
             self.faults.rise();
             return Err(Failed);
-        };
-        match file.write(piece) {
-            Ok(count) if count != 0 || piece.is_empty() => Ok(count),
-            _ => {
-                self.faults.rise();
-                Err(Failed)
+        }
+        if let Some(file) = &mut self.writing {
+            match file.write(piece) {
+                Ok(count) if count != 0 || piece.is_empty() => return Ok(count),
+                _ => {}
             }
         }
+        self.writing = None;
+        self.faults.rise();
+        Err(Failed)
     }
 
     fn finish(&mut self) -> Result<(), Failed> {
-        let Some(file) = &mut self.writing else {
+        if !self.creating {
             self.misuses.rise();
             self.faults.rise();
             return Err(Failed);
-        };
-        if file.flush().is_err() {
-            self.faults.rise();
-            return Err(Failed);
+        }
+        if let Some(file) = &mut self.writing {
+            if file.flush().is_ok() {
+                self.writing = None;
+                self.creating = false;
+                return Ok(());
+            }
         }
         self.writing = None;
-        Ok(())
+        self.faults.rise();
+        Err(Failed)
     }
 }
