@@ -17,11 +17,11 @@ use Rattle.vtl_meaning.specs.Points.{with_points}
 use Rattle.vtl_tree.specs.Columns.{others_of}
 use Rattle.vtl_tree.specs.Structure.{columns_of}
 use Rattle.vtl_tree.specs.declared.structure.Component.{Component}
-use Rattle.vtl_demo.specs.Nodes.{kept_structure, summed_structure, sums}
+use Rattle.vtl_demo.specs.Nodes.{kept_structure, product_at, summed_structure, sums}
 use Rattle.vtl_demo.specs.Script.{settings}
 use Rattle.vtl_demo.proofs.Numbered.{map_made}
 use Rattle.vtl_demo.proofs.Points.{fits}
-use Rattle.vtl_demo.proofs.Products.{kept_point, no_faults, product_at, product_small}
+use Rattle.vtl_demo.proofs.Products.{kept_point, no_faults, product_small}
 
 abbrev cell_at : ℕ → Cell
 cell_at i = c.Int (pos (product_at i))
