@@ -6,6 +6,7 @@ use Rattle.std.proofs.lemmas.List.FromFn.{map-range_with_len_more}
 use Rattle.std.proofs.lemmas.Bool.Decides.{nat_tests}
 use Rattle.vtl_lists.specs.Apart.{all_apart}
 use Rattle.vtl_lists.proofs.Aparts.{apart_more}
+use Rattle.vtl_tuples.proofs.Lists.{map-map, map_each}
 
 -- what holds of each
 pub each_made : {X : Type 0} (P : X → Type 0) (f : ℕ → X) (from n : ℕ) → ((i : ℕ) → from ≤ i → i < from + n → P (f i)) → AllByRecursion P (map f (range_with_len from n))
@@ -34,8 +35,7 @@ apart_made same f from (suc n) unlike =
 
 -- what is made of what is made
 pub map_made : {X Y Z : Type 0} (f : Y → Z) (g : X → Y) (h : X → Z) → ((x : X) → f (g x) ≡ h x) → (xs : List X) → map f (map g xs) ≡ map h xs
-map_made f g h is [] = refl
-map_made f g h is (x ∷ xs) = ap (λ z. z ∷ map f (map g xs)) (is x) ∙ ap (λ zs. h x ∷ zs) (map_made f g h is xs)
+map_made f g h is xs = map-map f g xs ∙ map_each (λ x. f (g x)) h is xs
 
 -- with one more behind
 pub one_more : {X : Type 0} (f : ℕ → X) (from n j : ℕ) (xs : List X) (x : X) → from + n ≡ j → xs ≡ map f (range_with_len from n) → x ≡ f j → xs ++ x ∷ [] ≡ map f (range_with_len from (n + 1))

@@ -1,5 +1,7 @@
 -- The products of the factors, which have no fault, and what is kept beside them.
-use Rattle.std.proofs.Common.{◌≡◌, ◌≤◌, ◌*◌, ◌∷◌, [], ℕ, pos, List, Option, None, Ok, map, ap, ap₂, arith, refl}
+use Rattle.std.proofs.Common.{◌≡◌, ◌≤◌, ◌<◌, ◌*◌, ◌∷◌, [], ℕ, pos, List, Option, None, Ok, length, map, ap, ap₂, arith, refl}
+use Rattle.std.specs.List.{sum_by}
+use Rattle.std.proofs.lemmas.List.Sums.{sum_by-cons}
 use Rattle.std.proofs.lemmas.Nat.{mul-le}
 use Rattle.vtl_decimal.specs.declared.number.Fault.{Fault}
 use Rattle.vtl_cell.specs.Conversion.{as_kind}
@@ -13,16 +15,21 @@ use Rattle.vtl_tree.specs.Value.{value}
 use Rattle.vtl_meaning.specs.Operators.{calculated_exps, calculated_of, left_of}
 use Rattle.vtl_meaning.specs.Points.{cell_or_null, point_fault, point_of, with_points}
 use Rattle.vtl_demo.specs.DataSets.{first_factor, group_at, second_factor}
-use Rattle.vtl_demo.specs.Nodes.{joined_point, joined_structure, kept_structure, multiplied_structure, product, product_item}
+use Rattle.vtl_demo.specs.Nodes.{joined_point, joined_structure, kept_structure, multiplied_structure, product, product_at, product_item}
 use Rattle.vtl_demo.specs.Script.{settings}
 use Rattle.vtl_demo.proofs.Numbered.{map_made}
 use Rattle.vtl_demo.proofs.Points.{first_small, fits, second_small}
 
-abbrev pub product_at : ℕ → ℕ
-product_at i = first_factor i * second_factor i
-
 pub product_small : (i : ℕ) → product_at i ≤ 998001
 product_small i = mul-le (first_factor i) (second_factor i) 999 999 (omega (arith, first_small i)) (omega (arith, second_small i))
+
+-- of so many numbers
+pub total_small : (numbers : List ℕ) → length numbers ≤ 1000000 → sum_by product_at numbers < 1000000000000
+total_small numbers few = omega (arith, few, each numbers)
+  where
+    each : (numbers : List ℕ) → sum_by product_at numbers ≤ 998001 * length numbers
+    each [] = omega arith
+    each (i ∷ numbers) = omega (arith, sum_by-cons product_at i numbers, product_small i, each numbers)
 
 -- no fault in any of many
 pub no_faults : {X : Type 0} (f : X → Option Fault) → ((x : X) → f x ≡ None) → (xs : List X) → faults_by f xs ≡ None

@@ -1,7 +1,7 @@
 -- The totals of the groups, which have no fault.
-use Rattle.std.proofs.Common.{◌≡◌, ◌≤◌, ◌+◌, ◌*◌, ◌∙◌, ◌∷◌, [], ℕ, pos, ◌+ℤ◌, List, Bool, None, Ok, true, filter, length, map, ap, ap₂, arith, inl, inr, refl}
+use Rattle.std.proofs.Common.{◌≡◌, ◌≤◌, ◌+◌, ◌*◌, ◌∙◌, ◌∷◌, [], ℕ, pos, ◌+ℤ◌, List, Bool, None, Ok, true, filter, length, map, ap, ap₂, arith, refl}
 use Rattle.std.specs.List.{fold, list_all}
-use Rattle.std.proofs.lemmas.Bool.{cases_Bool}
+use Rattle.std.proofs.lemmas.List.Sums.{count_by-le-length, length-filter}
 use Rattle.vtl_decimal.specs.Range.{fit_integer}
 use Rattle.vtl_cell.specs.Groups.{aggregate, group_value, is_integer, total_of, values_of, wholes_of}
 use Rattle.vtl_cell.specs.Outcome.{fault_in, join, unless}
@@ -17,11 +17,11 @@ use Rattle.vtl_meaning.specs.Points.{with_points}
 use Rattle.vtl_tree.specs.Columns.{others_of}
 use Rattle.vtl_tree.specs.Structure.{columns_of}
 use Rattle.vtl_tree.specs.declared.structure.Component.{Component}
-use Rattle.vtl_demo.specs.Nodes.{kept_structure, summed_structure, sums}
+use Rattle.vtl_demo.specs.Nodes.{kept_structure, product_at, summed_structure, sums}
 use Rattle.vtl_demo.specs.Script.{settings}
 use Rattle.vtl_demo.proofs.Numbered.{map_made}
 use Rattle.vtl_demo.proofs.Points.{fits}
-use Rattle.vtl_demo.proofs.Products.{kept_point, no_faults, product_at, product_small}
+use Rattle.vtl_demo.proofs.Products.{kept_point, no_faults, product_small}
 
 abbrev cell_at : ℕ → Cell
 cell_at i = c.Int (pos (product_at i))
@@ -65,19 +65,12 @@ calm numbers few = ap (λ cells. fault_in (aggregate settings agg.Sum cells)) (v
     by (i ∷ numbers) few = ap fault_in (total_is (i ∷ numbers) few)
 
 -- ---- groups
-fewer : {X : Type 0} (p : X → Bool) (xs : List X) → length (filter p xs) ≤ length xs
-fewer p [] = omega arith
-fewer p (x ∷ xs) = elim (cases_Bool (p x)) [
-  | inl e ↦ rw e (omega (arith, fewer p xs))
-  | inr e ↦ rw e (omega (arith, fewer p xs))
-]
-
 group_calm : (p : Row → Bool) (numbers : List ℕ) → length numbers ≤ 1000000 → fault_in (group_value settings agg.Sum (map (column_of 2) (filter p (map kept_point numbers)))) ≡ None
 group_calm p numbers few =
     let of = filter (λ i. p (kept_point i)) numbers in
     let cells : map (column_of 2) (filter p (map kept_point numbers)) ≡ map cell_at of =
     ap (map (column_of 2)) (filter-map p kept_point numbers) ∙ map_made (column_of 2) kept_point cell_at (λ i. refl) of in
-    ap (λ cells. fault_in (group_value settings agg.Sum cells)) cells ∙ calm of (omega (arith, few, fewer (λ i. p (kept_point i)) numbers))
+    ap (λ cells. fault_in (group_value settings agg.Sum cells)) cells ∙ calm of (omega (arith, few, length-filter (λ i. p (kept_point i)) numbers, count_by-le-length (λ i. p (kept_point i)) numbers))
 
 -- groups of which none has a fault
 groups_calm : (at : Condition) (made : Made) (ys : List Component) (keys : List Row) → ((key : Row) → group_fault made ys key ≡ None)

@@ -1,5 +1,5 @@
 -- The nodes of the script, typed over the structures of the two data sets, and what it means over their points.
-use Rattle.std.specs.Prelude.{◌≡◌, ℕ, List, [], ◌∷◌, Some, None, codes, pos, true, Result, Ok}
+use Rattle.std.specs.Prelude.{◌≡◌, ℕ, ◌*◌, List, [], ◌∷◌, Some, None, codes, pos, true, Result, Ok}
 use Rattle.vtl_cell.specs.Row.{Row}
 use Rattle.vtl_cell.specs.declared.cell.Cell.TheVariants as c
 use Rattle.vtl_cell.specs.declared.kind.Kind.TheVariants as k
@@ -95,6 +95,10 @@ results n = meaning settings statements (environment n)
 -- the points of the join: one for each number
 abbrev pub joined_point : ℕ → Row
 joined_point i = c.Int (pos i) ∷ c.Text (group_at i) ∷ c.Int (pos (first_factor i)) ∷ c.Int (pos (second_factor i)) ∷ []
+
+-- the product of the factors at a number
+abbrev pub product_at : ℕ → ℕ
+product_at i = first_factor i * second_factor i
 
 -- the results, where these are the points of the totals
 abbrev pub results_with : ℕ → (totals : List Row) → Outputs

@@ -1,6 +1,6 @@
 // Laws of the demonstration.
-ghost use Rattle.std.specs.List.{list_all};
-ghost use Rattle.std.specs.Prelude.{◌≡◌, ◌≤◌, ℕ, Ok, true};
+ghost use Rattle.std.specs.List.{list_all, sum_by};
+ghost use Rattle.std.specs.Prelude.{◌≡◌, ◌≤◌, ◌<◌, ◌^◌, ℕ, List, Ok, length, true};
 ghost use Rattle.vtl_check.specs.Checked.{env_over};
 ghost use Rattle.vtl_check.specs.Script.{script_typed};
 ghost use Rattle.vtl_check.specs.Uses.{reads};
@@ -8,7 +8,7 @@ ghost use Rattle.vtl_meaning.specs.Meaning.{is_built};
 ghost use Rattle.vtl_parser.specs.Parsed.{IsScript};
 ghost use Rattle.vtl_tree.specs.DataSet.{AreOfProfile, IsDataSet};
 ghost use Rattle.vtl_demo.specs.DataSets.{declared, left_points, left_structure, most_points, right_points, right_structure};
-ghost use Rattle.vtl_demo.specs.Nodes.{HasResults, typed_nodes};
+ghost use Rattle.vtl_demo.specs.Nodes.{HasResults, product_at, typed_nodes};
 ghost use Rattle.vtl_demo.specs.Script.{settings, text, tree};
 
 /// The text spells the tree, which is typed over the structures; each of its forms is evaluated, and it reads the two
@@ -28,7 +28,10 @@ pub fn points_are_data_sets()
     ensures right_ranges { (n : ℕ) → n ≤ most_points → AreOfProfile settings (right_points n) }
 {}
 
-/// The script has no fault over the data sets of at most a million points, and the join has a point for each number.
+/// The script has no fault over the data sets of at most a million points, and the join has a point for each number:
+/// no product of factors, and no total of so many products, is too large.
 pub fn demonstration_has_no_fault()
-    ensures { (n : ℕ) → n ≤ most_points → HasResults n }
+    ensures results { (n : ℕ) → n ≤ most_points → HasResults n }
+    ensures products { (i : ℕ) → product_at i ≤ 998001 }
+    ensures totals { (numbers : List ℕ) → length numbers ≤ most_points → sum_by product_at numbers < 10 ^ 12 }
 {}
