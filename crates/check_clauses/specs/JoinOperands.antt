@@ -16,9 +16,8 @@ use Rattle.vtl_lists.specs.Results.{◌>>=◌}
 use Rattle.check_faults.specs.Rules.{ruled}
 use Rattle.check_faults.specs.declared.rules.Rule.{Rule}
 use Rattle.check_faults.specs.declared.rules.Rule.TheVariants as rule
-use Rattle.vtl_tree.specs.Names.{component_of, is_among}
+use Rattle.vtl_tree.specs.Names.{component_of, is_among, name_of}
 use Rattle.vtl_tree.specs.declared.renaming.Renaming.{Renaming}
-use Rattle.check_values.specs.Columns.{name_of}
 use Rattle.check_operators.specs.Typed.{TypedTree, components_in, dataset_in}
 use Rattle.check_operators.specs.declared.places.Joined.{Joined}
 use Rattle.check_clauses.specs.Clauses.{made_of, renamed_of}

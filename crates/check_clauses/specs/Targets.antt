@@ -26,9 +26,8 @@ use Rattle.check_faults.specs.Rules.{ruled}
 use Rattle.check_faults.specs.declared.rules.Rule.{Rule}
 use Rattle.check_faults.specs.declared.rules.Rule.TheVariants as rule
 use Rattle.check_shapes.specs.Clauses.{aggr_form, calc_form, target_tests}
-use Rattle.vtl_tree.specs.Names.{component_of, is_among}
+use Rattle.vtl_tree.specs.Names.{component_of, is_among, name_of}
 use Rattle.vtl_tree.specs.declared.targets.Target.{Target}
-use Rattle.check_values.specs.Columns.{name_of}
 use Rattle.check_values.specs.Groupings.{grouping_choice, grouping_names, grouping_of}
 use Rattle.vtl_tree.specs.Kinds.{exp_kind, given_kind}
 use Rattle.check_operators.specs.Typed.{TypedTree, components_in, value_in}

@@ -7,7 +7,7 @@ ghost use Rattle.vtl_tree.specs.NodeView.{operand_tree};
 ghost use Rattle.check_faults.specs.Answers.{Answers};
 ghost use Rattle.check_operators.specs.Typed.{boxed_tree};
 ghost use Rattle.check_joins.specs.Joins.{join_form};
-ghost use Rattle.check_values.specs.Columns.{name_of};
+ghost use Rattle.vtl_tree.specs.Names.{name_of};
 ghost use Rattle.check_clauses.specs.Clauses.{made_of};
 ghost use Rattle.check_clauses.specs.JoinOperands.{is_left, joined_node, joined_of, last_naming, left_names, shape_of, using_names};
 ghost use Rattle.check_clauses.specs.JoinView.{operands_view};

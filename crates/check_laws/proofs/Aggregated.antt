@@ -50,8 +50,8 @@ use Rattle.check_clauses.specs.Targets.{call_in, is_aggregate, made_as, made_tar
 use Rattle.check_operators.specs.Typed.{value}
 use Rattle.check_clauses.specs.declared.targets.Made.{Made}
 use Rattle.check_laws.specs.Gives.{Gives}
-use Rattle.check_laws.proofs.Columns.{IsFound, all-found, at-found, name-found, of-columns, same-refl, same-symm}
-use Rattle.check_laws.proofs.Lists as lists
+use Rattle.vtl_meaning.proofs.FoundColumns.{IsFound, all-found, at-found, name-found, of-columns, same-refl, same-symm}
+use Rattle.vtl_meaning.proofs.Lists as lists
 use Rattle.check_laws.proofs.Measured.{met-measures}
 use Rattle.check_laws.proofs.Shapes.{filter-same, shaped-gives}
 use Rattle.check_laws.proofs.Steps.{after, tested-then, then}

@@ -42,7 +42,7 @@ use Rattle.vtl_check.specs.Transformations.{Transformation, transformations}
 use Rattle.vtl_check.proofs.KnownLemmas.{has_name-lookup}
 use Rattle.check_laws.specs.Reads.{all_read, calcs_read, clause_reads, is_inside, maybe_read, name_read, names_among, names_read, parts_read, script_names, step_reads, targets_read}
 use Rattle.check_laws.specs.Scripts.{AreKnownAlike}
-use Rattle.check_laws.proofs.Lists as lists
+use Rattle.vtl_meaning.proofs.Lists as lists
 
 same-each : {A B : Type 0} (s : Result A Rule) (f g : A → Result B Rule) → ((x : A) → f x ≡ g x) → (s >>= f) ≡ (s >>= g)
 same-each (Ok x) f g h = h x

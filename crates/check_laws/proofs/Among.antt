@@ -16,8 +16,8 @@ use Rattle.vtl_tree.proofs.Twins.{HasTwin}
 use Rattle.vtl_tree.specs.Columns.{identifiers_of, measures_of, place_of}
 use Rattle.vtl_meaning.specs.Made.{AreAmong, IsColumnAt}
 use Rattle.vtl_meaning.specs.Shapes.{IsShaped}
-use Rattle.check_laws.proofs.Columns.{IsFound, all-found, at-place, found-filter, in-columns, into-columns}
-use Rattle.check_laws.proofs.Lists as lists
+use Rattle.vtl_meaning.proofs.FoundColumns.{IsFound, all-found, at-place, found-filter, in-columns, into-columns}
+use Rattle.vtl_meaning.proofs.Lists as lists
 use Rattle.check_laws.proofs.Tests.{and-true}
 use Rattle.check_laws.proofs.Twins.{within-twins}
 

@@ -54,8 +54,8 @@ use Rattle.check_groups.specs.declared.calls.Call.{Call}
 use Rattle.check_groups.specs.declared.calls.Needed.{Needed}
 use Rattle.check_laws.specs.Gives.{Gives}
 use Rattle.check_laws.proofs.Aggregated.{found-at, found-within}
-use Rattle.check_laws.proofs.Columns.{at-found}
-use Rattle.check_laws.proofs.Lists as lists
+use Rattle.vtl_meaning.proofs.FoundColumns.{at-found}
+use Rattle.vtl_meaning.proofs.Lists as lists
 use Rattle.check_laws.proofs.Measured.{met-measures}
 use Rattle.check_laws.proofs.Shapes.{shaped-gives}
 use Rattle.check_laws.proofs.Steps.{anything, tested, tested-then, then, weaker}

@@ -29,9 +29,9 @@ use Rattle.vtl_meaning.specs.Made.{IsCalculated, IsTyped}
 use Rattle.vtl_meaning.specs.Operators.{calculated_exp, target_named, value_exp}
 use Rattle.vtl_meaning.specs.Shapes.{IsShaped, calculated_components, target_of}
 use Rattle.check_laws.specs.Gives.{Gives}
-use Rattle.check_laws.proofs.Columns.{IsFound, all-found, of-columns, same-refl, same-true}
+use Rattle.vtl_meaning.proofs.FoundColumns.{IsFound, all-found, of-columns, same-refl, same-true}
 use Rattle.check_laws.proofs.Expressions.{IsFor, for-map}
-use Rattle.check_laws.proofs.Lists as lists
+use Rattle.vtl_meaning.proofs.Lists as lists
 use Rattle.check_laws.proofs.Measured.{found-columns}
 use Rattle.check_laws.proofs.Shapes.{filter-none, role-identifier, shaped-gives}
 

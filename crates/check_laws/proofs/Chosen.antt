@@ -21,7 +21,7 @@ use Rattle.vtl_meaning.specs.Made.{AreAmong, IsAlternative, IsChoice}
 use Rattle.vtl_meaning.specs.Shapes.{IsShaped}
 use Rattle.check_laws.specs.Gives.{ArePassed, Gives}
 use Rattle.check_laws.proofs.Among.{own-measures, same-identifiers, same-measures}
-use Rattle.check_laws.proofs.Lists as lists
+use Rattle.vtl_meaning.proofs.Lists as lists
 use Rattle.check_laws.proofs.Measured.{has-identifiers}
 use Rattle.check_laws.proofs.Shapes.{AreParts, measure-roles, parts-columns, parts-identifiers, parts-measures, shaped-gives}
 use Rattle.check_laws.proofs.Steps.{tested-then}

@@ -39,7 +39,7 @@ use Rattle.vtl_tree.specs.declared.choices.Choice.TheVariants as choice
 use Rattle.vtl_tree.specs.declared.names.Wanted.{Wanted}
 use Rattle.vtl_tree.specs.declared.names.Wanted.TheVariants as wanted
 use Rattle.vtl_tree.specs.declared.renaming.Renaming.{Renaming}
-use Rattle.check_values.specs.Columns.{name_of}
+use Rattle.vtl_tree.specs.Names.{name_of}
 use Rattle.check_values.specs.Groupings.{grouping_choice, grouping_names}
 use Rattle.vtl_tree.specs.Kinds.{exp_kind}
 use Rattle.check_values.specs.Literals.{kind_met, literal_cell, literal_kind, valued}
@@ -50,7 +50,8 @@ use Rattle.check_operators.specs.declared.places.Place.TheVariants as place
 use Rattle.check_clauses.specs.Clauses.{cell_as, filter_form, kept_of, keeping_form, made_of, name_known, names_typed, pivot_names, pivot_of, references_in, renamed_of, renaming_form, renamings_typed, sub_form, sub_item, sub_known, sub_names, sub_of, sub_value, subs_typed, unpivot_of}
 use Rattle.check_clauses.specs.Targets.{aggr_clause, aggr_tree, calc_clause, calc_name, is_analytic, is_analytic_value, item_names, item_of, made_target, role_of, target_of, value_kind}
 use Rattle.check_clauses.specs.declared.targets.Made.{Made}
-use Rattle.vtl_meaning.specs.Made.{IsCalculated, IsFiltered, IsGroupCondition, IsGrouped, IsLeft, IsMade, IsPivoted, IsRenamed, IsSub, IsTyped, IsUnpivoted, IsWindowed}
+use Rattle.vtl_meaning.specs.Made.{IsCalculated, IsFiltered, IsGroupCondition, IsGrouped, IsLeft, IsPivoted, IsRenamed, IsSub, IsTyped, IsUnpivoted, IsWindowed}
+use Rattle.vtl_scripts.specs.Made.{IsMade}
 use Rattle.vtl_meaning.specs.Operators.{value_exp}
 use Rattle.vtl_meaning.specs.Reaches.{IsNearValue}
 use Rattle.vtl_meaning.specs.Shapes.{IsChosen, IsRenamedBy, IsShaped, tree_kind}
@@ -60,10 +61,10 @@ use Rattle.check_laws.proofs.Aggregated.{AreMadeTargets, aggr-fits}
 use Rattle.check_laws.proofs.Analyzed as analyzed
 use Rattle.check_laws.proofs.Analyzed.{IsTargetItem, items-analyzed}
 use Rattle.check_laws.proofs.Calculated.{IsItemFor, calculated-fits}
-use Rattle.check_laws.proofs.Columns.{among-any}
+use Rattle.vtl_meaning.proofs.FoundColumns.{among-any}
 use Rattle.check_laws.proofs.Inner.{made-shaped}
 use Rattle.check_laws.proofs.Left.{IsItem, IsName, IsNamed, drop-fits, keep-fits, known-gives, sub-fits}
-use Rattle.check_laws.proofs.Lists as lists
+use Rattle.vtl_meaning.proofs.Lists as lists
 use Rattle.check_laws.proofs.Literals.{literal-as, valued-gives, kind-met}
 use Rattle.check_laws.proofs.Operators.{IsMadeWith}
 use Rattle.check_laws.proofs.Renamed.{renamed-fits}

@@ -22,8 +22,8 @@ use Rattle.vtl_meaning.specs.Made.{AreAmong, IsAlternative, IsColumnAt, IsCombin
 use Rattle.vtl_meaning.specs.Shapes.{IsShaped}
 use Rattle.check_laws.specs.Gives.{ArePassed, Gives}
 use Rattle.check_laws.proofs.Among.{IsAmong, among-mapped, mapped-among, own-identifiers, own-measures, same-identifiers, same-measures}
-use Rattle.check_laws.proofs.Columns.{IsFound, all-found, at-found, at-place, name-found}
-use Rattle.check_laws.proofs.Lists as lists
+use Rattle.vtl_meaning.proofs.FoundColumns.{IsFound, all-found, at-found, at-place, name-found}
+use Rattle.vtl_meaning.proofs.Lists as lists
 use Rattle.check_laws.proofs.Measured.{has-identifiers}
 use Rattle.check_laws.proofs.Shapes.{AreParts, measure-roles, parts-columns, parts-identifiers, parts-measures, parts-others, role-identifier, shaped-gives}
 use Rattle.check_laws.proofs.Steps.{tested-then}

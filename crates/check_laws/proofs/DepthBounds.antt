@@ -22,9 +22,10 @@ use Rattle.check_operators.specs.Typed.{TypedTree, value, dataset}
 use Rattle.check_clauses.specs.Clauses as clauses
 use Rattle.vtl_tree.specs.Columns.{column_behind, column_named, columns_named, identifiers_of, measures_of}
 use Rattle.vtl_meaning.specs.Operators.{calculated_exp, calculated_exps, for_measures, measured_exps, pair_exps, target_named, value_exp, with_measure, with_namesake}
-use Rattle.check_laws.specs.Depths.{comp_depth, comps_depth, exps_in, held_exps, item_exps, made_exps, node_depth, value_exps}
+use Rattle.check_laws.specs.Depths.{exps_in, held_exps, item_exps, made_exps, node_depth, value_exps}
+use Rattle.vtl_tree.specs.Depths.{comp_depth, comps_depth}
 use Rattle.check_laws.specs.Gives.{Gives}
-use Rattle.check_laws.proofs.Lists as lists
+use Rattle.vtl_meaning.proofs.Lists as lists
 
 abbrev pub IsUpTo : ℕ → CompExp → Type 0
 IsUpTo d e = comp_depth e ≤ d

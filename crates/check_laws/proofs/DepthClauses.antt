@@ -25,7 +25,7 @@ use Rattle.vtl_tree.specs.Trees.{NodeTree, OperandTree, ValueTree, operands_of, 
 use Rattle.check_shapes.specs.Clauses.{calc_form, pivot_form}
 use Rattle.vtl_tree.specs.declared.names.Wanted.TheVariants as wanted
 use Rattle.vtl_tree.specs.declared.renaming.Renaming.{Renaming}
-use Rattle.check_values.specs.Columns.{name_of}
+use Rattle.vtl_tree.specs.Names.{name_of}
 use Rattle.vtl_tree.specs.Kinds.{exp_kind}
 use Rattle.check_operators.specs.Typed.{TypedTree, value, dataset, components_in, condition_in, dataset_in}
 use Rattle.check_operators.specs.declared.places.Joined.{Joined}
@@ -39,7 +39,7 @@ use Rattle.check_clauses.specs.declared.targets.Made.{Made}
 use Rattle.check_laws.specs.Gives.{Gives}
 use Rattle.check_laws.proofs.DepthBounds.{AreNodesUpTo, IsItemUpTo, IsNodeUpTo, IsTreeUpTo, IsUpTo, IsValueUpTo, beside, calculated-up, clause-up, items-up, node-up, option-up}
 use Rattle.check_laws.proofs.Groups.{IsAnalytic, target-analytic}
-use Rattle.check_laws.proofs.Lists as lists
+use Rattle.vtl_meaning.proofs.Lists as lists
 use Rattle.check_laws.proofs.Steps.{after, tested, then, weaker}
 
 pub tree-step : (d : ℕ) (r : Result NodeTree Rule) → Gives (IsNodeUpTo d) r → Gives (IsTreeUpTo d) (as_dataset r)

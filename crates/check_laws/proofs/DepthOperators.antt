@@ -21,9 +21,9 @@ use Rattle.vtl_tree.specs.declared.structure.Component.{Component}
 use Rattle.vtl_tree.specs.declared.structure.Structure.{Structure}
 use Rattle.vtl_tree.specs.Nodes.{nodes_in}
 use Rattle.vtl_tree.specs.Trees.{NodeTree, choose, measures, named, pair, structure_of}
-use Rattle.vtl_tree.specs.Names.{is_among}
+use Rattle.vtl_tree.specs.Names.{is_among, name_of}
 use Rattle.check_values.specs.Calls.{call_form, call_kind, or_null}
-use Rattle.check_values.specs.Columns.{column_from, column_typed, name_of}
+use Rattle.check_values.specs.Columns.{column_from, column_typed}
 use Rattle.vtl_tree.specs.Kinds.{exp_kind}
 use Rattle.check_values.specs.Literals.{constant_cell, constant_typed, valued}
 use Rattle.check_operators.specs.Operators.{Operands, if_placed, membership, no_operands, on_choice, on_datasets, on_measures, on_operands, on_pair, operator_form, parted, set_form, with_operand, with_value}
@@ -35,7 +35,7 @@ use Rattle.check_operators.specs.declared.places.Place.TheVariants as place
 use Rattle.check_expressions.specs.Typing.{behind, or_component}
 use Rattle.check_laws.specs.Gives.{Gives}
 use Rattle.check_laws.proofs.DepthBounds.{AreNodesUpTo, AreUpTo, IsNodeUpTo, IsTreeUpTo, IsUpTo, beside, call-up, dataset-up, measured-up, node-up, nodes-raised, pair-up, some-tree, tree-raised}
-use Rattle.check_laws.proofs.Lists as lists
+use Rattle.vtl_meaning.proofs.Lists as lists
 use Rattle.check_laws.proofs.Steps.{after, tested, then, weaker}
 
 -- ---- values and names

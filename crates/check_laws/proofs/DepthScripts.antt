@@ -22,7 +22,7 @@ use Rattle.check_laws.specs.Gives.{Gives}
 use Rattle.check_laws.proofs.DepthBounds.{IsNodeUpTo, deepest-below, node-depth}
 use Rattle.check_laws.proofs.DepthSets.{dataset-step}
 use Rattle.check_laws.proofs.DepthTyping.{deep}
-use Rattle.check_laws.proofs.Lists as lists
+use Rattle.vtl_meaning.proofs.Lists as lists
 use Rattle.check_laws.proofs.Scripts.{at-then}
 use Rattle.check_laws.proofs.Steps.{after, tested, then}
 

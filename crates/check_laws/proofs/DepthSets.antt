@@ -27,7 +27,7 @@ use Rattle.vtl_tree.specs.Trees.{NodeTree, maybe_node, nodes_of, structure_of}
 use Rattle.vtl_tree.specs.declared.calls.Window.{Window}
 use Rattle.vtl_tree.specs.declared.specifications.CheckSpec.{CheckSpec}
 use Rattle.check_shapes.specs.Pairs as pairs
-use Rattle.check_values.specs.Columns.{name_of}
+use Rattle.vtl_tree.specs.Names.{name_of}
 use Rattle.check_values.specs.Groupings.{grouping_typed}
 use Rattle.vtl_tree.specs.Kinds.{exp_kind}
 use Rattle.check_operators.specs.Places.{at_groups}
@@ -39,7 +39,7 @@ use Rattle.check_groups.specs.Aggregates.{aggregate_kind, aggregate_node, aggreg
 use Rattle.check_expressions.specs.Typing.{Having, grouped_of, own_groups}
 use Rattle.check_groups.specs.Windowed.{given_structure, or_count, over_dataset, over_form, over_node, over_typed}
 use Rattle.check_groups.specs.declared.calls.Call.{Call}
-use Rattle.check_laws.specs.Depths.{argument_depth}
+use Rattle.vtl_tree.specs.Depths.{argument_depth}
 use Rattle.check_laws.specs.Gives.{Gives}
 use Rattle.check_laws.proofs.DepthBounds.{AreNodesUpTo, IsNodeUpTo, IsTreeUpTo, IsUpTo, all-beside, beside, dataset-up, node-up, option-up, some-tree, tree-raised}
 use Rattle.check_laws.proofs.Steps.{after, then}

@@ -29,7 +29,7 @@ use Rattle.check_laws.proofs.DepthBounds.{IsItemUpTo, IsNodeUpTo, IsTreeUpTo, Is
 use Rattle.check_laws.proofs.DepthClauses.{IsOperandUpTo, IsPartUpTo, aggr-up, calc-up, condition-up, end-up, filter-up, joined-up, keeping-up, operands-up, part-up, pivot-up, renaming-up, sub-up, target-up, tree-step, unpivot-up}
 use Rattle.check_laws.proofs.DepthOperators.{behind-up, constants-up, names-up, operator-step, or-component-up, set-step, two-step}
 use Rattle.check_laws.proofs.DepthSets.{check-up, dataset-step, difference-up, exists-up, grouped-up, member-up, over-up, sets-up}
-use Rattle.check_laws.proofs.Lists as lists
+use Rattle.vtl_meaning.proofs.Lists as lists
 use Rattle.check_laws.proofs.Steps.{after, then}
 
 mutual

@@ -15,7 +15,7 @@ use Rattle.vtl_tree.specs.Columns.{column_behind, column_named, kind_named, plac
 use Rattle.vtl_meaning.specs.Literals.{HasLiterals}
 use Rattle.vtl_meaning.specs.Made.{Aggregates, AreFor, AreTyped, AreTypedOver, IsColumnAt, IsGroupedColumn, IsTyped, IsTypedOver, kinds_in}
 use Rattle.check_laws.specs.WellTyped.{IsTypedIn}
-use Rattle.check_laws.proofs.Columns.{at-place, kind-found}
+use Rattle.vtl_meaning.proofs.FoundColumns.{at-place, kind-found}
 
 -- ---- kinds
 pub kinds-listed : (es : List CompExp) → kinds_in (comp_exps_of es) ≡ map exp_kind es

@@ -18,8 +18,8 @@ use Rattle.vtl_tree.specs.declared.structure.Component.{Component}
 use Rattle.vtl_cell.specs.AggregateKinds as kinds
 use Rattle.vtl_tree.specs.Kinds.{exp_kind}
 use Rattle.vtl_meaning.specs.Made.{Aggregates}
-use Rattle.vtl_tree.specs.Names.{is_among}
-use Rattle.check_values.specs.Columns.{column_typed, name_of}
+use Rattle.vtl_tree.specs.Names.{is_among, name_of}
+use Rattle.check_values.specs.Columns.{column_typed}
 use Rattle.check_groups.specs.Aggregates.{agg_kind, aggregate_kind, aggregate_value, column_name, count_call, count_kind, group_call, group_call_by, is_component, operand_name}
 use Rattle.check_operators.specs.Places.{Env, Written, alone, component_typed, in_aggregate, name_written, with_alias, written_in, written_typed}
 use Rattle.check_operators.specs.Typed.{TypedTree, value, dataset, of_value}

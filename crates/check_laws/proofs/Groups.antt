@@ -25,7 +25,8 @@ use Rattle.check_groups.specs.Aggregates.{aggregate_node, aggregate_tree, of_mea
 use Rattle.check_groups.specs.Windowed as windowed
 use Rattle.check_groups.specs.Windowed.{argument, call_of, call_tree, is_unfit_over, or_count, over_dataset, over_form, over_node, over_parts, over_structure, over_typed, rank_call, suits, target_form, target_typed}
 use Rattle.check_groups.specs.declared.calls.Call.{Call}
-use Rattle.vtl_meaning.specs.Made.{IsGroupCondition, IsGrouped, IsMade, IsWindowed}
+use Rattle.vtl_meaning.specs.Made.{IsGroupCondition, IsGrouped, IsWindowed}
+use Rattle.vtl_scripts.specs.Made.{IsMade}
 use Rattle.vtl_meaning.specs.Reaches.{IsNear}
 use Rattle.vtl_meaning.specs.Shapes.{IsShaped}
 use Rattle.check_laws.specs.Gives.{Gives}

@@ -33,8 +33,8 @@ use Rattle.vtl_meaning.specs.Made.{AreAmong, GoTogether, HasIdentifiers, IsJoine
 use Rattle.vtl_meaning.specs.Shapes.{IsJoinedFrom, IsShaped}
 use Rattle.check_laws.specs.Gives.{Gives}
 use Rattle.check_laws.proofs.Among.{contained-identifiers, own-identifiers, same-identifiers}
-use Rattle.check_laws.proofs.Columns.{same-symm}
-use Rattle.check_laws.proofs.Lists as lists
+use Rattle.vtl_meaning.proofs.FoundColumns.{same-symm}
+use Rattle.vtl_meaning.proofs.Lists as lists
 use Rattle.check_laws.proofs.Shapes.{behind-identifiers, filter-all, filter-mapped, filter-within, front-identifiers, role-identifier, shaped-gives}
 use Rattle.check_laws.proofs.Steps.{after, tested, tested-then, then}
 use Rattle.check_laws.proofs.Tests.{and-true, not-false, not-true}

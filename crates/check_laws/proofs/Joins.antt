@@ -24,15 +24,16 @@ use Rattle.check_operators.specs.declared.places.Joined.{Joined}
 use Rattle.check_operators.specs.declared.places.Place.TheVariants as place
 use Rattle.check_clauses.specs.JoinOperands.{PartTyped, alias_of, aliases_in, joined_node, last_naming, left_names, new_alias, operand_in, operands_in, shape_of, using_names, with_part}
 use Rattle.vtl_meaning.specs.Made as made
-use Rattle.vtl_meaning.specs.Made.{AreMadeOperands, IsJoined, IsMade}
+use Rattle.vtl_meaning.specs.Made.{IsJoined}
+use Rattle.vtl_scripts.specs.Made.{AreMadeOperands, IsMade}
 use Rattle.vtl_meaning.specs.Shapes.{IsJoinedFrom, IsShaped}
 use Rattle.check_laws.specs.Gives.{Gives}
 use Rattle.check_laws.specs.WellTyped.{IsWellTyped}
 use Rattle.check_laws.proofs.Clauses.{node-gives, renamed-gives}
-use Rattle.check_laws.proofs.Columns.{among-any}
+use Rattle.vtl_meaning.proofs.FoundColumns.{among-any}
 use Rattle.check_laws.proofs.Inner.{made-shaped}
 use Rattle.check_laws.proofs.Joined.{aliases_of, join-fits}
-use Rattle.check_laws.proofs.Lists as lists
+use Rattle.vtl_meaning.proofs.Lists as lists
 use Rattle.check_laws.proofs.Operators.{IsMadeWith}
 use Rattle.check_laws.proofs.Sets.{dataset-gives}
 use Rattle.check_laws.proofs.Steps.{after, tested, then, weaker}

@@ -24,8 +24,8 @@ use Rattle.vtl_meaning.specs.Made.{AreAmong, IsColumnAt, IsLeft, IsSub}
 use Rattle.vtl_meaning.specs.Shapes.{IsChosen, IsShaped, is_known}
 use Rattle.check_laws.specs.Gives.{Gives}
 use Rattle.check_laws.proofs.Among.{IsAmong, found-among, own-columns}
-use Rattle.check_laws.proofs.Columns.{HasName, IsFound, all-found, at-place, found-filter, has-itself, kind-found, of-columns, same-true}
-use Rattle.check_laws.proofs.Lists as lists
+use Rattle.vtl_meaning.proofs.FoundColumns.{HasName, IsFound, all-found, at-place, found-filter, has-itself, kind-found, of-columns, same-true}
+use Rattle.vtl_meaning.proofs.Lists as lists
 use Rattle.check_laws.proofs.Shapes.{filter-within, shaped-gives}
 use Rattle.check_laws.proofs.Steps.{tested, then, weaker}
 use Rattle.check_laws.proofs.Tests.{not-false}

@@ -6,7 +6,6 @@ pub mod CalcCalls
 pub mod Calculated
 pub mod Chosen
 pub mod Clauses
-pub mod Columns
 pub mod Combined
 pub mod DepthBounds
 pub mod DepthClauses
@@ -22,7 +21,6 @@ pub mod Inner
 pub mod Joined
 pub mod Joins
 pub mod Left
-pub mod Lists
 pub mod LiteralOperands
 pub mod Literals
 pub mod Measured

@@ -39,7 +39,7 @@ use Rattle.vtl_time.specs.Days.{read_day_of}
 use Rattle.vtl_time.specs.Periods.{read_period_of}
 use Rattle.vtl_meaning.specs.Made.{IsTyped}
 use Rattle.check_laws.specs.Gives.{Gives}
-use Rattle.check_laws.proofs.Lists as lists
+use Rattle.vtl_meaning.proofs.Lists as lists
 use Rattle.check_laws.proofs.Steps.{after, then}
 
 -- ---- options

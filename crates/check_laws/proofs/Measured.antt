@@ -31,9 +31,9 @@ use Rattle.vtl_meaning.specs.Made.{AreFor, HasIdentifiers, IsMeasured, IsTyped}
 use Rattle.vtl_meaning.specs.Operators.{for_measures, with_measure}
 use Rattle.vtl_meaning.specs.Shapes.{IsShaped, given_between, outcome_of}
 use Rattle.check_laws.specs.Gives.{Gives}
-use Rattle.check_laws.proofs.Columns.{IsFound, in-columns}
+use Rattle.vtl_meaning.proofs.FoundColumns.{IsFound, in-columns}
 use Rattle.check_laws.proofs.Expressions.{IsFor, call-typed, for-append, for-map, named-for}
-use Rattle.check_laws.proofs.Lists as lists
+use Rattle.vtl_meaning.proofs.Lists as lists
 use Rattle.check_laws.proofs.Shapes.{AreParts, all-identifiers, identifier-roles, parts-columns, parts-identifiers, parts-measures, shaped-gives}
 use Rattle.check_laws.proofs.Steps.{tested-then}
 use Rattle.check_laws.proofs.Tests.{not-false}

@@ -35,14 +35,15 @@ use Rattle.check_operators.specs.Places.{Env}
 use Rattle.check_operators.specs.declared.places.Place.{Place}
 use Rattle.check_operators.specs.declared.places.Place.TheVariants as place
 use Rattle.vtl_meaning.specs.Literals.{HasLiterals, all_pass, are_literals, is_member}
-use Rattle.vtl_meaning.specs.Made.{IsChoice, IsMade, IsMadeForm, IsMeasured, IsPaired, IsTyped}
+use Rattle.vtl_meaning.specs.Made.{IsChoice, IsMeasured, IsPaired, IsTyped}
+use Rattle.vtl_scripts.specs.Made.{IsMade, IsMadeForm}
 use Rattle.vtl_meaning.specs.Shapes as shapes
 use Rattle.vtl_meaning.specs.Shapes.{IsShaped}
 use Rattle.check_laws.specs.Gives.{Gives}
 use Rattle.check_laws.specs.WellTyped.{IsValueAt, IsWellTyped}
 use Rattle.check_laws.proofs.Chosen.{chosen-fits}
 use Rattle.check_laws.proofs.Expressions.{over-any, over-each}
-use Rattle.check_laws.proofs.Lists as lists
+use Rattle.vtl_meaning.proofs.Lists as lists
 use Rattle.check_laws.proofs.Inner.{made-shaped}
 use Rattle.check_laws.proofs.Literals.{IsMember, set-gives}
 use Rattle.check_laws.proofs.Measured.{IsGivenBy, measured-fits}

@@ -12,10 +12,10 @@ use Rattle.vtl_tree.specs.Nodes.{all_nodes, form_nodes, maybe_nodes, nodes_in, o
 use Rattle.vtl_check.specs.Names.{name_at, name_at_form, names_at, names_in}
 use Rattle.vtl_check.proofs.KnownLemmas.{has_name-lookup}
 use Rattle.vtl_check.proofs.NameLemmas.{names_append}
-use Rattle.vtl_meaning.specs.Made.{AreMade, AreMadeOperands, IsMade, IsMadeForm, IsMadeMaybe}
+use Rattle.vtl_scripts.specs.Made.{AreMade, AreMadeOperands, IsMade, IsMadeForm, IsMadeMaybe}
 use Rattle.check_laws.specs.Scripts.{AreKnownAlike}
 use Rattle.check_laws.proofs.Inner.{inner-made}
-use Rattle.check_laws.proofs.Lists as lists
+use Rattle.vtl_meaning.proofs.Lists as lists
 
 abbrev IsAlike : Named → Named → List ℕ → Type 0
 IsAlike known other name = lookup (same_name name) known ≡ lookup (same_name name) other

@@ -28,9 +28,9 @@ use Rattle.vtl_meaning.specs.Made.{AreFor, HasIdentifiers, IsPaired}
 use Rattle.vtl_meaning.specs.Operators.{for_measures, with_namesake}
 use Rattle.vtl_meaning.specs.Shapes.{IsShaped, given_of_two, outcome_of}
 use Rattle.check_laws.specs.Gives.{ArePassed, Gives}
-use Rattle.check_laws.proofs.Columns.{IsFound, in-columns, into-columns}
+use Rattle.vtl_meaning.proofs.FoundColumns.{IsFound, in-columns, into-columns}
 use Rattle.check_laws.proofs.Expressions.{IsFor, call-typed, named-after, named-before}
-use Rattle.check_laws.proofs.Lists as lists
+use Rattle.vtl_meaning.proofs.Lists as lists
 use Rattle.check_laws.proofs.Measured.{IsGivenBy, for-given, for-parts, given-kind, given-roles, given_of, has-identifiers, met-measures}
 use Rattle.check_laws.proofs.Shapes.{AreParts, shaped-gives}
 use Rattle.check_laws.proofs.Steps.{tested-then}

@@ -29,14 +29,14 @@ use Rattle.vtl_check.specs.Names.{names_in}
 use Rattle.vtl_check.specs.Script.{assigned, at, is_too_much, transformations_typed, value_typed, with_result}
 use Rattle.vtl_check.specs.Transformations.{Transformation, transformations}
 use Rattle.vtl_check.proofs.KnownLemmas.{has_name-lookup}
-use Rattle.vtl_meaning.specs.Made.{IsMade}
+use Rattle.vtl_scripts.specs.Made.{IsMade}
 use Rattle.vtl_meaning.specs.Shapes.{IsShaped}
 use Rattle.check_laws.specs.Gives.{Gives}
 use Rattle.vtl_tree.specs.Nodes.{nodes_in}
 use Rattle.check_laws.specs.Scripts.{AreMadeFrom, AreReadFrom}
 use Rattle.check_laws.specs.WellTyped.{AreShaped, IsWellTyped}
-use Rattle.check_laws.proofs.Columns.{same-true}
-use Rattle.check_laws.proofs.Lists as lists
+use Rattle.vtl_meaning.proofs.FoundColumns.{same-true}
+use Rattle.vtl_meaning.proofs.Lists as lists
 use Rattle.check_laws.proofs.Inner.{inner-shaped, made-shaped}
 use Rattle.check_laws.proofs.Over.{made_over, names_known}
 use Rattle.check_laws.proofs.Sets.{dataset-gives}

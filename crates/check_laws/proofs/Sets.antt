@@ -22,20 +22,21 @@ use Rattle.check_shapes.specs.Choices.{choice_form}
 use Rattle.check_shapes.specs.Pairs as pairs
 use Rattle.vtl_tree.specs.declared.choices.Choice.TheVariants as choice
 use Rattle.vtl_tree.specs.declared.names.Wanted.TheVariants as wanted
-use Rattle.check_values.specs.Columns.{name_of}
+use Rattle.vtl_tree.specs.Names.{name_of}
 use Rattle.check_operators.specs.Places.{Env}
 use Rattle.check_operators.specs.Sets.{check_form, datasets_in, difference_form, difference_tree, exists_form, imbalance_in, member_of, set_of, set_structure, set_tree, sets_form, structures_in}
 use Rattle.check_operators.specs.Typed.{TypedTree, value, dataset, components_in, dataset_in, made_of}
 use Rattle.check_operators.specs.declared.places.Place.{Place}
 use Rattle.check_operators.specs.declared.places.Place.TheVariants as place
-use Rattle.vtl_meaning.specs.Made.{AreCombined, AreMade, IsCombined, IsExistence, IsLeft, IsMade, IsMadeMaybe, node_structures}
+use Rattle.vtl_meaning.specs.Made.{AreCombined, IsCombined, IsExistence, IsLeft}
+use Rattle.vtl_scripts.specs.Made.{AreMade, IsMade, IsMadeMaybe, node_structures}
 use Rattle.vtl_meaning.specs.Shapes.{IsChosen, IsShaped}
 use Rattle.check_laws.specs.Gives.{Gives}
 use Rattle.check_laws.specs.WellTyped.{IsWellTyped}
 use Rattle.check_laws.proofs.Combined.{combined-fits, exists-fits}
 use Rattle.check_laws.proofs.Inner.{made-shaped}
 use Rattle.check_laws.proofs.Left.{member-fits}
-use Rattle.check_laws.proofs.Lists as lists
+use Rattle.vtl_meaning.proofs.Lists as lists
 use Rattle.check_laws.proofs.Operators.{IsMadeWith, made-gives}
 use Rattle.check_laws.proofs.OtherForms.{check-shaped}
 use Rattle.check_laws.proofs.Steps.{then, weaker}

@@ -22,7 +22,7 @@ use Rattle.vtl_tree.specs.declared.choices.Choice.TheVariants as choice
 use Rattle.vtl_tree.specs.Columns.{identifiers_of, measures_of, others_of}
 use Rattle.vtl_meaning.specs.Shapes.{IsShaped}
 use Rattle.check_laws.specs.Gives.{ArePassed, Gives}
-use Rattle.check_laws.proofs.Lists as lists
+use Rattle.vtl_meaning.proofs.Lists as lists
 use Rattle.check_laws.proofs.Steps.{after, tested}
 use Rattle.check_laws.proofs.Tests.{and-true, below, nonzero, not-false, or-false}
 

@@ -28,7 +28,7 @@ use Rattle.check_values.specs.Groupings.{grouping_of, grouping_typed}
 use Rattle.check_values.specs.Operators.{exps_length, of_binary, of_function, of_unary, takes}
 use Rattle.check_values.specs.Literals.{literals_fit}
 use Rattle.check_shapes.specs.Clauses.{target_tests}
-use Rattle.check_values.specs.Columns.{name_of}
+use Rattle.vtl_tree.specs.Names.{name_of}
 use Rattle.check_operators.specs.Operators.{operator_form, set_form}
 use Rattle.check_operators.specs.Places.{Env, Written, at_groups, at_points, columns_in, in_aggregate, member_inside, member_written}
 use Rattle.check_operators.specs.Sets.{check_form, check_spec, difference_form, exists_form, member_of, sets_form}
@@ -46,7 +46,8 @@ use Rattle.check_clauses.specs.declared.targets.Made.{Made}
 use Rattle.check_expressions.specs.Typing.{Having, aggrs_typed, as_dataset, behind, body_end, calc_value, calcs_typed, clause_typed, filter_step, filtered_join, grouped_of, has_exp, having_typed, join_end, keeping_step, last_step, maybe_typed, operands_typed, or_component, over_operand, own_groups, parts_typed, renaming_step, scalar_value, targets_step, targets_typed, typed}
 use Rattle.vtl_meaning.specs.Literals.{are_literals}
 use Rattle.vtl_tree.specs.Kinds.{exp_kind}
-use Rattle.vtl_meaning.specs.Made.{IsMade, IsTypedInGroups}
+use Rattle.vtl_meaning.specs.Made.{IsTypedInGroups}
+use Rattle.vtl_scripts.specs.Made.{IsMade}
 use Rattle.vtl_meaning.specs.Shapes.{IsShaped}
 use Rattle.check_laws.specs.Gives.{ArePassed, Gives}
 use Rattle.check_laws.specs.WellTyped.{AreShaped, IsWellTyped}
@@ -58,7 +59,7 @@ use Rattle.check_laws.proofs.Groups.{IsAnalytic, aggregate-gives, over-gives, ta
 use Rattle.check_laws.proofs.Having.{IsCondition, having-at}
 use Rattle.check_laws.proofs.Inner.{made-shaped}
 use Rattle.check_laws.proofs.Joins.{AreJoinOperands, AreJoinParts, joined-gives, last-gives, operands-give, part-gives}
-use Rattle.check_laws.proofs.Lists as lists
+use Rattle.vtl_meaning.proofs.Lists as lists
 use Rattle.check_laws.proofs.LiteralOperands.{free-gives, functions-give}
 use Rattle.check_laws.proofs.Operators.{AreFit, operator-gives, set-form-gives}
 use Rattle.check_laws.proofs.Sets.{check-gives, dataset-gives, difference-gives, exists-gives, member-gives, sets-give}

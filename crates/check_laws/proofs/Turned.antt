@@ -28,9 +28,9 @@ use Rattle.vtl_meaning.specs.Made.{IsColumnAt, IsPivoted, IsUnpivoted, component
 use Rattle.vtl_meaning.specs.Shapes.{IsShaped}
 use Rattle.vtl_meaning.specs.Turned.{codes_of, other_identifiers}
 use Rattle.check_laws.specs.Gives.{ArePassed, Gives}
-use Rattle.check_laws.proofs.Columns.{at-place, found-filter, into-columns, kind-found}
+use Rattle.vtl_meaning.proofs.FoundColumns.{at-place, found-filter, into-columns, kind-found}
 use Rattle.check_laws.proofs.Left.{IsNamed, known-gives}
-use Rattle.check_laws.proofs.Lists as lists
+use Rattle.vtl_meaning.proofs.Lists as lists
 use Rattle.check_laws.proofs.Measured.{has-identifiers}
 use Rattle.check_laws.proofs.Shapes.{AreParts, all-identifiers, chosen-roles, identifier-roles, parts-others, shaped-gives}
 use Rattle.check_laws.proofs.Steps.{tested-then, then}

@@ -4,7 +4,7 @@ use Rattle.std.specs.List.{AllByRecursion}
 use Rattle.check_faults.specs.InTurn.{in_turn}
 use Rattle.check_faults.specs.declared.rules.Rule.{Rule}
 use Rattle.check_laws.specs.Gives.{Gives}
-use Rattle.check_laws.proofs.Lists as lists
+use Rattle.vtl_meaning.proofs.Lists as lists
 use Rattle.check_laws.proofs.Steps.{then}
 
 -- each item gives such a thing behind such things

@@ -10,7 +10,7 @@ use Rattle.vtl_tree.specs.Choices.{is_identifier}
 use Rattle.vtl_tree.specs.Operands.{agreed, agreed_identifiers, is_coded_alike, is_there, is_within}
 use Rattle.vtl_tree.specs.declared.operands.Compared.{Compared}
 use Rattle.vtl_tree.proofs.Twins.{HasTwin, there-twin}
-use Rattle.check_laws.proofs.Lists as lists
+use Rattle.vtl_meaning.proofs.Lists as lists
 use Rattle.check_laws.proofs.Shapes.{identifier-roles}
 
 pub within-twins : (c : Compared) (r : Role) (xs ys : List Component) → is_within c r xs ys ≡ true → AllByRecursion (HasTwin c ys) (filter (λ x. same_role x.role r) xs)

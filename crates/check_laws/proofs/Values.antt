@@ -20,9 +20,9 @@ use Rattle.vtl_tree.specs.Structures.{Named}
 use Rattle.vtl_tree.specs.View.{comp_exps_of}
 use Rattle.vtl_tree.specs.declared.structure.Component.{Component}
 use Rattle.vtl_tree.specs.declared.structure.Structure.{Structure}
-use Rattle.vtl_tree.specs.Names.{component_of, is_among}
+use Rattle.vtl_tree.specs.Names.{component_of, is_among, name_of}
 use Rattle.check_values.specs.Calls.{call_form, call_kind, or_null}
-use Rattle.check_values.specs.Columns.{column_from, column_typed, name_of}
+use Rattle.check_values.specs.Columns.{column_from, column_typed}
 use Rattle.vtl_tree.specs.Columns.{column_named, kind_named, place_of}
 use Rattle.vtl_tree.specs.Kinds.{exp_kind}
 use Rattle.vtl_cell.specs.OperatorKinds.{kind_by_operands}
@@ -33,11 +33,12 @@ use Rattle.check_operators.specs.declared.places.Inside.{Inside}
 use Rattle.check_operators.specs.declared.places.Place.{Place}
 use Rattle.check_operators.specs.declared.places.Place.TheVariants as place
 use Rattle.vtl_meaning.specs.Literals.{HasLiterals}
-use Rattle.vtl_meaning.specs.Made.{IsColumnAt, IsMade, IsTyped, IsTypedInGroups}
+use Rattle.vtl_meaning.specs.Made.{IsColumnAt, IsTyped, IsTypedInGroups}
+use Rattle.vtl_scripts.specs.Made.{IsMade}
 use Rattle.vtl_meaning.specs.Shapes.{IsShaped}
 use Rattle.check_laws.specs.Gives.{Gives}
 use Rattle.check_laws.specs.WellTyped.{AreShaped, IsTypedIn, IsValueAt, IsWellTyped}
-use Rattle.check_laws.proofs.Columns.{among-any, same-true}
+use Rattle.vtl_meaning.proofs.FoundColumns.{among-any, same-true}
 use Rattle.check_laws.proofs.Expressions.{call-in, call-typed, over-each}
 use Rattle.check_laws.proofs.Literals.{constant-gives}
 use Rattle.check_laws.proofs.Steps.{after, tested, tested-then, then, weaker}

@@ -34,9 +34,8 @@ use Rattle.vtl_tree.specs.Columns.{place_of}
 use Rattle.vtl_tree.specs.Kinds.{given_kind}
 use Rattle.vtl_cell.specs.Literals.{is_null_kind}
 use Rattle.vtl_meaning.specs.Made.{IsColumnAt, IsNamedColumn, is_suited}
-use Rattle.vtl_tree.specs.Names.{component_of}
+use Rattle.vtl_tree.specs.Names.{component_of, name_of}
 use Rattle.check_values.specs.Windows.{frame_alone, frame_typed, is_known, key_of, key_typed, name_form, or_none, order_typed, part_typed, partition_typed, points_typed, window_typed}
-use Rattle.check_values.specs.Columns.{name_of}
 use Rattle.check_values.specs.Literals.{beside_all, literal_cell, literal_kind, stands_beside, valued}
 use Rattle.vtl_tree.specs.declared.calls.AnalyticOp.{AnalyticOp}
 use Rattle.vtl_tree.specs.declared.calls.AnalyticOp.TheVariants as op
@@ -50,8 +49,8 @@ use Rattle.check_groups.specs.declared.calls.Needed.TheVariants as needed
 use Rattle.check_operators.specs.declared.places.Place.{Place}
 use Rattle.check_operators.specs.declared.places.Place.TheVariants as place
 use Rattle.check_laws.specs.Gives.{Gives}
-use Rattle.check_laws.proofs.Columns.{at-place, kind-found}
-use Rattle.check_laws.proofs.Lists as lists
+use Rattle.vtl_meaning.proofs.FoundColumns.{at-place, kind-found}
+use Rattle.vtl_meaning.proofs.Lists as lists
 use Rattle.check_laws.proofs.Literals.{IsCell, literal-cell, valued-gives}
 use Rattle.check_laws.proofs.Reaches.{AreNearParts, parts-near}
 use Rattle.check_laws.proofs.Steps.{after, both, tested, tested-then, then, weaker}

@@ -1,31 +1,14 @@
--- How deep typed expressions are: component expressions, and the deepest of those by which the points of a data set are made.
-use Rattle.std.specs.Prelude.{ℕ, suc, max, List, [], ◌∷◌, ◌++◌, Option, Some, None, option_to_list}
+-- How deep typed expressions on data sets are: the deepest of the component expressions by which their points are made.
+use Rattle.std.specs.Prelude.{ℕ, List, [], ◌∷◌, ◌++◌, option_to_list}
 use Rattle.std.specs.List.{flat_map}
 use Rattle.vtl_syntax.specs.Depth.{deepest}
-use Rattle.vtl_tree.specs.CompExp.{CompExp, CompExps, column, const, call, aggregate, no_comp_exps, comp_exp}
+use Rattle.vtl_tree.specs.CompExp.{CompExp}
+use Rattle.vtl_tree.specs.Depths.{comp_depth}
 use Rattle.vtl_tree.specs.declared.structure.Structure.{Structure}
 use Rattle.vtl_tree.specs.Nodes.{nodes_in}
 use Rattle.vtl_tree.specs.Trees as nodes
 use Rattle.vtl_tree.specs.Trees.{AnalyticTree, FormTree, ItemTree, NodeTree, PointRuleTree, ValueTree, structure_of}
 use Rattle.vtl_meaning.specs.Operators.{calculated_exps, measured_exps, pair_exps}
-
--- ---- component expressions
--- the component of an aggregate is a leaf
-abbrev pub argument_depth : Option (List ℕ) → ℕ
-argument_depth None = 0
-argument_depth (Some name) = 1
-
-abbrev mutual
-  -- a column and a constant have depth 1; an operator and an aggregate have one more than their deepest part
-  pub comp_depth : CompExp → ℕ
-  comp_depth (column place name kind) = 1
-  comp_depth (const v) = 1
-  comp_depth (call o kind args) = suc (comps_depth args)
-  comp_depth (aggregate a kind) = suc (argument_depth a.component)
-
-  pub comps_depth : CompExps → ℕ
-  comps_depth no_comp_exps = 0
-  comps_depth (comp_exp e es) = max (comp_depth e) (comps_depth es)
 
 -- ---- the component expressions of a node
 -- an analytic call is none

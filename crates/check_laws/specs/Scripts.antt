@@ -8,7 +8,7 @@ use Rattle.vtl_tree.specs.Structures.{Named, has_name}
 use Rattle.vtl_tree.specs.Trees.{NodeTree, structure_of}
 use Rattle.vtl_check.specs.Names.{names_in}
 use Rattle.vtl_check.specs.Transformations.{Transformation}
-use Rattle.vtl_meaning.specs.Made.{IsMade}
+use Rattle.vtl_scripts.specs.Made.{IsMade}
 
 -- Each transformation gives a new name, and has a node that is made over what was known before and the results of earlier ones.
 abbrev pub AreMadeFrom : Settings → Named → List Transformation → List NodeTree → Type 0

@@ -9,7 +9,8 @@ use Rattle.check_operators.specs.Places.{Env}
 use Rattle.check_operators.specs.Typed.{TypedTree, value, dataset}
 use Rattle.check_operators.specs.declared.places.Place.{Place}
 use Rattle.check_operators.specs.declared.places.Place.TheVariants as place
-use Rattle.vtl_meaning.specs.Made.{IsMade, IsTyped, IsTypedInGroups}
+use Rattle.vtl_meaning.specs.Made.{IsTyped, IsTypedInGroups}
+use Rattle.vtl_scripts.specs.Made.{IsMade}
 use Rattle.vtl_meaning.specs.Shapes.{IsShaped}
 
 -- typed over points with these columns, or over their groups by these identifiers

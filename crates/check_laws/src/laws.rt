@@ -24,10 +24,11 @@ ghost use Rattle.vtl_check.specs.Checked.{IsTyped, TypedScript, env_over, nodes_
 ghost use Rattle.vtl_check.specs.Names.{names_in};
 ghost use Rattle.vtl_check.specs.Script.{script_typed};
 ghost use Rattle.vtl_check.specs.Transformations.{transformations};
-ghost use Rattle.vtl_meaning.specs.Made.{IsMade};
+ghost use Rattle.vtl_scripts.specs.Made.{IsMade};
 ghost use Rattle.vtl_meaning.specs.Shapes.{IsShaped};
 ghost use Rattle.vtl_tree.specs.Nodes.{nodes_in};
-ghost use Rattle.check_laws.specs.Depths.{comp_depth, node_depth};
+ghost use Rattle.check_laws.specs.Depths.{node_depth};
+ghost use Rattle.vtl_tree.specs.Depths.{comp_depth};
 ghost use Rattle.check_laws.specs.Reads.{is_inside, names_read, script_names};
 ghost use Rattle.check_laws.specs.Scripts.{AreKnownAlike, AreMadeFrom, AreReadFrom};
 ghost use Rattle.check_laws.specs.WellTyped.{AreShaped, IsWellTyped};

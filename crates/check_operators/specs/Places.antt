@@ -21,8 +21,8 @@ use Rattle.vtl_lists.specs.Results.{◌>>=◌}
 use Rattle.check_faults.specs.Rules.{ruled}
 use Rattle.check_faults.specs.declared.rules.Rule.{Rule}
 use Rattle.check_faults.specs.declared.rules.Rule.TheVariants as rule
-use Rattle.vtl_tree.specs.Names.{is_among}
-use Rattle.check_values.specs.Columns.{column_typed, name_of}
+use Rattle.vtl_tree.specs.Names.{is_among, name_of}
+use Rattle.check_values.specs.Columns.{column_typed}
 use Rattle.check_values.specs.Literals.{constant_typed}
 use Rattle.check_operators.specs.Typed.{TypedTree, dataset, of_value}
 use Rattle.check_operators.specs.declared.places.Inside.{Inside}

@@ -22,7 +22,7 @@ use Rattle.check_shapes.specs.Choices.{choice_form}
 use Rattle.check_shapes.specs.Pairs as pairs
 use Rattle.vtl_tree.specs.declared.choices.Choice.TheVariants as choice
 use Rattle.vtl_tree.specs.declared.names.Wanted.TheVariants as wanted
-use Rattle.check_values.specs.Columns.{name_of}
+use Rattle.vtl_tree.specs.Names.{name_of}
 use Rattle.vtl_cell.specs.Literals.{integer_written}
 use Rattle.check_operators.specs.Typed.{TypedTree, components_in, dataset_in, made_of}
 

@@ -7,7 +7,7 @@ ghost use Rattle.check_faults.specs.Answers.{Answers};
 ghost use Rattle.check_shapes.specs.Choices.{choice_form};
 ghost use Rattle.check_shapes.specs.Pairs.{check_form as check_structure};
 ghost use Rattle.vtl_tree.specs.Shown.{shown};
-ghost use Rattle.check_values.specs.Columns.{name_of};
+ghost use Rattle.vtl_tree.specs.Names.{name_of};
 ghost use Rattle.check_operators.specs.Sets.{check_form, check_spec, datasets_in, difference_form, difference_tree, exists_form, imbalance_in, level_typed, member_of, set_of, set_structure, set_tree, sets_form, structures_in};
 ghost use Rattle.check_operators.specs.Typed.{boxed_tree, typed_tree, typed_trees};
 

@@ -10,7 +10,8 @@ use Rattle.vtl_syntax.specs.declared.statements.HierRule.{HierRule}
 use Rattle.vtl_tree.specs.Structure.{same_name}
 use Rattle.check_rules.specs.Found.{Has}
 use Rattle.check_rules.specs.Order.{DependsOn, IsMadeOf, Placed, directly, is_awaited, is_left, is_ready, left_behind, next_behind, order_behind, order_of, through}
-use Rattle.check_rules.specs.RuleItems.{defines, is_equation, left_item, right_items}
+use Rattle.check_rules.specs.RuleItems.{defines}
+use Rattle.vtl_tree.specs.RuleItems.{is_equation, left_item, right_items}
 use Rattle.check_rules.specs.Running.{number}
 use Rattle.check_rules.proofs.Counts.{one_less, place_is}
 use Rattle.check_rules.proofs.Lists.{all_fails, any_at, one_fails, one_passes}

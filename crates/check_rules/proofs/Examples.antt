@@ -14,7 +14,7 @@ use Rattle.vtl_tree.specs.Structure.{same_name}
 use Rattle.check_faults.specs.declared.rules.Rule.TheVariants as rule
 use Rattle.check_rules.specs.Definitions.{hierarchical_defined}
 use Rattle.check_rules.specs.Order.{DependsOn, IsCycle, IsMadeOf, directly, hierarchy_order, none, order_of, passed, taken, through}
-use Rattle.check_rules.specs.RuleItems.{right_items}
+use Rattle.vtl_tree.specs.RuleItems.{right_items}
 
 abbrev rule_of : List ℕ → Comparison → List ℕ → List SignedComp → HierRule
 rule_of left o first others = record { name = Some left; item = comp.Name left; comparison = o; sign = None; first = comp.Name first; others = others; error = record { code = None; level = None } }

@@ -13,7 +13,8 @@ use Rattle.vtl_syntax.specs.declared.statements.HierRule.{HierRule}
 use Rattle.vtl_tree.specs.Structure.{same_name}
 use Rattle.check_rules.specs.Found.{Adds, AreWithin, Finds, Has, IsOnRight, IsOnRightAt, TellsDependence}
 use Rattle.check_rules.specs.Order.{DependsOn, IsMadeOf, Picked, Placed, computed_items, directly, none, passed, taken, through}
-use Rattle.check_rules.specs.RuleItems.{defines, is_equation, left_item}
+use Rattle.check_rules.specs.RuleItems.{defines}
+use Rattle.vtl_tree.specs.RuleItems.{is_equation, left_item}
 use Rattle.check_rules.specs.Running.{AreMakers, is_place_in, makes_of, places_at}
 use Rattle.check_rules.proofs.Circles.{then_on}
 use Rattle.check_rules.proofs.Counts.{place_is}

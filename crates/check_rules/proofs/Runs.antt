@@ -17,7 +17,8 @@ use Rattle.vtl_text.specs.Texts.{same_text}
 use Rattle.vtl_syntax.specs.declared.statements.HierRule.{HierRule}
 use Rattle.vtl_tree.specs.Structure.{same_name}
 use Rattle.check_rules.specs.Order.{Placed, is_awaited, is_left, is_ready, left_behind, next_behind, order_behind}
-use Rattle.check_rules.specs.RuleItems.{defines, is_equation, left_item, right_items}
+use Rattle.check_rules.specs.RuleItems.{defines}
+use Rattle.vtl_tree.specs.RuleItems.{is_equation, left_item, right_items}
 use Rattle.check_rules.specs.Running.{AreUsers, IsRunning, IsStep, count_at, is_free_by, is_place_in, number, places_at, places_of, times_computed, uses_of}
 use Rattle.check_rules.proofs.Counts.{any_numbered, at_place, first_kept, none_kept, one_less, place_is, place_more}
 use Rattle.check_rules.proofs.Lists.{all_at, all_fails, all_where, among_places, any_at, gathered_at, gathered_from, one_fails, one_passes, place_among}

@@ -8,7 +8,8 @@ use Rattle.vtl_syntax.specs.declared.parts.SignedComp.{SignedComp}
 use Rattle.vtl_syntax.specs.declared.statements.HierRule.{HierRule}
 use Rattle.vtl_tree.specs.Structure.{same_name}
 use Rattle.check_rules.specs.Order.{computed_items}
-use Rattle.check_rules.specs.RuleItems.{defines, is_equation, left_item, right_items, signed_item}
+use Rattle.check_rules.specs.RuleItems.{defines}
+use Rattle.vtl_tree.specs.RuleItems.{is_equation, left_item, right_items, signed_item}
 use Rattle.check_rules.specs.Running.{times_computed}
 
 -- what holds of an answer that is no error implies more

@@ -1,6 +1,5 @@
 -- What the definitions of rulesets have to be by themselves. Conditions are typed at each call.
-use Rattle.std.specs.Prelude.{ℕ, ◌+◌, Bool, true, not, List, [], ◌∷◌, map, Option, Some, None, Result, Ok}
-use Rattle.std.specs.Fmt.{decimal}
+use Rattle.std.specs.Prelude.{ℕ, ◌+◌, Bool, true, not, List, [], ◌∷◌, map, Option, Result, Ok}
 use Rattle.std.specs.List.{list_all}
 use Rattle.std.specs.Option.{is_some, option_map_or}
 use Rattle.vtl_lists.specs.Apart.{all_apart}
@@ -16,18 +15,14 @@ use Rattle.vtl_tree.specs.Structure.{same_name}
 use Rattle.check_faults.specs.Rules.{ruled}
 use Rattle.check_faults.specs.declared.rules.Rule.{Rule}
 use Rattle.check_faults.specs.declared.rules.Rule.TheVariants as rule
-use Rattle.check_values.specs.Columns.{name_of}
-use Rattle.check_rules.specs.RuleItems.{items_of}
-
--- the identifier of a rule: the name that is written, or else its number as text
-abbrev pub identifier_of : ℕ → Option (List ℕ) → List ℕ
-identifier_of n None = decimal n
-identifier_of n (Some name) = name
+use Rattle.vtl_tree.specs.Names.{name_of}
+use Rattle.vtl_tree.specs.RuleItems.{items_of}
+use Rattle.vtl_tree.specs.Checks.{rule_id}
 
 -- the identifiers of rules, of which the first has this number
 abbrev pub identifiers_from : ℕ → List (Option (List ℕ)) → List (List ℕ)
 identifiers_from n [] = []
-identifiers_from n (name ∷ names) = identifier_of n name ∷ identifiers_from (n + 1) names
+identifiers_from n (name ∷ names) = rule_id n name ∷ identifiers_from (n + 1) names
 
 abbrev pub identifiers : List (Option (List ℕ)) → List (List ℕ)
 identifiers names = identifiers_from 1 names

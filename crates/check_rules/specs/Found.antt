@@ -4,7 +4,7 @@ use Rattle.std.specs.List.{AllByRecursion, list_any}
 use Rattle.vtl_syntax.specs.declared.statements.HierRule.{HierRule}
 use Rattle.vtl_tree.specs.Structure.{same_name}
 use Rattle.check_rules.specs.Order.{DependsOn, Picked, computed_items}
-use Rattle.check_rules.specs.RuleItems.{right_items}
+use Rattle.vtl_tree.specs.RuleItems.{right_items}
 use Rattle.check_rules.specs.Running.{is_place_in}
 
 abbrev pub Has : (names : List (List ℕ)) → List ℕ → Type 0

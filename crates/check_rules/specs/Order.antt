@@ -10,7 +10,8 @@ use Rattle.vtl_tree.specs.Structure.{same_name}
 use Rattle.check_faults.specs.Rules.{ruled}
 use Rattle.check_faults.specs.declared.rules.Rule.{Rule}
 use Rattle.check_faults.specs.declared.rules.Rule.TheVariants as rule
-use Rattle.check_rules.specs.RuleItems.{defines, is_equation, left_item, right_items}
+use Rattle.check_rules.specs.RuleItems.{defines}
+use Rattle.vtl_tree.specs.RuleItems.{is_equation, left_item, right_items}
 use Rattle.check_rules.specs.declared.ordering.OrderErr.{OrderErr}
 use Rattle.check_rules.specs.declared.ordering.OrderErr.TheVariants as err
 

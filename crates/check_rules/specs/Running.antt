@@ -8,7 +8,8 @@ use Rattle.vtl_text.specs.Texts.{same_text}
 use Rattle.vtl_syntax.specs.declared.statements.HierRule.{HierRule}
 use Rattle.check_rules.specs.Order.{Placed, is_awaited, is_left, is_ready, left_behind, next_behind}
 use Rattle.check_rules.specs.declared.run.Run.{Run}
-use Rattle.check_rules.specs.RuleItems.{defines, is_equation, right_items}
+use Rattle.check_rules.specs.RuleItems.{defines}
+use Rattle.vtl_tree.specs.RuleItems.{is_equation, right_items}
 
 -- how many items pass a test
 abbrev pub number : {X : Type 0} → (X → Bool) → List X → ℕ

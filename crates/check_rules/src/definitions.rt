@@ -5,9 +5,10 @@ ghost use Rattle.vtl_lists.specs.Apart.{all_apart};
 ghost use Rattle.vtl_syntax.specs.View.{point_rule_tree};
 ghost use Rattle.vtl_tree.specs.Structure.{same_name};
 ghost use Rattle.check_faults.specs.Answers.{Answers};
-ghost use Rattle.check_values.specs.Columns.{name_of};
-ghost use Rattle.check_rules.specs.Definitions.{are_told_apart, datapoint_defined, hier_rule_defined, hier_rules_defined, hierarchical_defined, identifier_of, level_fits, point_rule_error, point_rule_name};
-ghost use Rattle.check_rules.specs.RuleItems.{items_of};
+ghost use Rattle.vtl_tree.specs.Names.{name_of};
+ghost use Rattle.check_rules.specs.Definitions.{are_told_apart, datapoint_defined, hier_rule_defined, hier_rules_defined, hierarchical_defined, level_fits, point_rule_error, point_rule_name};
+ghost use Rattle.vtl_tree.specs.Checks.{rule_id};
+ghost use Rattle.vtl_tree.specs.RuleItems.{items_of};
 
 use crate::items::items;
 use check_faults::{Rule, TypeErr, broken};
@@ -57,14 +58,14 @@ fn items_differ(alloc: Global, rule: &HierRule) -> Result<bool, AllocError>
 
 // The digits of a number.
 fn digits(alloc: Global, number: usize) -> Result<Txt, AllocError>
-    ensures { IfOk result (λ t. t ≡ identifier_of number None) }
+    ensures { IfOk result (λ t. t ≡ rule_id number None) }
 {
     let digits = format!(in alloc; "{}", number)?;
     Txt::new(alloc, &digits)
 }
 
 fn identifier(alloc: Global, number: usize, name: &Option<Txt>) -> Result<Txt, AllocError>
-    ensures { IfOk result (λ t. t ≡ identifier_of number name.now) }
+    ensures { IfOk result (λ t. t ≡ rule_id number name.now) }
 {
     match name {
         Some(name) => name.share(),
@@ -78,7 +79,7 @@ fn push_identifier(
     identifiers: &mut Vec<Txt>,
     name: &Option<Txt>,
 ) -> Result<(), AllocError>
-    ensures { OnOk result (identifiers.new.items ≡ identifiers.old.items ++ identifier_of (length identifiers.old.items + 1) name.now ∷ []) }
+    ensures { OnOk result (identifiers.new.items ≡ identifiers.old.items ++ rule_id (length identifiers.old.items + 1) name.now ∷ []) }
 {
     let number = identifiers.len() + 1;
     identifiers.push(identifier(alloc, number, name)?)?;

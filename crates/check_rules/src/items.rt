@@ -1,6 +1,6 @@
 // The items of hierarchical rules.
-ghost use Rattle.std.specs.Prelude.{◌≡◌, ◌+◌, ◌<◌, ◌++◌, ◌∷◌, [], IfOk, Some, length, map, slice_get, take};
-ghost use Rattle.check_rules.specs.RuleItems.{is_equation, items_of, left_item, right_items, signed_item};
+ghost use Rattle.std.specs.Prelude.{◌≡◌, ◌+◌, ◌<◌, IfOk, Some, length, slice_get};
+ghost use Rattle.vtl_tree.specs.RuleItems.{is_equation, items_of, left_item, right_items};
 
 use check_values::name;
 use std::alloc::{AllocError, Global};

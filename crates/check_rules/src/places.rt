@@ -1,7 +1,8 @@
 // Numbers and places by item.
 ghost use Rattle.std.specs.Prelude.{◌≡◌, ◌+◌, ◌^◌, ◌<◌, ◌-◌, ◌++◌, ◌∷◌, [], if◌then◌else◌, IfOk, OnOk, ℕ, List as Items, cond};
 ghost use Rattle.vtl_text.specs.Texts.{same_text};
-ghost use Rattle.check_rules.specs.RuleItems.{defines, left_item, right_items};
+ghost use Rattle.check_rules.specs.RuleItems.{defines};
+ghost use Rattle.vtl_tree.specs.RuleItems.{left_item, right_items};
 ghost use Rattle.check_rules.specs.Running.{AreMakers, AreUsers, count_at, is_free_by, makes_of, places_at, places_of, uses_of};
 
 use crate::items::{is_equation, left_item, right_item, right_len};

@@ -2,7 +2,7 @@
 ghost use Rattle.std.specs.List.{enumerate_from, list_all};
 ghost use Rattle.std.specs.Prelude.{◌≡◌, ◌<◌, ◌≤◌, ◌++◌, ◌∷◌, [], IfOk, OnOk, ℕ, List as Items, cond, false, length, map, take, true};
 ghost use Rattle.check_rules.specs.Order.{is_left, left_behind};
-ghost use Rattle.check_rules.specs.RuleItems.{right_items};
+ghost use Rattle.vtl_tree.specs.RuleItems.{right_items};
 ghost use Rattle.check_rules.specs.Running.{AreUsers, Finishes, IsStep, Runs, count_at, is_free_by, times_computed};
 
 use crate::items::{is_equation, left_item, right_item, right_len};

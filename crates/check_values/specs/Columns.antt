@@ -1,17 +1,10 @@
--- The names of components, and the components that they stand for.
+-- The components that names stand for.
 use Rattle.std.specs.Prelude.{ℕ, suc, List, [], ◌∷◌, Result, Ok, Err, if◌then◌else◌}
-use Rattle.vtl_syntax.specs.declared.parts.Comp.{Comp}
-use Rattle.vtl_syntax.specs.declared.parts.Comp.TheVariants as comp
 use Rattle.vtl_tree.specs.CompExp.{CompExp, column}
 use Rattle.vtl_tree.specs.Structure.{same_name}
 use Rattle.vtl_tree.specs.declared.structure.Component.{Component}
 use Rattle.check_faults.specs.declared.rules.Rule.{Rule}
 use Rattle.check_faults.specs.declared.rules.Rule.TheVariants as rule
-
--- the name of a component, quoted or not
-abbrev pub name_of : Comp → List ℕ
-name_of (comp.Name name) = name
-name_of (comp.Quoted name) = name
 
 -- a component by its place among the columns, of which the first has this place; an unknown one breaks `UnknownComponent`
 abbrev pub column_from : List ℕ → ℕ → List Component → Result CompExp Rule

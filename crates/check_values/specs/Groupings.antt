@@ -12,7 +12,7 @@ use Rattle.check_shapes.specs.Names.{all_known}
 use Rattle.vtl_tree.specs.declared.choices.Choice.{Choice}
 use Rattle.vtl_tree.specs.declared.choices.Choice.TheVariants as choice
 use Rattle.vtl_tree.specs.declared.names.Wanted.TheVariants as wanted
-use Rattle.check_values.specs.Columns.{name_of}
+use Rattle.vtl_tree.specs.Names.{name_of}
 
 abbrev pub choice_of : GroupKind → Choice
 choice_of group.By = choice.By

@@ -20,7 +20,7 @@ use Rattle.vtl_tree.specs.declared.calls.Bound.TheVariants as bound
 use Rattle.vtl_tree.specs.declared.calls.Frame.{Frame}
 use Rattle.vtl_tree.specs.declared.calls.OrderKey.{OrderKey}
 use Rattle.vtl_tree.specs.declared.calls.Window.{Window}
-use Rattle.check_values.specs.Columns.{name_of}
+use Rattle.vtl_tree.specs.Names.{name_of}
 use Rattle.vtl_cell.specs.Literals.{integer_written, longest_reach}
 use Rattle.vtl_lists.specs.Results.{◌>>=◌}
 use Rattle.check_faults.specs.InTurn.{in_turn}

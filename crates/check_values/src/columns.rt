@@ -4,7 +4,8 @@ ghost use Rattle.vtl_tree.specs.CompExp.{column};
 ghost use Rattle.vtl_tree.specs.Structure.{same_name};
 ghost use Rattle.vtl_tree.specs.View.{comp_exp_of};
 ghost use Rattle.check_faults.specs.Answers.{Answers};
-ghost use Rattle.check_values.specs.Columns.{column_typed, name_of};
+ghost use Rattle.check_values.specs.Columns.{column_typed};
+ghost use Rattle.vtl_tree.specs.Names.{name_of};
 
 use check_faults::{Rule, TypeErr};
 use std::alloc::AllocError;

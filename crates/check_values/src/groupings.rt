@@ -3,7 +3,7 @@ ghost use Rattle.std.specs.Prelude.{◌≡◌, IfOk, map};
 ghost use Rattle.check_faults.specs.Answers.{Answers};
 ghost use Rattle.vtl_tree.specs.Choices.{chosen};
 ghost use Rattle.vtl_tree.specs.Structure.{names_of};
-ghost use Rattle.check_values.specs.Columns.{name_of};
+ghost use Rattle.vtl_tree.specs.Names.{name_of};
 ghost use Rattle.check_values.specs.Groupings.{choice_of, grouping_choice, grouping_names, grouping_of, grouping_typed};
 
 use crate::name;

@@ -3,7 +3,7 @@ ghost use Rattle.std.specs.Prelude.{◌≡◌, [], IfOk};
 ghost use Rattle.std.specs.List.{list_any};
 ghost use Rattle.vtl_tree.specs.Structure.{same_name};
 ghost use Rattle.check_faults.specs.Answers.{Answers};
-ghost use Rattle.check_values.specs.Columns.{name_of};
+ghost use Rattle.vtl_tree.specs.Names.{name_of};
 ghost use Rattle.check_values.specs.Windows.{bound_typed, frame_alone, frame_typed, is_falling, is_known, key_of, key_typed, name_form, or_none, order_typed, partition_typed, points_at, points_typed, unbounded_at, window_typed};
 
 use crate::name;

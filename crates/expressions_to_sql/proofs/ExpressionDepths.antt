@@ -9,7 +9,7 @@ use Rattle.vtl_cell.specs.declared.operator.ScalarOp.{ScalarOp}
 use Rattle.vtl_cell.specs.declared.operator.ScalarOp.TheVariants as op
 use Rattle.vtl_tree.specs.CompExp as comp
 use Rattle.vtl_tree.specs.CompExp.{CompExp, CompExps, no_comp_exps, comp_exp}
-use Rattle.check_laws.specs.Depths.{argument_depth, comp_depth, comps_depth}
+use Rattle.vtl_tree.specs.Depths.{argument_depth, comp_depth, comps_depth}
 use Rattle.sql_tree.specs.Formed.{exp_depth, exps_depth, is_binary, is_unary}
 use Rattle.sql_tree.specs.Trees as tree
 use Rattle.sql_tree.specs.Trees.{Exps, Text}

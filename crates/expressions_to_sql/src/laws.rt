@@ -12,7 +12,7 @@ ghost use Rattle.vtl_decimal.specs.Settings.{Settings};
 ghost use Rattle.vtl_tree.specs.CompExp.{CompExp};
 ghost use Rattle.vtl_tree.specs.Value as points;
 ghost use Rattle.vtl_tree.specs.declared.structure.Component.{Component};
-ghost use Rattle.check_laws.specs.Depths.{comp_depth};
+ghost use Rattle.vtl_tree.specs.Depths.{comp_depth};
 ghost use Rattle.vtl_tree.specs.Kinds.{exp_kind};
 ghost use Rattle.vtl_meaning.specs.Made.{IsTyped, IsTypedInGroups};
 ghost use Rattle.sql_tree.specs.Formed.{Formed, exp_depth};

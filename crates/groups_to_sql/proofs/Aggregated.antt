@@ -36,7 +36,7 @@ use Rattle.vtl_meaning.specs.Groups.{keys_by, places_named}
 use Rattle.vtl_meaning.specs.Made.{Aggregates, IsColumnAt, IsGroupCondition, IsGrouped, IsTypedInGroups}
 use Rattle.vtl_meaning.specs.Points.{cell_or_null, with_points}
 use Rattle.vtl_tree.specs.Trees.{AggTree}
-use Rattle.check_laws.proofs.Columns.{at-place, kind-found}
+use Rattle.vtl_meaning.proofs.FoundColumns.{at-place, kind-found}
 use Rattle.vtl_meaning.proofs.GroupLooks.{all_points, one_key}
 use Rattle.vtl_meaning.proofs.GroupPoints.{kept_are, point_is}
 use Rattle.expressions_to_sql.proofs.OverGroups.{group_fits, group_formed, group_kind, group_value_is}

@@ -32,7 +32,7 @@ use Rattle.vtl_meaning.specs.Windows.{identifier_places, key_in, keys_in, point_
 use Rattle.vtl_tree.specs.declared.calls.OrderKey.{OrderKey}
 use Rattle.vtl_tree.specs.declared.calls.Window.{Window}
 use Rattle.sql_meaning.specs.Windows.{place_within, told_apart}
-use Rattle.check_laws.proofs.Lists as lists
+use Rattle.vtl_meaning.proofs.Lists as lists
 use Rattle.vtl_meaning.proofs.Places.{all_filtered, key_cells, key_within, same_name-is}
 use Rattle.groups_to_sql.specs.Windowed.{is_listed, key_names}
 

@@ -47,8 +47,8 @@ use Rattle.sql_meaning.specs.Windows.{keys_of, told_apart}
 use Rattle.vtl_tree.specs.declared.calls.AnalyticCall.{AnalyticCall}
 use Rattle.vtl_tree.specs.declared.calls.AnalyticOp.{AnalyticOp}
 use Rattle.vtl_tree.specs.declared.calls.AnalyticOp.TheVariants as op
-use Rattle.check_laws.proofs.Columns.{at-place, in-columns, of-columns}
-use Rattle.check_laws.proofs.Lists as lists
+use Rattle.vtl_meaning.proofs.FoundColumns.{at-place, in-columns, of-columns}
+use Rattle.vtl_meaning.proofs.Lists as lists
 use Rattle.vtl_meaning.proofs.OwnColumns.{columns_apart}
 use Rattle.vtl_meaning.proofs.Places.{all_append, all_front, all_more, columns_split, each}
 use Rattle.vtl_meaning.proofs.ValueKinds.{cell_is_of, value_is_of}

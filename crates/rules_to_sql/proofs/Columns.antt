@@ -17,7 +17,7 @@ use Rattle.vtl_meaning.specs.Made.{AreAmong, AreFor, HasIdentifiers, IsColumnAt,
 use Rattle.vtl_meaning.specs.Points.{cell_or_null, point_fault, point_of}
 use Rattle.vtl_meaning.proofs.OwnColumns.{among_front, own_identifiers}
 use Rattle.vtl_meaning.proofs.Places.{columns_split}
-use Rattle.vtl_rulings.specs.Outputs.{output_parts}
+use Rattle.vtl_tree.specs.Checks.{output_parts}
 use Rattle.selects_to_sql.proofs.Givens.{kinds_in}
 
 pub for_append : (p : Settings) (xs : List Component) (es fs : List CompExp) (ys zs : List Component) → AreFor p xs es ys → AreFor p xs fs zs → AreFor p xs (es ++ fs) (ys ++ zs)

@@ -24,8 +24,8 @@ use Rattle.vtl_tree.proofs.Faults.{join_none}
 use Rattle.vtl_meaning.specs.Made.{AreFor, IsTyped}
 use Rattle.vtl_meaning.specs.Points.{cell_or_null, point_fault, point_of}
 use Rattle.vtl_rulings.specs.Outputs.{code_cell, errors_at, level_cell}
-use Rattle.vtl_rulings.specs.Shaped.{error_measures}
-use Rattle.check_laws.specs.Depths.{comp_depth}
+use Rattle.vtl_tree.specs.Checks.{error_measures}
+use Rattle.vtl_tree.specs.Depths.{comp_depth}
 use Rattle.selects_to_sql.specs.Writable.{AllCanBeWritten, CanBeWritten, most_depth}
 use Rattle.rules_to_sql.specs.Conditions.{error_exps, error_exps_at, negated, written, written_where}
 use Rattle.rules_to_sql.specs.Writable.{AreErrorsHeld}

@@ -6,7 +6,7 @@ use Rattle.vtl_syntax.specs.declared.word_groups.CheckOut.{CheckOut}
 use Rattle.vtl_tree.specs.NodeView.{point_rule_tree}
 use Rattle.vtl_tree.specs.declared.rules.DatapointRule.{DatapointRule}
 use Rattle.vtl_tree.specs.declared.structure.Component.{Component}
-use Rattle.vtl_rulings.specs.Outputs.{rule_id, with_ids}
+use Rattle.vtl_tree.specs.Checks.{rule_id, with_ids}
 use Rattle.vtl_rulings.specs.PointChecks.{PointRule}
 use Rattle.sql_tree.specs.Trees.{Text}
 use Rattle.rules_to_sql.specs.Items.{ruled_select_as, ruled_selects_as}

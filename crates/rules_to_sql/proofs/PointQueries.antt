@@ -30,9 +30,10 @@ use Rattle.vtl_meaning.proofs.Kept.{columns_point}
 use Rattle.vtl_meaning.proofs.LookUps.{named_cells}
 use Rattle.vtl_meaning.proofs.OwnColumns.{columns_apart, own_measures}
 use Rattle.vtl_meaning.proofs.Places.{all_append, each}
-use Rattle.vtl_rulings.specs.Outputs.{code_cell, errors_at, is_false, is_shown, level_cell, output_parts, rule_id, with_ids}
+use Rattle.vtl_rulings.specs.Outputs.{code_cell, errors_at, is_false, is_shown, level_cell}
+use Rattle.vtl_tree.specs.Checks.{error_measures, output_parts, rule_id, ruled_measures, ruleid, with_ids}
 use Rattle.vtl_rulings.specs.PointChecks.{PointRule, datapoint_of, errors_of, point_rules, rule_fault, rule_points, truth_of}
-use Rattle.vtl_rulings.specs.Shaped.{IsPointChecked, error_measures, ruled_measures, ruleid}
+use Rattle.vtl_rulings.specs.Shaped.{IsPointChecked}
 use Rattle.vtl_rulings.proofs.Checked.{parts_hold, parts_mapped}
 use Rattle.sql_tree.specs.Formed.{IsName}
 use Rattle.sql_tree.specs.Trees.{Text}

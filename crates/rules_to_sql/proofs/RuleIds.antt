@@ -6,7 +6,7 @@ use Rattle.std.proofs.lemmas.Fmt.{IsAscii-decimal}
 use Rattle.std.proofs.lemmas.Str.{IsUtf8-from_ascii, chars-IsAscii, scalars-chars}
 use Rattle.vtl_cell.specs.Held.{IsHeld}
 use Rattle.vtl_cell.specs.declared.cell.Cell.TheVariants as c
-use Rattle.vtl_rulings.specs.Outputs.{rule_id}
+use Rattle.vtl_tree.specs.Checks.{rule_id}
 use lib.Utf8.{scalars}
 
 digits_held : (n : ℕ) → n < 2 ^ 64 → IsHeld (c.Text (decimal n))

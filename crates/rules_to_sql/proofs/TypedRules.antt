@@ -14,10 +14,10 @@ use Rattle.vtl_tree.specs.Kinds.{exp_kind}
 use Rattle.vtl_tree.specs.Trees.{PointRuleTree}
 use Rattle.vtl_tree.specs.declared.structure.Component.{Component}
 use Rattle.vtl_meaning.specs.Made.{IsTyped}
-use Rattle.vtl_rulings.specs.Outputs.{with_ids}
+use Rattle.vtl_tree.specs.Checks.{with_ids}
 use Rattle.vtl_rulings.specs.PointChecks.{PointRule}
 use Rattle.vtl_rulings.specs.Shaped.{IsConditionOver, IsPointRuleOver}
-use Rattle.check_laws.specs.Depths.{comp_depth}
+use Rattle.vtl_tree.specs.Depths.{comp_depth}
 use Rattle.expressions_to_sql.specs.Held.{HoldsValues}
 use Rattle.selects_to_sql.specs.Writable.{CanBeWritten, most_depth}
 use Rattle.rules_to_sql.specs.Conditions.{boolean_by, held_exp, negated, truth_exp}

@@ -14,7 +14,7 @@ use Rattle.vtl_tree.specs.Columns.{measures_of, place_of}
 use Rattle.vtl_tree.specs.Trees.{PointRuleTree}
 use Rattle.vtl_tree.specs.declared.structure.Component.{Component}
 use Rattle.vtl_tree.specs.declared.structure.Structure.{Structure}
-use Rattle.vtl_rulings.specs.Outputs.{output_parts, with_ids}
+use Rattle.vtl_tree.specs.Checks.{output_parts, with_ids}
 use Rattle.vtl_rulings.specs.PointChecks.{PointRule}
 use Rattle.sql_tree.specs.Trees as tree
 use Rattle.sql_tree.specs.Trees.{Exp, JoinTree, SelectTree, Text}

@@ -10,7 +10,7 @@ use Rattle.vtl_tree.specs.CompExp.{CompExp, const}
 use Rattle.vtl_tree.specs.Structure.{columns_of}
 use Rattle.vtl_tree.specs.Trees.{PointRuleTree}
 use Rattle.vtl_tree.specs.declared.structure.Structure.{Structure}
-use Rattle.vtl_rulings.specs.Outputs.{output_parts}
+use Rattle.vtl_tree.specs.Checks.{output_parts}
 use Rattle.vtl_rulings.specs.PointChecks.{PointRule, point_rules}
 use Rattle.sql_tree.specs.Trees.{QueryTree, SelectTree, Text}
 use Rattle.selects_to_sql.specs.Queries.{condition_for, first_alias, of_one, select_of, source_as}

@@ -6,7 +6,7 @@ use Rattle.vtl_cell.specs.Held.{IsHeld}
 use Rattle.vtl_cell.specs.declared.cell.Cell.TheVariants as c
 use Rattle.vtl_tree.specs.CompExp.{CompExp}
 use Rattle.vtl_tree.specs.Trees.{PointRuleTree}
-use Rattle.check_laws.specs.Depths.{comp_depth}
+use Rattle.vtl_tree.specs.Depths.{comp_depth}
 use Rattle.expressions_to_sql.specs.Held.{HoldsValues}
 use Rattle.selects_to_sql.specs.Writable.{most_depth}
 

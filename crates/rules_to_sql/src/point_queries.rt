@@ -7,7 +7,7 @@ ghost use Rattle.std.specs.Prelude.{◌≡◌, ◌++◌, ◌∷◌, [], map, pos
 ghost use Rattle.std.specs.Option.{option_map};
 ghost use Rattle.vtl_tree.specs.NodeView.{point_rule_tree};
 ghost use Rattle.vtl_tree.specs.Shown.{shown};
-ghost use Rattle.vtl_rulings.specs.Outputs.{output_parts, rule_id};
+ghost use Rattle.vtl_tree.specs.Checks.{output_parts, rule_id};
 ghost use Rattle.sql_tree.specs.View.{expr_tree, item_tree, query_tree, select_tree};
 ghost use Rattle.selects_to_sql.specs.NamedItems.{AreNext, own_columns};
 ghost use Rattle.selects_to_sql.specs.Queries.{items_as};

@@ -16,7 +16,7 @@ use Rattle.vtl_tree.specs.Value.{called, value}
 use Rattle.vtl_tree.specs.declared.structure.Component.{Component}
 use Rattle.vtl_tree.specs.Kinds.{exp_kind}
 use Rattle.vtl_meaning.specs.Made.{IsTyped}
-use Rattle.check_laws.specs.Depths.{comp_depth}
+use Rattle.vtl_tree.specs.Depths.{comp_depth}
 use Rattle.expressions_to_sql.specs.Held.{HoldsValues}
 use Rattle.expressions_to_sql.specs.ToSql.{Naming, to_sql}
 use Rattle.selects_to_sql.specs.Writable.{CanBeWritten, most_depth}

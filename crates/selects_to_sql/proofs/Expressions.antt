@@ -14,7 +14,7 @@ use Rattle.sql_check_parts.specs.Kinds.{kind_in}
 use Rattle.sql_check_parts.specs.Scopes.{Scope, Tables}
 use Rattle.sql_meaning.specs.Tables.{Base}
 use Rattle.sql_meaning.specs.Values.{at_rows, value}
-use Rattle.check_laws.specs.Depths.{comp_depth}
+use Rattle.vtl_tree.specs.Depths.{comp_depth}
 use Rattle.expressions_to_sql.specs.Held.{HoldsValues}
 use Rattle.expressions_to_sql.specs.Names.{AreNamesFormed, Names}
 use Rattle.expressions_to_sql.specs.ToSql.{Naming, to_sql}

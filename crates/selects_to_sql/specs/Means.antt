@@ -8,10 +8,9 @@ use Rattle.vtl_lists.specs.Perm.{Perm}
 use Rattle.vtl_cell.specs.Row.{Row}
 use Rattle.vtl_decimal.specs.Settings.{Settings}
 use Rattle.vtl_text.specs.Texts.{same_text}
-use Rattle.vtl_tree.specs.Environment.{DataSet, Environment}
+use Rattle.vtl_tree.specs.Environment.{DataSet, Environment, known_in, points_named}
 use Rattle.vtl_tree.specs.Structure.{columns_of, same_name}
 use Rattle.vtl_tree.specs.declared.structure.Structure.{Structure}
-use Rattle.vtl_meaning.specs.Meaning.{known_in, points_named}
 use Rattle.sql_tree.specs.Formed.{IsName, IsQuery}
 use Rattle.sql_tree.specs.Trees.{QueryTree, Text}
 use Rattle.sql_check_parts.specs.Queries.{query_columns}

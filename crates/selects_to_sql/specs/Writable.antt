@@ -9,7 +9,7 @@ use Rattle.vtl_tree.specs.CompExp.{CompExp}
 use Rattle.vtl_tree.specs.declared.structure.Component.{Component}
 use Rattle.vtl_tree.specs.declared.clauses.SubItem.{SubItem}
 use Rattle.sql_tree.specs.Formed.{IsName}
-use Rattle.check_laws.specs.Depths.{comp_depth}
+use Rattle.vtl_tree.specs.Depths.{comp_depth}
 use Rattle.expressions_to_sql.specs.Held.{HoldsValues}
 
 -- the deepest expression that is translated: its translation is at most one deeper, and can be printed

@@ -9,7 +9,7 @@ use Rattle.vtl_cell.proofs.Keys.{window_order}
 use Rattle.vtl_lists.proofs.Sorts.{Perm-sorted_by}
 use Rattle.vtl_rows.specs.Named.{NamedTables}
 use Rattle.vtl_rows.specs.Tables.{Listed}
-use Rattle.vtl_tree.specs.Environment.{DataSet}
+use Rattle.vtl_tree.specs.Environment.{DataSet, known_in}
 use Rattle.vtl_tree.specs.Structure.{columns_of}
 use Rattle.vtl_tree.specs.declared.structure.Component.{Component}
 use Rattle.vtl_tree.specs.Trees.{NodeTree}
@@ -19,8 +19,8 @@ use Rattle.sql_engine.specs.InputTables.{rows_given}
 use Rattle.sql_meaning.specs.Scripts.{script_value}
 use Rattle.vtl_check.specs.Checked.{TypedScript, nodes_of, tree_of}
 use Rattle.vtl_backend.specs.Inputs.{AreInRange, AreInputs, environment_of, inputs_of}
-use Rattle.vtl_meaning.specs.Made.{AreMadeStatements}
-use Rattle.vtl_meaning.specs.Meaning.{AreDataSets, Outputs, is_built, known_in}
+use Rattle.vtl_scripts.specs.Made.{AreMadeStatements}
+use Rattle.vtl_scripts.specs.Meaning.{AreDataSets, Outputs, is_built}
 use Rattle.vtl_backend.specs.Runs.{Runs, ShowAll, ShowMeaning, Tells, script_meaning}
 use Rattle.vtl_backend.specs.Statements.{is_script_built, statements_of, with_nodes}
 use Rattle.vtl_sets.specs.TableOf.{column_for}
@@ -34,7 +34,7 @@ use Rattle.selects_to_sql.specs.Runs.{entries}
 use Rattle.vtl_to_sql.specs.Scripts.{script_for}
 use Rattle.selects_to_sql.proofs.Exact.{set_turned}
 use Rattle.vtl_to_sql.proofs.TranslatedScripts.{all_made, script_means}
-use Rattle.vtl_meaning.proofs.ScriptsKept.{meaning_kept}
+use Rattle.vtl_scripts.proofs.ScriptsKept.{meaning_kept}
 use Rattle.sql_engine.specs.Runs.{ShowsAs}
 use Rattle.sql_back.specs.TextRuns.{CanRun, RunsText, TellsText}
 use Rattle.sql_back.specs.Texts.{IsTextOf}

@@ -24,7 +24,8 @@ use Rattle.sql_meaning.specs.Scripts.{rows_read}
 use Rattle.sql_meaning.specs.Tables.{HasTable, RowsFit, column_entry, kinds_of, rows_of}
 use Rattle.sql_check_parts.specs.Statements.{input_columns}
 use Rattle.vtl_backend.specs.Inputs.{Holds, input_of as data_set_in, rows_named}
-use Rattle.vtl_meaning.specs.Meaning.{AreDataSets, known_in}
+use Rattle.vtl_scripts.specs.Meaning.{AreDataSets}
+use Rattle.vtl_tree.specs.Environment.{known_in}
 use Rattle.vtl_meaning.specs.Profiles.{AllAreOfProfile}
 use Rattle.vtl_sets.specs.TableOf.{column_for}
 use Rattle.vtl_sets.proofs.TableLemmas.{point_fits}

@@ -3,7 +3,7 @@ use Rattle.std.proofs.Common.{◌≡◌, List, [], ◌∷◌, ◌++◌, map, Res
 use Rattle.std.specs.Prelude.{IfOk, IsUtf8}
 use Rattle.vtl_decimal.specs.Settings.{Settings}
 use Rattle.vtl_tree.specs.Structures.{Named}
-use Rattle.vtl_meaning.specs.Meaning.{Statement}
+use Rattle.vtl_scripts.specs.Meaning.{Statement}
 use Rattle.sql_tree.specs.Formed.{PrintableScript}
 use Rattle.sql_tree.specs.Texts.{IsScript as IsSpelled}
 use Rattle.sql_tree.specs.Trees.{ScriptTree, StatementTree}

@@ -10,7 +10,7 @@ use Rattle.sql_meaning.specs.Scripts.{Inputs, script_value}
 use Rattle.sql_check_parts.specs.Statements.{IsTypedScript, script_settings}
 use Rattle.vtl_check.specs.Checked.{TypedScript}
 use Rattle.vtl_backend.specs.Inputs.{inputs_of}
-use Rattle.vtl_meaning.specs.Meaning.{Statement, meaning}
+use Rattle.vtl_scripts.specs.Meaning.{Statement, meaning}
 use Rattle.vtl_backend.specs.Statements.{statements_of}
 use Rattle.vtl_to_sql.specs.Exports.{exported_as}
 use Rattle.vtl_to_sql.specs.Inputs.{AreTaken, sets_read}

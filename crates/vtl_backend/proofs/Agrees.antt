@@ -5,7 +5,7 @@ use Rattle.vtl_decimal.specs.declared.number.Fault.TheVariants.{DivZero, Range}
 use Rattle.vtl_lists.specs.Perm.{chain}
 use Rattle.vtl_lists.proofs.Perms.{Perm-sym}
 use Rattle.vtl_rows.specs.Named.{NamedTables}
-use Rattle.vtl_meaning.specs.Meaning.{Outputs}
+use Rattle.vtl_scripts.specs.Meaning.{Outputs}
 use Rattle.vtl_backend.specs.Agree.{Agree, SameTables}
 use Rattle.vtl_backend.specs.Runs.{ShowAll, ShowMeaning, Tells}
 use Rattle.vtl_scalar.specs.declared.run_error.RunErr.{RunErr}

@@ -4,7 +4,7 @@ use Rattle.std.specs.List.{list_all}
 use Rattle.vtl_tree.specs.Trees as nodes
 use Rattle.vtl_tree.specs.Trees.{FormTree, NodeTree, NodeTrees, OperandTrees}
 use Rattle.vtl_walks.specs.Operands.{form_operands, in_join, in_list, operands_in}
-use Rattle.vtl_meaning.specs.Meaning.{are_nodes_built, are_operands_built, is_built, is_built_form}
+use Rattle.vtl_scripts.specs.Meaning.{are_nodes_built, are_operands_built, is_built, is_built_form}
 use Rattle.vtl_backend.specs.Statements.{is_evaluated, is_evaluated_form}
 
 and_true : (b : Bool) → b ≡ b && true

@@ -3,7 +3,7 @@ use Rattle.std.specs.Prelude.{◌≡◌, ℕ, List, [], ◌∷◌, Result, Ok, E
 use Rattle.vtl_decimal.specs.declared.number.Fault.TheVariants.{DivZero, Range}
 use Rattle.vtl_decimal.specs.declared.number.Fault.{Fault}
 use Rattle.vtl_rows.specs.Named.{NamedTables}
-use Rattle.vtl_meaning.specs.Meaning.{Outputs, meaning}
+use Rattle.vtl_scripts.specs.Meaning.{Outputs, meaning}
 use Rattle.vtl_check.specs.Checked.{TypedScript}
 use Rattle.vtl_backend.specs.Inputs.{environment_of}
 use Rattle.vtl_backend.specs.Statements.{statements_of}

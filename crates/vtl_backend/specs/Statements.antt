@@ -5,7 +5,7 @@ use Rattle.vtl_syntax.specs.declared.word_groups.AssignKind.{AssignKind}
 use Rattle.vtl_syntax.specs.declared.word_groups.AssignKind.TheVariants as kind
 use Rattle.vtl_tree.specs.Trees as nodes
 use Rattle.vtl_tree.specs.Trees.{FormTree, NodeTree}
-use Rattle.vtl_meaning.specs.Meaning.{Statement, is_built}
+use Rattle.vtl_scripts.specs.Meaning.{Statement, is_built}
 use Rattle.vtl_check.specs.Checked.{TypedScript, nodes_of, tree_of}
 use Rattle.vtl_check.specs.Transformations.{Transformation, transformations}
 

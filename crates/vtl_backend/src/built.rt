@@ -2,7 +2,7 @@
 ghost use Rattle.std.specs.List.{list_all};
 ghost use Rattle.std.specs.Prelude.{◌≡◌, map};
 ghost use Rattle.vtl_tree.specs.NodeView.{node_tree};
-ghost use Rattle.vtl_meaning.specs.Meaning.{is_built as is_tree_built};
+ghost use Rattle.vtl_scripts.specs.Meaning.{is_built as is_tree_built};
 ghost use Rattle.vtl_backend.specs.Statements.{is_evaluated, is_script_built};
 
 use vtl_check::Checked;

@@ -2,7 +2,7 @@
 ghost use Rattle.std.specs.Prelude.{ℕ, List, Result};
 ghost use Rattle.vtl_decimal.specs.declared.number.Fault.{Fault};
 ghost use Rattle.vtl_rows.specs.Named.{NamedTables};
-ghost use Rattle.vtl_meaning.specs.Meaning.{Outputs as Meant};
+ghost use Rattle.vtl_scripts.specs.Meaning.{Outputs as Meant};
 ghost use Rattle.vtl_backend.specs.Agree.{Agree};
 ghost use Rattle.vtl_backend.specs.Runs.{Tells};
 ghost use Rattle.vtl_scalar.specs.declared.run_error.RunErr.{RunErr as Error};

@@ -3,7 +3,7 @@ use Rattle.std.proofs.Common.{◌≡◌, ◌≤◌, ◌∙◌, ℕ, true, Result
 use Rattle.std.specs.List.{AllByRecursion, list_all}
 use Rattle.vtl_decimal.specs.declared.number.Fault.{Fault}
 use Rattle.vtl_decimal.specs.declared.number.Fault.TheVariants.{DivZero, Range}
-use Rattle.vtl_meaning.specs.Meaning.{Outputs, is_built, meaning}
+use Rattle.vtl_scripts.specs.Meaning.{Outputs, is_built, meaning}
 use Rattle.vtl_meaning.specs.Profiles.{AllAreOfProfile}
 use Rattle.vtl_check.specs.Checked.{TypedScript, known_of, nodes_of, tree_of}
 use Rattle.vtl_check.specs.Transformations.{transformations}

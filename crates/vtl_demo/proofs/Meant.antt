@@ -9,7 +9,7 @@ use Rattle.vtl_decimal.specs.declared.number.Fault.{Fault}
 use Rattle.vtl_tree.specs.Environment.{Environment}
 use Rattle.vtl_sets.specs.DataSets.{data_set}
 use Rattle.vtl_meaning.specs.Aggregates.{aggregate_of}
-use Rattle.vtl_meaning.specs.Meaning.{Outputs, node_value, stated, with_output}
+use Rattle.vtl_scripts.specs.Meaning.{Outputs, node_value, stated, with_output}
 use Rattle.vtl_meaning.specs.Operators.{left_of}
 use Rattle.vtl_meaning.specs.Points.{with_points}
 use Rattle.vtl_demo.specs.DataSets.{environment, for_each}

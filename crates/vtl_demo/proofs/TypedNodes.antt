@@ -4,7 +4,7 @@ use Rattle.std.specs.List.{list_all}
 use Rattle.vtl_check.specs.Checked.{env_over}
 use Rattle.vtl_check.specs.Script.{assigned, script_typed}
 use Rattle.vtl_check.specs.Uses.{reads}
-use Rattle.vtl_meaning.specs.Meaning.{is_built}
+use Rattle.vtl_scripts.specs.Meaning.{is_built}
 use Rattle.check_clauses.specs.Clauses.{keeping_form, name_known}
 use Rattle.check_clauses.specs.JoinOperands.{joined_node, last_naming, with_part}
 use Rattle.check_clauses.specs.Targets.{calc_clause}

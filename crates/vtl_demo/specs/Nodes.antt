@@ -17,7 +17,7 @@ use Rattle.vtl_tree.specs.declared.specifications.AggItems.TheVariants as items
 use Rattle.vtl_tree.specs.declared.structure.Component.{Component}
 use Rattle.vtl_tree.specs.declared.structure.Role.TheVariants as role
 use Rattle.vtl_tree.specs.declared.structure.Structure.{Structure}
-use Rattle.vtl_meaning.specs.Meaning.{Outputs, Statement, meaning}
+use Rattle.vtl_scripts.specs.Meaning.{Outputs, Statement, meaning}
 use Rattle.vtl_demo.specs.DataSets.{environment, first_factor, first_measure, for_each, group_at, group_id, left_structure, number_id, right_structure, second_factor, second_measure}
 use Rattle.vtl_demo.specs.Script.{settings}
 

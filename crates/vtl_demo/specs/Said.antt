@@ -13,7 +13,7 @@ use Rattle.vtl_tree.specs.Structures.{Named, structure_of}
 use Rattle.vtl_tree.specs.declared.structure.Structure.{Structure}
 use Rattle.vtl_sets.specs.DataSets.{data_set}
 use Rattle.vtl_sets.specs.TableOf.{IsTableOf}
-use Rattle.vtl_meaning.specs.Meaning.{Outputs}
+use Rattle.vtl_scripts.specs.Meaning.{Outputs}
 use Rattle.vtl_csv.specs.CsvText.{csv_of}
 use Rattle.vtl_demo.specs.Nodes.{results}
 use Rattle.vtl_demo.specs.Script.{settings}

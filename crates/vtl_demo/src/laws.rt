@@ -4,7 +4,7 @@ ghost use Rattle.std.specs.Prelude.{◌≡◌, ◌≤◌, ◌<◌, ◌^◌, ℕ,
 ghost use Rattle.vtl_check.specs.Checked.{env_over};
 ghost use Rattle.vtl_check.specs.Script.{script_typed};
 ghost use Rattle.vtl_check.specs.Uses.{reads};
-ghost use Rattle.vtl_meaning.specs.Meaning.{is_built};
+ghost use Rattle.vtl_scripts.specs.Meaning.{is_built};
 ghost use Rattle.vtl_parser.specs.Parsed.{IsScript};
 ghost use Rattle.vtl_tree.specs.DataSet.{AreOfProfile, IsDataSet};
 ghost use Rattle.vtl_demo.specs.DataSets.{declared, left_points, left_structure, most_points, right_points, right_structure};

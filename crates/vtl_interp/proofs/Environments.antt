@@ -5,9 +5,8 @@ use Rattle.std.specs.Map.{keys_of, lookup}
 use Rattle.std.specs.Option.{option_map}
 use Rattle.std.specs.Cmp.Lexicographic.{nat_list_eq_equiv}
 use Rattle.indexmap.specs.IndexMap.{insert_entry}
-use Rattle.vtl_tree.specs.Environment.{Environment, data_of}
+use Rattle.vtl_tree.specs.Environment.{Environment, data_of, known_in}
 use Rattle.vtl_tree.specs.Structure.{same_name}
-use Rattle.vtl_meaning.specs.Meaning.{known_in}
 
 -- ---- in lists of named values
 module _ {X : Type 0} where

@@ -16,8 +16,8 @@ use Rattle.vtl_tree.specs.Trees as nodes
 use Rattle.vtl_tree.specs.Trees.{NodeTree, NodeTrees, OperandTree, OperandTrees, operands_of, structure_of}
 use Rattle.vtl_sets.specs.DataSets.{data_set, with_structure}
 use Rattle.vtl_meaning.specs.Joined.{structures_of}
-use Rattle.vtl_meaning.specs.Made.{node_structures, operands_in}
-use Rattle.vtl_meaning.specs.Meaning.{node_value, nodes_value, operands_value, with_first, with_operand}
+use Rattle.vtl_scripts.specs.Made.{node_structures, operands_in}
+use Rattle.vtl_scripts.specs.Meaning.{node_value, nodes_value, operands_value, with_first, with_operand}
 use Rattle.vtl_meaning.specs.Points.{with_points}
 use Rattle.vtl_join.specs.Joining.{sets_of, typed_operands}
 use Rattle.vtl_join.specs.declared.joined.Operand as joining

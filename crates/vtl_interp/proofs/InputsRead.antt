@@ -13,7 +13,7 @@ use Rattle.vtl_tree.proofs.StructuresLemmas.{not_found, not_there}
 use Rattle.vtl_tree.specs.Trees.{NodeTree}
 use Rattle.vtl_check.specs.Names.{names_of}
 use Rattle.vtl_check.specs.Uses.{read_behind, reads, with_declared, with_new}
-use Rattle.vtl_meaning.specs.Meaning.{known_in}
+use Rattle.vtl_tree.specs.Environment.{known_in}
 use Rattle.vtl_backend.specs.Inputs.{input_of}
 use Rattle.check_laws.specs.Scripts.{AreKnownAlike}
 use Rattle.vtl_interp.proofs.Environments.{found_behind, found_in_front}

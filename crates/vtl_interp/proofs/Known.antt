@@ -18,7 +18,7 @@ use Rattle.vtl_tree.specs.Trees.{NodeTree, structure_of}
 use Rattle.vtl_check.specs.Checked.{IsTyped, TypedScript, known_of, nodes_of, tree_of}
 use Rattle.vtl_check.specs.Transformations.{Transformation, transformations}
 use Rattle.vtl_check.specs.Uses.{results_behind, with_new}
-use Rattle.vtl_meaning.specs.Meaning.{Outputs, meaning, node_value, stated, with_output}
+use Rattle.vtl_scripts.specs.Meaning.{Outputs, meaning, node_value, stated, with_output}
 use Rattle.vtl_backend.specs.Inputs.{environment_of, inputs_of}
 use Rattle.vtl_backend.specs.Runs.{script_meaning}
 use Rattle.vtl_backend.specs.Statements.{is_written, statements_of, with_nodes}

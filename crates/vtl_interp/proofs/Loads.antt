@@ -9,7 +9,7 @@ use Rattle.std.proofs.lemmas.Option.{get_or_from_slice_get, slice_get_within}
 use Rattle.vtl_lists.specs.Apart.{all_apart}
 use Rattle.vtl_cell.specs.Row.{Row}
 use Rattle.vtl_rows.specs.Named.{NamedTables, table_of}
-use Rattle.vtl_tree.specs.Environment.{DataSet, Environment}
+use Rattle.vtl_tree.specs.Environment.{DataSet, Environment, known_in}
 use Rattle.vtl_tree.specs.Structure.{same_name}
 use Rattle.vtl_tree.specs.Structures.{Named, has_name}
 use Rattle.vtl_tree.specs.declared.structure.Structure.{Structure}
@@ -18,7 +18,6 @@ use Rattle.vtl_tree.specs.Trees.{NodeTree, structure_of}
 use Rattle.vtl_check.specs.Checked.{TypedScript, known_of, nodes_of, tree_of}
 use Rattle.vtl_check.specs.Transformations.{Transformation, transformations}
 use Rattle.vtl_check.specs.Uses.{results_behind, with_new}
-use Rattle.vtl_meaning.specs.Meaning.{known_in}
 use Rattle.vtl_backend.specs.Inputs.{AreInputs, Holds, input_of, inputs_of, rows_named}
 use Rattle.vtl_interp.specs.Loaded.{IsInput}
 use Rattle.vtl_interp.proofs.Environments.{found_in_front}

@@ -4,7 +4,7 @@ use Rattle.vtl_decimal.specs.Settings.{Settings}
 use Rattle.vtl_tree.specs.Structures.{AreStructures, Named}
 use Rattle.vtl_tree.specs.Trees.{NodeTree, structure_of}
 use Rattle.vtl_check.specs.Checked.{IsTyped, TypedScript, nodes_of, tree_of}
-use Rattle.vtl_meaning.specs.Made.{AreMadeStatements}
+use Rattle.vtl_scripts.specs.Made.{AreMadeStatements}
 use Rattle.check_laws.specs.Scripts.{AreMadeFrom}
 use Rattle.check_laws.proofs.Scripts.{script-made}
 use Rattle.vtl_backend.specs.Statements.{statements_of, with_nodes}

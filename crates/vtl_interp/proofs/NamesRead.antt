@@ -17,8 +17,8 @@ use Rattle.vtl_check.proofs.NameLemmas.{names_append}
 use Rattle.vtl_check.specs.Names.{name_at_form, names_at, names_in}
 use Rattle.vtl_tree.specs.Nodes.{all_nodes, form_nodes, nodes_in, operand_nodes}
 use Rattle.vtl_meaning.specs.Joined.{join_of}
-use Rattle.vtl_meaning.specs.Made.{AreMadeStatements}
-use Rattle.vtl_meaning.specs.Meaning.{Statement, data_set_of, form_value, kept_output, meaning, node_value, nodes_value, operands_value, stated, with_first, with_operand}
+use Rattle.vtl_scripts.specs.Made.{AreMadeStatements}
+use Rattle.vtl_scripts.specs.Meaning.{Statement, data_set_of, form_value, kept_output, meaning, node_value, nodes_value, operands_value, stated, with_first, with_operand}
 use Rattle.vtl_meaning.specs.Aggregates.{aggregate_of}
 use Rattle.vtl_meaning.specs.Analytics.{analytic_of}
 use Rattle.vtl_meaning.specs.Operators.{calculated_of, choice_of, left_of, measured_of, pair_of, sub_of}

@@ -11,7 +11,7 @@ use Rattle.vtl_cell.specs.Outcome.{Outcome}
 use Rattle.vtl_cell.specs.Row.{Row}
 use Rattle.vtl_scalar.specs.Answers.{AnswersBy}
 use Rattle.vtl_scalar.specs.declared.error.ScalarErr.{ScalarErr}
-use Rattle.vtl_tree.specs.Environment.{DataSet, Environment, data_of}
+use Rattle.vtl_tree.specs.Environment.{DataSet, Environment, data_of, known_in}
 use Rattle.vtl_tree.specs.Structure.{same_name}
 use Rattle.vtl_tree.specs.declared.structure.Structure.{Structure}
 use Rattle.vtl_tree.specs.Trees as nodes
@@ -36,8 +36,9 @@ use Rattle.vtl_syntax.specs.declared.word_groups.Retain.{Retain}
 use Rattle.vtl_meaning.specs.AggregateShapes.{IsAggregated}
 use Rattle.vtl_sets.specs.DataSets.{data_set, with_structure}
 use Rattle.vtl_meaning.specs.Joined.{structures_of}
-use Rattle.vtl_meaning.specs.Made.{AreCombined, IsChoice, IsJoined, IsMade, IsMadeForm, IsMeasured, IsWindowed, node_structures}
-use Rattle.vtl_meaning.specs.Meaning.{form_value, known_in, node_value, nodes_value, operands_value, with_operand}
+use Rattle.vtl_meaning.specs.Made.{AreCombined, IsChoice, IsJoined, IsMeasured, IsWindowed}
+use Rattle.vtl_scripts.specs.Made.{IsMade, IsMadeForm, node_structures}
+use Rattle.vtl_scripts.specs.Meaning.{form_value, node_value, nodes_value, operands_value, with_operand}
 use Rattle.vtl_meaning.specs.Operators.{choice_of, pair_of}
 use Rattle.vtl_meaning.specs.Sets.{difference_of, existence_of, symmetric_difference_of}
 use Rattle.vtl_meaning.specs.Shapes.{IsJoinedFrom}

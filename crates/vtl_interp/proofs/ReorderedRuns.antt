@@ -18,11 +18,12 @@ use Rattle.vtl_tree.specs.Environment.{DataSet}
 use Rattle.vtl_tree.specs.Structure.{columns_of, key_width}
 use Rattle.vtl_tree.specs.Structures.{AreStructures, Named}
 use Rattle.vtl_tree.specs.declared.structure.Structure.{Structure}
-use Rattle.vtl_meaning.proofs.ScriptsOrders.{meaning_respects}
+use Rattle.vtl_scripts.proofs.ScriptsOrders.{meaning_respects}
 use Rattle.vtl_check.specs.Checked.{IsTyped, TypedScript}
 use Rattle.vtl_backend.specs.Inputs.{AreInRange, AreInputs, Holds, environment_of, input_of, inputs_of}
-use Rattle.vtl_meaning.specs.Meaning.{AreDataSets, Outputs}
-use Rattle.vtl_meaning.specs.Orders.{SameData, SameMeaning}
+use Rattle.vtl_scripts.specs.Meaning.{AreDataSets, Outputs}
+use Rattle.vtl_meaning.specs.Orders.{SameData}
+use Rattle.vtl_scripts.specs.Orders.{SameMeaning}
 use Rattle.vtl_meaning.specs.Profiles.{AllAreOfProfile}
 use Rattle.vtl_backend.specs.Runs.{Runs, ShowAll, ShowMeaning, Tells, script_meaning}
 use Rattle.vtl_backend.specs.Statements.{is_script_built, statements_of}

@@ -19,7 +19,7 @@ use Rattle.vtl_check.specs.Count.{count}
 use Rattle.vtl_check.specs.Names.{names_in, names_of}
 use Rattle.vtl_check.specs.Script.{assigned, at, is_too_much, transformations_typed, value_typed, with_result}
 use Rattle.vtl_check.specs.Transformations.{Transformation, transformations}
-use Rattle.vtl_meaning.specs.Meaning.{Statement, is_built}
+use Rattle.vtl_scripts.specs.Meaning.{Statement, is_built}
 use Rattle.vtl_backend.specs.Statements.{statements_of, with_nodes}
 use Rattle.vtl_interp.specs.Results.{AreNew}
 use Rattle.vtl_interp.proofs.NamesRead.{all_back, all_both, all_front, names_read}

@@ -7,13 +7,13 @@ use Rattle.vtl_syntax.specs.View.{statement_tree}
 use Rattle.vtl_syntax.specs.declared.statements.Statement.{Statement}
 use Rattle.vtl_tree.specs.NodeView.{node_tree}
 use Rattle.vtl_tree.specs.declared.nodes.Node.{Node}
-use Rattle.vtl_tree.specs.Environment.{Environment}
+use Rattle.vtl_tree.specs.Environment.{Environment, known_in}
 use Rattle.vtl_tree.specs.Structure.{same_name}
 use Rattle.vtl_tree.specs.Structures.{Named}
 use Rattle.vtl_check.specs.Checked.{IsTyped, TypedScript, nodes_of, tree_of}
 use Rattle.vtl_check.specs.Names.{names_of}
-use Rattle.vtl_meaning.specs.Made.{AreMadeStatements}
-use Rattle.vtl_meaning.specs.Meaning.{known_in, meaning}
+use Rattle.vtl_scripts.specs.Made.{AreMadeStatements}
+use Rattle.vtl_scripts.specs.Meaning.{meaning}
 use Rattle.vtl_backend.specs.Inputs.{environment_of, inputs_of}
 use Rattle.vtl_backend.specs.Runs.{script_meaning}
 use Rattle.vtl_backend.specs.Statements.{is_script_built, statements_of, with_nodes}

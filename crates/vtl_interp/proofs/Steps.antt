@@ -12,11 +12,11 @@ use Rattle.vtl_cell.specs.Outcome.{after}
 use Rattle.vtl_cell.specs.Row.{Row}
 use Rattle.vtl_rows.specs.Named.{NamedTables}
 use Rattle.vtl_rows.specs.Tables.{Listed}
-use Rattle.vtl_tree.specs.Environment.{DataSet, Environment, data_of}
+use Rattle.vtl_tree.specs.Environment.{DataSet, Environment, data_of, known_in}
 use Rattle.vtl_tree.specs.Structure.{same_name}
 use Rattle.vtl_tree.specs.declared.structure.Structure.{Structure}
 use Rattle.vtl_tree.specs.Trees.{structure_of}
-use Rattle.vtl_meaning.specs.Meaning.{Outputs, Statement, data_set_of, is_built, kept_output, known_in, meaning, node_value, stated, with_output}
+use Rattle.vtl_scripts.specs.Meaning.{Outputs, Statement, data_set_of, is_built, kept_output, meaning, node_value, stated, with_output}
 use Rattle.check_laws.specs.Scripts.{AreKnownAlike}
 use Rattle.vtl_backend.specs.Runs.{ShowAll, ShowMeaning}
 use Rattle.vtl_backend.specs.Tables.{Shows}

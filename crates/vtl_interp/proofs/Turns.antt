@@ -12,8 +12,8 @@ use Rattle.vtl_syntax.specs.declared.word_groups.AssignKind.{AssignKind}
 use Rattle.vtl_tree.specs.Environment.{Environment, data_of}
 use Rattle.vtl_tree.specs.NodeView.{node_tree}
 use Rattle.vtl_tree.specs.declared.nodes.Node.{Node}
-use Rattle.vtl_meaning.specs.Meaning as meant
-use Rattle.vtl_meaning.specs.Meaning.{Outputs, meaning}
+use Rattle.vtl_scripts.specs.Meaning as meant
+use Rattle.vtl_scripts.specs.Meaning.{Outputs, meaning}
 use Rattle.vtl_backend.specs.Statements.{with_nodes}
 use Rattle.vtl_check.specs.Transformations.{Transformation}
 use Rattle.vtl_scalar.specs.declared.run_error.RunErr.{RunErr}

@@ -11,7 +11,7 @@ use Rattle.vtl_syntax.specs.declared.word_groups.AssignKind.{AssignKind}
 use Rattle.vtl_syntax.specs.declared.word_groups.AssignKind.TheVariants as assign
 use Rattle.vtl_tree.specs.Environment.{DataSet}
 use Rattle.vtl_tree.specs.Structure.{same_name}
-use Rattle.vtl_meaning.specs.Meaning.{Outputs}
+use Rattle.vtl_scripts.specs.Meaning.{Outputs}
 use Rattle.vtl_decimal.specs.declared.number.Fault.{Fault}
 use Rattle.vtl_sets.specs.TableOf.{IsTableOf}
 use Rattle.vtl_backend.specs.Runs.{Tells}

@@ -7,7 +7,7 @@ use Rattle.vtl_scalar.specs.declared.error.ScalarErr.TheVariants as err
 use Rattle.vtl_tree.specs.Environment.{DataSet, Environment}
 use Rattle.vtl_tree.specs.Trees as nodes
 use Rattle.vtl_tree.specs.Trees.{FormTree, NodeTree, structure_of}
-use Rattle.vtl_meaning.specs.Meaning.{node_value}
+use Rattle.vtl_scripts.specs.Meaning.{node_value}
 
 -- the data set of an expression, with its structure and its points
 pub record Gives (p : Settings) (env : Environment) (n : NodeTree) (d : DataSet) : Type 0 where

@@ -7,11 +7,11 @@ use Rattle.vtl_decimal.specs.declared.number.Fault.{Fault}
 use Rattle.vtl_scalar.specs.declared.error.ScalarErr.{ScalarErr}
 use Rattle.vtl_scalar.specs.declared.error.ScalarErr.TheVariants as scalar
 use Rattle.vtl_syntax.specs.declared.word_groups.AssignKind.{AssignKind}
-use Rattle.vtl_tree.specs.Environment.{DataSet, Environment}
+use Rattle.vtl_tree.specs.Environment.{DataSet, Environment, known_in}
 use Rattle.vtl_tree.specs.Structure.{same_name}
 use Rattle.vtl_tree.specs.Trees.{NodeTree}
-use Rattle.vtl_meaning.specs.Made.{AreMadeStatements}
-use Rattle.vtl_meaning.specs.Meaning.{Outputs, Statement, is_built, known_in, node_value}
+use Rattle.vtl_scripts.specs.Made.{AreMadeStatements}
+use Rattle.vtl_scripts.specs.Meaning.{Outputs, Statement, is_built, node_value}
 use Rattle.vtl_rows.specs.Named.{NamedTables}
 use Rattle.vtl_backend.specs.Runs.{ShowAll, ShowMeaning}
 use Rattle.vtl_backend.specs.Statements.{is_written}

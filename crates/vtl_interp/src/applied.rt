@@ -2,10 +2,9 @@
 ghost use Rattle.std.specs.Prelude.{◌≡◌, IfOk, Ok};
 ghost use Rattle.vtl_scalar.specs.Answers.{Answers};
 ghost use Rattle.vtl_tree.specs.Environment as sets;
-ghost use Rattle.vtl_tree.specs.Environment.{Environment};
+ghost use Rattle.vtl_tree.specs.Environment.{Environment, known_in};
 ghost use Rattle.vtl_tree.specs.NodeView.{form_tree, node_tree};
-ghost use Rattle.vtl_meaning.specs.Made.{IsMade};
-ghost use Rattle.vtl_meaning.specs.Meaning.{known_in};
+ghost use Rattle.vtl_scripts.specs.Made.{IsMade};
 ghost use Rattle.vtl_interp.specs.Evaluated.{Evaluates, GivesOne, GivesTwo};
 ghost use Rattle.vtl_interp.specs.Values.{value_view};
 

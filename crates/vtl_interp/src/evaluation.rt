@@ -3,8 +3,9 @@ ghost use Rattle.std.specs.Prelude.{◌≡◌, map, true};
 ghost use Rattle.vtl_tree.specs.Trees.{nodes_of, operands_of};
 ghost use Rattle.vtl_tree.specs.NodeView.{node_tree, operand_tree};
 ghost use Rattle.vtl_scalar.specs.Answers.{AnswersBy};
-ghost use Rattle.vtl_meaning.specs.Made.{AreMade, AreMadeOperands, IsMade};
-ghost use Rattle.vtl_meaning.specs.Meaning.{are_nodes_built, are_operands_built, is_built, known_in, nodes_value, operands_value};
+ghost use Rattle.vtl_scripts.specs.Made.{AreMade, AreMadeOperands, IsMade};
+ghost use Rattle.vtl_scripts.specs.Meaning.{are_nodes_built, are_operands_built, is_built, nodes_value, operands_value};
+ghost use Rattle.vtl_tree.specs.Environment.{known_in};
 ghost use Rattle.vtl_interp.specs.Evaluated.{Evaluates};
 ghost use Rattle.vtl_interp.specs.Values.{value_view, values_view};
 

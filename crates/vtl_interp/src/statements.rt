@@ -5,8 +5,9 @@
 ghost use Rattle.std.specs.Prelude.{◌≡◌, ◌∷◌, [], None, true, length, map, OnOk};
 ghost use Rattle.vtl_syntax.specs.View.{statement_tree};
 ghost use Rattle.vtl_tree.specs.NodeView.{node_tree};
-ghost use Rattle.vtl_meaning.specs.Made.{IsMade};
-ghost use Rattle.vtl_meaning.specs.Meaning.{is_built, known_in, meaning};
+ghost use Rattle.vtl_scripts.specs.Made.{IsMade};
+ghost use Rattle.vtl_scripts.specs.Meaning.{is_built, meaning};
+ghost use Rattle.vtl_tree.specs.Environment.{known_in};
 ghost use Rattle.vtl_check.specs.Transformations.{transformations};
 ghost use Rattle.vtl_rows.specs.Named.{table_of};
 ghost use Rattle.vtl_backend.specs.Statements.{is_written, with_nodes};

@@ -16,38 +16,37 @@ use Rattle.vtl_tree.specs.declared.structure.Structure.{Structure}
 use Rattle.vtl_tree.specs.Trees as nodes
 use Rattle.vtl_tree.specs.Trees.{ItemTree, MeasureTree}
 use Rattle.vtl_tree.specs.Measures.{made}
-use Rattle.vtl_tree.specs.Environment.{DataSet, Environment}
-use Rattle.vtl_meaning.specs.Meaning.{Statement, meaning}
+use Rattle.vtl_tree.specs.Environment.{DataSet}
 use Rattle.vtl_meaning.specs.Operators.{calculated_of, choice_of, left_of, measured_of, pair_of, sub_of}
 use Rattle.vtl_meaning.specs.Points.{with_points}
 
-abbrev scale_six : Settings
+abbrev pub scale_six : Settings
 scale_six = record { scale = 6; rounding = HalfUp }
 
-abbrev int : ℕ → Cell
+abbrev pub int : ℕ → Cell
 int n = Int (pos n)
 
-abbrev with_components : List Component → Structure
+abbrev pub with_components : List Component → Structure
 with_components xs = record { components = xs }
 
 -- components: two identifiers, measures, an attribute
-abbrev place : Component
+abbrev pub place : Component
 place = made (codes "place") role.Identifier k.Int
 
-abbrev year : Component
+abbrev pub year : Component
 year = made (codes "year") role.Identifier k.Int
 
 abbrev sold : Component
 sold = made (codes "sold") role.Measure k.Int
 
-abbrev left : Component
+abbrev pub left : Component
 left = made (codes "left") role.Measure k.Int
 
 abbrev note : Component
 note = made (codes "note") role.Attribute k.Text
 
 -- components in another order than columns: the attribute stands before the identifiers
-abbrev by_place_and_year : Structure
+abbrev pub by_place_and_year : Structure
 by_place_and_year = with_components (note ∷ place ∷ sold ∷ year ∷ left ∷ [])
 
 abbrev both_measures : Structure
@@ -57,7 +56,7 @@ both_measures = with_components (place ∷ year ∷ sold ∷ left ∷ [])
 abbrev by_year : Structure
 by_year = with_components (left ∷ year ∷ sold ∷ [])
 
-abbrev sales : DataSet
+abbrev pub sales : DataSet
 sales =
     with_points by_place_and_year
     ((int 1 ∷ int 10 ∷ int 5 ∷ int 50 ∷ Text (codes "a") ∷ [])
@@ -83,13 +82,13 @@ filled : measured_of scale_six (record { op = op.ValueOr; before = []; after = c
 filled = refl
 
 -- `999999999999 / shares` at 0.5 and 0: out of range at the first point, division by zero at the second one
-abbrev by_place : Structure
+abbrev pub by_place : Structure
 by_place = with_components (place ∷ made (codes "share") role.Measure k.Num ∷ [])
 
-abbrev shares : DataSet
+abbrev pub shares : DataSet
 shares = with_points by_place ((int 1 ∷ c.Num (pos 500000) ∷ []) ∷ (int 2 ∷ c.Num (pos 0) ∷ []) ∷ [])
 
-abbrev divided : MeasureTree
+abbrev pub divided : MeasureTree
 divided = record { op = op.Divide; before = const (int 999999999999) ∷ []; after = [] }
 
 first_fault : measured_of scale_six divided (with_points by_place ((int 1 ∷ c.Num (pos 500000) ∷ []) ∷ [])) by_place ≡ Err Range
@@ -132,27 +131,3 @@ chosen : choice_of
     one_measure
     ≡ ((int 1 ∷ int 10 ∷ int 5 ∷ []) ∷ (int 1 ∷ int 20 ∷ int 70 ∷ []) ∷ (int 2 ∷ int 10 ∷ int 90 ∷ []) ∷ [])
 chosen = refl
-
--- ---- `kept := sales[keep left]; quotient <- 999999999999 / shares; result <- kept`, over both data sets
-abbrev left_alone : Structure
-left_alone = with_components (place ∷ year ∷ left ∷ [])
-
-abbrev keep_left : Statement
-keep_left = record { result = codes "kept"; persistent = false; node = nodes.node left_alone (nodes.keep (nodes.node by_place_and_year (nodes.named (codes "sales"))) (codes "left" ∷ [])) }
-
-abbrev divide : Statement
-divide = record { result = codes "quotient"; persistent = true; node = nodes.node by_place (nodes.measures divided (nodes.node by_place (nodes.named (codes "shares")))) }
-
-abbrev name_result : Statement
-name_result = record { result = codes "result"; persistent = true; node = nodes.node left_alone (nodes.named (codes "kept")) }
-
-abbrev held : Environment
-held = (codes "sales", sales) ∷ (codes "shares", shares) ∷ []
-
--- a `:=` is evaluated and not written
-written : meaning scale_six (keep_left ∷ name_result ∷ []) held ≡ Ok ((codes "result", with_points left_alone ((int 1 ∷ int 10 ∷ int 50 ∷ []) ∷ (int 1 ∷ int 20 ∷ Null ∷ []) ∷ (int 2 ∷ int 10 ∷ int 9 ∷ []) ∷ [])) ∷ [])
-written = refl
-
--- the first fault, with the name of its statement's result
-faulty : meaning scale_six (keep_left ∷ divide ∷ name_result ∷ []) held ≡ Err (DivZero, codes "quotient")
-faulty = refl

@@ -35,7 +35,6 @@ use Rattle.vtl_tree.specs.Pairs.{contains}
 use Rattle.vtl_tree.specs.Kinds.{exp_kind}
 use Rattle.vtl_tree.specs.Columns.{column_behind, column_named, columns_named, identifiers_of, measures_of, others_of, place_of, places_in}
 use Rattle.vtl_meaning.specs.Made.{AreAmong, AreFor, HasIdentifiers, IsAlternative, IsCalculated, IsChoice, IsColumnAt, IsFiltered, IsLeft, IsMeasured, IsPaired, IsRenamed, IsSub}
-use Rattle.vtl_meaning.specs.Meaning.{with_operand}
 use Rattle.vtl_meaning.specs.Operators.{calculated_exp, calculated_exps, calculated_of, choice_of, for_measures, has_values, is_first_chosen, joined_point, left_of, measured_of, pair_of, sub_of, taken_at, taken_from, target_named, value_exp, with_measure, with_namesake}
 use Rattle.vtl_meaning.specs.Points.{beside, cell_or_null, each_point, paired, partner, point_fault, point_of, with_points}
 use Rattle.vtl_meaning.proofs.Drawn.{AreDrawn, AtMostOne, Keeps, drawn_all, drawn_apart, drawn_kept, map_drawn, mapped_kept, one_of_option, same_keys_back}
@@ -50,10 +49,6 @@ unless_ok (Some f) x out e = cc
 pub after_ok : {A B : Type 0} (m : Outcome A) (f : A → Outcome B) (out : B) → after m f ≡ Ok out → (x : A) × (m ≡ Ok x) × (f x ≡ Ok out)
 after_ok (Ok x) f out e = (x, refl, e)
 after_ok (Err g) f out e = cc
-
--- what a node's data set gives, where it has one
-pub operand_ok : (a : NodeTree) (m : Outcome (List Row)) (f : DataSet → Outcome (List Row)) (out : List Row) → with_operand a m f ≡ Ok out → (points : List Row) × (m ≡ Ok points) × (f (with_points (structure_of a) points) ≡ Ok out)
-operand_ok a m f out e = after_ok m (λ points. f (with_points (structure_of a) points)) out e
 
 pub ok_is : {A : Type 0} (x y : A) → unless None x ≡ Ok y → x ≡ y
 ok_is x y e = (unless_ok None x y e).1

@@ -8,10 +8,11 @@ pub mod AnalyticPoints
 pub mod AnalyticShaped
 pub mod CallKinds
 pub mod CallProfiles
-mod Determined
+pub mod Determined
 pub mod Drawn
 pub mod Examples
 pub mod Faults
+pub mod FoundColumns
 pub mod GroupKinds
 pub mod GroupLooks
 pub mod GroupOrders
@@ -27,6 +28,7 @@ pub mod JoinPartners
 pub mod JoinParts
 pub mod JoinProfiles
 pub mod Kept
+pub mod Lists
 pub mod LookUps
 pub mod Looks
 pub mod Orders
@@ -34,9 +36,6 @@ pub mod OwnColumns
 pub mod Partitions
 pub mod Places
 pub mod Profiles
-pub mod ScriptsKept
-pub mod ScriptsOrders
-pub mod ScriptsProfiles
 pub mod SetsFolds
 pub mod SetsKept
 pub mod SetsLooks

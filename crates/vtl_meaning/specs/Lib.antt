@@ -11,7 +11,6 @@ pub mod Joined
 pub mod Literals
 pub mod LookUps
 pub mod Made
-pub mod Meaning
 pub mod Operators
 pub mod Orders
 pub mod Points

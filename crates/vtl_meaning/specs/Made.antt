@@ -1,7 +1,6 @@
--- What typing gives: which expressions are typed over which columns, and how the structure of each node fits its operands.
+-- What typing gives: which expressions are typed over which columns, and how the structure of a result fits its operands.
 use Rattle.std.specs.Prelude.{◌≡◌, ◌==◌, ℕ, zero, suc, Bool, true, false, not, ◌&&◌, ◌||◌, cond, List, [], ◌∷◌, ◌++◌, length, map, Option, Some, None, slice_get}
 use Rattle.std.specs.List.{AllByRecursion, flat_map, list_any}
-use Rattle.std.specs.Map.{lookup}
 use Rattle.std.specs.Option.{IfSome, is_none}
 use Rattle.vtl_decimal.specs.Settings.{Settings}
 use Rattle.vtl_lists.specs.Apart.{all_apart}
@@ -17,26 +16,22 @@ use Rattle.vtl_tree.specs.CompExp.{CompExp, CompExps, column, const, call, aggre
 use Rattle.vtl_syntax.specs.declared.word_groups.JoinKind.{JoinKind}
 use Rattle.vtl_syntax.specs.declared.word_groups.JoinKind.TheVariants as join
 use Rattle.vtl_tree.specs.Structure.{IsStructure, columns_of, names_of, of_role, same_name}
-use Rattle.vtl_tree.specs.Structures.{Named}
 use Rattle.vtl_tree.specs.declared.expression.AggCall.{AggCall}
 use Rattle.vtl_tree.specs.declared.structure.Component.{Component}
 use Rattle.vtl_tree.specs.declared.structure.Role.TheVariants as role
 use Rattle.vtl_tree.specs.declared.structure.Structure.{Structure}
 use Rattle.vtl_tree.specs.Trees as nodes
-use Rattle.vtl_tree.specs.Trees.{AggTree, AnalyticTree, FormTree, ItemTree, MaybeNode, MeasureTree, NodeTree, NodeTrees, OperandTrees, ValueTree, structure_of}
+use Rattle.vtl_tree.specs.Trees.{AggTree, AnalyticTree, ItemTree, MeasureTree, ValueTree}
 use Rattle.vtl_tree.specs.declared.calls.AnalyticOp.{AnalyticOp}
 use Rattle.vtl_tree.specs.declared.calls.AnalyticOp.TheVariants as window
 use Rattle.vtl_tree.specs.declared.calls.Window.{Window}
 use Rattle.vtl_tree.specs.declared.clauses.SubItem.{SubItem}
-use Rattle.vtl_tree.specs.Joins as joins
-use Rattle.vtl_tree.specs.declared.joins.Operand.{Operand}
 use Rattle.vtl_tree.specs.Choices.{chosen}
 use Rattle.vtl_tree.specs.ClauseShapes.{first_kind, names_column, pivot_components}
 use Rattle.vtl_tree.specs.Measures.{bool_var, given_measures, is_miscounted, made}
 use Rattle.vtl_tree.specs.Operands.{agree, agreed_identifiers}
 use Rattle.vtl_tree.specs.Pairs.{contains, pair_identifiers}
 use Rattle.vtl_tree.specs.declared.choices.Choice.TheVariants as choice
-use Rattle.vtl_tree.specs.declared.names.Wanted.TheVariants as wanted
 use Rattle.vtl_tree.specs.declared.operands.Compared.TheVariants as compared
 use Rattle.vtl_tree.specs.Kinds.{exp_kind}
 use Rattle.vtl_cell.specs.AggregateKinds.{aggregate_kind}
@@ -45,10 +40,8 @@ use Rattle.vtl_meaning.specs.AnalyticShapes.{IsAnalyzed}
 use Rattle.vtl_tree.specs.Columns.{common_identifiers, identifiers_of, kind_named, measures_of, others_of, place_of}
 use Rattle.vtl_meaning.specs.Joined.{reference_place}
 use Rattle.vtl_meaning.specs.Literals.{HasLiterals}
-use Rattle.vtl_meaning.specs.Meaning.{Statement}
 use Rattle.vtl_meaning.specs.Operators.{calculated_exps, measured_exps, pair_columns, pair_exps, target_named}
-use Rattle.vtl_meaning.specs.Reaches.{AreNear}
-use Rattle.vtl_meaning.specs.Shapes.{IsChosen, IsJoinedFrom, IsRenamedBy, IsShaped, calculated_components, given_between, given_of_two, outcome_of, target_of}
+use Rattle.vtl_meaning.specs.Shapes.{IsChosen, IsJoinedFrom, IsRenamedBy, calculated_components, given_between, given_of_two, outcome_of, target_of}
 use Rattle.vtl_meaning.specs.Turned.{codes_of, other_identifiers}
 
 -- ---- expressions
@@ -298,64 +291,3 @@ pub record IsUnpivoted (id m : List ℕ) (a s : Structure) : Type 0 where
   pub measured : component_kinds (others_of s) ≡ first_kind (measures_of a) ∷ []
   pub alike : AllByRecursion (λ x. x.kind ≡ first_kind (measures_of a)) (measures_of a)
   pub shape : s.components ≡ chosen choice.Except [] a.components ++ names_column id (measures_of a) ∷ made m role.Measure (first_kind (measures_of a)) ∷ []
-
--- ---- operands
-abbrev pub operands_in : OperandTrees → List Operand
-operands_in nodes.no_operands = []
-operands_in (nodes.operand n alias os) = record { alias = alias; structure = structure_of n } ∷ operands_in os
-
-abbrev pub node_structures : NodeTrees → List Structure
-node_structures nodes.no_nodes = []
-node_structures (nodes.and_node n ns) = structure_of n ∷ node_structures ns
-
--- ---- nodes
--- Each node has a structure whose components have kinds and which fits its operands, and each name is known with its structure.
--- Of analytic calls it is told too how far they reach; of the forms that are not evaluated yet only the operands.
-abbrev mutual
-  pub IsMade : Settings → Named → NodeTree → Type 0
-  IsMade p known (nodes.node s form) = IsShaped s × IsMadeForm p known s form
-
-  pub IsMadeForm : Settings → Named → Structure → FormTree → Type 0
-  IsMadeForm p known s (nodes.named name) = lookup (same_name name) known ≡ Some s
-  IsMadeForm p known s (nodes.measures m a) = IsMade p known a × IsMeasured p m (structure_of a) s
-  IsMadeForm p known s (nodes.pair o a b) = IsMade p known a × IsMade p known b × IsPaired p o (structure_of a) (structure_of b) s
-  IsMadeForm p known s (nodes.choose t a b) = IsMade p known t × IsMade p known a × IsMade p known b × IsChoice (structure_of t) (structure_of a) (structure_of b) s
-  IsMadeForm p known s (nodes.member a m) = IsMade p known a × IsLeft (structure_of a) s × IsChosen wanted.Measure choice.Keep (m ∷ []) (structure_of a) s
-  IsMadeForm p known s (nodes.filter a e) = IsMade p known a × IsFiltered p e (structure_of a) s
-  IsMadeForm p known s (nodes.calc a items) = IsMade p known a × IsCalculated p items (structure_of a) s
-  IsMadeForm p known s (nodes.keep a names) = IsMade p known a × IsLeft (structure_of a) s × IsChosen wanted.Value choice.Keep names (structure_of a) s
-  IsMadeForm p known s (nodes.drop_named a names) = IsMade p known a × IsLeft (structure_of a) s × IsChosen wanted.Value choice.Drop names (structure_of a) s
-  IsMadeForm p known s (nodes.rename a pairs) = IsMade p known a × IsRenamed (structure_of a) s × IsRenamedBy pairs (structure_of a) s
-  IsMadeForm p known s (nodes.sub a items) = IsMade p known a × IsSub items (structure_of a) s
-  IsMadeForm p known s (nodes.pivot a id m) = IsMade p known a × IsPivoted id m (structure_of a) s
-  IsMadeForm p known s (nodes.unpivot a id m) = IsMade p known a × IsUnpivoted id m (structure_of a) s
-  IsMadeForm p known s (nodes.join os spec) = AreMadeOperands p known os × IsJoined spec.kind (joins.structures_of (operands_in os)) s × IsJoinedFrom spec.kind (operands_in os) s
-  IsMadeForm p known s (nodes.union ns) = AreMade p known ns × AreCombined (node_structures ns) s
-  IsMadeForm p known s (nodes.intersect ns) = AreMade p known ns × AreCombined (node_structures ns) s
-  IsMadeForm p known s (nodes.set_diff a b) = IsMade p known a × IsMade p known b × IsCombined (structure_of a) (structure_of b ∷ []) s
-  IsMadeForm p known s (nodes.sym_diff a b) = IsMade p known a × IsMade p known b × IsCombined (structure_of a) (structure_of b ∷ []) s
-  IsMadeForm p known s (nodes.exists_in a b r) = IsMade p known a × IsMade p known b × IsExistence (structure_of a) (structure_of b) s
-  IsMadeForm p known s (nodes.aggregate a spec) = IsMade p known a × IsGrouped p spec (structure_of a) s
-  IsMadeForm p known s (nodes.analytic_of a spec) = IsMade p known a × IsWindowed p spec (structure_of a) s × AreNear spec
-  IsMadeForm p known s (nodes.check a i spec) = IsMade p known a × IsMadeMaybe p known i
-  IsMadeForm p known s (nodes.check_datapoint a rules out) = IsMade p known a
-  IsMadeForm p known s (nodes.check_hierarchy a rules m out) = IsMade p known a
-  IsMadeForm p known s (nodes.hierarchy a rules m i out) = IsMade p known a
-
-  pub AreMade : Settings → Named → NodeTrees → Type 0
-  AreMade p known nodes.no_nodes = Unit {0}
-  AreMade p known (nodes.and_node n ns) = IsMade p known n × AreMade p known ns
-
-  pub IsMadeMaybe : Settings → Named → MaybeNode → Type 0
-  IsMadeMaybe p known nodes.no_node = Unit {0}
-  IsMadeMaybe p known (nodes.some_node n) = IsMade p known n
-
-  pub AreMadeOperands : Settings → Named → OperandTrees → Type 0
-  AreMadeOperands p known nodes.no_operands = Unit {0}
-  AreMadeOperands p known (nodes.operand n alias os) = IsMade p known n × AreMadeOperands p known os
-
--- ---- statements
--- each expression is made over what is known there: what was known before, and the results of earlier statements
-abbrev pub AreMadeStatements : Settings → Named → List Statement → Type 0
-AreMadeStatements p known [] = Unit {0}
-AreMadeStatements p known (s ∷ rest) = IsMade p known s.node × AreMadeStatements p ((s.result, structure_of s.node) ∷ known) rest

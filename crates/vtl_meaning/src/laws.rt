@@ -13,7 +13,6 @@
 // `filter` and `rename` stay on lists of points: `filter_of` is a definition of `vtl_tree`, which knows no operator,
 // and `rename` changes no point.
 ghost use Rattle.std.specs.Prelude.{◌≡◌, [], ◌∷◌, ◌++◌, IfOk, List, Ok, Some, cond, false, length, map, option_map, true};
-ghost use Rattle.std.specs.List.{list_all};
 ghost use Rattle.std.specs.Option.{option_and_then};
 ghost use Rattle.vtl_decimal.specs.Settings.{Settings};
 ghost use Rattle.vtl_lists.specs.Perm.{Perm};
@@ -23,26 +22,23 @@ ghost use Rattle.vtl_cell.specs.Row.{Row};
 ghost use Rattle.vtl_cell.specs.declared.operator.ScalarOp.{ScalarOp};
 ghost use Rattle.vtl_tree.specs.Clauses.{filter_of, kept};
 ghost use Rattle.vtl_tree.specs.CompExp.{CompExp};
-ghost use Rattle.vtl_tree.specs.DataSet.{AreOfProfile, IsDataSet, is_point, look};
+ghost use Rattle.vtl_tree.specs.DataSet.{IsDataSet, is_point, look};
 ghost use Rattle.vtl_tree.specs.Kept.{kept_row};
-ghost use Rattle.vtl_tree.specs.Environment.{DataSet, Environment};
+ghost use Rattle.vtl_tree.specs.Environment.{DataSet};
 ghost use Rattle.vtl_tree.specs.Structure.{columns_of, key_width};
 ghost use Rattle.vtl_tree.specs.Value.{value};
 ghost use Rattle.vtl_tree.specs.declared.structure.Component.{Component};
 ghost use Rattle.vtl_tree.specs.declared.structure.Structure.{Structure};
-ghost use Rattle.vtl_tree.specs.Trees.{ItemTree, MeasureTree, NodeTree, structure_of};
+ghost use Rattle.vtl_tree.specs.Trees.{ItemTree, MeasureTree};
 ghost use Rattle.vtl_tree.specs.declared.clauses.SubItem.{SubItem};
 ghost use Rattle.vtl_tree.specs.Pairs.{contains};
 ghost use Rattle.vtl_tree.specs.Kinds.{exp_kind};
-ghost use Rattle.vtl_tree.specs.Columns.{measures_of, others_of};
+ghost use Rattle.vtl_tree.specs.Columns.{others_of};
 ghost use Rattle.vtl_meaning.specs.Faults.{unless_any};
 ghost use Rattle.vtl_meaning.specs.LookUps.{calculated_at, chosen_at, has_key_values, measured_at, of_both, paired_at, part_for, values_named};
-ghost use Rattle.vtl_meaning.specs.Made.{AreMadeStatements, IsCalculated, IsChoice, IsFiltered, IsLeft, IsMade, IsMeasured, IsPaired, IsRenamed, IsSub, IsTyped};
-ghost use Rattle.vtl_meaning.specs.Meaning.{AreDataSets, Outputs, Statement, is_built, known_in, meaning, node_value};
+ghost use Rattle.vtl_meaning.specs.Made.{IsCalculated, IsChoice, IsFiltered, IsLeft, IsMeasured, IsPaired, IsRenamed, IsSub, IsTyped};
 ghost use Rattle.vtl_meaning.specs.Operators.{calculated_of, choice_of, is_first_chosen, left_of, measured_of, pair_of, sub_of};
-ghost use Rattle.vtl_meaning.specs.Orders.{SameData, SameMeaning};
 ghost use Rattle.vtl_meaning.specs.Points.{each_point, point_of, with_points};
-ghost use Rattle.vtl_meaning.specs.Profiles.{AllAreOfProfile};
 
 /// The value of a typed expression at a point of its columns is null or of exactly the kind of the expression.
 pub fn values_are_of_their_kind()
@@ -60,20 +56,6 @@ pub fn operators_keep_data_sets()
     ensures left { (a : DataSet) (s : Structure) → IsLeft a.structure s → IsDataSet a.structure a.points → IsDataSet s (left_of a s) }
     ensures rename { (a : DataSet) (s : Structure) → IsRenamed a.structure s → IsDataSet a.structure a.points → IsDataSet s a.points }
     ensures sub { (items : List SubItem) (a : DataSet) (s : Structure) → IsSub items a.structure s → IsDataSet a.structure a.points → IsDataSet s (sub_of items a s) }
-{}
-
-/// Over data sets, a typed expression that is evaluated gives a data set of its structure, and so is each output of a
-/// script.
-pub fn scripts_keep_data_sets()
-    ensures expression { (p : Settings) (env : Environment) (n : NodeTree) (out : List Row) → is_built n ≡ true → IsMade p (known_in env) n → AreDataSets env → node_value p env n ≡ Ok out → IsDataSet (structure_of n) out }
-    ensures outputs { (p : Settings) (ss : List Statement) (env : Environment) (out : Outputs) → list_all (λ s. is_built s.node) ss ≡ true → AreMadeStatements p (known_in env) ss → AreDataSets env → meaning p ss env ≡ Ok out → AreDataSets out }
-{}
-
-/// Over data sets whose integers are of the profile, a typed expression that is evaluated gives points whose integers
-/// are of the profile, and so does each output of a script.
-pub fn results_are_of_the_profile()
-    ensures expression { (p : Settings) (env : Environment) (n : NodeTree) → IsMade p (known_in env) n → AllAreOfProfile p env → IfOk (node_value p env n) (AreOfProfile p) }
-    ensures outputs { (p : Settings) (ss : List Statement) (env : Environment) → AreMadeStatements p (known_in env) ss → AllAreOfProfile p env → IfOk (meaning p ss env) (AllAreOfProfile p) }
 {}
 
 /// What each operator gives for a tuple `k` of the result's identifiers, without a fault. `++` puts the identifiers
@@ -116,12 +98,4 @@ pub fn operators_do_not_see_order()
     ensures calc { (p : Settings) (items : List ItemTree) (a s : Structure) (d e : List Row) → Perm d e → Same (calculated_of p items (with_points a d) s) (calculated_of p items (with_points a e) s) }
     ensures left { (a s : Structure) (d e : List Row) → Perm d e → Perm (left_of (with_points a d) s) (left_of (with_points a e) s) }
     ensures sub { (items : List SubItem) (a s : Structure) (d e : List Row) → Perm d e → Perm (sub_of items (with_points a d) s) (sub_of items (with_points a e) s) }
-{}
-
-/// What a script means does not depend on the order of points: over data sets with the same points, an expression has
-/// the same points or the same fault, and a script the same outputs up to order or the same fault at the same
-/// statement.
-pub fn meaning_does_not_see_order()
-    ensures expression { (p : Settings) (env other : Environment) (n : NodeTree) → AreDataSets env → SameData env other → is_built n ≡ true → IsMade p (known_in env) n → Same (node_value p env n) (node_value p other n) }
-    ensures script { (p : Settings) (ss : List Statement) (env other : Environment) → AreDataSets env → SameData env other → list_all (λ s. is_built s.node) ss ≡ true → AreMadeStatements p (known_in env) ss → SameMeaning (meaning p ss env) (meaning p ss other) }
 {}

@@ -30,9 +30,8 @@ pub use join_laws::{
     joins_grow_operand_by_operand, joins_keep_data_sets, left_and_full_joins_lose_nothing,
 };
 pub use laws::{
-    faults_are_joined, meaning_does_not_see_order, operators_by_look_up,
-    operators_do_not_see_order, operators_keep_data_sets, results_are_of_the_profile,
-    scripts_keep_data_sets, values_are_of_their_kind,
+    faults_are_joined, operators_by_look_up, operators_do_not_see_order, operators_keep_data_sets,
+    values_are_of_their_kind,
 };
 pub use set_laws::{
     intersections_are_folds, pivot_undoes_unpivot, pivots_and_unpivots, set_operators_by_look_up,

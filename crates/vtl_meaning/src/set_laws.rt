@@ -1,5 +1,5 @@
 // Laws of set operators, of `exists_in`, and of `pivot` and `unpivot`.
-ghost use Rattle.std.specs.Prelude.{◌≡◌, ◌≤◌, ℕ, [], ◌∷◌, ◌++◌, List, None, Some, cond, false, is_some, length, map, option_map, take, true};
+ghost use Rattle.std.specs.Prelude.{◌≡◌, ◌≤◌, ℕ, [], ◌∷◌, ◌++◌, List, None, Some, cond, false, is_some, length, map, option_map, true};
 ghost use Rattle.std.specs.List.{AllByRecursion, fold, list_all, list_any};
 ghost use Rattle.std.specs.Option.{option_and_then, option_map_or, option_or};
 ghost use Rattle.vtl_cell.specs.Kinds.{is_null};

@@ -11,7 +11,7 @@ use Rattle.vtl_tree.specs.Trees.{FormTree, NodeTree, NodeTrees, OperandTrees, st
 use Rattle.vtl_meaning.specs.Aggregates.{aggregate_of}
 use Rattle.vtl_meaning.specs.Analytics.{analytic_of}
 use Rattle.vtl_meaning.specs.Joined.{join_of}
-use Rattle.vtl_meaning.specs.Meaning.{data_set_of, form_value, node_value, nodes_value, operands_value, with_first, with_operand}
+use Rattle.vtl_scripts.specs.Meaning.{data_set_of, form_value, node_value, nodes_value, operands_value, with_first, with_operand}
 use Rattle.vtl_meaning.specs.Operators.{calculated_of, choice_of, left_of, measured_of, pair_of, sub_of}
 use Rattle.vtl_meaning.specs.Points.{with_points}
 use Rattle.vtl_meaning.specs.Sets.{difference_of, existence_of, intersection_of, symmetric_difference_of, union_of}

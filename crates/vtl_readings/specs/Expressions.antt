@@ -5,14 +5,14 @@ use Rattle.vtl_decimal.specs.Settings.{Settings}
 use Rattle.vtl_cell.specs.Outcome.{Outcome}
 use Rattle.vtl_cell.specs.Row.{Row}
 use Rattle.vtl_tree.specs.Clauses.{filter_of}
-use Rattle.vtl_tree.specs.Environment.{DataSet, Environment}
+use Rattle.vtl_tree.specs.Environment.{DataSet, Environment, points_named}
 use Rattle.vtl_tree.specs.declared.structure.Structure.{Structure}
 use Rattle.vtl_tree.specs.Trees as nodes
 use Rattle.vtl_tree.specs.Trees.{FormTree, NodeTree, NodeTrees, OperandTrees}
 use Rattle.vtl_meaning.specs.Aggregates.{aggregate_of}
 use Rattle.vtl_meaning.specs.Analytics.{analytic_of}
 use Rattle.vtl_meaning.specs.Joined.{join_of}
-use Rattle.vtl_meaning.specs.Meaning.{no_points_yet, points_named}
+use Rattle.vtl_scripts.specs.Meaning.{no_points_yet}
 use Rattle.vtl_meaning.specs.Operators.{calculated_of, choice_of, left_of, measured_of, pair_of, sub_of}
 use Rattle.vtl_meaning.specs.Points.{with_points}
 use Rattle.vtl_meaning.specs.Sets.{difference_of, existence_of, intersection_of, symmetric_difference_of, union_of}

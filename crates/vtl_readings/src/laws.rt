@@ -9,7 +9,7 @@ ghost use Rattle.vtl_tree.specs.Environment.{DataSet, Environment};
 ghost use Rattle.vtl_tree.specs.declared.structure.Structure.{Structure};
 ghost use Rattle.vtl_tree.specs.Trees.{AggTree, FormTree, NodeTree};
 ghost use Rattle.vtl_meaning.specs.Aggregates.{aggregate_of};
-ghost use Rattle.vtl_meaning.specs.Meaning.{data_set_of, form_value};
+ghost use Rattle.vtl_scripts.specs.Meaning.{data_set_of, form_value};
 ghost use Rattle.vtl_meaning.specs.Made.{IsPaired};
 ghost use Rattle.vtl_meaning.specs.Operators.{pair_of};
 ghost use Rattle.vtl_readings.specs.Aggregates.{aggregate_points};

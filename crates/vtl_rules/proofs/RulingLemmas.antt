@@ -33,7 +33,8 @@ use Rattle.vtl_meaning.specs.Points.{cell_or_null}
 use Rattle.vtl_meaning.proofs.Drawn.{AtMostOne}
 use Rattle.vtl_meaning.proofs.LookUps.{named_cells}
 use Rattle.vtl_meaning.proofs.Places.{key_cells, key_within}
-use Rattle.vtl_rulings.specs.Outputs.{is_shown, output_parts, rule_id, with_ids}
+use Rattle.vtl_rulings.specs.Outputs.{is_shown}
+use Rattle.vtl_tree.specs.Checks.{output_parts, rule_id, with_ids}
 use Rattle.vtl_rulings.specs.PointChecks.{PointRule, errors_of, held, point_rules, rule_fault, rule_points, ruled_point, truth_of, under}
 use Rattle.vtl_rulings.specs.Shaped.{IsPointChecked, IsPointRuleOver}
 use Rattle.vtl_rulings.proofs.Checked.{all_with_ids}

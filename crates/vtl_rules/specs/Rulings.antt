@@ -13,7 +13,8 @@ use Rattle.vtl_tree.specs.Structure.{columns_of}
 use Rattle.vtl_tree.specs.declared.structure.Structure.{Structure}
 use Rattle.vtl_meaning.specs.Points.{cell_or_null}
 use Rattle.vtl_expr.specs.Prepared.{SameValue, prepared_exp}
-use Rattle.vtl_rulings.specs.Outputs.{code_cell, errors_at, is_shown, level_cell, output_parts}
+use Rattle.vtl_rulings.specs.Outputs.{code_cell, errors_at, is_shown, level_cell}
+use Rattle.vtl_tree.specs.Checks.{output_parts}
 use Rattle.vtl_rulings.specs.PointChecks.{PointRule, held, truth_of}
 use Rattle.vtl_rules.specs.declared.rulings.Rule.{Rule}
 

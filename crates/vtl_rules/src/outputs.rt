@@ -3,7 +3,8 @@
 // The text of an error is made a cell once for each rule, and shared by all points.
 ghost use Rattle.std.specs.Prelude.{◌≡◌, ◌++◌, IfOk, OnOk};
 ghost use Rattle.vtl_rows.specs.Tables.{cells_at};
-ghost use Rattle.vtl_rulings.specs.Outputs.{code_cell, errors_at, is_basic_shown, is_false, is_shown, level_cell, output_parts};
+ghost use Rattle.vtl_rulings.specs.Outputs.{code_cell, errors_at, is_basic_shown, is_false, is_shown, level_cell};
+ghost use Rattle.vtl_tree.specs.Checks.{output_parts};
 
 use std::alloc::AllocError;
 use vtl_cell::{Cell, clone_cell};

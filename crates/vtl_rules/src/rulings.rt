@@ -3,7 +3,7 @@
 // A contract sees a rule by what it gives (`ruling`): no other one speaks of how its conditions are kept.
 ghost use Rattle.std.specs.Prelude.{◌≡◌, IfOk, option_map};
 ghost use Rattle.std.specs.Fmt.{decimal};
-ghost use Rattle.vtl_rulings.specs.Outputs.{rule_id};
+ghost use Rattle.vtl_tree.specs.Checks.{rule_id};
 ghost use Rattle.vtl_expr.specs.Prepared.{prepared_exp};
 ghost use Rattle.vtl_rules.specs.Rulings.{AreSame, ruling, ruling_of};
 ghost use Rattle.vtl_scalar.specs.Answers.{Answers};

@@ -27,9 +27,10 @@ use Rattle.vtl_meaning.specs.Points.{cell_or_null}
 use Rattle.vtl_meaning.proofs.JoinParts.{fits_append}
 use Rattle.vtl_meaning.proofs.Places.{all_append}
 use Rattle.vtl_meaning.proofs.ValueKinds.{GivesOf, IsOf, after_if, value_is_of}
-use Rattle.vtl_rulings.specs.Outputs.{code_cell, errors_at, level_cell, output_parts, with_ids}
+use Rattle.vtl_rulings.specs.Outputs.{code_cell, errors_at, level_cell}
+use Rattle.vtl_tree.specs.Checks.{error_measures, output_parts, with_ids}
 use Rattle.vtl_rulings.specs.PointChecks.{held, truth_of, under}
-use Rattle.vtl_rulings.specs.Shaped.{IsConditionOver, IsPointRuleOver, error_measures}
+use Rattle.vtl_rulings.specs.Shaped.{IsConditionOver, IsPointRuleOver}
 
 -- ---- the parts of an output
 pub parts_mapped : {X Y : Type 0} (f : X → Y) (o : CheckOut) (ms : List X) (t : X) (rest : List X) → map f (output_parts o ms t rest) ≡ output_parts o (map f ms) (f t) (map f rest)

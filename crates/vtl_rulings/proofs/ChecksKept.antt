@@ -33,7 +33,8 @@ use Rattle.vtl_meaning.proofs.TurnedKept.{filter_map_drawn}
 use Rattle.vtl_meaning.proofs.ValueKinds.{GivesOf, IsOf, point_parts}
 use Rattle.vtl_rulings.specs.Outputs.{code_cell, errors_at, is_basic_shown, level_cell}
 use Rattle.vtl_rulings.specs.PointChecks.{check_of, checked_point, imbalance_at}
-use Rattle.vtl_rulings.specs.Shaped.{IsChecked, IsImbalance, error_measures}
+use Rattle.vtl_rulings.specs.Shaped.{IsChecked, IsImbalance}
+use Rattle.vtl_tree.specs.Checks.{error_measures}
 use Rattle.vtl_rulings.proofs.Checked.{code_is, errors_fit, given_or_null, level_is}
 
 -- ---- the first measure

@@ -1,7 +1,6 @@
 -- `check_hierarchy` gives data sets.
-use Rattle.std.proofs.Common.{◌≡◌, ℕ, Bool, true, false, cond, List, [], ◌∷◌, ◌++◌, map, take, Option, Some, None, Ok, refl, sym, ap, ◌∙◌, subst, append_assoc}
-use Rattle.std.specs.Prelude.{IfSome, option_map}
-use Rattle.std.specs.List.{AllByRecursion, filter_map, find, flat_map}
+use Rattle.std.proofs.Common.{◌≡◌, Bool, true, false, cond, List, [], ◌∷◌, ◌++◌, map, take, Option, Some, None, Ok, refl, sym, ap, ◌∙◌, subst, append_assoc}
+use Rattle.std.specs.List.{AllByRecursion, filter_map, flat_map}
 use Rattle.std.specs.Option.{option_and_then, option_to_list}
 use Rattle.vtl_decimal.specs.Settings.{Settings}
 use Rattle.vtl_lists.specs.Apart.{all_apart}
@@ -16,7 +15,7 @@ use Rattle.vtl_rows.specs.Tables.{fits_kinds}
 use Rattle.vtl_syntax.specs.declared.statements.HierRule.{HierRule}
 use Rattle.vtl_syntax.specs.declared.word_groups.CheckOut.{CheckOut}
 use Rattle.vtl_syntax.specs.declared.word_groups.Mode.{Mode}
-use Rattle.vtl_tree.specs.Columns.{identifiers_of, measures_of, others_of, place_of}
+use Rattle.vtl_tree.specs.Columns.{identifiers_of, measures_of, others_of}
 use Rattle.vtl_tree.specs.DataSet.{IsDataSet, is_point}
 use Rattle.vtl_tree.specs.Environment.{DataSet}
 use Rattle.vtl_tree.specs.Measures.{bool_var}
@@ -26,26 +25,24 @@ use Rattle.vtl_tree.specs.declared.structure.Component.{Component}
 use Rattle.vtl_tree.specs.declared.structure.Structure.{Structure}
 use Rattle.vtl_tuples.proofs.Onces.{once_apart}
 use Rattle.vtl_meaning.specs.Agreement.{values_in}
-use Rattle.vtl_meaning.specs.LookUps.{value_named}
 use Rattle.vtl_meaning.specs.Made.{component_kinds}
 use Rattle.vtl_meaning.specs.Points.{cell_or_null, with_points}
-use Rattle.vtl_meaning.specs.Turned.{is_coded, other_identifiers}
+use Rattle.vtl_meaning.specs.Turned.{other_identifiers}
 use Rattle.vtl_meaning.proofs.Drawn.{AtMostOne, drawn_all, drawn_apart}
-use Rattle.vtl_meaning.proofs.JoinKept.{once_hold}
-use Rattle.vtl_meaning.proofs.JoinParts.{found_is}
 use Rattle.vtl_meaning.proofs.Kept.{unless_ok}
-use Rattle.vtl_meaning.proofs.Places.{IsIdentifier, all_append, all_map, all_more, are_identifiers, are_others, columns_split, each, joined_point_is, key_of_joined, point_append, point_of_identifiers, same_name-refl}
-use Rattle.vtl_meaning.proofs.TurnedKept.{all_drawn, each_apart, filter_map_drawn, front_same, other_key_is}
-use Rattle.vtl_meaning.proofs.ValueKinds.{IsOf, cell_is_of}
+use Rattle.vtl_meaning.proofs.Places.{IsIdentifier, all_append, all_more, are_identifiers, are_others, columns_split, each, joined_point_is, key_of_joined, point_append, point_of_identifiers, same_name-refl}
+use Rattle.vtl_meaning.proofs.TurnedKept.{all_drawn, each_apart, filter_map_drawn, front_same}
+use Rattle.vtl_meaning.proofs.ValueKinds.{IsOf}
 use Rattle.vtl_rulings.specs.HierarchyChecks.{Ruled, SidedRule, check_cells, check_fault, check_hierarchy_of, check_point, combinations, is_checked, items_at, key_at, sided_rules}
 use Rattle.vtl_rulings.specs.HierarchyShapes.{IsHierarchyChecked}
 use Rattle.vtl_rulings.specs.Modes.{Items}
-use Rattle.vtl_rulings.specs.Outputs.{code_cell, is_shown, level_cell, output_parts}
-use Rattle.vtl_rulings.specs.Shaped.{error_measures, ruleid}
-use Rattle.vtl_rulings.specs.Sides.{difference, holds, left_item, left_side, rule_errors}
+use Rattle.vtl_rulings.specs.Outputs.{code_cell, is_shown, level_cell}
+use Rattle.vtl_tree.specs.Checks.{error_measures, output_parts, ruleid}
+use Rattle.vtl_rulings.specs.Sides.{difference, holds, left_side, rule_errors}
+use Rattle.vtl_tree.specs.RuleItems.{left_item}
 use Rattle.vtl_rulings.proofs.Checked.{code_is, errors_fit, given_or_null, level_is, parts_fit, parts_mapped}
 use Rattle.vtl_rulings.proofs.HierarchyKeys.{combinations_typed, items_are, key_back, key_is_point}
-use Rattle.vtl_rulings.proofs.SideKinds.{AreOf, difference_is, holds_is, left_is}
+use Rattle.vtl_rulings.proofs.SideKinds.{difference_is, holds_is, left_is}
 
 module _ (p : Settings) (o : CheckOut) (h : Ruled) (m : Mode) (rules : List HierRule) (a s : Structure) (d : List Row) (i : IsHierarchyChecked o h rules a s) (set : IsDataSet a d) where
   abbrev operand : DataSet

@@ -1,7 +1,7 @@
 -- `hierarchy` gives data sets.
 use Rattle.std.proofs.Common.{◌≡◌, ℕ, zero, suc, Bool, true, false, cond, List, [], ◌∷◌, ◌++◌, map, take, Option, Some, None, Ok, refl, sym, ap, ◌∙◌, subst}
 use Rattle.std.specs.Prelude.{IfSome, option_map}
-use Rattle.std.specs.List.{AllByRecursion, filter_map, find, flat_map}
+use Rattle.std.specs.List.{AllByRecursion, filter_map, find}
 use Rattle.std.specs.Option.{option_map_or, option_to_list}
 use Rattle.vtl_decimal.specs.Settings.{Settings}
 use Rattle.vtl_lists.specs.Apart.{all_apart}
@@ -18,7 +18,7 @@ use Rattle.vtl_syntax.specs.declared.word_groups.HierInput.TheVariants as input
 use Rattle.vtl_syntax.specs.declared.word_groups.HierOut.{HierOut}
 use Rattle.vtl_syntax.specs.declared.word_groups.HierOut.TheVariants as out
 use Rattle.vtl_syntax.specs.declared.word_groups.Mode.{Mode}
-use Rattle.vtl_tree.specs.Columns.{identifiers_of, others_of}
+use Rattle.vtl_tree.specs.Columns.{others_of}
 use Rattle.vtl_tree.specs.DataSet.{IsDataSet, is_point}
 use Rattle.vtl_tree.specs.Environment.{DataSet}
 use Rattle.vtl_tree.specs.Structure.{columns_of, key_width, same_name}
@@ -26,7 +26,6 @@ use Rattle.vtl_tree.specs.declared.structure.Component.{Component}
 use Rattle.vtl_tree.specs.declared.structure.Structure.{Structure}
 use Rattle.vtl_tuples.proofs.Onces.{once_apart}
 use Rattle.vtl_meaning.specs.Agreement.{values_in}
-use Rattle.vtl_meaning.specs.Made.{component_kinds}
 use Rattle.vtl_meaning.specs.Operators.{left_of}
 use Rattle.vtl_meaning.specs.Points.{cell_or_null, with_points}
 use Rattle.vtl_meaning.specs.Turned.{other_identifiers}
@@ -36,11 +35,12 @@ use Rattle.vtl_meaning.proofs.Places.{all_more, are_others, columns_split, each,
 use Rattle.vtl_meaning.proofs.SetsKept.{shown_kept, united_kept}
 use Rattle.vtl_meaning.proofs.TurnedKept.{all_drawn, each_apart, filter_map_drawn}
 use Rattle.vtl_meaning.proofs.ValueKinds.{GivesOf, IsOf, null_is_of}
-use Rattle.vtl_rulings.specs.Hierarchies.{computed, defines, definitions, hierarchy_of, items_of, items_within, made_at, made_fault, made_point, made_points, shown_points, taken}
+use Rattle.vtl_rulings.specs.Hierarchies.{computed, defines, hierarchy_of, items_of, items_within, made_at, made_fault, made_point, made_points, shown_points, taken}
 use Rattle.vtl_rulings.specs.HierarchyChecks.{Ruled, combinations, items_at, key_at}
 use Rattle.vtl_rulings.specs.HierarchyShapes.{IsHierarchyMade, IsNumeric}
 use Rattle.vtl_rulings.specs.Modes.{Found, Items, appears}
-use Rattle.vtl_rulings.specs.Sides.{left_item, right_items, right_side}
+use Rattle.vtl_rulings.specs.Sides.{right_side}
+use Rattle.vtl_tree.specs.RuleItems.{definitions, left_item, right_items}
 use Rattle.vtl_rulings.proofs.Checked.{given_or_null}
 use Rattle.vtl_rulings.proofs.HierarchyKeys.{combinations_typed, item_back, items_are, key_back, key_is_point}
 use Rattle.vtl_rulings.proofs.SideKinds.{AreOf, right_is}

@@ -1,5 +1,5 @@
 -- The identifiers of an item's point at a combination, and what there is of the items there.
-use Rattle.std.proofs.Common.{◌≡◌, ◌≤◌, ℕ, zero, suc, Bool, true, false, not, ◌&&◌, ◌||◌, cond, List, [], ◌∷◌, ◌++◌, length, map, take, Option, Some, None, refl, sym, ap, ◌∙◌, subst, arith, true≢false}
+use Rattle.std.proofs.Common.{◌≡◌, ℕ, zero, suc, Bool, true, false, not, ◌&&◌, ◌||◌, cond, List, [], ◌∷◌, length, map, Option, Some, None, refl, sym, ap, ◌∙◌, subst, arith, true≢false}
 use Rattle.std.specs.Prelude.{IfSome, option_map}
 use Rattle.std.specs.List.{AllByRecursion, filter, find}
 use Rattle.std.proofs.lemmas.List.{append-nil, take_all}
@@ -29,7 +29,7 @@ use Rattle.vtl_meaning.proofs.JoinParts.{found_is}
 use Rattle.vtl_meaning.proofs.Kept.{both_all}
 use Rattle.vtl_meaning.proofs.LookUps.{named_cells}
 use Rattle.vtl_meaning.proofs.OwnColumns.{own_among, own_identifiers}
-use Rattle.vtl_meaning.proofs.Places.{IsIdentifier, all_filtered, all_map, all_more, are_identifiers, first_cells, identifiers_apart, point_length, same_name-is, same_name-refl, same_name-sym}
+use Rattle.vtl_meaning.proofs.Places.{IsIdentifier, all_filtered, all_map, all_more, first_cells, identifiers_apart, point_length, same_name-is, same_name-refl, same_name-sym}
 use Rattle.vtl_meaning.proofs.TurnedKept.{other_key_is, others_are, others_identify}
 use Rattle.vtl_meaning.proofs.ValueKinds.{IsOf, cell_is_of, point_from, point_parts}
 use Rattle.vtl_rulings.specs.HierarchyChecks.{Ruled, combinations, items_at, key_at, key_cell}

@@ -36,11 +36,12 @@ use Rattle.vtl_meaning.proofs.Kept.{alike_cells}
 use Rattle.vtl_meaning.proofs.Places.{key_cells, key_within}
 use Rattle.vtl_meaning.proofs.TurnedKept.{others_are}
 use Rattle.vtl_meaning.proofs.TurnedOrders.{alike_others}
-use Rattle.vtl_rulings.specs.Hierarchies.{computed, definitions, hierarchy_of, items_of, made_at, made_fault, made_point}
+use Rattle.vtl_rulings.specs.Hierarchies.{computed, hierarchy_of, items_of, made_at, made_fault, made_point}
 use Rattle.vtl_rulings.specs.HierarchyChecks.{Ruled, SidedRule, check_cells, check_fault, check_hierarchy_of, check_point, combinations, is_checked, items_at, key_at, sided_rules}
 use Rattle.vtl_rulings.specs.Modes.{Items}
 use Rattle.vtl_rulings.specs.Outputs.{is_shown}
-use Rattle.vtl_rulings.specs.Sides.{holds, left_item}
+use Rattle.vtl_rulings.specs.Sides.{holds}
+use Rattle.vtl_tree.specs.RuleItems.{definitions, left_item}
 use Rattle.vtl_rulings.proofs.Orders.{Perm-filter_map, faults_each}
 
 -- what is made of combinations one by one, the same of each

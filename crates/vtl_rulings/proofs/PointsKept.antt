@@ -28,9 +28,10 @@ use Rattle.vtl_meaning.proofs.LookUps.{named_cells}
 use Rattle.vtl_meaning.proofs.OwnColumns.{own_measures}
 use Rattle.vtl_meaning.proofs.Places.{IsIdentifier, all_append, all_more, are_identifiers, are_others, cells_fit, columns_split, joined_point_is, key_of_joined, key_of_point, point_append, point_of_identifiers, same_name-refl}
 use Rattle.vtl_meaning.proofs.TurnedKept.{all_drawn, each_apart, filter_map_drawn, front_same}
-use Rattle.vtl_rulings.specs.Outputs.{code_cell, is_shown, level_cell, output_parts}
+use Rattle.vtl_rulings.specs.Outputs.{code_cell, is_shown, level_cell}
+use Rattle.vtl_tree.specs.Checks.{error_measures, output_parts, ruleid}
 use Rattle.vtl_rulings.specs.PointChecks.{PointRule, datapoint_of, errors_of, point_rules, rule_fault, rule_points, ruled_point, truth_of}
-use Rattle.vtl_rulings.specs.Shaped.{IsPointChecked, IsPointRuleOver, error_measures, ruleid}
+use Rattle.vtl_rulings.specs.Shaped.{IsPointChecked, IsPointRuleOver}
 use Rattle.vtl_rulings.proofs.Checked.{all_with_ids, code_is, errors_fit, level_is, parts_fit, parts_mapped, truth_is}
 
 -- the measures of a point are of their kinds

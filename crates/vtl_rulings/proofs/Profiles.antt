@@ -33,7 +33,8 @@ use Rattle.vtl_meaning.proofs.Places.{all_append, all_more}
 use Rattle.vtl_meaning.proofs.Profiles.{IsRowOfProfile, cell_is, drawn_are, value_gives}
 use Rattle.vtl_meaning.proofs.TurnedKept.{all_drawn, filter_map_drawn}
 use Rattle.vtl_meaning.proofs.ValueKinds.{after_if}
-use Rattle.vtl_rulings.specs.Outputs.{code_cell, errors_at, is_basic_shown, is_shown, level_cell, output_parts}
+use Rattle.vtl_rulings.specs.Outputs.{code_cell, errors_at, is_basic_shown, is_shown, level_cell}
+use Rattle.vtl_tree.specs.Checks.{output_parts}
 use Rattle.vtl_rulings.specs.PointChecks.{PointRule, check_of, checked_point, datapoint_of, errors_of, held, imbalance_at, point_rules, rule_fault, rule_points, ruled_point, truth_of, under}
 use Rattle.vtl_rulings.specs.Shaped.{IsConditionOver, IsPointRuleOver}
 use Rattle.vtl_rulings.proofs.Checked.{all_with_ids, code_of_profile, errors_hold, given_or_null, level_of_profile, parts_hold, under_holds}

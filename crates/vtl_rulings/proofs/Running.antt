@@ -19,7 +19,8 @@ use Rattle.vtl_meaning.proofs.Places.{all_more, same_name-is, same_name-refl}
 use Rattle.vtl_rulings.specs.Hierarchies.{computed, defines, items_within, taken}
 use Rattle.vtl_rulings.specs.Modes.{Found, Items, appears, counted}
 use Rattle.vtl_rulings.specs.Running.{AreOrdered, AreThese, IsFree, made_in_run, ran, step}
-use Rattle.vtl_rulings.specs.Sides.{left_item, right_items, sum_of}
+use Rattle.vtl_rulings.specs.Sides.{sum_of}
+use Rattle.vtl_tree.specs.RuleItems.{left_item, right_items}
 
 module _ (p : Settings) (m : Mode) (kind : Kind) (i : HierInput) (given : Items) (rules : List HierRule) where
   abbrev within : ℕ → Items

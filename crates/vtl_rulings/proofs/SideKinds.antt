@@ -1,5 +1,5 @@
 -- The sides of hierarchical rules are of the kind of the measure.
-use Rattle.std.proofs.Common.{◌≡◌, ℕ, true, List, [], ◌∷◌, map, Option, Some, None, Ok, refl, ap}
+use Rattle.std.proofs.Common.{◌≡◌, ℕ, true, List, [], ◌∷◌, map, Option, Some, None, refl}
 use Rattle.std.specs.Prelude.{IfSome}
 use Rattle.std.specs.List.{AllByRecursion}
 use Rattle.vtl_decimal.specs.Settings.{Settings}
@@ -31,7 +31,8 @@ use Rattle.vtl_meaning.proofs.Places.{all_map, each}
 use Rattle.vtl_meaning.proofs.ValueKinds.{GivesOf, IsOf, after_if, null_is_of, value_is_of}
 use Rattle.vtl_rulings.specs.HierarchyShapes.{IsNumeric}
 use Rattle.vtl_rulings.specs.Modes.{Found, Items, counted, missing_as, zero_of}
-use Rattle.vtl_rulings.specs.Sides.{comparison_op, difference, first_value, holds, left_item, left_side, next_values, right_items, right_side, sign_op, sum_of}
+use Rattle.vtl_rulings.specs.Sides.{comparison_op, difference, first_value, holds, left_side, next_values, right_side, sign_op, sum_of}
+use Rattle.vtl_tree.specs.RuleItems.{left_item, right_items}
 use Rattle.vtl_rulings.proofs.ChecksKept.{number_is, numeric}
 
 -- what there is of each item is of this kind

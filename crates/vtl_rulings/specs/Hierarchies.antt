@@ -1,5 +1,5 @@
 -- `hierarchy`: points that rules compute of items, by recursion over how left items depend on right ones.
-use Rattle.std.specs.Prelude.{ℕ, zero, suc, Bool, true, false, cond, List, [], ◌∷◌, ◌++◌, filter, length, map, Option, Some, None, option_map}
+use Rattle.std.specs.Prelude.{ℕ, zero, suc, Bool, cond, List, [], ◌∷◌, ◌++◌, length, map, Option, Some, None, option_map}
 use Rattle.std.specs.List.{filter_map, find, flat_map}
 use Rattle.std.specs.Option.{option_map_or}
 use Rattle.vtl_decimal.specs.Settings.{Settings}
@@ -10,8 +10,6 @@ use Rattle.vtl_cell.specs.Row.{Row}
 use Rattle.vtl_cell.specs.declared.cell.Cell.{Cell}
 use Rattle.vtl_cell.specs.declared.kind.Kind.{Kind}
 use Rattle.vtl_syntax.specs.declared.statements.HierRule.{HierRule}
-use Rattle.vtl_syntax.specs.declared.word_groups.Comparison.{Comparison}
-use Rattle.vtl_syntax.specs.declared.word_groups.Comparison.TheVariants as compared
 use Rattle.vtl_syntax.specs.declared.word_groups.HierInput.{HierInput}
 use Rattle.vtl_syntax.specs.declared.word_groups.HierInput.TheVariants as input
 use Rattle.vtl_syntax.specs.declared.word_groups.HierOut.{HierOut}
@@ -25,16 +23,10 @@ use Rattle.vtl_meaning.specs.Points.{cell_or_null}
 use Rattle.vtl_meaning.specs.Sets.{united}
 use Rattle.vtl_rulings.specs.HierarchyChecks.{Ruled, combinations, items_at, key_at}
 use Rattle.vtl_rulings.specs.Modes.{Found, Items, appears}
-use Rattle.vtl_rulings.specs.Sides.{left_item, right_items, right_side}
+use Rattle.vtl_rulings.specs.Sides.{right_side}
+use Rattle.vtl_tree.specs.RuleItems.{definitions, left_item, right_items}
 
--- the rules with `=` define their left items
-abbrev pub is_equal : Comparison → Bool
-is_equal compared.Equal = true
-is_equal other = false
-
-abbrev pub definitions : List HierRule → List HierRule
-definitions rules = filter (λ r. is_equal r.comparison) rules
-
+-- a rule is about an item
 abbrev pub defines : (item : List ℕ) → HierRule → Bool
 defines item r = same_name (left_item r) item
 

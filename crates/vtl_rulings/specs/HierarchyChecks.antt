@@ -11,7 +11,7 @@ use Rattle.vtl_cell.specs.declared.kind.Kind.{Kind}
 use Rattle.vtl_syntax.specs.declared.statements.HierRule.{HierRule}
 use Rattle.vtl_syntax.specs.declared.word_groups.CheckOut.{CheckOut}
 use Rattle.vtl_syntax.specs.declared.word_groups.Mode.{Mode}
-use Rattle.vtl_tree.specs.Columns.{identifiers_of}
+use Rattle.vtl_tree.specs.Columns.{identifiers_of, measures_of}
 use Rattle.vtl_tree.specs.Environment.{DataSet}
 use Rattle.vtl_tree.specs.Structure.{columns_of, same_name}
 use Rattle.vtl_tree.specs.declared.structure.Component.{Component}
@@ -22,14 +22,26 @@ use Rattle.vtl_meaning.specs.LookUps.{value_named}
 use Rattle.vtl_meaning.specs.Points.{cell_or_null}
 use Rattle.vtl_meaning.specs.Turned.{is_coded, other_identifiers}
 use Rattle.vtl_rulings.specs.Modes.{Items, appears}
-use Rattle.vtl_rulings.specs.Outputs.{is_shown, output_parts, with_ids}
-use Rattle.vtl_rulings.specs.Sides.{difference, holds, left_item, left_side, right_items, rule_errors}
+use Rattle.vtl_rulings.specs.Outputs.{is_shown}
+use Rattle.vtl_tree.specs.Checks.{output_parts, with_ids}
+use Rattle.vtl_rulings.specs.Sides.{difference, holds, left_side, rule_errors}
+use Rattle.vtl_tree.specs.RuleItems.{left_item, right_items}
+use Rattle.vtl_tree.specs.ClauseShapes.{first_kind}
+use Rattle.vtl_tree.specs.declared.rules.HierRules.{HierRules}
 
 -- the identifier whose values are the items, and the measure with its kind
 pub record Ruled : Type 0 where
   pub id : List ℕ
   pub measure : List ℕ
   pub kind : Kind
+
+abbrev pub only_name : List Component → List ℕ
+only_name [] = []
+only_name (x ∷ xs) = x.name
+
+-- those of an operand with one measure under rules
+abbrev pub ruled_by : HierRules → Structure → Ruled
+ruled_by rules a = record { id = rules.variable; measure = only_name (measures_of a); kind = first_kind (measures_of a) }
 
 -- ---- combinations of the other identifiers
 -- those that the operand has, each once

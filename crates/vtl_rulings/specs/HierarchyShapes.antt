@@ -6,17 +6,12 @@ use Rattle.vtl_cell.specs.declared.kind.Kind.TheVariants as k
 use Rattle.vtl_syntax.specs.declared.statements.HierRule.{HierRule}
 use Rattle.vtl_syntax.specs.declared.word_groups.CheckOut.{CheckOut}
 use Rattle.vtl_tree.specs.Columns.{identifiers_of, measures_of, others_of, place_of}
-use Rattle.vtl_tree.specs.Measures.{bool_var}
-use Rattle.vtl_tree.specs.Pairs.{imbalance}
 use Rattle.vtl_tree.specs.Structure.{IsStructure, columns_of, same_name}
-use Rattle.vtl_tree.specs.declared.structure.Component.{Component}
 use Rattle.vtl_tree.specs.declared.structure.Structure.{Structure}
 use Rattle.vtl_meaning.specs.Made.{HasIdentifiers, IsAlternative, IsColumnAt, component_kinds}
-use Rattle.vtl_rulings.specs.Hierarchies.{definitions}
 use Rattle.vtl_rulings.specs.HierarchyChecks.{Ruled, sided_rules}
-use Rattle.vtl_rulings.specs.Outputs.{output_parts}
-use Rattle.vtl_rulings.specs.Shaped.{error_measures, ruleid}
-use Rattle.vtl_rulings.specs.Sides.{left_item}
+use Rattle.vtl_tree.specs.Checks.{ruleid, sided_measures}
+use Rattle.vtl_tree.specs.RuleItems.{definitions, left_item}
 
 -- of integers or of numbers
 abbrev pub IsNumeric : Kind → Type 0
@@ -30,10 +25,6 @@ pub record IsItemized (h : Ruled) (a : Structure) : Type 0 where
   pub measured : IsColumnAt (place_of h.measure (columns_of a)) h.measure h.kind (columns_of a)
   pub only : component_kinds (measures_of a) ≡ h.kind ∷ []
   pub numeric : IsNumeric h.kind
-
--- the measures of the result
-abbrev pub sided_measures : CheckOut → Structure → List Component
-sided_measures o a = output_parts o (measures_of a) bool_var (imbalance ∷ error_measures)
 
 pub record IsHierarchyChecked (o : CheckOut) (h : Ruled) (rules : List HierRule) (a s : Structure) : Type 0 where
   pub well_formed : IsStructure s

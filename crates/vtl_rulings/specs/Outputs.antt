@@ -1,6 +1,5 @@
--- What checks show of points with a truth value: which points, and what stands behind their identifiers; and how rules are identified.
-use Rattle.std.specs.Prelude.{ℕ, ℤ, suc, Bool, true, false, List, [], ◌∷◌, ◌++◌, Option}
-use Rattle.std.specs.Fmt.{decimal}
+-- What checks show of points with a truth value: which points, and the errors where it is false.
+use Rattle.std.specs.Prelude.{ℕ, ℤ, Bool, true, false, List, [], ◌∷◌, Option}
 use Rattle.std.specs.Option.{option_map_or}
 use Rattle.vtl_cell.specs.Row.{Row}
 use Rattle.vtl_cell.specs.declared.cell.Cell.{Cell}
@@ -37,19 +36,3 @@ is_shown out.AllMeasures truth = true
 abbrev pub is_basic_shown : BasicOut → (truth : Cell) → Bool
 is_basic_shown basic.Invalid truth = is_false truth
 is_basic_shown basic.All truth = true
-
--- what an output shows behind the identifiers, of cells, components or kinds: the measures, the truth value, and what follows
-abbrev pub output_parts : {X : Type 0} → CheckOut → (measures : List X) → (truth : X) → (rest : List X) → List X
-output_parts out.Invalid measures truth rest = measures ++ rest
-output_parts out.All measures truth rest = truth ∷ rest
-output_parts out.AllMeasures measures truth rest = measures ++ (truth ∷ rest)
-
--- ---- rules
--- the identifier of the rule of this number: its name, or the number as text
-abbrev pub rule_id : ℕ → (name : Option (List ℕ)) → List ℕ
-rule_id i name = option_map_or (λ text. text) name (decimal i)
-
--- rules with their identifiers, numbered from here on
-abbrev pub with_ids : {R : Type 0} → (name : R → Option (List ℕ)) → ℕ → List R → List (List ℕ × R)
-with_ids name i [] = []
-with_ids name i (r ∷ rs) = (rule_id i (name r), r) ∷ with_ids name (suc i) rs

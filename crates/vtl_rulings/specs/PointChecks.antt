@@ -21,7 +21,8 @@ use Rattle.vtl_tree.specs.declared.specifications.CheckSpec.{CheckSpec}
 use Rattle.vtl_tree.specs.declared.structure.Structure.{Structure}
 use Rattle.vtl_meaning.specs.Agreement.{first_agreeing, key_of, values_in}
 use Rattle.vtl_meaning.specs.Points.{cell_or_null}
-use Rattle.vtl_rulings.specs.Outputs.{code_cell, errors_at, is_basic_shown, is_false, is_shown, level_cell, output_parts, with_ids}
+use Rattle.vtl_rulings.specs.Outputs.{code_cell, errors_at, is_basic_shown, is_false, is_shown, level_cell}
+use Rattle.vtl_tree.specs.Checks.{output_parts, with_ids}
 
 -- ---- rules
 -- what holds under an antecedent: where it is false the rule holds, where it is null nothing is known

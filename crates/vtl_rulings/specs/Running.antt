@@ -11,7 +11,7 @@ use Rattle.vtl_syntax.specs.declared.word_groups.Mode.{Mode}
 use Rattle.vtl_tree.specs.Structure.{same_name}
 use Rattle.vtl_rulings.specs.Hierarchies.{computed, defines, taken}
 use Rattle.vtl_rulings.specs.Modes.{Found, Items}
-use Rattle.vtl_rulings.specs.Sides.{left_item, right_items}
+use Rattle.vtl_tree.specs.RuleItems.{left_item, right_items}
 
 -- ---- an order in which rules can be run
 -- none of these rules defines the item

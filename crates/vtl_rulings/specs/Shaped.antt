@@ -1,5 +1,5 @@
 -- What typing gives of checks: how the structure of a result fits the operand and the rules.
-use Rattle.std.specs.Prelude.{◌≡◌, true, List, [], ◌∷◌, ◌++◌, Option, codes}
+use Rattle.std.specs.Prelude.{◌≡◌, true, List, [], ◌∷◌, ◌++◌, Option}
 use Rattle.std.specs.List.{AllByRecursion}
 use Rattle.std.specs.Option.{IfSome, option_to_list}
 use Rattle.vtl_decimal.specs.Settings.{Settings}
@@ -13,31 +13,18 @@ use Rattle.vtl_syntax.specs.declared.word_groups.CheckOut.{CheckOut}
 use Rattle.vtl_tree.specs.Columns.{identifiers_of, measures_of, others_of}
 use Rattle.vtl_tree.specs.CompExp.{CompExp}
 use Rattle.vtl_tree.specs.Kinds.{exp_kind}
-use Rattle.vtl_tree.specs.Measures.{bool_var, made}
 use Rattle.vtl_tree.specs.Operands.{agreed_identifiers}
-use Rattle.vtl_tree.specs.Pairs.{check_measures, errorcode, errorlevel}
+use Rattle.vtl_tree.specs.Pairs.{check_measures}
 use Rattle.vtl_tree.specs.Structure.{IsStructure, columns_of, same_name}
 use Rattle.vtl_tree.specs.Trees.{PointRuleTree}
 use Rattle.vtl_tree.specs.declared.specifications.CheckSpec.{CheckSpec}
 use Rattle.vtl_tree.specs.declared.structure.Component.{Component}
-use Rattle.vtl_tree.specs.declared.structure.Role.TheVariants as role
 use Rattle.vtl_tree.specs.declared.structure.Structure.{Structure}
 use Rattle.vtl_meaning.specs.Made.{AreAmong, HasIdentifiers, IsTyped, component_kinds}
-use Rattle.vtl_rulings.specs.Outputs.{output_parts}
+use Rattle.vtl_tree.specs.Checks.{ruled_measures, ruleid}
 use Rattle.vtl_rulings.specs.PointChecks.{point_rules}
 
 -- ---- `check_datapoint`
--- the identifier of rules, behind those of the operand
-abbrev pub ruleid : Component
-ruleid = made (codes "ruleid") role.Identifier k.Text
-
-abbrev pub error_measures : List Component
-error_measures = errorcode ∷ errorlevel ∷ []
-
--- the measures of the result
-abbrev pub ruled_measures : CheckOut → Structure → List Component
-ruled_measures o a = output_parts o (measures_of a) bool_var error_measures
-
 -- a condition on points of these columns: a boolean, or null throughout
 abbrev pub IsConditionOver : Settings → List Component → CompExp → Type 0
 IsConditionOver p xs e = IsTyped p xs e × (meets k.Bool (exp_kind e) ≡ true)

@@ -1,5 +1,5 @@
 -- The sides of a hierarchical rule: items with signs, and how the sides compare.
-use Rattle.std.specs.Prelude.{ℕ, List, [], ◌∷◌, map, Option, None, Some, Ok}
+use Rattle.std.specs.Prelude.{List, [], ◌∷◌, map, Option, None, Some, Ok}
 use Rattle.std.specs.Option.{option_and_then}
 use Rattle.vtl_decimal.specs.Settings.{Settings}
 use Rattle.vtl_cell.specs.Conversion.{as_kind}
@@ -13,8 +13,6 @@ use Rattle.vtl_cell.specs.declared.kind.Kind.{Kind}
 use Rattle.vtl_cell.specs.declared.kind.Kind.TheVariants as k
 use Rattle.vtl_cell.specs.declared.operator.ScalarOp.{ScalarOp}
 use Rattle.vtl_cell.specs.declared.operator.ScalarOp.TheVariants as op
-use Rattle.vtl_syntax.specs.declared.parts.Comp.{Comp}
-use Rattle.vtl_syntax.specs.declared.parts.Comp.TheVariants as comp
 use Rattle.vtl_syntax.specs.declared.parts.SignedComp.{SignedComp}
 use Rattle.vtl_syntax.specs.declared.statements.HierRule.{HierRule}
 use Rattle.vtl_syntax.specs.declared.word_groups.Addition.{Addition}
@@ -24,17 +22,7 @@ use Rattle.vtl_syntax.specs.declared.word_groups.Comparison.TheVariants as compa
 use Rattle.vtl_syntax.specs.declared.word_groups.Mode.{Mode}
 use Rattle.vtl_rulings.specs.Modes.{Items, counted}
 use Rattle.vtl_rulings.specs.Outputs.{code_cell, errors_at, level_cell}
-
--- ---- items
-abbrev pub item_name : Comp → List ℕ
-item_name (comp.Name name) = name
-item_name (comp.Quoted name) = name
-
-abbrev pub left_item : HierRule → List ℕ
-left_item r = item_name r.item
-
-abbrev pub right_items : HierRule → List (List ℕ)
-right_items r = item_name r.first ∷ map (λ x. item_name x.item) r.others
+use Rattle.vtl_tree.specs.RuleItems.{left_item, right_items}
 
 -- ---- the right side, of what its items count as: the first with its sign, then one after the other from the left
 abbrev pub first_value : Settings → Kind → Option Addition → Cell → Outcome Cell

@@ -33,7 +33,7 @@ ghost use Rattle.vtl_rulings.specs.Outputs.{is_false};
 ghost use Rattle.vtl_rulings.specs.PointChecks.{check_of, datapoint_of, false_without, point_rules, ruled_point, truth_of, truth_place};
 ghost use Rattle.vtl_rulings.specs.Running.{AreOrdered, made_in_run, ran};
 ghost use Rattle.vtl_rulings.specs.Shaped.{IsChecked, IsPointChecked};
-ghost use Rattle.vtl_rulings.specs.Sides.{left_item};
+ghost use Rattle.vtl_tree.specs.RuleItems.{left_item};
 
 /// Checks give data sets of the structure that typing gives: as many cells as columns, each null or of its column's
 /// kind, no identifier null, and each tuple of identifiers once. So a check by rules shows each point or combination and

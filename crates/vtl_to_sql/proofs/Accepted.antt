@@ -10,7 +10,7 @@ use Rattle.vtl_syntax.specs.Written.{AreWritten}
 use Rattle.vtl_tree.specs.Structure.{same_name}
 use Rattle.vtl_tree.specs.Structures.{AreStructures, Named, has_name}
 use Rattle.vtl_tree.specs.declared.structure.Structure.{Structure}
-use Rattle.vtl_meaning.specs.Meaning.{are_nodes_built, are_operands_built, is_built, is_built_form}
+use Rattle.vtl_scripts.specs.Meaning.{are_nodes_built, are_operands_built, is_built, is_built_form}
 use Rattle.vtl_tree.specs.Nodes.{all_nodes, nodes_in, operand_nodes}
 use Rattle.vtl_tree.specs.Trees as nodes
 use Rattle.vtl_tree.specs.Trees.{FormTree, NodeTree, NodeTrees, OperandTrees, structure_of}
@@ -24,7 +24,7 @@ use Rattle.check_laws.specs.Depths.{node_depth}
 use Rattle.check_laws.specs.Scripts.{AreKnownAlike, AreMadeFrom}
 use Rattle.check_laws.proofs.DepthBounds.{node-below}
 use Rattle.check_laws.proofs.DepthScripts.{written-depth}
-use Rattle.check_laws.proofs.Lists as lists
+use Rattle.vtl_meaning.proofs.Lists as lists
 use Rattle.check_laws.proofs.Over.{made_over}
 use Rattle.check_laws.proofs.Scripts.{script-made}
 use Rattle.vtl_to_sql.specs.Accepted.{AreFew, AreHeld, HoldsParts, are_translated, is_translated}

@@ -32,7 +32,7 @@ use Rattle.vtl_syntax.specs.declared.parts.Literal.{Literal}
 use Rattle.vtl_syntax.specs.declared.parts.RenamePart.{RenamePart}
 use Rattle.vtl_syntax.specs.declared.parts.SubPart.{SubPart}
 use Rattle.vtl_syntax.specs.declared.word_groups.WrittenRole.{WrittenRole}
-use Rattle.vtl_meaning.specs.Meaning.{is_built_form}
+use Rattle.vtl_scripts.specs.Meaning.{is_built_form}
 use Rattle.vtl_tree.specs.Trees as nodes
 use Rattle.vtl_tree.specs.Trees.{FormTree, ItemTree, NodeTree, structure_of}
 use Rattle.vtl_tree.specs.declared.clauses.SubItem.{SubItem}
@@ -46,11 +46,10 @@ use Rattle.check_clauses.specs.declared.targets.Made.{Made}
 use Rattle.check_faults.specs.InTurn.{in_turn}
 use Rattle.check_faults.specs.declared.rules.Rule.{Rule}
 use Rattle.check_shapes.specs.Clauses.{calc_form}
-use Rattle.vtl_tree.specs.Names.{component_of, is_among}
+use Rattle.vtl_tree.specs.Names.{component_of, is_among, name_of}
 use Rattle.check_shapes.specs.Names.{known, known_as, name_tests}
 use Rattle.vtl_tree.specs.declared.names.Wanted.TheVariants as wanted
 use Rattle.vtl_tree.specs.declared.renaming.Renaming.{Renaming}
-use Rattle.check_values.specs.Columns.{name_of}
 use Rattle.check_values.specs.Literals.{kind_met, literal_cell, literal_kind, valued}
 use Rattle.check_clauses.specs.Clauses as clauses
 use Rattle.check_clauses.specs.Clauses.{cell_as, filter_form, kept_of, keeping_form, keeping_tree, name_known, names_typed, old_names, references_in, renamed_of, renaming_form, renaming_known, renaming_to, renamings_typed, sub_form, sub_item, sub_known, sub_names, sub_of, sub_value, subs_typed}
@@ -59,8 +58,8 @@ use Rattle.check_operators.specs.declared.places.Joined.{Joined}
 use Rattle.check_operators.specs.declared.places.Place.{Place}
 use Rattle.check_operators.specs.declared.places.Place.TheVariants as place
 use Rattle.check_laws.specs.Gives.{Gives}
-use Rattle.check_laws.proofs.Columns.{among-any}
-use Rattle.check_laws.proofs.Lists as lists
+use Rattle.vtl_meaning.proofs.FoundColumns.{among-any}
+use Rattle.vtl_meaning.proofs.Lists as lists
 use Rattle.check_laws.proofs.Literals.{IsCell, literal-cell, valued-gives}
 use Rattle.check_laws.proofs.Steps.{after, tested, then}
 use Rattle.check_laws.proofs.Turns.{all-in-turn}

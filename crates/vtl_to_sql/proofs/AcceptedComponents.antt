@@ -38,8 +38,8 @@ use Rattle.vtl_tree.specs.declared.measures.Outcome.{Outcome}
 use Rattle.vtl_tree.specs.declared.measures.Outcome.TheVariants as outcome
 use Rattle.vtl_tree.specs.declared.renaming.Renaming.{Renaming}
 use Rattle.vtl_tree.specs.declared.targets.Target.{Target}
-use Rattle.check_laws.proofs.Columns.{at-found, found-filter, kind-found, of-columns}
-use Rattle.check_laws.proofs.Lists as lists
+use Rattle.vtl_meaning.proofs.FoundColumns.{at-found, found-filter, kind-found, of-columns}
+use Rattle.vtl_meaning.proofs.Lists as lists
 use Rattle.sql_tree.specs.Formed.{IsName}
 use Rattle.selects_to_sql.specs.Writable.{HaveNames}
 use Rattle.vtl_to_sql.proofs.AcceptedWords.{AreRenamings, CallsHaveNames, HasCodes, IsColumnName, TargetsHaveNames}

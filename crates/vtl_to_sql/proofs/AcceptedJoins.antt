@@ -16,7 +16,7 @@ use Rattle.vtl_syntax.specs.declared.parts.Keeping.{Keeping}
 use Rattle.vtl_syntax.specs.declared.parts.RenamePart.{RenamePart}
 use Rattle.vtl_syntax.specs.declared.word_groups.JoinKind.{JoinKind}
 use Rattle.vtl_meaning.specs.Made as made
-use Rattle.vtl_meaning.specs.Meaning.{are_operands_built, is_built}
+use Rattle.vtl_scripts.specs.Meaning.{are_operands_built, is_built}
 use Rattle.vtl_tree.specs.Trees as nodes
 use Rattle.vtl_tree.specs.Trees.{NodeTree, OperandTree, operands_of}
 use Rattle.vtl_tree.specs.Joins.{held_names, last_renamings}
@@ -33,7 +33,7 @@ use Rattle.check_expressions.specs.Typing.{as_dataset, body_end, filter_step, fi
 use Rattle.check_operators.specs.declared.places.Joined.{Joined}
 use Rattle.check_operators.specs.declared.places.Place.TheVariants as place
 use Rattle.check_laws.specs.Gives.{Gives}
-use Rattle.check_laws.proofs.Lists as lists
+use Rattle.vtl_meaning.proofs.Lists as lists
 use Rattle.check_laws.proofs.Steps.{after, tested, then}
 use Rattle.vtl_to_sql.proofs.AcceptedClauses.{clause_at, filter_at, keeping_at, renaming_at, targets_at}
 use Rattle.vtl_to_sql.proofs.AcceptedOperators.{dataset_in_worded, tree_step}

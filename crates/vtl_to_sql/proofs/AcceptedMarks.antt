@@ -21,7 +21,7 @@ use Rattle.vtl_tree.specs.ClauseShapes.{new_name, renamed}
 use Rattle.vtl_tree.specs.Names.{component_of}
 use Rattle.vtl_tree.specs.declared.renaming.Renaming.{Renaming}
 use Rattle.check_clauses.specs.JoinOperands.{is_left}
-use Rattle.check_laws.proofs.Lists as lists
+use Rattle.vtl_meaning.proofs.Lists as lists
 use Rattle.sql_lexer.specs.Spelling as sql
 use Rattle.sql_lexer.specs.Spelling.{has_no_control, size, is_name as is_sql_name}
 use Rattle.sql_lexer.proofs.NameParts.{size-append}

@@ -10,11 +10,12 @@ use Rattle.vtl_tree.specs.declared.structure.Role.TheVariants as role
 use Rattle.vtl_tree.specs.declared.structure.Structure.{Structure}
 use Rattle.vtl_meaning.specs.AggregateShapes.{made_components}
 use Rattle.vtl_tree.specs.Columns.{kind_named, measures_of}
-use Rattle.vtl_meaning.specs.Made.{AreCombined, AreMade, AreMadeOperands, IsCombined, IsMade, IsMadeForm, node_structures, operands_in}
+use Rattle.vtl_meaning.specs.Made.{AreCombined, IsCombined}
+use Rattle.vtl_scripts.specs.Made.{AreMade, AreMadeOperands, IsMade, IsMadeForm, node_structures, operands_in}
 use Rattle.vtl_meaning.specs.Shapes.{given_between, given_of_two, outcome_of, target_of}
 use Rattle.vtl_tree.specs.Trees as nodes
 use Rattle.vtl_tree.specs.Trees.{FormTree, NodeTree, NodeTrees, OperandTrees, structure_of}
-use Rattle.vtl_meaning.specs.Meaning.{are_nodes_built, are_operands_built, is_built, is_built_form}
+use Rattle.vtl_scripts.specs.Meaning.{are_nodes_built, are_operands_built, is_built, is_built_form}
 use Rattle.vtl_tree.specs.Joins.{held_names}
 use Rattle.vtl_tree.specs.Choices.{chosen}
 use Rattle.vtl_tree.specs.ClauseShapes.{first_kind, names_column, renamed}
@@ -23,7 +24,7 @@ use Rattle.vtl_tree.specs.Operands.{agreed_identifiers}
 use Rattle.vtl_tree.specs.Pairs.{pair_identifiers}
 use Rattle.vtl_tree.specs.declared.choices.Choice.TheVariants as choice
 use Rattle.vtl_tree.specs.declared.renaming.Renaming.{Renaming}
-use Rattle.check_laws.proofs.Lists as lists
+use Rattle.vtl_meaning.proofs.Lists as lists
 use Rattle.vtl_to_sql.proofs.AcceptedComponents.{AreKnownNamed, ArePlain, Fits, IsPlain, agreed_named, all_weaker, analyzed_named, bool_var_named, calculated_named, chosen_named, found_named, given_named, made_named, pair_named, pivot_named, plain, renamed_named, role_named}
 use Rattle.vtl_to_sql.proofs.AcceptedMarks.{IsOperandPlain, given_back_named, joined_named, last_named}
 use Rattle.vtl_to_sql.proofs.AcceptedWords.{AreRenamings, FormHasWords, HasWords, HaveWords, IsColumnName, OperandsHaveWords, form_renamings, renamings_below}

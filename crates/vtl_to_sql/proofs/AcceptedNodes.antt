@@ -21,7 +21,8 @@ use Rattle.vtl_tree.specs.declared.structure.Role.TheVariants as role
 use Rattle.vtl_tree.specs.declared.structure.Structure.{Structure}
 use Rattle.vtl_meaning.proofs.Places.{same_name-is, same_name-refl}
 use Rattle.vtl_tree.specs.Columns.{identifiers_of, kind_named, place_of}
-use Rattle.vtl_meaning.specs.Made.{AreMade, AreMadeOperands, IsColumnAt, IsMade, IsMadeForm, IsSub}
+use Rattle.vtl_meaning.specs.Made.{IsColumnAt, IsSub}
+use Rattle.vtl_scripts.specs.Made.{AreMade, AreMadeOperands, IsMade, IsMadeForm}
 use Rattle.vtl_tree.specs.Nodes.{all_nodes, form_nodes, nodes_in, operand_nodes}
 use Rattle.vtl_meaning.specs.Operators.{calculated_exps, measured_exps, pair_exps}
 use Rattle.vtl_meaning.specs.Shapes.{IsShaped}
@@ -31,7 +32,7 @@ use Rattle.vtl_tree.specs.declared.clauses.SubItem.{SubItem}
 use Rattle.check_laws.specs.Depths.{analytic_exps, exps_in, held_exps, item_exps, made_exps, value_exps}
 use Rattle.check_laws.proofs.DepthBounds.{AreNodesUpTo, AreUpTo, IsUpTo}
 use Rattle.check_laws.proofs.Inner.{made-shaped}
-use Rattle.check_laws.proofs.Lists as lists
+use Rattle.vtl_meaning.proofs.Lists as lists
 use Rattle.expressions_to_sql.specs.Held.{HoldsValues}
 use Rattle.vtl_to_sql.specs.Accepted.{AllHoldValues, AnalyticHoldsValues, FormHoldsParts, HoldsParts, MadeHoldsValues, NodesHoldParts, OperandsHoldParts, are_nodes_translated, are_operands_translated, is_form_translated, is_translated}
 use Rattle.selects_to_sql.specs.Writable.{AllCanBeWritten, CanBeWritten, HasValue}

@@ -19,15 +19,15 @@ use Rattle.vtl_syntax.specs.declared.parts.Comp.TheVariants as comp
 use Rattle.vtl_syntax.specs.declared.parts.GroupPart.{GroupPart}
 use Rattle.vtl_syntax.specs.declared.parts.Literal.{Literal}
 use Rattle.vtl_syntax.specs.declared.word_groups.AggregateName.{AggregateName}
-use Rattle.vtl_meaning.specs.Meaning.{is_built}
+use Rattle.vtl_scripts.specs.Meaning.{is_built}
 use Rattle.vtl_tree.specs.Trees as nodes
 use Rattle.vtl_tree.specs.Trees.{FormTree, NodeTree}
 use Rattle.vtl_tree.specs.declared.calls.Window.{Window}
 use Rattle.check_faults.specs.Rules.{ruled}
 use Rattle.check_faults.specs.declared.rules.Rule.{Rule}
 use Rattle.check_faults.specs.declared.rules.Rule.TheVariants as rule
-use Rattle.vtl_tree.specs.Names.{is_among}
-use Rattle.check_values.specs.Columns.{column_typed, name_of}
+use Rattle.vtl_tree.specs.Names.{is_among, name_of}
+use Rattle.check_values.specs.Columns.{column_typed}
 use Rattle.check_values.specs.Groupings.{grouping_typed}
 use Rattle.vtl_tree.specs.Kinds.{exp_kind}
 use Rattle.check_groups.specs.Aggregates.{aggregate_kind, aggregate_node, aggregate_tree, aggregate_value, count_call, count_kind, group_call, group_call_by, is_misused, operand_name}
@@ -43,7 +43,7 @@ use Rattle.check_operators.specs.declared.places.Inside.{Inside}
 use Rattle.check_operators.specs.declared.places.Place.{Place}
 use Rattle.check_operators.specs.declared.places.Place.TheVariants as place
 use Rattle.check_laws.specs.Gives.{Gives}
-use Rattle.check_laws.proofs.Lists as lists
+use Rattle.vtl_meaning.proofs.Lists as lists
 use Rattle.check_laws.proofs.Steps.{after, then}
 use Rattle.vtl_to_sql.proofs.AcceptedWords.{FormIsWorded, IsTreeWorded, IsWorded}
 

@@ -17,7 +17,7 @@ use Rattle.vtl_check.specs.Names.{names_of}
 use Rattle.vtl_check.specs.Uses.{read_behind, reads, with_declared, with_new}
 use Rattle.vtl_check.proofs.KnownLemmas.{has_name-lookup}
 use Rattle.check_laws.specs.Scripts.{AreKnownAlike}
-use Rattle.check_laws.proofs.Lists as lists
+use Rattle.vtl_meaning.proofs.Lists as lists
 use Rattle.vtl_to_sql.specs.Conditions.{AreReadable}
 
 abbrev pub IsWord : List ℕ → Type 0

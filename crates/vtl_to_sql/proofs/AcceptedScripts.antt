@@ -18,7 +18,7 @@ use Rattle.vtl_check.specs.Script.{assigned, is_too_much, transformations_typed,
 use Rattle.vtl_check.specs.Transformations.{transformations, transformations_from}
 use Rattle.check_expressions.specs.Typing.{typed}
 use Rattle.check_laws.specs.Gives.{Gives}
-use Rattle.check_laws.proofs.Lists as lists
+use Rattle.vtl_meaning.proofs.Lists as lists
 use Rattle.check_laws.proofs.Scripts.{at-then}
 use Rattle.check_laws.proofs.Steps.{after, tested, then}
 use Rattle.vtl_to_sql.proofs.AcceptedTyping.{worded}

@@ -19,7 +19,7 @@ use Rattle.vtl_syntax.specs.declared.word_groups.SetOpName.{SetOpName}
 use Rattle.vtl_syntax.specs.declared.word_groups.SetOpName.TheVariants as set
 use Rattle.vtl_tree.specs.declared.structure.Component.{Component}
 use Rattle.vtl_tree.specs.declared.structure.Structure.{Structure}
-use Rattle.vtl_meaning.specs.Meaning.{are_nodes_built, is_built}
+use Rattle.vtl_scripts.specs.Meaning.{are_nodes_built, is_built}
 use Rattle.vtl_tree.specs.Trees as nodes
 use Rattle.vtl_tree.specs.Trees.{NodeTree, maybe_node, nodes_of, structure_of}
 use Rattle.vtl_tree.specs.declared.specifications.CheckSpec.{CheckSpec}
@@ -32,7 +32,7 @@ use Rattle.check_shapes.specs.Names.{known}
 use Rattle.check_shapes.specs.Pairs as pairs
 use Rattle.check_shapes.specs.Shape.{shaped}
 use Rattle.vtl_tree.specs.declared.names.Wanted.TheVariants as wanted
-use Rattle.check_values.specs.Columns.{name_of}
+use Rattle.vtl_tree.specs.Names.{name_of}
 use Rattle.check_clauses.specs.Clauses as clauses
 use Rattle.check_clauses.specs.Clauses.{pivot_names, pivot_of, unpivot_of}
 use Rattle.check_operators.specs.Sets.{check_form, check_spec, datasets_in, difference_form, difference_tree, exists_form, imbalance_in, set_of, set_tree, sets_form, structures_in}
@@ -44,7 +44,7 @@ use Rattle.check_operators.specs.Typed as typed
 use Rattle.check_operators.specs.Typed.{TypedTree, components_in, dataset_in}
 use Rattle.check_laws.specs.Gives.{Gives}
 use Rattle.check_laws.proofs.Left.{IsNamed, known-gives}
-use Rattle.check_laws.proofs.Lists as lists
+use Rattle.vtl_meaning.proofs.Lists as lists
 use Rattle.check_laws.proofs.Steps.{after, tested-then, then}
 use Rattle.check_laws.proofs.Tests.{not-false}
 use Rattle.check_laws.proofs.Turns.{all-in-turn}

@@ -16,8 +16,8 @@ use Rattle.vtl_tree.specs.declared.structure.Structure.{Structure}
 use Rattle.vtl_syntax.specs.Written as written
 use Rattle.vtl_syntax.specs.declared.parts.Comp.{Comp}
 use Rattle.vtl_syntax.specs.declared.parts.Comp.TheVariants as comp
-use Rattle.vtl_meaning.specs.Made.{operands_in}
-use Rattle.vtl_meaning.specs.Meaning.{is_built, is_built_form}
+use Rattle.vtl_scripts.specs.Made.{operands_in}
+use Rattle.vtl_scripts.specs.Meaning.{is_built, is_built_form}
 use Rattle.vtl_tree.specs.Trees as nodes
 use Rattle.vtl_tree.specs.Trees.{AnalyticTree, FormTree, NodeTree, NodeTrees, OperandTrees, structure_of}
 use Rattle.vtl_tree.specs.declared.clauses.SubItem.{SubItem}
@@ -27,7 +27,7 @@ use Rattle.check_faults.specs.declared.rules.Rule.{Rule}
 use Rattle.vtl_tree.specs.Joins.{held_names, last_renamings}
 use Rattle.vtl_tree.specs.declared.names.Wanted.TheVariants as wanted
 use Rattle.vtl_tree.specs.declared.renaming.Renaming.{Renaming}
-use Rattle.check_values.specs.Columns.{name_of}
+use Rattle.vtl_tree.specs.Names.{name_of}
 use Rattle.check_clauses.specs.Clauses.{sub_names}
 use Rattle.check_clauses.specs.JoinOperands.{is_left}
 use Rattle.check_operators.specs.Typed.{TypedTree, value, dataset, components_in}

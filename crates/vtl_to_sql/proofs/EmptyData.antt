@@ -8,7 +8,7 @@ use Rattle.vtl_lists.specs.Perm.{empty}
 use Rattle.vtl_decimal.specs.Settings.{Settings}
 use Rattle.vtl_tree.specs.Clauses.{filter_of}
 use Rattle.vtl_tree.specs.CompExp.{CompExp}
-use Rattle.vtl_tree.specs.Environment.{Environment, data_of, DataSet}
+use Rattle.vtl_tree.specs.Environment.{DataSet, Environment, data_of, known_in, points_named}
 use Rattle.vtl_tree.specs.Structure.{IsStructure, key_width, same_name}
 use Rattle.vtl_tree.specs.Structures.{Named}
 use Rattle.vtl_tree.specs.declared.structure.Structure.{Structure}
@@ -17,7 +17,7 @@ use Rattle.vtl_tree.specs.Pairs.{contains}
 use Rattle.vtl_meaning.specs.Aggregates.{aggregate_of}
 use Rattle.vtl_meaning.specs.Analytics.{analytic_of}
 use Rattle.vtl_meaning.specs.Joined.{join_of}
-use Rattle.vtl_meaning.specs.Meaning.{AreDataSets, operands_value, Outputs, Statement, form_value, kept_output, known_in, meaning, node_value, nodes_value, points_named, stated, with_first, with_operand}
+use Rattle.vtl_scripts.specs.Meaning.{AreDataSets, operands_value, Outputs, Statement, form_value, kept_output, meaning, node_value, nodes_value, stated, with_first, with_operand}
 use Rattle.vtl_meaning.specs.Operators.{calculated_of, choice_of, left_of, measured_of, pair_exps, pair_of, sub_of}
 use Rattle.vtl_meaning.specs.Points.{each_point, with_points}
 use Rattle.vtl_meaning.specs.Sets.{all_left_of, difference_of, intersection_of, symmetric_difference_of, union_of, existence_of}

@@ -19,7 +19,7 @@ use Rattle.vtl_tree.specs.declared.structure.Structure.{Structure}
 use Rattle.vtl_tree.specs.Measures.{made}
 use Rattle.vtl_syntax.specs.declared.word_groups.Retain.TheVariants as retain
 use Rattle.vtl_tree.specs.Columns.{column_named}
-use Rattle.vtl_meaning.specs.Meaning.{Statement}
+use Rattle.vtl_scripts.specs.Meaning.{Statement}
 use Rattle.vtl_tree.specs.Trees as nodes
 use Rattle.vtl_tree.specs.Trees.{AggTree, AnalyticTree, NodeTree}
 use Rattle.vtl_tree.specs.declared.calls.AnalyticOp.TheVariants as window

@@ -15,7 +15,7 @@ use Rattle.vtl_tree.specs.declared.expression.CompExpr.TheVariants as expr
 use Rattle.vtl_tree.specs.Trees as nodes
 use Rattle.vtl_tree.specs.NodeView.{form_tree, item_tree, measure_tree, node_tree, operand_tree, value_tree}
 use Rattle.vtl_tree.specs.declared.clauses.CalcItem.{CalcItem}
-use Rattle.vtl_meaning.specs.Made.{operands_in}
+use Rattle.vtl_scripts.specs.Made.{operands_in}
 use Rattle.vtl_tree.specs.declared.specifications.JoinSpec.{JoinSpec}
 use Rattle.vtl_tree.specs.declared.nodes.JoinOperand as operand
 use Rattle.vtl_tree.specs.declared.nodes.JoinOperand.{JoinOperand}

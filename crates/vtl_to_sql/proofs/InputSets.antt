@@ -4,7 +4,8 @@ use Rattle.std.specs.List.{AllByRecursion}
 use Rattle.vtl_decimal.specs.Settings.{Settings}
 use Rattle.vtl_lists.proofs.Perms.{Perm-refl}
 use Rattle.vtl_tree.specs.Structures.{Named, is_declarable}
-use Rattle.vtl_meaning.specs.Meaning.{AreDataSets, Statement, known_in, meaning}
+use Rattle.vtl_scripts.specs.Meaning.{AreDataSets, Statement, meaning}
+use Rattle.vtl_tree.specs.Environment.{known_in}
 use Rattle.sql_meaning.specs.Scripts.{Inputs, rows_read, script_value}
 use Rattle.vtl_to_sql.specs.Conditions.{IsScript}
 use Rattle.vtl_to_sql.specs.Exports.{AreRead, exported_as}

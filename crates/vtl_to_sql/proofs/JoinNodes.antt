@@ -13,7 +13,7 @@ use Rattle.vtl_tree.specs.declared.nodes.NodeForm as forms
 use Rattle.vtl_tree.specs.declared.nodes.NodeForm.{NodeForm}
 use Rattle.vtl_tree.specs.declared.nodes.NodeForm.TheVariants as form
 use Rattle.vtl_tree.specs.Joins.{structures_of}
-use Rattle.vtl_meaning.specs.Made.{operands_in}
+use Rattle.vtl_scripts.specs.Made.{operands_in}
 use Rattle.sql_tree.specs.Trees.{StatementTree, Text}
 use Rattle.selects_to_sql.specs.Tables.{create_for, by_names}
 use Rattle.joins_to_sql.specs.JoinTables.{join_made}

@@ -22,8 +22,8 @@ use Rattle.vtl_tree.specs.Structures.{Named}
 use Rattle.vtl_tree.specs.declared.structure.Component.{Component}
 use Rattle.vtl_tree.specs.declared.structure.Structure.{Structure}
 use Rattle.vtl_tree.specs.Columns.{identifiers_of, others_of}
-use Rattle.vtl_meaning.specs.Made.{IsMade}
-use Rattle.vtl_meaning.specs.Meaning.{Outputs, Statement, meaning}
+use Rattle.vtl_scripts.specs.Made.{IsMade}
+use Rattle.vtl_scripts.specs.Meaning.{Outputs, Statement, meaning}
 use Rattle.vtl_meaning.specs.Shapes.{IsShaped}
 use Rattle.vtl_tree.specs.Trees as nodes
 use Rattle.vtl_tree.specs.Trees.{NodeTree, structure_of}

@@ -14,15 +14,16 @@ use Rattle.vtl_text.specs.Words.{is_word}
 use Rattle.vtl_rows.specs.Tables.{cells_at}
 use Rattle.vtl_tree.specs.Clauses.{filter_of}
 use Rattle.vtl_tree.specs.DataSet.{IsDataSet, is_point}
-use Rattle.vtl_tree.specs.Environment.{DataSet, Environment}
+use Rattle.vtl_tree.specs.Environment.{DataSet, Environment, known_in, points_named}
 use Rattle.vtl_tree.specs.Structure.{columns_of, IsStructure, key_width}
 use Rattle.vtl_tree.specs.declared.structure.Component.{Component}
 use Rattle.vtl_tree.specs.declared.structure.Structure.{Structure}
 use Rattle.vtl_tree.specs.ClauseShapes.{renamed}
 use Rattle.vtl_tree.specs.Columns.{identifiers_of, measures_of, others_of, places_in}
 use Rattle.vtl_tree.specs.Joins as joins
-use Rattle.vtl_meaning.specs.Made.{AreMade, AreMadeOperands, IsAlternative, IsLeft, IsMade, IsMadeForm, node_structures, operands_in}
-use Rattle.vtl_meaning.specs.Meaning.{AreDataSets, are_nodes_built, are_operands_built, operands_value, form_value, is_built, is_built_form, known_in, node_value, nodes_value, points_named, with_first}
+use Rattle.vtl_meaning.specs.Made.{IsAlternative, IsLeft}
+use Rattle.vtl_scripts.specs.Made.{AreMade, AreMadeOperands, IsMade, IsMadeForm, node_structures, operands_in}
+use Rattle.vtl_scripts.specs.Meaning.{AreDataSets, are_nodes_built, are_operands_built, operands_value, form_value, is_built, is_built_form, node_value, nodes_value, with_first}
 use Rattle.vtl_meaning.specs.Operators.{calculated_exps, calculated_of, choice_of, left_of, measured_exps, measured_of, pair_of, sub_of}
 use Rattle.vtl_meaning.specs.Points.{with_points}
 use Rattle.vtl_meaning.specs.Sets.{all_left_of, either_only, intersected, intersection_of, reduced, union_of, united, existence_of}
@@ -35,7 +36,7 @@ use Rattle.vtl_meaning.specs.Turned.{pivot_of, unpivot_of}
 use Rattle.vtl_meaning.proofs.Orders.{choice_respects, each_respects, filtered_respects, pair_respects, shown_respects, sub_respects}
 use Rattle.vtl_meaning.proofs.OwnColumns.{own_identifiers, own_measures}
 use Rattle.vtl_meaning.proofs.Places.{all_front, all_more, columns_split}
-use Rattle.vtl_meaning.proofs.ScriptsKept.{node_kept, operands_kept}
+use Rattle.vtl_scripts.proofs.ScriptsKept.{node_kept, operands_kept}
 use Rattle.vtl_meaning.proofs.SetsFolds.{each_own, own_cells}
 use Rattle.vtl_meaning.proofs.SetsKept.{shown_kept}
 use Rattle.sql_tree.specs.Trees.{QueryTree, Text}

@@ -9,12 +9,11 @@ use Rattle.std.specs.Option.{option_map_or}
 use Rattle.vtl_text.specs.Texts.{same_text}
 use Rattle.vtl_text.specs.Words.{is_word}
 use Rattle.vtl_lists.proofs.Aparts.{apart_parts}
-use Rattle.vtl_tree.specs.Environment.{Environment, data_of}
+use Rattle.vtl_tree.specs.Environment.{Environment, data_of, known_in, points_named}
 use Rattle.vtl_tree.specs.Structure.{IsStructure, columns_of, names_of, same_name}
 use Rattle.vtl_tree.specs.declared.structure.Component.{Component}
 use Rattle.vtl_tree.specs.declared.structure.Structure.{Structure}
 use Rattle.vtl_tree.specs.Columns.{identifiers_of, others_of}
-use Rattle.vtl_meaning.specs.Meaning.{known_in, points_named}
 use Rattle.vtl_meaning.proofs.OwnColumns.{columns_apart}
 use Rattle.vtl_meaning.proofs.Places.{columns_split, same_name-is, same_name-refl, same_name-sym}
 use Rattle.sql_tree.specs.Formed.{IsName}

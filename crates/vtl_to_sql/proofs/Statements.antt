@@ -9,14 +9,14 @@ use Rattle.vtl_cell.specs.Row.{Row}
 use Rattle.vtl_decimal.specs.Settings.{Settings}
 use Rattle.vtl_text.specs.Texts.{same_text}
 use Rattle.vtl_text.specs.Words.{is_word}
-use Rattle.vtl_tree.specs.Environment.{DataSet, Environment, data_of}
+use Rattle.vtl_tree.specs.Environment.{DataSet, Environment, data_of, known_in}
 use Rattle.vtl_tree.specs.Structure.{same_name}
-use Rattle.vtl_meaning.specs.Made.{AreMadeStatements}
-use Rattle.vtl_meaning.specs.Meaning.{AreDataSets, Outputs, Statement, kept_output, known_in, meaning, node_value, stated}
+use Rattle.vtl_scripts.specs.Made.{AreMadeStatements}
+use Rattle.vtl_scripts.specs.Meaning.{AreDataSets, Outputs, Statement, kept_output, meaning, node_value, stated}
 use Rattle.vtl_meaning.specs.Points.{with_points}
 use Rattle.vtl_tree.specs.Trees.{structure_of}
 use Rattle.vtl_meaning.proofs.Places.{all_append, all_more, same_name-is, same_name-refl, same_name-sym}
-use Rattle.vtl_meaning.proofs.ScriptsKept.{node_kept}
+use Rattle.vtl_scripts.proofs.ScriptsKept.{node_kept}
 use Rattle.sql_tree.specs.Formed.{IsName}
 use Rattle.sql_tree.specs.Trees.{Text}
 use Rattle.sql_meaning.specs.Scripts.{Data, NamedFault, base_of, fault_name, tables_in}

@@ -4,11 +4,11 @@ use Rattle.std.specs.List.{AllByRecursion}
 use Rattle.vtl_decimal.specs.Settings.{Settings}
 use Rattle.vtl_text.specs.Texts.{same_text}
 use Rattle.vtl_text.specs.Words.{is_word}
-use Rattle.vtl_tree.specs.Environment.{Environment}
+use Rattle.vtl_tree.specs.Environment.{Environment, known_in}
 use Rattle.vtl_tree.specs.Structure.{IsStructure, same_name}
 use Rattle.vtl_tree.specs.Structures.{Named, has_name}
-use Rattle.vtl_meaning.specs.Made.{AreMadeStatements}
-use Rattle.vtl_meaning.specs.Meaning.{AreDataSets, Statement, known_in, meaning}
+use Rattle.vtl_scripts.specs.Made.{AreMadeStatements}
+use Rattle.vtl_scripts.specs.Meaning.{AreDataSets, Statement, meaning}
 use Rattle.vtl_tree.specs.Trees.{structure_of}
 use Rattle.vtl_meaning.proofs.Places.{all_more}
 use Rattle.sql_tree.specs.Trees.{Text}

@@ -15,13 +15,13 @@ use Rattle.vtl_cell.specs.declared.cell.Cell.TheVariants as c
 use Rattle.vtl_decimal.specs.declared.settings.Rounding.TheVariants as rounding
 use Rattle.vtl_cell.proofs.Keys.{window_order}
 use Rattle.vtl_lists.proofs.Sorts.{sorted_by-Perm}
-use Rattle.vtl_tree.specs.Environment.{Environment}
+use Rattle.vtl_tree.specs.Environment.{Environment, known_in}
 use Rattle.vtl_tree.specs.Structure.{columns_of, names_of}
 use Rattle.vtl_tree.specs.Structures.{Named}
 use Rattle.vtl_tree.specs.declared.structure.Structure.{Structure}
 use Rattle.vtl_tree.specs.Columns.{identifiers_of}
-use Rattle.vtl_meaning.specs.Made.{AreMadeStatements}
-use Rattle.vtl_meaning.specs.Meaning.{AreDataSets, Outputs, Statement, kept_output, known_in, meaning, node_value, stated}
+use Rattle.vtl_scripts.specs.Made.{AreMadeStatements}
+use Rattle.vtl_scripts.specs.Meaning.{AreDataSets, Outputs, Statement, kept_output, meaning, node_value, stated}
 use Rattle.vtl_meaning.specs.Points.{with_points}
 use Rattle.vtl_tree.specs.Trees.{structure_of}
 use Rattle.sql_tree.specs.Trees.{StatementTree}

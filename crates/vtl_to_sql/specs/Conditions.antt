@@ -10,8 +10,8 @@ use Rattle.vtl_tree.specs.Structure.{columns_of, most_components}
 use Rattle.vtl_tree.specs.Structures.{AreStructures, Named, has_name}
 use Rattle.vtl_tree.specs.declared.structure.Structure.{Structure}
 use Rattle.vtl_tree.specs.Columns.{identifiers_of, kind_named}
-use Rattle.vtl_meaning.specs.Made.{IsMade, operands_in}
-use Rattle.vtl_meaning.specs.Meaning.{Statement}
+use Rattle.vtl_scripts.specs.Made.{IsMade, operands_in}
+use Rattle.vtl_scripts.specs.Meaning.{Statement}
 use Rattle.vtl_meaning.specs.Operators.{calculated_exps, measured_exps, pair_exps}
 use Rattle.vtl_tree.specs.Trees as nodes
 use Rattle.vtl_tree.specs.Trees.{FormTree, NodeTree, NodeTrees, OperandTrees, structure_of}

@@ -4,7 +4,7 @@ use Rattle.std.specs.List.{AllByRecursion}
 use Rattle.vtl_lists.specs.Perm.{Perm}
 use Rattle.vtl_tree.specs.Environment.{DataSet, Environment}
 use Rattle.vtl_tree.specs.Structures.{Named}
-use Rattle.vtl_meaning.specs.Meaning.{Outputs}
+use Rattle.vtl_scripts.specs.Meaning.{Outputs}
 use Rattle.sql_meaning.specs.Scripts.{Data, Export, Inputs, NamedFault, export_of, input_table, rows_read}
 use Rattle.selects_to_sql.specs.Runs.{held}
 use Rattle.vtl_to_sql.specs.Scripts.{input_of, ordered}

@@ -4,7 +4,7 @@ use Rattle.std.specs.List.{AllByRecursion}
 use Rattle.vtl_decimal.specs.Settings.{Settings}
 use Rattle.vtl_text.specs.Texts.{same_text}
 use Rattle.vtl_text.specs.Words.{is_word}
-use Rattle.vtl_meaning.specs.Meaning.{Outputs, Statement}
+use Rattle.vtl_scripts.specs.Meaning.{Outputs, Statement}
 use Rattle.sql_meaning.specs.Scripts.{Data, NamedFault, tables_in}
 use Rattle.selects_to_sql.specs.Runs.{AreLawful, run}
 use Rattle.selects_to_sql.specs.Tables.{Table, first_number}

@@ -4,7 +4,7 @@ use Rattle.std.specs.Map.{lookup}
 use Rattle.vtl_syntax.specs.declared.word_groups.AssignKind.{AssignKind}
 use Rattle.vtl_tree.specs.Structure.{same_name}
 use Rattle.vtl_tree.specs.declared.structure.Structure.{Structure}
-use Rattle.vtl_meaning.specs.Meaning.{Statement}
+use Rattle.vtl_scripts.specs.Meaning.{Statement}
 use Rattle.vtl_tree.specs.Trees.{NodeTree}
 use Rattle.vtl_check.specs.Checked.{TypedScript, known_of}
 use Rattle.vtl_backend.specs.Statements.{is_written}

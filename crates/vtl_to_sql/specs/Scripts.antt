@@ -7,7 +7,7 @@ use Rattle.vtl_tree.specs.Structures.{Named}
 use Rattle.vtl_tree.specs.declared.structure.Component.{Component}
 use Rattle.vtl_tree.specs.declared.structure.Structure.{Structure}
 use Rattle.vtl_tree.specs.Columns.{identifiers_of}
-use Rattle.vtl_meaning.specs.Meaning.{Statement}
+use Rattle.vtl_scripts.specs.Meaning.{Statement}
 use Rattle.vtl_tree.specs.Trees.{structure_of}
 use Rattle.sql_tree.specs.Trees.{ScriptTree, StatementTree, export, input, setting}
 use Rattle.sql_tree.specs.declared.statements.InputColumn.{InputColumn}

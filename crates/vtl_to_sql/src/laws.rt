@@ -13,12 +13,12 @@
 ghost use Rattle.std.specs.Prelude.{◌≡◌, ◌≤◌, ◌<◌, ◌+◌, ◌^◌, ℕ, List, length, true};
 ghost use Rattle.vtl_cell.specs.Row.{Row};
 ghost use Rattle.vtl_decimal.specs.Settings.{Settings};
-ghost use Rattle.vtl_tree.specs.Environment.{Environment};
+ghost use Rattle.vtl_tree.specs.Environment.{Environment, known_in};
 ghost use Rattle.vtl_tree.specs.Structure.{IsStructure, columns_of};
 ghost use Rattle.vtl_syntax.specs.Written.{AreWritten};
 ghost use Rattle.vtl_tree.specs.Structures.{AreStructures, Named, is_declarable};
 ghost use Rattle.vtl_tree.specs.declared.structure.Structure.{Structure};
-ghost use Rattle.vtl_meaning.specs.Meaning.{AreDataSets, Statement, is_built, known_in, meaning};
+ghost use Rattle.vtl_scripts.specs.Meaning.{AreDataSets, Statement, is_built, meaning};
 ghost use Rattle.vtl_tree.specs.Trees.{NodeTree};
 ghost use Rattle.vtl_check.specs.Checked.{IsTyped, TypedScript, nodes_of, tree_of};
 ghost use Rattle.vtl_check.specs.Uses.{reads};

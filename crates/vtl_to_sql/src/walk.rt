@@ -6,7 +6,7 @@ ghost use Rattle.selects_to_sql.specs.Tables.{create_for};
 ghost use Rattle.vtl_tree.specs.Trees.{join, nodes_of, operands_of};
 ghost use Rattle.vtl_tree.specs.Shown.{shown};
 ghost use Rattle.vtl_tree.specs.Joins.{structures_of};
-ghost use Rattle.vtl_meaning.specs.Made.{operands_in};
+ghost use Rattle.vtl_scripts.specs.Made.{operands_in};
 ghost use Rattle.vtl_to_sql.specs.Combined.{combined_made};
 ghost use Rattle.vtl_to_sql.specs.Tables.{made_of_form, operands_of as joined_sources, sources_of};
 ghost use Rattle.vtl_to_sql.specs.Accepted.{are_nodes_translated, are_operands_translated, is_form_translated, is_translated};

@@ -15,7 +15,7 @@ use Rattle.vtl_tree.specs.Structure.{IsStructure, columns_of, key_width, names_o
 use Rattle.vtl_tree.specs.declared.structure.Component.{Component}
 use Rattle.vtl_tree.specs.declared.structure.Structure.{Structure}
 use Rattle.vtl_tree.specs.Columns.{identifiers_of, others_of}
-use Rattle.vtl_meaning.specs.Meaning.{Outputs}
+use Rattle.vtl_scripts.specs.Meaning.{Outputs}
 use Rattle.vtl_meaning.proofs.OwnColumns.{columns_apart}
 use Rattle.vtl_meaning.proofs.Places.{columns_split}
 use Rattle.vtl_csv.specs.CsvText.{csv_rows, header_of}

@@ -12,8 +12,8 @@ use Rattle.check_faults.specs.declared.rules.Rule.TheVariants as rule
 use Rattle.vtl_check.specs.Checked.{env_over}
 use Rattle.vtl_check.specs.Count.{count}
 use Rattle.check_laws.specs.Gives.{Gives}
-use Rattle.vtl_meaning.specs.Made.{IsMade}
-use Rattle.vtl_meaning.specs.Meaning.{Outputs, Statement, meaning}
+use Rattle.vtl_scripts.specs.Made.{IsMade}
+use Rattle.vtl_scripts.specs.Meaning.{Outputs, Statement, meaning}
 use Rattle.check_operators.specs.Places.{Env}
 use Rattle.check_operators.specs.declared.places.Place.TheVariants as place
 use Rattle.vtl_check.specs.Script.{assigned, is_too_much, script_typed, transformations_typed, value_typed, with_result}

@@ -9,7 +9,7 @@ use Rattle.vtl_tree.specs.Structures.{AreStructures, Named}
 use Rattle.sql_tree.specs.Trees.{ScriptTree}
 use Rattle.sql_meaning.specs.Scripts.{Inputs, script_value}
 use Rattle.sql_check_parts.specs.Statements.{script_settings}
-use Rattle.vtl_meaning.specs.Meaning.{Outputs, meaning}
+use Rattle.vtl_scripts.specs.Meaning.{Outputs, meaning}
 use Rattle.vtl_check.specs.Transformations.{transformations}
 use Rattle.vtl_check.specs.Uses.{reads}
 use Rattle.vtl_csv.specs.CsvText.{csv_of}

@@ -14,7 +14,7 @@ use Rattle.vtl_tree.specs.Structures.{Named}
 use Rattle.vtl_csv.specs.InputFile.{Fault, dataset_rows}
 use Rattle.vtl_csv.specs.StructuresFile.{Fault as StructuresFault, structures_of_file}
 use Rattle.vtl_tree.specs.Trees.{NodeTree}
-use Rattle.vtl_meaning.specs.Meaning.{Outputs, is_built}
+use Rattle.vtl_scripts.specs.Meaning.{Outputs, is_built}
 use Rattle.vtl_check.specs.Checked.{env_over, TypedScript}
 use Rattle.vtl_check.specs.Script.{has_definitions, script_typed}
 use Rattle.vtl_check.specs.Uses.{reads}

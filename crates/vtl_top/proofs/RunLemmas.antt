@@ -10,7 +10,7 @@ use Rattle.vtl_tree.specs.declared.structure.Structure.{Structure}
 use Rattle.vtl_csv.specs.InputFile.{Fault, Reads}
 use Rattle.vtl_csv.specs.declared.input.InputErr.{InputErr}
 use Rattle.vtl_csv.specs.declared.input.InputErr.TheVariants as input
-use Rattle.vtl_meaning.specs.Meaning.{Outputs, is_built}
+use Rattle.vtl_scripts.specs.Meaning.{Outputs, is_built}
 use Rattle.vtl_backend.specs.Runs.{Tells, script_meaning}
 use Rattle.vtl_scalar.specs.declared.run_error.RunErr.{RunErr}
 use Rattle.vtl_scalar.specs.declared.run_error.RunErr.TheVariants as run

@@ -9,7 +9,7 @@ use Rattle.vtl_syntax.specs.Trees.{ScriptTree}
 use Rattle.vtl_tree.specs.Environment.{DataSet, Environment}
 use Rattle.vtl_tree.specs.Structures.{Named}
 use Rattle.vtl_tree.specs.Trees.{NodeTree}
-use Rattle.vtl_meaning.specs.Meaning.{Outputs, Statement, is_built, meaning}
+use Rattle.vtl_scripts.specs.Meaning.{Outputs, Statement, is_built, meaning}
 use Rattle.vtl_backend.specs.Statements.{with_nodes}
 use Rattle.vtl_check.specs.Transformations.{transformations}
 use Rattle.std.specs.List.{list_all}

@@ -8,7 +8,7 @@ use Rattle.vtl_decimal.specs.declared.number.Fault.{Fault}
 use Rattle.vtl_check.specs.Checked.{env_over}
 use Rattle.vtl_check.specs.Script.{has_definitions, script_typed}
 use Rattle.vtl_check.specs.Uses.{reads}
-use Rattle.vtl_meaning.specs.Meaning.{Outputs, is_built}
+use Rattle.vtl_scripts.specs.Meaning.{Outputs, is_built}
 use Rattle.std.specs.List.{list_all}
 use Rattle.vtl_top.specs.Expected.{IsTextOf, Typed, content, folder_step, meant, output_of, script_limit, structures_step}
 use Rattle.vtl_top.specs.Steps.{File, Held, Name, Text}

@@ -1,10 +1,12 @@
 pub mod Choices
+pub mod Checks
 pub mod ClauseShapes
 pub mod Clauses
 pub mod Columns
 pub mod CompExp
 pub mod DataSet
 pub mod Declarations
+pub mod Depths
 pub mod Environment
 pub mod Joins
 pub mod Kept
@@ -16,6 +18,7 @@ pub mod Nodes
 pub mod NotNull
 pub mod Operands
 pub mod Pairs
+pub mod RuleItems
 pub mod Shown
 pub mod Structure
 pub mod Structures

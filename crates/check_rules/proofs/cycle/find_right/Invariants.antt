@@ -1,7 +1,7 @@
 use Rattle.std.proofs.Common.{take}
 use Rattle.std.specs.Map.{keys_of}
 use Rattle.check_rules.specs.Found.{Finds, Has}
-use Rattle.check_rules.specs.RuleItems.{right_items}
+use Rattle.vtl_tree.specs.RuleItems.{right_items}
 use Rattle.check_rules.proofs.cycle.find_right.Given as goal
 
 abbrev pub invariant-loop-k : goal.invariant-loop-k

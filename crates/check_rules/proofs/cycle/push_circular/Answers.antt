@@ -1,6 +1,6 @@
 use Rattle.std.proofs.Common.{true, false, sym, subst, ◌∙◌, ℕ, List}
 use Rattle.check_rules.specs.Found.{TellsDependence}
-use Rattle.check_rules.specs.RuleItems.{left_item}
+use Rattle.vtl_tree.specs.RuleItems.{left_item}
 use Rattle.check_rules.proofs.Finding.{adds_none, adds_nothing, adds_one}
 use Rattle.check_rules.proofs.cycle.push_circular.Goals as goal
 

@@ -1,5 +1,5 @@
 use Rattle.std.proofs.Common.{◌≡◌, map, take}
-use Rattle.check_values.specs.Columns.{name_of}
+use Rattle.vtl_tree.specs.Names.{name_of}
 use Rattle.check_rules.proofs.definitions.names_differ.Given as goal
 
 abbrev pub invariant-loop-component : goal.invariant-loop-component

@@ -1,6 +1,6 @@
 use Rattle.std.proofs.Common.{◌≡◌, ◌∷◌, map, take}
-use Rattle.check_values.specs.Columns.{name_of}
-use Rattle.check_rules.specs.RuleItems.{left_item, signed_item}
+use Rattle.vtl_tree.specs.Names.{name_of}
+use Rattle.vtl_tree.specs.RuleItems.{left_item, signed_item}
 use Rattle.check_rules.proofs.items.items.Given as goal
 
 abbrev pub invariant-loop-other : goal.invariant-loop-other

@@ -1,5 +1,5 @@
 use Rattle.std.proofs.Common.{◌-◌, ◌∙◌, ap, arith, refl, sym}
-use Rattle.check_rules.specs.RuleItems.{signed_item}
+use Rattle.vtl_tree.specs.RuleItems.{signed_item}
 use Rattle.check_rules.proofs.SideLemmas.{right_at}
 use Rattle.check_rules.proofs.items.right_item.Goals as goal
 

@@ -1,7 +1,7 @@
 use Rattle.std.proofs.Common.{◌++◌, ◌∷◌, [], ℕ, List, cond, take, ap, sym, ◌∙◌, arith, append-nil, append_assoc}
 use Rattle.std.proofs.lemmas.List.{take_all}
 use Rattle.vtl_text.specs.Texts.{same_text}
-use Rattle.check_rules.specs.RuleItems.{right_items}
+use Rattle.vtl_tree.specs.RuleItems.{right_items}
 use Rattle.check_rules.specs.Running.{places_at, places_of}
 use Rattle.check_rules.proofs.Lists.{taken_more}
 use Rattle.check_rules.proofs.places.note_right.Goals as goal

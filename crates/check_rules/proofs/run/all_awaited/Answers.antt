@@ -1,7 +1,8 @@
 use Rattle.std.proofs.Common.{◌≡◌, ◌≤◌, ◌+◌, [], ap, sym, ◌∙◌, arith}
 use Rattle.std.specs.List.{enumerate_from}
 use Rattle.std.proofs.lemmas.List.{drop_all}
-use Rattle.check_rules.specs.RuleItems.{defines, left_item}
+use Rattle.check_rules.specs.RuleItems.{defines}
+use Rattle.vtl_tree.specs.RuleItems.{left_item}
 use Rattle.check_rules.specs.Running.{count_at, times_computed}
 use Rattle.check_rules.proofs.SideLemmas.{counted_few, counted_step}
 use Rattle.check_rules.proofs.run.all_awaited.Goals as goal

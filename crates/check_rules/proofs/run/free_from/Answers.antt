@@ -1,5 +1,5 @@
 use Rattle.std.proofs.Common.{sym, ◌∙◌}
-use Rattle.check_rules.specs.RuleItems.{right_items}
+use Rattle.vtl_tree.specs.RuleItems.{right_items}
 use Rattle.check_rules.specs.Running.{is_free_by}
 use Rattle.check_rules.proofs.Lists.{all_fails, all_more}
 use Rattle.check_rules.proofs.run.free_from.Goals as goal

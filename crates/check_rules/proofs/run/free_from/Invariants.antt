@@ -1,6 +1,6 @@
 use Rattle.std.proofs.Common.{◌≡◌, true, take}
 use Rattle.std.specs.List.{list_all}
-use Rattle.check_rules.specs.RuleItems.{right_items}
+use Rattle.vtl_tree.specs.RuleItems.{right_items}
 use Rattle.check_rules.specs.Running.{is_free_by}
 use Rattle.check_rules.proofs.run.free_from.Given as goal
 

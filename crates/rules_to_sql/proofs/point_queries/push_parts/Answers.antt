@@ -3,7 +3,7 @@ use Rattle.std.specs.Result.{OnOk}
 use Rattle.vtl_syntax.specs.declared.word_groups.CheckOut.{CheckOut}
 use Rattle.vtl_tree.specs.NodeView.{point_rule_tree}
 use Rattle.vtl_tree.specs.Shown.{shown}
-use Rattle.vtl_rulings.specs.Outputs.{output_parts}
+use Rattle.vtl_tree.specs.Checks.{output_parts}
 use Rattle.selects_to_sql.specs.NamedItems.{AreNext, own_columns}
 use Rattle.rules_to_sql.specs.Items.{rule_errors_as, truth_as}
 use Rattle.rules_to_sql.proofs.point_queries.push_parts.Goals as goal

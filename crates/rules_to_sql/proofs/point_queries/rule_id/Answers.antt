@@ -4,7 +4,7 @@ use Rattle.std.specs.Str.{chars}
 use Rattle.std.proofs.lemmas.Fmt.{IsAscii-decimal}
 use Rattle.std.proofs.lemmas.Result.{IfOk-weaker}
 use Rattle.std.proofs.lemmas.Str.{chars-IsAscii}
-use Rattle.vtl_rulings.specs.Outputs.{rule_id}
+use Rattle.vtl_tree.specs.Checks.{rule_id}
 use Rattle.rules_to_sql.proofs.point_queries.rule_id.Goals as goal
 
 characters : (bytes : List ℕ) (n : ℕ) → n < 2 ^ 64 → bytes ≡ decimal n → chars bytes ≡ decimal n

@@ -1,7 +1,7 @@
 use Rattle.std.proofs.Common.{[], ◌∷◌, ap, map, subst}
 use Rattle.vtl_tree.specs.NodeView.{point_rule_tree}
 use Rattle.vtl_tree.specs.Shown.{shown}
-use Rattle.vtl_rulings.specs.Outputs.{output_parts}
+use Rattle.vtl_tree.specs.Checks.{output_parts}
 use Rattle.sql_tree.specs.Trees.{Exp}
 use Rattle.sql_tree.specs.View.{item_tree}
 use Rattle.selects_to_sql.specs.NamedItems.{AreNext, own_columns}

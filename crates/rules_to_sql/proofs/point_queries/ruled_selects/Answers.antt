@@ -2,7 +2,7 @@ use Rattle.std.proofs.Common.{ℕ, ◌+◌, List, [], ◌∷◌, ◌++◌, ap, m
 use Rattle.std.proofs.lemmas.List.{map-append}
 use Rattle.vtl_tree.specs.NodeView.{point_rule_tree}
 use Rattle.vtl_tree.specs.Shown.{shown}
-use Rattle.vtl_rulings.specs.Outputs.{rule_id}
+use Rattle.vtl_tree.specs.Checks.{rule_id}
 use Rattle.sql_tree.specs.Trees.{SelectTree}
 use Rattle.sql_tree.specs.View.{select_tree}
 use Rattle.rules_to_sql.specs.Items.{ruled_select_as, ruled_selects_as}

@@ -4,7 +4,7 @@ use Rattle.std.specs.List.{list_all}
 use Rattle.vtl_tree.specs.NodeView.{node_tree}
 use Rattle.vtl_walks.specs.Lent.{lent}
 use Rattle.vtl_walks.specs.Operands.{operands_in}
-use Rattle.vtl_meaning.specs.Meaning.{is_built}
+use Rattle.vtl_scripts.specs.Meaning.{is_built}
 use Rattle.vtl_backend.specs.Statements.{is_evaluated}
 use Rattle.vtl_backend.proofs.BuiltNodes.{built_by_operands}
 use Rattle.vtl_backend.proofs.built.+is_node_built.Goals as goal

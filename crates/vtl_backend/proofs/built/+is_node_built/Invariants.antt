@@ -3,7 +3,7 @@ use Rattle.std.specs.List.{list_all}
 use Rattle.vtl_tree.specs.NodeView.{node_tree}
 use Rattle.vtl_walks.specs.Lent.{lent}
 use Rattle.vtl_walks.specs.Operands.{size}
-use Rattle.vtl_meaning.specs.Meaning.{is_built}
+use Rattle.vtl_scripts.specs.Meaning.{is_built}
 use Rattle.vtl_backend.proofs.built.+is_node_built.Given as goal
 
 abbrev pub decreases-is_node_built : goal.decreases-is_node_built

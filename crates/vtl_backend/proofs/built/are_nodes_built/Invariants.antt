@@ -1,7 +1,7 @@
 use Rattle.std.proofs.Common.{◌≡◌, drop, map}
 use Rattle.std.specs.List.{list_all}
 use Rattle.vtl_tree.specs.NodeView.{node_tree}
-use Rattle.vtl_meaning.specs.Meaning.{is_built}
+use Rattle.vtl_scripts.specs.Meaning.{is_built}
 use Rattle.vtl_backend.proofs.built.are_nodes_built.Given as goal
 
 abbrev pub invariant-loop-node : goal.invariant-loop-node

@@ -7,7 +7,7 @@ use Rattle.vtl_tree.specs.declared.nodes.JoinOperand.{JoinOperand}
 use Rattle.vtl_tree.specs.declared.nodes.NodeForm.TheVariants as form
 use Rattle.vtl_meaning.specs.Joined.{structures_of}
 use Rattle.vtl_meaning.specs.Made.{AreCombined, IsJoined}
-use Rattle.vtl_meaning.specs.Meaning.{nodes_value, operands_value}
+use Rattle.vtl_scripts.specs.Meaning.{nodes_value, operands_value}
 use Rattle.vtl_meaning.specs.Shapes.{IsJoinedFrom}
 use Rattle.vtl_interp.specs.Evaluated.{Evaluates, Gives}
 use Rattle.vtl_interp.specs.Values.{under_aliases, value_view, values_view}

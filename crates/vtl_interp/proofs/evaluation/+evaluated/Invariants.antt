@@ -2,8 +2,9 @@ use Rattle.std.proofs.Common.{◌≡◌, ◌++◌, Ok, drop, map, true}
 use Rattle.vtl_cell.specs.Outcome.{after}
 use Rattle.vtl_tree.specs.Trees.{nodes_of, operands_of}
 use Rattle.vtl_tree.specs.NodeView.{node_tree, operand_tree}
-use Rattle.vtl_meaning.specs.Meaning.{are_nodes_built, are_operands_built, known_in, nodes_value, operands_value}
-use Rattle.vtl_meaning.specs.Made.{AreMade, AreMadeOperands}
+use Rattle.vtl_scripts.specs.Meaning.{are_nodes_built, are_operands_built, nodes_value, operands_value}
+use Rattle.vtl_tree.specs.Environment.{known_in}
+use Rattle.vtl_scripts.specs.Made.{AreMade, AreMadeOperands}
 use Rattle.vtl_interp.specs.Values.{values_view}
 use Rattle.vtl_interp.proofs.evaluation.+evaluated.Given as goal
 

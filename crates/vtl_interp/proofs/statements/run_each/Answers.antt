@@ -6,7 +6,7 @@ use Rattle.vtl_rows.specs.Named.{NamedTables}
 use Rattle.vtl_syntax.specs.View.{statement_tree}
 use Rattle.vtl_syntax.specs.declared.statements.Statement.{Statement}
 use Rattle.vtl_tree.specs.NodeView.{node_tree}
-use Rattle.vtl_meaning.specs.Meaning.{is_built, meaning}
+use Rattle.vtl_scripts.specs.Meaning.{is_built, meaning}
 use Rattle.vtl_backend.specs.Statements.{with_nodes}
 use Rattle.vtl_check.specs.Transformations.{transformations_from}
 use Rattle.vtl_check.proofs.LeftLemmas.{assigned_at, left, one_left}

@@ -1,7 +1,7 @@
 use Rattle.std.proofs.Common.{◌≡◌, ◌+◌, drop, length, map}
 use Rattle.std.specs.Map.{keys_of}
 use Rattle.vtl_tree.specs.NodeView.{node_tree}
-use Rattle.vtl_meaning.specs.Meaning.{meaning}
+use Rattle.vtl_scripts.specs.Meaning.{meaning}
 use Rattle.vtl_check.proofs.LeftLemmas.{left}
 use Rattle.vtl_interp.specs.Reads.{AreRead}
 use Rattle.vtl_interp.specs.Results.{AreReady, Remain}

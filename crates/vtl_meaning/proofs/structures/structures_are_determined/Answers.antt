@@ -1,4 +1,4 @@
-use Rattle.vtl_meaning.proofs.Determined.{form_shape, same_shape}
+use Rattle.vtl_meaning.proofs.Determined.{same_shape}
 use Rattle.vtl_meaning.proofs.structures.structures_are_determined.Goals as goal
 
 pub returns-clause-measures : goal.returns-clause-measures
@@ -15,6 +15,3 @@ returns-clause-calc c = λ p items a s t h k. same_shape s t _ h.shape k.shape
 
 pub returns-clause-sub : goal.returns-clause-sub
 returns-clause-sub c = λ items a s t h k. same_shape s t _ h.shape k.shape
-
-pub returns-clause-form : goal.returns-clause-form
-returns-clause-form c = form_shape

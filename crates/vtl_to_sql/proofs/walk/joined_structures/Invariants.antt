@@ -3,7 +3,7 @@ use Rattle.vtl_tree.specs.Shown.{shown}
 use Rattle.vtl_tree.specs.Joins.{structures_of}
 use Rattle.vtl_tree.specs.Trees.{operands_of}
 use Rattle.vtl_tree.specs.NodeView.{operand_tree}
-use Rattle.vtl_meaning.specs.Made.{operands_in}
+use Rattle.vtl_scripts.specs.Made.{operands_in}
 use Rattle.vtl_to_sql.proofs.walk.joined_structures.Given as goal
 
 abbrev pub invariant-loop-operand : goal.invariant-loop-operand

@@ -5,7 +5,7 @@ use Rattle.std.proofs.lemmas.Option.{slice_get_read}
 use Rattle.vtl_text.specs.Texts.{same_text}
 use Rattle.vtl_tree.specs.Structure.{same_name}
 use Rattle.check_rules.specs.Order.{is_left}
-use Rattle.check_rules.specs.RuleItems.{left_item}
+use Rattle.vtl_tree.specs.RuleItems.{left_item}
 use Rattle.check_rules.specs.Running.{IsRunning, count_at, is_free_by, places_at}
 use Rattle.check_rules.proofs.Runs.{finished_alone, finished_awaited, finished_free, one_rule}
 use Rattle.check_rules.proofs.run.Run.finish.Goals as goal

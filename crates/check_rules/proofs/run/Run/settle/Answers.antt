@@ -3,7 +3,7 @@ use Rattle.std.specs.Prelude.{slice_get}
 use Rattle.std.specs.List.{list_all}
 use Rattle.std.proofs.lemmas.List.{get_or_default}
 use Rattle.std.proofs.lemmas.Option.{slice_get_read}
-use Rattle.check_rules.specs.RuleItems.{right_items}
+use Rattle.vtl_tree.specs.RuleItems.{right_items}
 use Rattle.check_rules.specs.Running.{is_free_by}
 use Rattle.check_rules.proofs.Runs.{looked_ready, looked_waiting, not_at}
 use Rattle.check_rules.proofs.run.Run.settle.Goals as goal

@@ -2,7 +2,7 @@ use Rattle.std.specs.Option.{option_map}
 use Rattle.vtl_tree.specs.View.{comp_exp_of}
 use Rattle.vtl_tree.specs.NodeView.{point_rule_tree}
 use Rattle.vtl_expr.specs.Prepared.{prepared_exp}
-use Rattle.vtl_rulings.specs.Outputs.{rule_id}
+use Rattle.vtl_tree.specs.Checks.{rule_id}
 use Rattle.vtl_rules.specs.Rulings.{ruling, ruling_of}
 use Rattle.vtl_rules.proofs.RulingLemmas.{rulings_same, truth_same}
 use Rattle.vtl_rules.proofs.rulings.Rule.of.Goals as goal

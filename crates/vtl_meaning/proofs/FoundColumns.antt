@@ -15,7 +15,7 @@ use Rattle.vtl_tree.specs.declared.structure.Structure.{Structure}
 use Rattle.vtl_tree.specs.Names.{component_of, is_among}
 use Rattle.vtl_tree.specs.Columns.{kind_named, place_of}
 use Rattle.vtl_meaning.specs.Made.{IsColumnAt}
-use Rattle.check_laws.proofs.Lists as lists
+use Rattle.vtl_meaning.proofs.Lists as lists
 
 -- ---- names
 pub same-true : (a b : List ℕ) → same_name a b ≡ true → a ≡ b

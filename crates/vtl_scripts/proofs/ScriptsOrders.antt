@@ -10,7 +10,7 @@ use Rattle.vtl_cell.specs.Outcome.{Outcome, after}
 use Rattle.vtl_cell.specs.Outcomes.{Same}
 use Rattle.vtl_cell.specs.Row.{Row}
 use Rattle.vtl_tree.specs.Clauses.{filter_of}
-use Rattle.vtl_tree.specs.Environment.{DataSet, Environment, data_of}
+use Rattle.vtl_tree.specs.Environment.{DataSet, Environment, data_of, known_in, points_named}
 use Rattle.vtl_tree.specs.Structure.{columns_of, same_name}
 use Rattle.vtl_tree.specs.declared.structure.Structure.{Structure}
 use Rattle.vtl_tree.specs.Trees as nodes
@@ -20,16 +20,18 @@ use Rattle.vtl_meaning.specs.Analytics.{analytic_of}
 use Rattle.vtl_meaning.proofs.AnalyticOrders.{analytics_respect}
 use Rattle.vtl_meaning.proofs.GroupOrders.{aggregates_respect}
 use Rattle.vtl_meaning.specs.Joined.{join_of}
-use Rattle.vtl_meaning.specs.Made.{AreCombined, AreMade, AreMadeOperands, AreMadeStatements, IsJoined, IsMade, IsMadeForm}
-use Rattle.vtl_meaning.specs.Meaning.{AreDataSets, Outputs, Statement, are_nodes_built, are_operands_built, form_value, is_built, is_built_form, known_in, meaning, node_value, nodes_value, operands_value, points_named, stated, with_first, with_operand, with_output}
+use Rattle.vtl_meaning.specs.Made.{AreCombined, IsJoined}
+use Rattle.vtl_scripts.specs.Made.{AreMade, AreMadeOperands, AreMadeStatements, IsMade, IsMadeForm}
+use Rattle.vtl_scripts.specs.Meaning.{AreDataSets, Outputs, Statement, are_nodes_built, are_operands_built, form_value, is_built, is_built_form, meaning, node_value, nodes_value, operands_value, stated, with_first, with_operand, with_output}
 use Rattle.vtl_meaning.specs.Operators.{calculated_exps, calculated_of, choice_of, left_of, measured_exps, measured_of, pair_of, sub_of}
-use Rattle.vtl_meaning.specs.Orders.{SameData, SameMeaning, SameOperands}
+use Rattle.vtl_meaning.specs.Orders.{SameData, SameOperands}
+use Rattle.vtl_scripts.specs.Orders.{SameMeaning}
 use Rattle.vtl_meaning.specs.Points.{with_points}
 use Rattle.vtl_meaning.specs.Sets.{difference_of, existence_of, intersection_of, symmetric_difference_of, union_of}
 use Rattle.vtl_meaning.specs.Turned.{pivot_of, unpivot_of}
 use Rattle.vtl_meaning.proofs.JoinOrders.{join_order}
 use Rattle.vtl_meaning.proofs.Orders.{choice_respects, each_respects, filtered_respects, pair_respects, shown_respects, sub_respects}
-use Rattle.vtl_meaning.proofs.ScriptsKept.{node_kept, nodes_kept, operands_kept}
+use Rattle.vtl_scripts.proofs.ScriptsKept.{node_kept, nodes_kept, operands_kept}
 use Rattle.vtl_meaning.proofs.SetsOrders.{difference_order, existence_order, intersection_order, symmetric_difference_order, union_order}
 use Rattle.vtl_meaning.proofs.TurnedOrders.{pivot_order, unpivot_order}
 

@@ -11,7 +11,7 @@ use Rattle.vtl_lists.proofs.Sorts.{AllByRecursion-filter}
 use Rattle.vtl_rows.specs.Tables.{cells_at}
 use Rattle.vtl_tree.specs.Clauses.{filter_of}
 use Rattle.vtl_tree.specs.DataSet.{AreOfProfile}
-use Rattle.vtl_tree.specs.Environment.{DataSet, Environment, data_of}
+use Rattle.vtl_tree.specs.Environment.{DataSet, Environment, data_of, known_in, points_named}
 use Rattle.vtl_tree.specs.Structure.{columns_of, same_name}
 use Rattle.vtl_tree.specs.declared.structure.Structure.{Structure}
 use Rattle.vtl_tree.specs.Trees as nodes
@@ -22,8 +22,8 @@ use Rattle.vtl_meaning.specs.Analytics.{analytic_of}
 use Rattle.vtl_meaning.proofs.AnalyticPoints.{result_is_proper as analytic_is_proper}
 use Rattle.vtl_meaning.proofs.GroupPoints.{result_is_proper}
 use Rattle.vtl_meaning.specs.Joined.{join_of}
-use Rattle.vtl_meaning.specs.Made.{AreMade, AreMadeOperands, AreMadeStatements, IsMade, IsMadeForm}
-use Rattle.vtl_meaning.specs.Meaning.{Outputs, Statement, form_value, known_in, meaning, node_value, nodes_value, operands_value, points_named, stated, with_first, with_operand, with_output}
+use Rattle.vtl_scripts.specs.Made.{AreMade, AreMadeOperands, AreMadeStatements, IsMade, IsMadeForm}
+use Rattle.vtl_scripts.specs.Meaning.{Outputs, Statement, form_value, meaning, node_value, nodes_value, operands_value, stated, with_first, with_operand, with_output}
 use Rattle.vtl_meaning.specs.Operators.{calculated_exps, has_values, measured_exps, pair_columns, pair_exps}
 use Rattle.vtl_meaning.specs.Points.{each_point, with_points}
 use Rattle.vtl_meaning.specs.Profiles.{AllAreOfProfile}

@@ -11,7 +11,7 @@ use Rattle.vtl_cell.specs.Outcome.{Outcome, after}
 use Rattle.vtl_cell.specs.Row.{Row}
 use Rattle.vtl_tree.specs.Clauses.{filter_of}
 use Rattle.vtl_tree.specs.DataSet.{IsDataSet}
-use Rattle.vtl_tree.specs.Environment.{DataSet, Environment, data_of}
+use Rattle.vtl_tree.specs.Environment.{DataSet, Environment, data_of, known_in, points_named}
 use Rattle.vtl_tree.specs.Structure.{same_name}
 use Rattle.vtl_tree.specs.declared.structure.Structure.{Structure}
 use Rattle.vtl_tree.specs.Trees as nodes
@@ -22,18 +22,23 @@ use Rattle.vtl_meaning.specs.Analytics.{analytic_of}
 use Rattle.vtl_meaning.proofs.AnalyticPoints.{result_is as analytic_is}
 use Rattle.vtl_meaning.proofs.GroupPoints.{result_is}
 use Rattle.vtl_meaning.specs.Joined.{join_of, structures_of}
-use Rattle.vtl_meaning.specs.Made.{AreCombined, AreMade, AreMadeOperands, AreMadeStatements, IsJoined, IsLeft, IsMade, IsMadeForm, node_structures, operands_in}
-use Rattle.vtl_meaning.specs.Meaning.{AreDataSets, Outputs, Statement, are_nodes_built, are_operands_built, form_value, is_built, is_built_form, known_in, meaning, node_value, nodes_value, operands_value, points_named, stated, with_first, with_operand, with_output}
+use Rattle.vtl_meaning.specs.Made.{AreCombined, IsJoined, IsLeft}
+use Rattle.vtl_scripts.specs.Made.{AreMade, AreMadeOperands, AreMadeStatements, IsMade, IsMadeForm, node_structures, operands_in}
+use Rattle.vtl_scripts.specs.Meaning.{AreDataSets, Outputs, Statement, are_nodes_built, are_operands_built, form_value, is_built, is_built_form, meaning, node_value, nodes_value, operands_value, stated, with_first, with_operand, with_output}
 use Rattle.vtl_meaning.specs.Operators.{calculated_of, choice_of, left_of, measured_of, pair_of, sub_of}
 use Rattle.vtl_meaning.specs.Points.{with_points}
 use Rattle.vtl_meaning.specs.Sets.{difference_of, existence_of, intersection_of, symmetric_difference_of, union_of}
 use Rattle.vtl_meaning.specs.Turned.{pivot_of, unpivot_of}
 use Rattle.vtl_meaning.proofs.JoinKept.{join_kept}
 use Rattle.vtl_meaning.proofs.JoinParts.{AreSets}
-use Rattle.vtl_meaning.proofs.Kept.{after_ok, calculated_kept, choice_kept, filtered_kept, left_kept, measured_kept, ok_is, operand_ok, pair_kept, renamed_kept, sub_kept}
+use Rattle.vtl_meaning.proofs.Kept.{after_ok, calculated_kept, choice_kept, filtered_kept, left_kept, measured_kept, ok_is, pair_kept, renamed_kept, sub_kept}
 use Rattle.vtl_meaning.proofs.Places.{same_name-sym}
 use Rattle.vtl_meaning.proofs.SetsKept.{difference_kept, existence_kept, intersection_kept, symmetric_difference_kept, union_kept}
 use Rattle.vtl_meaning.proofs.TurnedKept.{pivot_kept, unpivot_kept}
+
+-- what a node's data set gives, where it has one
+operand_ok : (a : NodeTree) (m : Outcome (List Row)) (f : DataSet → Outcome (List Row)) (out : List Row) → with_operand a m f ≡ Ok out → (points : List Row) × (m ≡ Ok points) × (f (with_points (structure_of a) points) ≡ Ok out)
+operand_ok a m f out e = after_ok m (λ points. f (with_points (structure_of a) points)) out e
 
 -- ---- expressions
 named_kept : (name : List ℕ) (s : Structure) (env : Environment) → lookup (same_name name) (known_in env) ≡ Some s → AreDataSets env → IsDataSet s (points_named name env)

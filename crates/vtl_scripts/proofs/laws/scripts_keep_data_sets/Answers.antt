@@ -1,5 +1,5 @@
-use Rattle.vtl_meaning.proofs.ScriptsKept.{meaning_kept, node_kept}
-use Rattle.vtl_meaning.proofs.laws.scripts_keep_data_sets.Goals as goal
+use Rattle.vtl_scripts.proofs.ScriptsKept.{meaning_kept, node_kept}
+use Rattle.vtl_scripts.proofs.laws.scripts_keep_data_sets.Goals as goal
 
 pub returns-clause-expression : goal.returns-clause-expression
 returns-clause-expression c = node_kept

@@ -1,5 +1,5 @@
-use Rattle.vtl_meaning.proofs.ScriptsOrders.{meaning_respects, node_respects}
-use Rattle.vtl_meaning.proofs.laws.meaning_does_not_see_order.Goals as goal
+use Rattle.vtl_scripts.proofs.ScriptsOrders.{meaning_respects, node_respects}
+use Rattle.vtl_scripts.proofs.laws.meaning_does_not_see_order.Goals as goal
 
 pub returns-clause-expression : goal.returns-clause-expression
 returns-clause-expression c = λ p env other n h same b i. node_respects p env other h same n b i
