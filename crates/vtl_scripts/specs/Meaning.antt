@@ -1,15 +1,13 @@
 -- The meaning of typed expressions and of statements over an environment of data sets.
-use Rattle.std.specs.Prelude.{ℕ, Bool, true, false, ◌&&◌, cond, List, [], ◌∷◌, map, Option, None, Some, Result, Ok, Err}
+use Rattle.std.specs.Prelude.{ℕ, Bool, true, false, ◌&&◌, cond, List, [], ◌∷◌, Option, None, Some, Result, Ok, Err}
 use Rattle.std.specs.List.{AllByRecursion}
-use Rattle.std.specs.Option.{option_map_or}
 use Rattle.vtl_decimal.specs.Settings.{Settings}
 use Rattle.vtl_cell.specs.Row.{Row}
 use Rattle.vtl_decimal.specs.declared.number.Fault.{Fault}
 use Rattle.vtl_cell.specs.Outcome.{Outcome, after}
 use Rattle.vtl_tree.specs.Clauses.{filter_of}
 use Rattle.vtl_tree.specs.DataSet.{IsDataSet}
-use Rattle.vtl_tree.specs.Environment.{DataSet, Environment, data_of}
-use Rattle.vtl_tree.specs.Structures.{Named}
+use Rattle.vtl_tree.specs.Environment.{DataSet, Environment, points_named}
 use Rattle.vtl_tree.specs.declared.structure.Structure.{Structure}
 use Rattle.vtl_tree.specs.Trees as nodes
 use Rattle.vtl_tree.specs.Trees.{FormTree, MaybeNode, NodeTree, NodeTrees, OperandTrees, structure_of}
@@ -23,14 +21,6 @@ use Rattle.vtl_meaning.specs.Turned.{pivot_of, unpivot_of}
 use Rattle.vtl_rulings.specs.Hierarchies.{hierarchy_of}
 use Rattle.vtl_rulings.specs.HierarchyChecks.{check_hierarchy_of, ruled_by}
 use Rattle.vtl_rulings.specs.PointChecks.{check_of, datapoint_of}
-
--- the points of a data set; a name that is missing has none, and no typed script holds one
-abbrev pub points_named : List ℕ → Environment → List Row
-points_named name env = option_map_or (λ d. d.points) (data_of name env) []
-
--- what is known of an environment: each name with its structure
-abbrev pub known_in : Environment → Named
-known_in env = map (λ d. (d.0, d.1.structure)) env
 
 -- each data set of an environment is one
 abbrev pub AreDataSets : Environment → Type 0
