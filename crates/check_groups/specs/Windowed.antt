@@ -177,10 +177,15 @@ abbrev pub over_columns : Place → Option TypedTree → List Component
 over_columns p (Some (dataset n)) = columns_in n
 over_columns p x = columns_at p
 
--- the window of a call: where there is neither an operand nor a place with components, its names stand for nothing
+-- the window of a call of no data set: where there is no place with components, its names stand for nothing
+abbrev pub window_at : Settings → Place → OverPart → Result Window Rule
+window_at p place.Outside o = frame_alone p o
+window_at p (place.Inside i) o = window_typed p i.components o
+
 abbrev pub over_window : Settings → Place → Option TypedTree → OverPart → Result Window Rule
-over_window p place.Outside None o = frame_alone p o
-over_window p at x o = window_typed p (over_columns at x) o
+over_window p at None o = window_at p at o
+over_window p at (Some (value v)) o = window_at p at o
+over_window p at (Some (dataset n)) o = window_typed p (columns_in n) o
 
 -- of a data set: in a component expression a value is needed, and `DatasetOrValue` is less than what the call asks of its window
 abbrev pub over_dataset : Place → Exp → NodeTree → Call → Window → Result TypedTree Rule

@@ -1,11 +1,11 @@
 // The windows of analytic calls, and the parts of calls after their operands.
 ghost use Rattle.std.specs.Option.{option_copied, option_map};
-ghost use Rattle.std.specs.Prelude.{◌≡◌, IfOk, unwrap_or};
+ghost use Rattle.std.specs.Prelude.{IfOk, Some, unwrap_or, ◌≡◌};
 ghost use Rattle.check_faults.specs.Answers.{Answers};
 ghost use Rattle.vtl_syntax.specs.View.{expr_tree};
 ghost use Rattle.check_values.specs.Windows.{frame_alone, window_typed};
 ghost use Rattle.check_operators.specs.Typed.{typed_tree};
-ghost use Rattle.check_groups.specs.Windowed.{kinds_beside, no_window, over_of, over_parts, over_window};
+ghost use Rattle.check_groups.specs.Windowed.{kinds_beside, no_window, over_of, over_parts, over_window, window_at};
 
 use crate::Call;
 use crate::calls::call_typed;
@@ -63,7 +63,40 @@ fn frame_of(alloc: Global, profile: &Profile, call: &Expr) -> Result<Window, Typ
     }
 }
 
-// The window of a call: where there is neither an operand nor a place with components, its names stand for nothing.
+// The window of a call of no data set: where there is no place with components, its names stand for nothing.
+fn window_at(
+    alloc: Global,
+    profile: &Profile,
+    place: &Place,
+    call: &Expr,
+) -> Result<Window, TypeErr>
+    ensures { Answers (λ window. window) result (window_at profile.now place.now (over_of (expr_tree call.now))) }
+{
+    match place {
+        Place::Outside => frame_of(alloc, profile, call),
+        Place::Inside(inside) => window_of(alloc, profile, inside.components.as_slice(), call),
+    }
+}
+
+// The window of a call behind its operand.
+fn window_behind(
+    alloc: Global,
+    profile: &Profile,
+    place: &Place,
+    call: &Expr,
+    operand: &Typed,
+) -> Result<Window, TypeErr>
+    ensures { Answers (λ window. window) result (over_window profile.now place.now (Some (typed_tree operand.now)) (over_of (expr_tree call.now))) }
+{
+    match operand {
+        Typed::Dataset(node) => {
+            let at = points(alloc, &None, node)?;
+            window_of(alloc, profile, columns_at(&at), call)
+        }
+        Typed::Value(_) => window_at(alloc, profile, place, call),
+    }
+}
+
 fn over_window(
     alloc: Global,
     profile: &Profile,
@@ -73,13 +106,9 @@ fn over_window(
 ) -> Result<Window, TypeErr>
     ensures { Answers (λ window. window) result (over_window profile.now place.now (option_map typed_tree operand.now) (over_of (expr_tree call.now))) }
 {
-    match (place, operand) {
-        (_, Some(Typed::Dataset(node))) => {
-            let at = points(alloc, &None, node)?;
-            window_of(alloc, profile, columns_at(&at), call)
-        }
-        (Place::Outside, None) => frame_of(alloc, profile, call),
-        _ => window_of(alloc, profile, columns_at(place), call),
+    match operand {
+        Some(operand) => window_behind(alloc, profile, place, call, operand),
+        None => window_at(alloc, profile, place, call),
     }
 }
 

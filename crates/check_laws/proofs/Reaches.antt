@@ -28,16 +28,17 @@ use Rattle.vtl_tree.specs.declared.structure.Component.{Component}
 use Rattle.vtl_tree.specs.declared.calls.Frame.{Frame}
 use Rattle.vtl_tree.specs.declared.calls.Window.{Window}
 use Rattle.check_values.specs.Windows.{bound_typed, frame_alone, frame_typed, or_none, order_typed, partition_typed, points_at, points_in, points_typed, window_typed}
-use Rattle.check_operators.specs.Typed.{TypedTree}
+use Rattle.check_operators.specs.Typed.{TypedTree, dataset, value}
 use Rattle.check_operators.specs.declared.places.Place.{Place}
 use Rattle.check_operators.specs.declared.places.Place.TheVariants as place
-use Rattle.check_groups.specs.Windowed.{call_typed, default_typed, kinds_beside, of_aggregate, of_shift, of_window, or_count, over_columns, over_of, over_parts, over_window, shift_call}
+use Rattle.check_groups.specs.Windowed.{call_typed, default_typed, kinds_beside, of_aggregate, of_shift, of_window, or_count, over_of, over_parts, over_window, shift_call, window_at}
 use Rattle.check_groups.specs.declared.calls.Call.{Call}
 use Rattle.check_groups.specs.declared.calls.Needed.TheVariants as needed
 use Rattle.vtl_meaning.specs.Reaches.{IsNear, is_near, is_near_bound, is_near_frame, is_near_operator, is_near_window}
 use Rattle.check_laws.specs.Gives.{Gives}
 use Rattle.check_laws.proofs.Steps.{after, then}
 use Rattle.check_laws.proofs.Tests.{and-true}
+use Rattle.check_operators.specs.Places.{columns_in}
 
 points-near : (o : Option ℤ) → Gives (λ n. is_near n ≡ true) (points_in o)
 points-near None = tt
@@ -79,10 +80,14 @@ window-near p columns o =
 alone-near : (p : Settings) (o : OverPart) → Gives (λ w. is_near_window w ≡ true) (frame_alone p o)
 alone-near p o = then (λ f. option_map_or is_near_frame f true ≡ true) (λ w. is_near_window w ≡ true) (frame_typed p o.points) (λ f. Ok (record { partition = []; order = []; frame = f })) (frame-near p o.points) (λ f near. near)
 
+at-near : (p : Settings) (at : Place) (o : OverPart) → Gives (λ w. is_near_window w ≡ true) (window_at p at o)
+at-near p place.Outside o = alone-near p o
+at-near p (place.Inside i) o = window-near p i.components o
+
 over-near : (p : Settings) (at : Place) (x : Option TypedTree) (o : OverPart) → Gives (λ w. is_near_window w ≡ true) (over_window p at x o)
-over-near p place.Outside None o = alone-near p o
-over-near p place.Outside (Some t) o = window-near p (over_columns place.Outside (Some t)) o
-over-near p (place.Inside i) x o = window-near p (over_columns (place.Inside i) x) o
+over-near p at None o = at-near p at o
+over-near p at (Some (value v)) o = at-near p at o
+over-near p at (Some (dataset n)) o = window-near p (columns_in n) o
 
 abbrev IsNearCall : Call → Type 0
 IsNearCall call = is_near_operator (or_count call.op) ≡ true

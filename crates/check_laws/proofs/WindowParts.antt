@@ -41,8 +41,8 @@ use Rattle.vtl_tree.specs.declared.calls.AnalyticOp.{AnalyticOp}
 use Rattle.vtl_tree.specs.declared.calls.AnalyticOp.TheVariants as op
 use Rattle.vtl_tree.specs.declared.calls.OrderKey.{OrderKey}
 use Rattle.vtl_tree.specs.declared.calls.Window.{Window}
-use Rattle.check_operators.specs.Typed.{TypedTree}
-use Rattle.check_groups.specs.Windowed.{call_typed, default_typed, is_rank, kinds_beside, of_aggregate, of_shift, of_window, over_columns, over_kind, over_of, over_parts, over_window, shift_call, suits, window_needed}
+use Rattle.check_operators.specs.Typed.{TypedTree, dataset, value}
+use Rattle.check_groups.specs.Windowed.{call_typed, default_typed, is_rank, kinds_beside, of_aggregate, of_shift, of_window, over_columns, over_kind, over_of, over_parts, over_window, shift_call, suits, window_at, window_needed}
 use Rattle.check_groups.specs.declared.calls.Call.{Call}
 use Rattle.check_groups.specs.declared.calls.Needed.{Needed}
 use Rattle.check_groups.specs.declared.calls.Needed.TheVariants as needed
@@ -56,6 +56,7 @@ use Rattle.check_laws.proofs.Reaches.{AreNearParts, parts-near}
 use Rattle.check_laws.proofs.Steps.{after, both, tested, tested-then, then, weaker}
 use Rattle.check_laws.proofs.Tests.{not-false}
 use Rattle.check_laws.proofs.Turns.{in-turn}
+use Rattle.check_operators.specs.Places.{columns_at, columns_in}
 
 -- ---- the names of a window
 
@@ -226,10 +227,14 @@ call-gives p e ks = let is = rank-call p e ks (λ kind. refl) in (is, λ yes. is
 alone-named : (p : Settings) (xs : List Component) (o : OverPart) → Gives (HasNames xs) (frame_alone p o)
 alone-named p xs o = after (HasNames xs) (frame_typed p o.points) (λ f. Ok (record { partition = []; order = []; frame = f })) (λ f. (tt, tt))
 
+at-named : (p : Settings) (at : Place) (o : OverPart) → Gives (HasNames (columns_at at)) (window_at p at o)
+at-named p place.Outside o = alone-named p [] o
+at-named p (place.Inside i) o = window-named p i.components o
+
 over-named : (p : Settings) (at : Place) (x : Option TypedTree) (o : OverPart) → Gives (HasNames (over_columns at x)) (over_window p at x o)
-over-named p place.Outside None o = alone-named p (over_columns place.Outside None) o
-over-named p place.Outside (Some t) o = window-named p (over_columns place.Outside (Some t)) o
-over-named p (place.Inside i) x o = window-named p (over_columns (place.Inside i) x) o
+over-named p at None o = at-named p at o
+over-named p at (Some (value v)) o = at-named p at o
+over-named p at (Some (dataset n)) o = window-named p (columns_in n) o
 
 -- a call and its window
 abbrev pub AreParts : Settings → Place → Exp → Option TypedTree → Call × Window → Type 0

@@ -106,7 +106,7 @@ module _ (rules : List HierRule) where
   then_on a b c (directly a' b' m) n = through a' b' c m (directly b' c n)
   then_on a b c (through a' p b' m d) n = through a' p c m (then_on p b' c d n)
 
-  one_less_left : (done : List ℕ) (x : Placed) → next_behind rules done ≡ Some x → length (left_behind rules done) ≡ suc (length (left_behind rules (done ++ x.0 ∷ [])))
+  pub one_less_left : (done : List ℕ) (x : Placed) → next_behind rules done ≡ Some x → length (left_behind rules done) ≡ suc (length (left_behind rules (done ++ x.0 ∷ [])))
   one_less_left done x e =
       let f = found_is (is_ready (left_behind rules done)) (left_behind rules done) x e in
       let g = kept_at (is_left done) (enumerate_from 0 rules) f.0 x f.1 in

@@ -1,8 +1,10 @@
 mod Circles
+mod Columns
 mod Counts
 mod Examples
 mod Finding
 mod Identifiers
+mod InOrder
 mod Lists
 mod Maps
 mod Runs

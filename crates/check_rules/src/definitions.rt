@@ -11,8 +11,8 @@ ghost use Rattle.vtl_tree.specs.Checks.{rule_id};
 ghost use Rattle.vtl_tree.specs.RuleItems.{items_of};
 
 use crate::items::items;
+use crate::names::names_of;
 use check_faults::{Rule, TypeErr, broken};
-use check_values::name;
 use std::alloc::{AllocError, Global};
 use vtl_cell::integer_written;
 use vtl_decimal::Profile;
@@ -42,10 +42,7 @@ fn levels_fit(profile: &Profile, rules: &[PointRule]) -> bool
 fn names_differ(alloc: Global, components: &[Comp]) -> Result<bool, AllocError>
     ensures { IfOk result (λ b. b ≡ all_apart same_name (map name_of components.now)) }
 {
-    let mut names = Vec::new(alloc);
-    for component in components {
-        names.push(name(component).share()?)?;
-    }
+    let names = names_of(alloc, components)?;
     are_distinct(alloc, &names)
 }
 

@@ -1,20 +1,17 @@
 -- `hierarchy` gives data sets.
-use Rattle.std.proofs.Common.{◌≡◌, ℕ, zero, suc, Bool, true, false, cond, List, [], ◌∷◌, ◌++◌, map, take, Option, Some, None, Ok, refl, sym, ap, ◌∙◌, subst}
+use Rattle.std.proofs.Common.{◌≡◌, true, List, [], ◌∷◌, ◌++◌, map, take, Option, Some, None, Ok, refl, sym, ap, ◌∙◌, subst}
 use Rattle.std.specs.Prelude.{IfSome, option_map}
-use Rattle.std.specs.List.{AllByRecursion, filter_map, find}
-use Rattle.std.specs.Option.{option_map_or, option_to_list}
+use Rattle.std.specs.List.{AllByRecursion, filter_map}
+use Rattle.std.specs.Option.{option_to_list}
 use Rattle.vtl_decimal.specs.Settings.{Settings}
 use Rattle.vtl_lists.specs.Apart.{all_apart}
-use Rattle.vtl_cell.specs.Kinds.{is_null}
 use Rattle.vtl_cell.specs.Outcome.{Outcome, faults_by}
 use Rattle.vtl_cell.specs.Row.{Row, same_key, same_row}
 use Rattle.vtl_cell.specs.declared.cell.Cell.{Cell}
-use Rattle.vtl_cell.specs.declared.kind.Kind.{Kind}
 use Rattle.vtl_cell.proofs.Rows.{same_row-is, same_row-refl}
 use Rattle.vtl_rows.specs.Tables.{fits_kinds}
 use Rattle.vtl_syntax.specs.declared.statements.HierRule.{HierRule}
 use Rattle.vtl_syntax.specs.declared.word_groups.HierInput.{HierInput}
-use Rattle.vtl_syntax.specs.declared.word_groups.HierInput.TheVariants as input
 use Rattle.vtl_syntax.specs.declared.word_groups.HierOut.{HierOut}
 use Rattle.vtl_syntax.specs.declared.word_groups.HierOut.TheVariants as out
 use Rattle.vtl_syntax.specs.declared.word_groups.Mode.{Mode}
@@ -35,43 +32,14 @@ use Rattle.vtl_meaning.proofs.Places.{all_more, are_others, columns_split, each,
 use Rattle.vtl_meaning.proofs.SetsKept.{shown_kept, united_kept}
 use Rattle.vtl_meaning.proofs.TurnedKept.{all_drawn, each_apart, filter_map_drawn}
 use Rattle.vtl_meaning.proofs.ValueKinds.{GivesOf, IsOf, null_is_of}
-use Rattle.vtl_rulings.specs.Hierarchies.{computed, defines, hierarchy_of, items_of, items_within, made_at, made_fault, made_point, made_points, shown_points, taken}
+use Rattle.vtl_rulings.specs.Hierarchies.{hierarchy_of, made_at, made_fault, made_point, made_points, shown_points}
 use Rattle.vtl_rulings.specs.HierarchyChecks.{Ruled, combinations, items_at, key_at}
-use Rattle.vtl_rulings.specs.HierarchyShapes.{IsHierarchyMade, IsNumeric}
-use Rattle.vtl_rulings.specs.Modes.{Found, Items, appears}
-use Rattle.vtl_rulings.specs.Sides.{right_side}
-use Rattle.vtl_tree.specs.RuleItems.{definitions, left_item, right_items}
+use Rattle.vtl_rulings.specs.HierarchyShapes.{IsHierarchyMade}
+use Rattle.vtl_tree.specs.RuleItems.{definitions, left_item}
 use Rattle.vtl_rulings.proofs.Checked.{given_or_null}
 use Rattle.vtl_rulings.proofs.HierarchyKeys.{combinations_typed, item_back, items_are, key_back, key_is_point}
-use Rattle.vtl_rulings.proofs.SideKinds.{AreOf, right_is}
-
--- ---- items that are computed are of the kind of the measure
-taken_is : (kind : Kind) (i : HierInput) (given : Found) (made : Option (Outcome Cell)) → IfSome given (IsOf kind) → IfSome made (GivesOf kind) → IfSome (taken i given made) (IsOf kind)
-taken_is kind input.Dataset given made g f = g
-taken_is kind input.Rule given None g f = tt
-taken_is kind input.Rule given (Some v) g f = given_or_null (IsOf kind) v (null_is_of kind) f
-taken_is kind input.RulePriority given None g f = g
-taken_is kind input.RulePriority given (Some v) g f = go (is_null (cell_or_null v))
-  where
-    go : (b : Bool) → IfSome (cond b given (Some (cell_or_null v))) (IsOf kind)
-    go true = g
-    go false = given_or_null (IsOf kind) v (null_is_of kind) f
-
-module _ (p : Settings) (m : Mode) (kind : Kind) (n : IsNumeric kind) where
-  computed_is : (items : Items) → AreOf kind items → (r : HierRule) → IfSome (computed p m kind items r) (GivesOf kind)
-  computed_is items are r = go (appears m (map items (right_items r)))
-    where
-      go : (b : Bool) → IfSome (cond b (Some (right_side p m kind items r)) None) (GivesOf kind)
-      go true = right_is p m kind n items are r
-      go false = tt
-
-  within_are : (i : HierInput) (rules : List HierRule) (given : Items) → AreOf kind given → (depth : ℕ) → AreOf kind (items_within p m kind i rules given depth)
-  within_are i rules given g zero name = g name
-  within_are i rules given g (suc depth) name = go (find (defines name) rules) (within_are i rules given g depth)
-    where
-      go : (found : Option HierRule) → AreOf kind (items_within p m kind i rules given depth) → IfSome (option_map_or (λ r. taken i (given name) (computed p m kind (items_within p m kind i rules given depth) r)) found (given name)) (IsOf kind)
-      go None are = g name
-      go (Some r) are = taken_is kind i (given name) (computed p m kind (items_within p m kind i rules given depth) r) (g name) (computed_is (items_within p m kind i rules given depth) are r)
+use Rattle.vtl_rulings.proofs.SideKinds.{kinds_kept}
+use Rattle.vtl_rulings.proofs.SidesHold.{made_holds}
 
 -- ---- points
 module _ (p : Settings) (h : Ruled) (m : Mode) (i : HierInput) (rules : List HierRule) (a s : Structure) (d : List Row) (is : IsHierarchyMade h rules a s) (set : IsDataSet a d) where
@@ -91,10 +59,7 @@ module _ (p : Settings) (h : Ruled) (m : Mode) (i : HierInput) (rules : List Hie
   point_at r row = made_point p h m i rules operand r row
 
   made_is : (r : HierRule) (row : Row) → IfSome (made_at p h m i rules operand r row) (GivesOf h.kind)
-  made_is r row =
-      let given = items_at h operand row in
-      let n = is.itemized.numeric in
-      computed_is p m h.kind n (items_of p m h.kind i (definitions rules) given) (λ name. within_are p m h.kind n i (definitions rules) given (items_are h a d is.itemized set row) _ name) r
+  made_is r row = made_holds p h.kind (IsOf h.kind) (kinds_kept p h.kind is.itemized.numeric) m i (definitions rules) (items_at h operand row) (items_are h a d is.itemized set row) r
 
   point_is : (r : HierRule) (row : Row) → is_point left row ≡ true → AtMostOne (IsMadeBy r row) (option_to_list (point_at r row))
   point_is r row t = go (made_at p h m i rules operand r row) (made_is r row)
@@ -137,7 +102,7 @@ module _ (p : Settings) (h : Ruled) (m : Mode) (i : HierInput) (rules : List Hie
   items_told r t q z f g e =
       ap (same_name (left_item r)) (sym (item_back h.id a set.well_formed f.0 g.0 (left_item r) (left_item t) is.itemized.coded (keys_same r t f.0 g.0 q z f.1 g.1 e))) ∙ same_name-refl (left_item r)
 
-  made_kept : IsDataSet s (made_points p h m i rules operand)
+  pub made_kept : IsDataSet s (made_points p h m i rules operand)
   made_kept =
       let all = definitions rules in
       let drawn = each (λ r. AllByRecursion (IsDrawn r) (points r)) are_drawn all in record {

@@ -6,6 +6,7 @@ pub mod HierarchiesKept
 pub mod HierarchiesMade
 pub mod HierarchyKeys
 pub mod HierarchyOrders
+pub mod HierarchyProfiles
 pub mod Orders
 pub mod PointsKept
 pub mod Profiles
@@ -13,3 +14,4 @@ pub mod RuledLooks
 pub mod Running
 pub mod Shown
 pub mod SideKinds
+pub mod SidesHold

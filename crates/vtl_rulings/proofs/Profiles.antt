@@ -39,7 +39,7 @@ use Rattle.vtl_rulings.specs.PointChecks.{PointRule, check_of, checked_point, da
 use Rattle.vtl_rulings.specs.Shaped.{IsConditionOver, IsPointRuleOver}
 use Rattle.vtl_rulings.proofs.Checked.{all_with_ids, code_of_profile, errors_hold, given_or_null, level_of_profile, parts_hold, under_holds}
 
-unless_if : {A : Type 0} (P : A → Type 0) (f : Option Fault) (x : A) → P x → IfOk (unless f x) P
+pub unless_if : {A : Type 0} (P : A → Type 0) (f : Option Fault) (x : A) → P x → IfOk (unless f x) P
 unless_if P None x h = h
 unless_if P (Some f) x h = tt
 
@@ -50,7 +50,7 @@ module _ (p : Settings) where
   key_profile : (a : Structure) (r : Row) → IsRowOfProfile p r → IsRowOfProfile p (key_of a r)
   key_profile a r h = front_holds Of tt (key_width a) r h
 
-  errors_profile : (code : Option (List ℕ)) (level : Option ℤ) (truth : Cell) → IfSome level (λ n. Of (c.Int n)) → IsRowOfProfile p (errors_at (code_cell code) (level_cell level) truth)
+  pub errors_profile : (code : Option (List ℕ)) (level : Option ℤ) (truth : Cell) → IfSome level (λ n. Of (c.Int n)) → IsRowOfProfile p (errors_at (code_cell code) (level_cell level) truth)
   errors_profile code level truth h = errors_hold Of (code_cell code) (level_cell level) truth tt (code_of_profile p code) (level_of_profile p level h)
 
   -- ---- `check_datapoint`

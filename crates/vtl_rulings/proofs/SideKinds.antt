@@ -1,43 +1,37 @@
 -- The sides of hierarchical rules are of the kind of the measure.
-use Rattle.std.proofs.Common.{◌≡◌, ℕ, true, List, [], ◌∷◌, map, Option, Some, None, refl}
-use Rattle.std.specs.Prelude.{IfSome}
-use Rattle.std.specs.List.{AllByRecursion}
+use Rattle.std.proofs.Common.{◌≡◌, true, [], ◌∷◌, Some, refl}
 use Rattle.vtl_decimal.specs.Settings.{Settings}
 use Rattle.vtl_cell.specs.Conversion.{as_kind}
-use Rattle.vtl_cell.specs.Outcome.{Outcome, after}
+use Rattle.vtl_cell.specs.Outcome.{after}
 use Rattle.vtl_cell.specs.Outcomes.{result_of}
-use Rattle.vtl_cell.specs.Row.{Row}
 use Rattle.vtl_cell.specs.ScalarKinds.{meets}
 use Rattle.vtl_cell.specs.declared.cell.Cell.{Cell}
 use Rattle.vtl_cell.specs.declared.kind.Kind.{Kind}
 use Rattle.vtl_cell.specs.declared.kind.Kind.TheVariants as k
 use Rattle.vtl_cell.specs.declared.operator.ScalarOp.{ScalarOp}
 use Rattle.vtl_cell.specs.declared.operator.ScalarOp.TheVariants as op
-use Rattle.vtl_syntax.specs.declared.parts.SignedComp.{SignedComp}
 use Rattle.vtl_syntax.specs.declared.statements.HierRule.{HierRule}
 use Rattle.vtl_syntax.specs.declared.word_groups.Addition.{Addition}
 use Rattle.vtl_syntax.specs.declared.word_groups.Addition.TheVariants as sign
 use Rattle.vtl_syntax.specs.declared.word_groups.Comparison.{Comparison}
 use Rattle.vtl_syntax.specs.declared.word_groups.Comparison.TheVariants as compared
 use Rattle.vtl_syntax.specs.declared.word_groups.Mode.{Mode}
-use Rattle.vtl_syntax.specs.declared.word_groups.Mode.TheVariants as mode
 use Rattle.vtl_tree.specs.CompExp.{CompExp, call, column, comp_exp, no_comp_exps}
 use Rattle.vtl_tree.specs.Measures.{made}
 use Rattle.vtl_tree.specs.Value.{value}
 use Rattle.vtl_tree.specs.declared.structure.Component.{Component}
 use Rattle.vtl_tree.specs.declared.structure.Role.TheVariants as role
 use Rattle.vtl_meaning.specs.Made.{IsTyped}
-use Rattle.vtl_meaning.proofs.Places.{all_map, each}
 use Rattle.vtl_meaning.proofs.ValueKinds.{GivesOf, IsOf, after_if, null_is_of, value_is_of}
 use Rattle.vtl_rulings.specs.HierarchyShapes.{IsNumeric}
-use Rattle.vtl_rulings.specs.Modes.{Found, Items, counted, missing_as, zero_of}
-use Rattle.vtl_rulings.specs.Sides.{comparison_op, difference, first_value, holds, left_side, next_values, right_side, sign_op, sum_of}
-use Rattle.vtl_tree.specs.RuleItems.{left_item, right_items}
+use Rattle.vtl_rulings.specs.Modes.{Items, zero_of}
+use Rattle.vtl_rulings.specs.Sides.{comparison_op, difference, first_value, holds, left_side, right_side, sign_op}
 use Rattle.vtl_rulings.proofs.ChecksKept.{number_is, numeric}
+use Rattle.vtl_rulings.proofs.SidesHold.{AllHave, IsKept, left_holds, right_holds}
 
 -- what there is of each item is of this kind
 abbrev pub AreOf : Kind → Items → Type 0
-AreOf kind items = (name : List ℕ) → IfSome (items name) (IsOf kind)
+AreOf kind items = AllHave (IsOf kind) items
 
 zero_is : (kind : Kind) → IsNumeric kind → IsOf kind (zero_of kind)
 zero_is k.Int n = refl
@@ -47,18 +41,6 @@ zero_is k.Bool n = absurd n
 zero_is k.Text n = absurd n
 zero_is k.Day n = absurd n
 zero_is k.Period n = absurd n
-
-missing_is : (m : Mode) (kind : Kind) → IsNumeric kind → IsOf kind (missing_as m kind)
-missing_is mode.NonNull kind n = null_is_of kind
-missing_is mode.NonZero kind n = zero_is kind n
-missing_is mode.PartialNull kind n = null_is_of kind
-missing_is mode.PartialZero kind n = zero_is kind n
-missing_is mode.AlwaysNull kind n = null_is_of kind
-missing_is mode.AlwaysZero kind n = zero_is kind n
-
-pub counted_is : (m : Mode) (kind : Kind) → IsNumeric kind → (x : Found) → IfSome x (IsOf kind) → IsOf kind (counted m kind x)
-counted_is m kind n None h = missing_is m kind n
-counted_is m kind n (Some v) h = h
 
 module _ (p : Settings) where
   -- ---- operators, by what expressions over columns of these kinds give
@@ -109,28 +91,19 @@ module _ (p : Settings) where
   compare_typed k.Period n o = absurd n
 
   -- ---- sides
-  first_is : (kind : Kind) → IsNumeric kind → (s : Option Addition) (v : Cell) → IsOf kind v → GivesOf kind (first_value p kind s v)
-  first_is kind n None v h = h
-  first_is k.Int n (Some sign.Plus) v h = one_is op.Identity k.Int v (refl, ((refl, refl), tt), refl) h
-  first_is k.Int n (Some sign.Minus) v h = one_is op.Negate k.Int v (refl, ((refl, refl), tt), refl) h
-  first_is k.Num n (Some sign.Plus) v h = one_is op.Identity k.Num v (refl, ((refl, refl), tt), refl) h
-  first_is k.Num n (Some sign.Minus) v h = one_is op.Negate k.Num v (refl, ((refl, refl), tt), refl) h
-  first_is k.Null n (Some s) v h = absurd n
-  first_is k.Bool n (Some s) v h = absurd n
-  first_is k.Text n (Some s) v h = absurd n
-  first_is k.Day n (Some s) v h = absurd n
-  first_is k.Period n (Some s) v h = absurd n
+  signed_is : (kind : Kind) → IsNumeric kind → (s : Addition) (v : Cell) → IsOf kind v → GivesOf kind (first_value p kind (Some s) v)
+  signed_is k.Int n sign.Plus v h = one_is op.Identity k.Int v (refl, ((refl, refl), tt), refl) h
+  signed_is k.Int n sign.Minus v h = one_is op.Negate k.Int v (refl, ((refl, refl), tt), refl) h
+  signed_is k.Num n sign.Plus v h = one_is op.Identity k.Num v (refl, ((refl, refl), tt), refl) h
+  signed_is k.Num n sign.Minus v h = one_is op.Negate k.Num v (refl, ((refl, refl), tt), refl) h
+  signed_is k.Null n s v h = absurd n
+  signed_is k.Bool n s v h = absurd n
+  signed_is k.Text n s v h = absurd n
+  signed_is k.Day n s v h = absurd n
+  signed_is k.Period n s v h = absurd n
 
-  next_is : (kind : Kind) → IsNumeric kind → (total : Outcome Cell) (xs : List SignedComp) (vs : Row) → GivesOf kind total → AllByRecursion (IsOf kind) vs → GivesOf kind (next_values p kind total xs vs)
-  next_is kind n total [] vs h all = h
-  next_is kind n total (x ∷ xs) [] h all = h
-  next_is kind n total (x ∷ xs) (v ∷ vs) h all =
-      let more : Cell → Outcome Cell = λ u. result_of p (sign_op x.sign) kind (u ∷ v ∷ []) in
-      next_is kind n (after total more) xs vs (after_if total more (IsOf kind) (IsOf kind) h (λ u i. add_is kind n x.sign u v i all.0)) all.1
-
-  sum_is : (kind : Kind) → IsNumeric kind → (r : HierRule) (vs : Row) → AllByRecursion (IsOf kind) vs → GivesOf kind (sum_of p kind r vs)
-  sum_is kind n r [] all = null_is_of kind
-  sum_is kind n r (v ∷ vs) all = next_is kind n (first_value p kind r.sign v) r.others vs (first_is kind n r.sign v all.0) all.1
+  pub kinds_kept : (kind : Kind) → IsNumeric kind → IsKept p kind (IsOf kind)
+  kinds_kept kind n = record { null = null_is_of kind; nothing = zero_is kind n; signed = signed_is kind n; added = add_is kind n }
 
   numbers_meet : (kind : Kind) → IsNumeric kind → meets k.Num kind ≡ true
   numbers_meet k.Int n = refl
@@ -143,12 +116,10 @@ module _ (p : Settings) where
 
   module _ (m : Mode) (kind : Kind) (n : IsNumeric kind) (items : Items) (are : AreOf kind items) (r : HierRule) where
     pub left_is : IsOf kind (left_side m kind items r)
-    left_is = counted_is m kind n (items (left_item r)) (are (left_item r))
+    left_is = left_holds p kind (IsOf kind) (kinds_kept kind n) m items are r
 
     pub right_is : GivesOf kind (right_side p m kind items r)
-    right_is =
-        let f : List ℕ → Cell = λ name. counted m kind (items name) in
-        sum_is kind n r (map f (right_items r)) (all_map f (IsOf kind) (right_items r) (each (λ name. IsOf kind (f name)) (λ name. counted_is m kind n (items name) (are name)) (right_items r)))
+    right_is = right_holds p kind (IsOf kind) (kinds_kept kind n) m items are r
 
     pub holds_is : GivesOf k.Bool (holds p m kind items r)
     holds_is =

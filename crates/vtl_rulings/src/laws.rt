@@ -56,10 +56,13 @@ pub fn checks_do_not_see_order()
     ensures imbalance { (p : Settings) (spec : CheckSpec) (a b s : Structure) (d t e f : List Row) → IsChecked p spec (Some b) a s → IsDataSet b e → Perm d t → Perm e f → Perm (check_of p spec (with_points a d) (Some (with_points b e))) (check_of p spec (with_points a t) (Some (with_points b f))) }
 {}
 
-/// The points of checks hold integers of the profile alone where those of the operand do.
+/// The points of checks and of hierarchies hold integers of the profile alone where those of the operand do. An imbalance
+/// is shown as a number, so nothing is asked of its points.
 pub fn checks_are_of_the_profile()
     ensures datapoint { (p : Settings) (o : CheckOut) (rules : List PointRuleTree) (a s : Structure) (d : List Row) → IsPointChecked p o rules a s → AreOfProfile p d → IfOk (datapoint_of p o rules (with_points a d)) (AreOfProfile p) }
     ensures check { (p : Settings) (spec : CheckSpec) (imbalance : Option DataSet) (a s : Structure) (d : List Row) → IsChecked p spec (option_map (λ e. e.structure) imbalance) a s → AreOfProfile p d → AreOfProfile p (check_of p spec (with_points a d) imbalance) }
+    ensures hierarchy { (p : Settings) (o : CheckOut) (h : Ruled) (m : Mode) (rules : List HierRule) (a : Structure) (d : List Row) → AreOfProfile p d → IfOk (check_hierarchy_of p o h m (with_points a d) rules) (AreOfProfile p) }
+    ensures computed { (p : Settings) (h : Ruled) (m : Mode) (i : HierInput) (rules : List HierRule) (a s : Structure) (o : HierOut) (d : List Row) → AreOfProfile p d → IfOk (hierarchy_of p h m i rules (with_points a d) o s) (AreOfProfile p) }
 {}
 
 /// `invalid` shows what is false among all: of `all_measures` without the truth value, of `all` as it stands.
@@ -78,10 +81,11 @@ pub fn each_rule_is_at_each_point()
     ensures only { (p : Settings) (o : CheckOut) (rules : List PointRuleTree) (a : DataSet) (s : Structure) (made : List Row) (j q : Row) → IsPointChecked p o rules a.structure s → IsDataSet a.structure a.points → datapoint_of p o rules a ≡ Ok made → look (key_width s) made j ≡ Some q → (k : Row) × (id : List ℕ) × (is_some (find (λ rule. same_name rule.0 id) (point_rules rules)) ≡ true) × (j ≡ k ++ c.Text id ∷ []) }
 {}
 
-/// The same of checks by hierarchical rules, and of the points that a hierarchy computes, for every mode and input.
+/// The same of checks by hierarchical rules, and of hierarchies, for every mode and input.
 pub fn hierarchies_do_not_see_order()
     ensures check { (p : Settings) (o : CheckOut) (h : Ruled) (m : Mode) (rules : List HierRule) (a : Structure) (d e : List Row) → IsDataSet a d → Perm d e → Same (check_hierarchy_of p o h m (with_points a d) rules) (check_hierarchy_of p o h m (with_points a e) rules) }
     ensures computed { (p : Settings) (h : Ruled) (m : Mode) (i : HierInput) (rules : List HierRule) (a s : Structure) (d e : List Row) → IsDataSet a d → Perm d e → Same (hierarchy_of p h m i rules (with_points a d) points.Computed s) (hierarchy_of p h m i rules (with_points a e) points.Computed s) }
+    ensures all { (p : Settings) (h : Ruled) (m : Mode) (i : HierInput) (rules : List HierRule) (a s : Structure) (d e : List Row) → IsHierarchyMade h rules a s → IsDataSet a d → Perm d e → Same (hierarchy_of p h m i rules (with_points a d) points.All s) (hierarchy_of p h m i rules (with_points a e) points.All s) }
 {}
 
 /// Where rules, of which no two define one item, are run in an order in which none stands before a rule that defines one of

@@ -6,6 +6,7 @@ use Rattle.vtl_tree.specs.declared.structure.Structure.{Structure}
 use Rattle.vtl_tree.specs.Trees as nodes
 use Rattle.vtl_tree.specs.Trees.{FormTree}
 use Rattle.vtl_meaning.specs.Made.{AreCombined}
+use Rattle.vtl_meaning.proofs.Determined.{same_shape}
 use Rattle.vtl_scripts.specs.Made.{IsMadeForm, node_structures}
 use Rattle.vtl_scripts.specs.Meaning.{is_built_form}
 
