@@ -23,7 +23,7 @@ use Rattle.check_operators.specs.Typed.{TypedTree, components_in, dataset_in}
 use Rattle.check_operators.specs.declared.places.Joined.{Joined}
 use Rattle.check_operators.specs.declared.places.Place.TheVariants as place
 use Rattle.check_clauses.specs.JoinOperands.{PartTyped, alias_of, aliases_in, joined_node, last_naming, left_names, new_alias, operand_in, operands_in, shape_of, using_names, with_part}
-use Rattle.vtl_meaning.specs.Made as made
+use Rattle.vtl_scripts.specs.Made as made
 use Rattle.vtl_meaning.specs.Made.{IsJoined}
 use Rattle.vtl_scripts.specs.Made.{AreMadeOperands, IsMade}
 use Rattle.vtl_meaning.specs.Shapes.{IsJoinedFrom, IsShaped}

@@ -15,7 +15,7 @@ use Rattle.vtl_syntax.specs.declared.parts.Comp.TheVariants as comp
 use Rattle.vtl_syntax.specs.declared.parts.Keeping.{Keeping}
 use Rattle.vtl_syntax.specs.declared.parts.RenamePart.{RenamePart}
 use Rattle.vtl_syntax.specs.declared.word_groups.JoinKind.{JoinKind}
-use Rattle.vtl_meaning.specs.Made as made
+use Rattle.vtl_scripts.specs.Made as made
 use Rattle.vtl_scripts.specs.Meaning.{are_operands_built, is_built}
 use Rattle.vtl_tree.specs.Trees as nodes
 use Rattle.vtl_tree.specs.Trees.{NodeTree, OperandTree, operands_of}
