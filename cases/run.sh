@@ -431,8 +431,7 @@ run_all() {
     names='examples launcher check sentences pages crates edits'
     for folder in "$top"/cases/*/; do
         case $(basename "$folder") in
-            # The cases of rulesets are named, as long as these are not run.
-            run | engine | translated | run-rules) ;;
+            run | engine | translated) ;;
             *) names="$names $(basename "$folder")" ;;
         esac
     done
@@ -477,10 +476,6 @@ for folder in cases/*/; do
     wanted "$word" || continue
     case $word in
         run) for case in cases/run/*/; do run_three_ways "$top/${case%/}"; done ;;
-        run-rules)
-            for case in cases/run-rules/*/; do run_three_ways "$top/${case%/}"; done
-            table types cases/types/structures.txt cases/run-rules/rulesets.csv
-            ;;
         engine) for case in cases/engine/*/; do run "$top/${case%/}"; done ;;
         translated) for case in cases/translated/*/; do translated "$top/${case%/}"; done ;;
         explain)
@@ -573,6 +568,7 @@ if wanted sentences; then
     shown docs/USING.md sql examples/density/text.sql
     shown docs/SQL.md sql examples/population/text.sql
     shown docs/SQL.md sql cases/translated/filter_and_sum/script.sql
+    shown docs/SQL.md sql cases/translated/datapoint_rules_and_check/script.sql
 fi
 if wanted check && [ -x "$vtl" ]; then
     for case in cases/run/*/; do

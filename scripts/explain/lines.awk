@@ -176,10 +176,16 @@ function code_of_focus(    text) {
     return "`" shown(text, 100) "`"
 }
 
-# The results of statements, and the names that the script makes: targets, new names, aliases, and codes by `pivot`.
+# The token of the name that a statement gives: to its result, or to the ruleset that it defines.
+function name_token(number,    token) {
+    token = first_token[number]
+    return symbol[token] == "define" ? token + 3 : token
+}
+
+# The results of statements, the rulesets, and the names that the script makes: targets, new names, aliases, and codes by `pivot`.
 function gather_names(last,    number, token, component, has_pivot) {
     for (number = 1; number <= statements; number++) {
-        token = first_token[number]
+        token = name_token(number)
         if (!(token_text[token] in made_by)) made_by[token_text[token]] = number
     }
     for (token = 1; token <= last_token[last]; token++) {
@@ -187,7 +193,7 @@ function gather_names(last,    number, token, component, has_pivot) {
         if (symbol[token + 1] ~ /^(:=|<-)$/ || symbol[token - 1] ~ /^(to|as|unpivot)$/) named_in[token_text[token]]
         if (symbol[token - 1] == "," && symbol[token - 3] == "unpivot") named_in[token_text[token]]
     }
-    include(named_in, "bool_var int_var errorcode errorlevel imbalance")
+    include(named_in, "bool_var int_var ruleid errorcode errorlevel imbalance")
     for (token = 1; token <= last_token[last]; token++) if (symbol[token] == "pivot") has_pivot = 1
     if (has_pivot) for (component in codes) include(named_in, codes[component], "[|]")
 }

@@ -18,7 +18,7 @@ function notice(text) { if (++notices <= 10) print "notice:   " text }
 # Whether some statement writes its result.
 function of_results(    token) {
     for (token = 1; token <= tokens; token++) if (symbol[token] == "<-") return
-    if (tokens) notice("no result is written, since each statement has `:=`; write `<-` for a result that is wanted in a file")
+    if (tokens) notice("no result is written, since no statement has `<-`; write `<-` for a result that is wanted in a file")
 }
 
 # A comparison with null is null, and keeps no point.

@@ -1,2 +1,4 @@
 pub mod Lengths
+pub mod PointLemmas
+pub mod StepErrors
 pub mod WalkLemmas

@@ -1,28 +1,37 @@
 -- Typing depends only on the structures of the names that are read.
-use Rattle.std.proofs.Common.{◌≡◌, ℕ, ◌+◌, Bool, true, false, cond, ◌||◌, ◌&&◌, List, [], ◌∷◌, ◌++◌, Option, Some, None, is_some, option_map, Result, Ok, Err, refl, sym, subst, ap, ◌∙◌}
+use Rattle.std.proofs.Common.{◌≡◌, ℕ, suc, ◌+◌, Bool, true, false, cond, not, ◌||◌, ◌&&◌, List, [], ◌∷◌, ◌++◌, length, map, Option, Some, None, is_some, option_map, Result, Ok, Err, refl, sym, subst, ap, ◌∙◌}
+use Rattle.std.specs.List.{AllByRecursion}
 use Rattle.std.specs.Map.{lookup}
+use Rattle.std.specs.Option.{IfSome}
+use Rattle.std.specs.Prelude.{unwrap_or}
 use Rattle.vtl_decimal.specs.Settings.{Settings}
 use Rattle.vtl_cell.specs.declared.operator.ScalarOp.TheVariants as op
 use Rattle.vtl_lists.specs.Results.{◌>>=◌}
+use Rattle.check_faults.specs.InTurn.{in_turn}
 use Rattle.check_faults.specs.Rules.{ruled}
 use Rattle.check_faults.specs.declared.rules.Rule.{Rule}
 use Rattle.check_faults.specs.declared.rules.Rule.TheVariants as rule
 use Rattle.vtl_syntax.specs.Trees as tree
-use Rattle.vtl_syntax.specs.Trees.{Calcs, ClauseTree, Exp, Exps, MaybeExp, MaybeTargets, Parts, ScriptTree, TargetsTree}
+use Rattle.vtl_syntax.specs.Trees.{Calcs, ClauseTree, Exp, Exps, MaybeExp, MaybeTargets, Parts, PointRuleTree, ScriptTree, StatementTree, TargetsTree}
 use Rattle.vtl_syntax.specs.declared.parts.Comp.{Comp}
 use Rattle.vtl_syntax.specs.declared.parts.Comp.TheVariants as comp
+use Rattle.vtl_syntax.specs.declared.parts.ErrorPart.{ErrorPart}
 use Rattle.vtl_syntax.specs.declared.parts.GroupPart.{GroupPart}
 use Rattle.vtl_syntax.specs.declared.word_groups.AggregateName.{AggregateName}
+use Rattle.vtl_syntax.specs.declared.word_groups.CheckOut.TheVariants as out
+use Rattle.vtl_tree.specs.CompExp.{CompExp}
+use Rattle.vtl_tree.specs.Names.{name_of}
 use Rattle.vtl_tree.specs.Structure.{same_name}
-use Rattle.vtl_tree.specs.Structures.{Named, has_name}
+use Rattle.vtl_tree.specs.Structures.{Named}
 use Rattle.vtl_tree.specs.declared.structure.Structure.{Structure}
+use Rattle.vtl_tree.specs.Trees as nodes
 use Rattle.vtl_tree.specs.Trees.{ItemTree, NodeTree, structure_of}
 use Rattle.check_values.specs.Groupings.{grouping_of, grouping_typed}
 use Rattle.check_values.specs.Literals.{literals_fit}
 use Rattle.check_values.specs.Operators.{exps_length, of_binary, of_function, of_unary, takes}
 use Rattle.check_operators.specs.Operators.{operator_form, set_form}
 use Rattle.check_operators.specs.Places.{Env, Written, at_groups, at_points, in_aggregate, known_by, member_inside, member_written, name_typed, regrouped}
-use Rattle.check_operators.specs.Sets.{check_form, check_spec, difference_form, exists_form, member_of, sets_form}
+use Rattle.check_operators.specs.Sets.{check_form, check_spec, difference_form, exists_form, level_typed, member_of, sets_form}
 use Rattle.check_operators.specs.Typed.{TypedTree, value, dataset, components_in, condition_in, dataset_in}
 use Rattle.check_operators.specs.declared.places.Inside.{Inside}
 use Rattle.check_operators.specs.declared.places.Joined.{Joined}
@@ -34,15 +43,20 @@ use Rattle.check_clauses.specs.Clauses.{filter_form}
 use Rattle.check_clauses.specs.JoinOperands.{PartTyped, joined_node, joined_of, operands_in, with_part}
 use Rattle.check_clauses.specs.Targets.{aggr_clause, aggr_name, calc_clause, calc_name, with_item, with_made}
 use Rattle.check_clauses.specs.declared.targets.Made.{Made}
+use Rattle.check_rules.specs.Calls.{sees_names, variables_known}
+use Rattle.check_rules.specs.Definitions.{datapoint_defined, hierarchical_defined}
+use Rattle.check_expressions.specs.Rulesets.{Definitions, antecedent_typed, at_variables, checked_points, condition_typed, datapoint_typed, definition_named, is_defined, point_definition, point_rule_typed, point_rules_typed, rulings_of}
+use Rattle.check_expressions.specs.Rulings.{Rulings, Sight, names_in, no_rulings, sight_of}
 use Rattle.check_expressions.specs.Typing.{Having, aggrs_typed, as_dataset, behind, body_end, calc_value, calcs_typed, clause_typed, filter_step, filtered_join, grouped_of, has_exp, having_typed, join_end, maybe_typed, operands_typed, or_component, over_operand, own_groups, parts_typed, targets_step, targets_typed, typed}
 use Rattle.vtl_check.specs.Checked.{env_over}
 use Rattle.vtl_check.specs.Count.{count}
-use Rattle.vtl_check.specs.Script.{assigned, at, is_too_much, script_typed, transformations_typed, value_typed, with_result}
-use Rattle.vtl_check.specs.Transformations.{Transformation, transformations}
+use Rattle.vtl_check.specs.Script.{Standing, assigned, at, defined, is_taken, is_too_much, script_typed, statements_typed, value_typed, with_result, with_ruleset}
 use Rattle.vtl_check.proofs.KnownLemmas.{has_name-lookup}
-use Rattle.check_laws.specs.Reads.{all_read, calcs_read, clause_reads, is_inside, maybe_read, name_read, names_among, names_read, parts_read, script_names, step_reads, targets_read}
-use Rattle.check_laws.specs.Scripts.{AreKnownAlike}
+use Rattle.check_laws.specs.Reads.{all_read, antecedent_reads, calcs_read, clause_reads, is_inside, maybe_read, name_read, names_read, parts_read, rules_read, script_names, statement_reads, step_reads, targets_read}
+use Rattle.check_laws.specs.Scripts.{AreCalledAlike, AreKnownAlike}
+use Rattle.check_laws.specs.SoundRulings.{env_of}
 use Rattle.vtl_meaning.proofs.Lists as lists
+use Rattle.check_laws.proofs.SoundRulings.{looked}
 
 same-each : {A B : Type 0} (s : Result A Rule) (f g : A → Result B Rule) → ((x : A) → f x ≡ g x) → (s >>= f) ≡ (s >>= g)
 same-each (Ok x) f g h = h x
@@ -83,13 +97,14 @@ same-inside : (at : Place) → is_inside at ≡ is_inside (in_aggregate at)
 same-inside place.Outside = refl
 same-inside (place.Inside i) = refl
 
--- the typing over one list of structures is that over another one, where the names that are read stand for the same
-module _ (p : Settings) (known other : Named) where
-  abbrev one : Env
-  one = env_over p known
+-- The typing over one list of structures is that over another one, where the names that are read stand for the same, and calls give
+-- the same.
+module _ (p : Settings) (known other : Named) (called : Rulings) (calls : AreCalledAlike p known other called) where
+  abbrev one : Sight
+  one = sight_of (env_of p known) called
 
-  abbrev two : Env
-  two = env_over p other
+  abbrev two : Sight
+  two = sight_of (env_of p other) called
 
   abbrev Alike : List (List ℕ) → Type 0
   Alike names = AreKnownAlike known other names
@@ -103,7 +118,7 @@ module _ (p : Settings) (known other : Named) where
   back : (xs ys : List (List ℕ)) → Alike (xs ++ ys) → Alike ys
   back xs ys h = lists.back IsAlike xs ys h
 
-  name-alike : (at : Place) (c : Comp) → Alike (name_read (is_inside at) c) → name_typed one at c ≡ name_typed two at c
+  name-alike : (at : Place) (c : Comp) → Alike (name_read (is_inside at) c) → name_typed (names_in one) at c ≡ name_typed (names_in two) at c
   name-alike place.Outside (comp.Name name) h = ap (known_by name) h.0
   name-alike place.Outside (comp.Quoted name) h = refl
   name-alike (place.Inside i) c h = refl
@@ -150,9 +165,9 @@ module _ (p : Settings) (known other : Named) where
     typed-alike at (tree.check e err i o) h =
         same-then (typed one place.Outside e) (typed two place.Outside e) (λ x. check_spec p err o >>= λ s. maybe_typed one place.Outside i >>= check_form s x) (λ x. check_spec p err o >>= λ s. maybe_typed two place.Outside i >>= check_form s x) (typed-alike place.Outside e (front (names_read false e) (maybe_read false i) h))
         (λ x. same-rest (check_spec p err o) (λ s. maybe_typed one place.Outside i >>= check_form s x) (λ s. maybe_typed two place.Outside i >>= check_form s x) (λ s. same-first (maybe_typed one place.Outside i) (maybe_typed two place.Outside i) (check_form s x) (maybe-alike place.Outside i (back (names_read false e) (maybe_read false i) h))))
-    typed-alike at (tree.check_datapoint e n o) h = same-first (typed one place.Outside e) (typed two place.Outside e) (λ x. Err rule.UnknownRuleset) (typed-alike place.Outside e h)
-    typed-alike at (tree.check_hierarchy e n r m d o) h = same-first (typed one place.Outside e) (typed two place.Outside e) (λ x. Err rule.UnknownRuleset) (typed-alike place.Outside e h)
-    typed-alike at (tree.hierarchy e n r m i o) h = same-first (typed one place.Outside e) (typed two place.Outside e) (λ x. Err rule.UnknownRuleset) (typed-alike place.Outside e h)
+    typed-alike at (tree.check_datapoint e n o) h = same-then (typed one place.Outside e) (typed two place.Outside e) (called.datapoint (names_in one) n o) (called.datapoint (names_in two) n o) (typed-alike place.Outside e h) (calls n o)
+    typed-alike at (tree.check_hierarchy e n r m d o) h = same-first (typed one place.Outside e) (typed two place.Outside e) (called.check_hierarchy n r m o) (typed-alike place.Outside e h)
+    typed-alike at (tree.hierarchy e n r m i o) h = same-first (typed one place.Outside e) (typed two place.Outside e) (called.hierarchy n r m i o) (typed-alike place.Outside e h)
     typed-alike at (tree.join kind ps u f m k rs) h =
         same-then (parts_typed one [] ps >>= operands_in) (parts_typed two [] ps >>= operands_in) (λ os. filtered_join one (Some (joined_of kind os)) f kind u os >>= join_end one (Some (joined_of kind os)) m k rs) (λ os. filtered_join two (Some (joined_of kind os)) f kind u os >>= join_end two (Some (joined_of kind os)) m k rs)
         (same-first (parts_typed one [] ps) (parts_typed two [] ps) operands_in (parts-alike [] ps (front (parts_read ps) (maybe_read true f ++ step_reads m) h)))
@@ -229,6 +244,53 @@ module _ (p : Settings) (known other : Named) where
     step-alike j n tree.no_targets h = refl
     step-alike j n (tree.some_targets m) h = targets-alike j n m h
 
+-- ---- conditions
+abbrev IsSame : Named → Named → List ℕ → Type 0
+IsSame known other name = lookup (same_name name) known ≡ lookup (same_name name) other
+
+module _ (p : Settings) (known other : Named) (a : NodeTree) (names : List (List ℕ)) where
+  abbrev here : Place
+  here = place.Inside (at_variables names a)
+
+  condition-alike : (e : Exp) → AreKnownAlike known other (names_read true e) → condition_typed (env_of p known) here e ≡ condition_typed (env_of p other) here e
+  condition-alike e h = ap (λ t. t >>= condition_in >>= λ c. ruled ((rule.UnknownComponent, not (sees_names c)) ∷ []) c) (typed-alike p known other no_rulings (λ name o x. refl) here e h)
+
+  antecedent-alike : (e : Option Exp) → AreKnownAlike known other (antecedent_reads e) → antecedent_typed (env_of p known) here e ≡ antecedent_typed (env_of p other) here e
+  antecedent-alike None h = refl
+  antecedent-alike (Some e) h = ap (λ t. t >>= λ c. Ok (Some c)) (condition-alike e h)
+
+  rule-alike : (name : Option (List ℕ)) (antecedent : Option Exp) (holds : Exp) (error : ErrorPart) → AreKnownAlike known other (antecedent_reads antecedent ++ names_read true holds) → point_rule_typed (env_of p known) here (tree.point_rule name antecedent holds error) ≡ point_rule_typed (env_of p other) here (tree.point_rule name antecedent holds error)
+  rule-alike name antecedent holds error h =
+      same-then (antecedent_typed (env_of p known) here antecedent) (antecedent_typed (env_of p other) here antecedent) (rest (env_of p known)) (rest (env_of p other)) (antecedent-alike antecedent (lists.front (IsSame known other) (antecedent_reads antecedent) (names_read true holds) h))
+      (λ c. ap (λ t. t >>= λ e. level_typed p error.level >>= λ level. Ok (record { name = name; antecedent = c; condition = e; errorcode = error.code; errorlevel = level })) (condition-alike holds (lists.back (IsSame known other) (antecedent_reads antecedent) (names_read true holds) h)))
+    where
+      rest : Env → Option CompExp → Result nodes.PointRuleTree Rule
+      rest env c = condition_typed env here holds >>= λ e. level_typed p error.level >>= λ level. Ok (record { name = name; antecedent = c; condition = e; errorcode = error.code; errorlevel = level })
+
+  rules-alike : (done : List nodes.PointRuleTree) (rules : List PointRuleTree) → AreKnownAlike known other (rules_read rules) → in_turn (λ done r. point_rule_typed (env_of p known) here r) done rules ≡ in_turn (λ done r. point_rule_typed (env_of p other) here r) done rules
+  rules-alike done [] h = refl
+  rules-alike done (tree.point_rule name antecedent holds error ∷ rules) h =
+      same-then (point_rule_typed (env_of p known) here (tree.point_rule name antecedent holds error)) (point_rule_typed (env_of p other) here (tree.point_rule name antecedent holds error))
+      (λ t. in_turn (λ done r. point_rule_typed (env_of p known) here r) (done ++ t ∷ []) rules) (λ t. in_turn (λ done r. point_rule_typed (env_of p other) here r) (done ++ t ∷ []) rules)
+      (rule-alike name antecedent holds error (lists.front (IsSame known other) (antecedent_reads antecedent ++ names_read true holds) (rules_read rules) h))
+      (λ t. rules-alike (done ++ t ∷ []) rules (lists.back (IsSame known other) (antecedent_reads antecedent ++ names_read true holds) (rules_read rules) h))
+
+-- the names that definitions read stand for the same
+abbrev AreReadAlike : Named → Named → StatementTree → Type 0
+AreReadAlike known other s = AreKnownAlike known other (statement_reads s)
+
+called-alike : (p : Settings) (known other : Named) (ds : Definitions) → AllByRecursion (λ d. AreReadAlike known other d.1) ds → AreCalledAlike p known other (rulings_of ds)
+called-alike p known other ds h name o x = go (definition_named ds name) (looked (AreReadAlike known other) (same_name name) ds h) x
+  where
+    go : (definition : Option StatementTree) → IfSome definition (AreReadAlike known other) → (x : TypedTree) → (point_definition definition >>= λ d. dataset_in x >>= datapoint_typed (env_of p known) o d) ≡ (point_definition definition >>= λ d. dataset_in x >>= datapoint_typed (env_of p other) o d)
+    go None h x = refl
+    go (Some (tree.assignment name kind e)) h x = refl
+    go (Some (tree.hierarchical name item rules last)) h x = refl
+    go (Some (tree.datapoint name variables rules last)) h (value e) = refl
+    go (Some (tree.datapoint name variables rules last)) h (dataset a) =
+        same-rest (variables_known (map name_of variables) (structure_of a)) (λ names. point_rules_typed (env_of p known) (place.Inside (at_variables names a)) rules >>= checked_points (unwrap_or o out.Invalid) a names)
+        (λ names. point_rules_typed (env_of p other) (place.Inside (at_variables names a)) rules >>= checked_points (unwrap_or o out.Invalid) a names) (λ names. ap (λ t. t >>= checked_points (unwrap_or o out.Invalid) a names) (rules-alike p known other a names [] rules h))
+
 -- ---- scripts
 abbrev or-end : Option Structure → Option Structure → Option Structure
 or-end (Some s) rest = Some s
@@ -247,12 +309,23 @@ more-alike known other name s names h =
     lists.weaker (λ q. lookup (same_name q) known ≡ lookup (same_name q) other) (λ q. lookup (same_name q) (known ++ (name, s) ∷ []) ≡ lookup (same_name q) (other ++ (name, s) ∷ [])) names
     (λ q e. end-looked (same_name q) known name s ∙ ap (λ o. or-end o (cond (same_name q name) (Some s) None)) e ∙ sym (end-looked (same_name q) other name s)) h
 
-assigned-alike : (p : Settings) (known other : Named) (before : ℕ) (name : List ℕ) (e : Exp) → lookup (same_name name) known ≡ lookup (same_name name) other → AreKnownAlike known other (names_read false e) → assigned (env_over p known) before name e ≡ assigned (env_over p other) before name e
+-- statements over either
+abbrev standing : Settings → Named → Definitions → Standing
+standing p known ds = record { settings = p; known = known; definitions = ds }
+
+taken-alike : (p : Settings) (known other : Named) (ds : Definitions) (name : List ℕ) → lookup (same_name name) known ≡ lookup (same_name name) other → is_taken (standing p known ds) name ≡ is_taken (standing p other ds) name
+taken-alike p known other ds name same = ap (λ b. b || is_defined name ds) (has_name-lookup name known ∙ ap is_some same ∙ sym (has_name-lookup name other))
+
+assigned-alike : (p : Settings) (known other : Named) (ds : Definitions) (before : ℕ) (name : List ℕ) (e : Exp) → lookup (same_name name) known ≡ lookup (same_name name) other → AllByRecursion (λ d. AreReadAlike known other d.1) ds → AreKnownAlike known other (names_read false e) → assigned (standing p known ds) before name e ≡ assigned (standing p other ds) before name e
 unfolding assigned
-assigned-alike p known other before name e same h =
-    ap (λ b. ruled ((rule.NameTaken, b) ∷ []) (tt {0}) >>= λ u. value_typed (env_over p known) e >>= λ n. ruled ((rule.TooManyNodes, is_too_much before n) ∷ []) n) (has_name-lookup name known ∙ ap is_some same ∙ sym (has_name-lookup name other))
-    ∙ same-rest (ruled ((rule.NameTaken, has_name name other) ∷ []) (tt {0})) (λ u. value_typed (env_over p known) e >>= λ n. ruled ((rule.TooManyNodes, is_too_much before n) ∷ []) n) (λ u. value_typed (env_over p other) e >>= λ n. ruled ((rule.TooManyNodes, is_too_much before n) ∷ []) n)
-    (λ u. ap (λ t. t >>= dataset_in >>= λ n. ruled ((rule.TooManyNodes, is_too_much before n) ∷ []) n) (typed-alike p known other place.Outside e h))
+assigned-alike p known other ds before name e same rulesets h =
+    ap (λ b. ruled ((rule.NameTaken, b) ∷ []) (tt {0}) >>= λ u. value_typed (standing p known ds) e >>= λ n. ruled ((rule.TooManyNodes, is_too_much before (count n)) ∷ []) n) (taken-alike p known other ds name same)
+    ∙ same-rest (ruled ((rule.NameTaken, is_taken (standing p other ds) name) ∷ []) (tt {0})) (λ u. value_typed (standing p known ds) e >>= λ n. ruled ((rule.TooManyNodes, is_too_much before (count n)) ∷ []) n) (λ u. value_typed (standing p other ds) e >>= λ n. ruled ((rule.TooManyNodes, is_too_much before (count n)) ∷ []) n)
+    (λ u. ap (λ t. t >>= dataset_in >>= λ n. ruled ((rule.TooManyNodes, is_too_much before (count n)) ∷ []) n) (typed-alike p known other (rulings_of ds) (called-alike p known other ds rulesets) place.Outside e h))
+
+defined-alike : (p : Settings) (known other : Named) (ds : Definitions) (before : ℕ) (name : List ℕ) (rules : ℕ) (fits : Result (Unit {0}) Rule) → lookup (same_name name) known ≡ lookup (same_name name) other → defined (standing p known ds) before name rules fits ≡ defined (standing p other ds) before name rules fits
+unfolding defined
+defined-alike p known other ds before name rules fits same = ap (λ b. ruled ((rule.NameTaken, b) ∷ []) (tt {0}) >>= λ u. fits >>= λ u. ruled ((rule.TooManyNodes, is_too_much before rules) ∷ []) (tt {0})) (taken-alike p known other ds name same)
 
 at-each : {A B : Type 0} (i : ℕ) (s : Result A Rule) (f g : A → Result B (ℕ × ℕ)) → ((x : A) → f x ≡ g x) → at i s f ≡ at i s g
 at-each i (Ok x) f g h = h x
@@ -261,13 +334,32 @@ at-each i (Err broken) f g h = refl
 at-same : {A B : Type 0} (i : ℕ) (r s : Result A Rule) (f g : A → Result B (ℕ × ℕ)) → r ≡ s → ((x : A) → f x ≡ g x) → at i r f ≡ at i s g
 at-same i r s f g e h = ap (λ r. at i r f) e ∙ at-each i s f g h
 
-transformations-alike : (p : Settings) (known other : Named) (before : ℕ) (done : List NodeTree) (ts : List Transformation) → AreKnownAlike known other (names_among ts) → transformations_typed (env_over p known) before done ts ≡ transformations_typed (env_over p other) before done ts
-transformations-alike p known other before done [] h = refl
-transformations-alike p known other before done (t ∷ ts) h =
-    at-same t.number (assigned (env_over p known) before t.name t.value) (assigned (env_over p other) before t.name t.value)
-    (λ n. transformations_typed (with_result (env_over p known) t.name n) (before + count n) (done ++ n ∷ []) ts) (λ n. transformations_typed (with_result (env_over p other) t.name n) (before + count n) (done ++ n ∷ []) ts)
-    (assigned-alike p known other before t.name t.value h.0 (lists.front (λ q. lookup (same_name q) known ≡ lookup (same_name q) other) (names_read false t.value) (names_among ts) h.1))
-    (λ n. transformations-alike p (known ++ (t.name, structure_of n) ∷ []) (other ++ (t.name, structure_of n) ∷ []) (before + count n) (done ++ n ∷ []) ts (more-alike known other t.name (structure_of n) (names_among ts) (lists.back (λ q. lookup (same_name q) known ≡ lookup (same_name q) other) (names_read false t.value) (names_among ts) h.1)))
+rest-alike : (known other : Named) (xs ys : List (List ℕ)) → AreKnownAlike known other (xs ++ ys) → AreKnownAlike known other ys
+rest-alike known other xs ys h = lists.back (IsSame known other) xs ys h
+
+first-alike : (known other : Named) (xs ys : List (List ℕ)) → AreKnownAlike known other (xs ++ ys) → AreKnownAlike known other xs
+first-alike known other xs ys h = lists.front (IsSame known other) xs ys h
+
+statements-alike : (p : Settings) (known other : Named) (ds : Definitions) (i before : ℕ) (done : List NodeTree) (ss : ScriptTree) → AllByRecursion (λ d. AreReadAlike known other d.1) ds → AreKnownAlike known other (script_names ss) → statements_typed (standing p known ds) i before done ss ≡ statements_typed (standing p other ds) i before done ss
+statements-alike p known other ds i before done [] rulesets h = refl
+statements-alike p known other ds i before done (tree.assignment name kind e ∷ ss) rulesets h =
+    at-same i (assigned (standing p known ds) before name e) (assigned (standing p other ds) before name e)
+    (λ n. statements_typed (with_result (standing p known ds) name n) (suc i) (before + count n) (done ++ n ∷ []) ss) (λ n. statements_typed (with_result (standing p other ds) name n) (suc i) (before + count n) (done ++ n ∷ []) ss)
+    (assigned-alike p known other ds before name e h.0 rulesets (first-alike known other (names_read false e) (script_names ss) h.1))
+    (λ n. statements-alike p (known ++ (name, structure_of n) ∷ []) (other ++ (name, structure_of n) ∷ []) ds (suc i) (before + count n) (done ++ n ∷ []) ss
+    (lists.weaker (λ d. AreReadAlike known other d.1) (λ d. AreReadAlike (known ++ (name, structure_of n) ∷ []) (other ++ (name, structure_of n) ∷ []) d.1) ds (λ d k. more-alike known other name (structure_of n) (statement_reads d.1) k) rulesets)
+    (more-alike known other name (structure_of n) (script_names ss) (rest-alike known other (names_read false e) (script_names ss) h.1)))
+statements-alike p known other ds i before done (tree.datapoint name variables rules last ∷ ss) rulesets h =
+    at-same i (defined (standing p known ds) before name (length rules) (datapoint_defined p variables rules)) (defined (standing p other ds) before name (length rules) (datapoint_defined p variables rules))
+    (λ u. statements_typed (with_ruleset (standing p known ds) name (tree.datapoint name variables rules last)) (suc i) (before + length rules) done ss) (λ u. statements_typed (with_ruleset (standing p other ds) name (tree.datapoint name variables rules last)) (suc i) (before + length rules) done ss)
+    (defined-alike p known other ds before name (length rules) (datapoint_defined p variables rules) h.0)
+    (λ u. statements-alike p known other (ds ++ (name, tree.datapoint name variables rules last) ∷ []) (suc i) (before + length rules) done ss
+    (lists.appended (λ d. AreReadAlike known other d.1) ds ((name, tree.datapoint name variables rules last) ∷ []) rulesets (first-alike known other (rules_read rules) (script_names ss) h.1, tt)) (rest-alike known other (rules_read rules) (script_names ss) h.1))
+statements-alike p known other ds i before done (tree.hierarchical name item rules last ∷ ss) rulesets h =
+    at-same i (defined (standing p known ds) before name (length rules) (hierarchical_defined p rules)) (defined (standing p other ds) before name (length rules) (hierarchical_defined p rules))
+    (λ u. statements_typed (with_ruleset (standing p known ds) name (tree.hierarchical name item rules last)) (suc i) (before + length rules) done ss) (λ u. statements_typed (with_ruleset (standing p other ds) name (tree.hierarchical name item rules last)) (suc i) (before + length rules) done ss)
+    (defined-alike p known other ds before name (length rules) (hierarchical_defined p rules) h.0)
+    (λ u. statements-alike p known other (ds ++ (name, tree.hierarchical name item rules last) ∷ []) (suc i) (before + length rules) done ss (lists.appended (λ d. AreReadAlike known other d.1) ds ((name, tree.hierarchical name item rules last) ∷ []) rulesets (tt, tt)) h.1)
 
 pub script-alike : (p : Settings) (known other : Named) (ss : ScriptTree) → AreKnownAlike known other (script_names ss) → script_typed (env_over p known) ss ≡ script_typed (env_over p other) ss
-script-alike p known other ss h = transformations-alike p known other 0 [] (transformations ss) h
+script-alike p known other ss h = statements-alike p known other [] 1 0 [] ss tt h

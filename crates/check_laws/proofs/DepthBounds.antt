@@ -1,5 +1,5 @@
 -- Expressions and nodes up to a depth.
-use Rattle.std.proofs.Common.{◌≤◌, ℕ, suc, Bool, true, false, cond, List, [], ◌∷◌, ◌++◌, length, Option, Some, None, Result, Ok, Err, arith}
+use Rattle.std.proofs.Common.{◌≤◌, ℕ, suc, Bool, true, false, cond, List, [], ◌∷◌, ◌++◌, length, max, Option, Some, None, Result, Ok, Err, sym, subst, arith}
 use Rattle.std.specs.List.{AllByRecursion, find, flat_map}
 use Rattle.std.specs.Option.{IfSome, option_map_or}
 use Rattle.std.specs.Prelude.{option_to_list}
@@ -22,7 +22,8 @@ use Rattle.check_operators.specs.Typed.{TypedTree, value, dataset}
 use Rattle.check_clauses.specs.Clauses as clauses
 use Rattle.vtl_tree.specs.Columns.{column_behind, column_named, columns_named, identifiers_of, measures_of}
 use Rattle.vtl_meaning.specs.Operators.{calculated_exp, calculated_exps, for_measures, measured_exps, pair_exps, target_named, value_exp, with_measure, with_namesake}
-use Rattle.check_laws.specs.Depths.{exps_in, held_exps, item_exps, made_exps, node_depth, value_exps}
+use Rattle.check_laws.specs.Called.{HoldsAt, HoldsOfCall, HoldsOfCalls, IsCallForm, IsCallOver}
+use Rattle.check_laws.specs.Depths.{IsHeldUpTo, exps_in, held_exps, item_exps, made_exps, node_depth, value_exps}
 use Rattle.vtl_tree.specs.Depths.{comp_depth, comps_depth}
 use Rattle.check_laws.specs.Gives.{Gives}
 use Rattle.vtl_meaning.proofs.Lists as lists
@@ -36,14 +37,26 @@ AreUpTo d es = AllByRecursion (IsUpTo d) es
 abbrev pub AreNodesUpTo : ℕ → List NodeTree → Type 0
 AreNodesUpTo d ns = AllByRecursion (λ n. AreUpTo d (exps_in n)) ns
 
--- the expressions of a node and of all its operands; it is written by a name at least
-pub record IsNodeUpTo (d : ℕ) (n : NodeTree) : Type 0 where
-  pub some : 1 ≤ d
-  pub each : AreNodesUpTo d (nodes_in n)
+-- the expressions that a form holds by itself; the rules of a call are those of a definition
+abbrev pub own_exps : FormTree → List CompExp
+own_exps (nodes.check_datapoint a rules out) = []
+own_exps form = held_exps form
 
-abbrev pub IsTreeUpTo : ℕ → TypedTree → Type 0
-IsTreeUpTo d (value e) = IsUpTo d e
-IsTreeUpTo d (dataset n) = IsNodeUpTo d n
+-- a node up to a depth, where this holds of the calls
+abbrev pub IsOwnUpTo : (FormTree → Type 0) → ℕ → NodeTree → Type 0
+IsOwnUpTo P d (nodes.node s form) = AreUpTo d (own_exps form) × AreUpTo d (made_exps s form) × HoldsOfCall P form
+
+abbrev pub AreOwnUpTo : (FormTree → Type 0) → ℕ → List NodeTree → Type 0
+AreOwnUpTo P d ns = AllByRecursion (IsOwnUpTo P d) ns
+
+-- the expressions of a node and of all its operands; it is written by a name at least
+pub record IsNodeUpTo (P : FormTree → Type 0) (d : ℕ) (n : NodeTree) : Type 0 where
+  pub some : 1 ≤ d
+  pub each : AreOwnUpTo P d (nodes_in n)
+
+abbrev pub IsTreeUpTo : (FormTree → Type 0) → ℕ → TypedTree → Type 0
+IsTreeUpTo P d (value e) = IsUpTo d e
+IsTreeUpTo P d (dataset n) = IsNodeUpTo P d n
 
 -- the value of a target
 abbrev pub IsValueUpTo : ℕ → ValueTree → Type 0
@@ -54,7 +67,7 @@ abbrev pub IsItemUpTo : ℕ → ItemTree → Type 0
 IsItemUpTo d i = IsValueUpTo d i.value
 
 -- ---- the deepest of a list
-each-below : {X : Type 0} (depth : X → ℕ) (d : ℕ) (xs : List X) → deepest depth xs ≤ d → AllByRecursion (λ x. depth x ≤ d) xs
+pub each-below : {X : Type 0} (depth : X → ℕ) (d : ℕ) (xs : List X) → deepest depth xs ≤ d → AllByRecursion (λ x. depth x ≤ d) xs
 each-below depth d [] h = tt
 each-below depth d (x ∷ xs) h = (omega arith, each-below depth d xs (omega arith))
 
@@ -62,7 +75,7 @@ pub deepest-below : {X : Type 0} (depth : X → ℕ) (d : ℕ) (xs : List X) →
 deepest-below depth d [] h = omega arith
 deepest-below depth d (x ∷ xs) h = let here : depth x ≤ d = h.0 in let rest : deepest depth xs ≤ d = deepest-below depth d xs h.1 in omega arith
 
-every-flat : {X Y : Type 0} (P : Y → Type 0) (f : X → List Y) (xs : List X) → AllByRecursion (λ x. AllByRecursion P (f x)) xs → AllByRecursion P (flat_map f xs)
+pub every-flat : {X Y : Type 0} (P : Y → Type 0) (f : X → List Y) (xs : List X) → AllByRecursion (λ x. AllByRecursion P (f x)) xs → AllByRecursion P (flat_map f xs)
 every-flat P f [] h = tt
 every-flat P f (x ∷ xs) h = lists.appended P (f x) (flat_map f xs) h.0 (every-flat P f xs h.1)
 
@@ -70,23 +83,39 @@ flat-every : {X Y : Type 0} (P : Y → Type 0) (f : X → List Y) (xs : List X) 
 flat-every P f [] h = tt
 flat-every P f (x ∷ xs) h = (lists.front P (f x) (flat_map f xs) h, flat-every P f xs (lists.back P (f x) (flat_map f xs) h))
 
-pub node-depth : (d : ℕ) (n : NodeTree) → IsNodeUpTo d n → node_depth n ≤ d
-node-depth d n h = deepest-below comp_depth d (flat_map exps_in (nodes_in n)) (every-flat (IsUpTo d) exps_in (nodes_in n) h.each)
+exps-raised : (c d : ℕ) (es : List CompExp) → c ≤ d → AreUpTo c es → AreUpTo d es
+exps-raised c d es le h = lists.weaker (IsUpTo c) (IsUpTo d) es (λ e k. omega arith) h
+
+-- the expressions of a node, where those of rules are up to a depth too
+all-exps : (d b : ℕ) (n : NodeTree) → IsOwnUpTo (IsHeldUpTo b) d n → AreUpTo (max d b) (exps_in n)
+all-exps d b (nodes.node s (nodes.check_datapoint a rules out)) h = lists.appended (IsUpTo (max d b)) (held_exps (nodes.check_datapoint a rules out)) [] (exps-raised b (max d b) (held_exps (nodes.check_datapoint a rules out)) (omega arith) h.2) tt
+all-exps d b (nodes.node s form) h = exps-raised d (max d b) (held_exps form ++ made_exps s form) (omega arith) (lists.appended (IsUpTo d) (held_exps form) (made_exps s form) h.0 h.1)
+
+pub node-depth : (d b : ℕ) (n : NodeTree) → IsNodeUpTo (IsHeldUpTo b) d n → node_depth n ≤ max d b
+node-depth d b n h =
+    deepest-below comp_depth (max d b) (flat_map exps_in (nodes_in n)) (every-flat (IsUpTo (max d b)) exps_in (nodes_in n) (lists.weaker (IsOwnUpTo (IsHeldUpTo b) d) (λ n. AreUpTo (max d b) (exps_in n)) (nodes_in n) (all-exps d b) h.each))
 
 -- each expression of a node and of its operands is at most as deep as the node
 pub node-below : (d : ℕ) (n : NodeTree) → node_depth n ≤ d → AreNodesUpTo d (nodes_in n)
 node-below d n h = flat-every (IsUpTo d) exps_in (nodes_in n) (each-below comp_depth d (flat_map exps_in (nodes_in n)) h)
 
+-- what holds of the calls
+pub calls-hold : (P : FormTree → Type 0) (d : ℕ) (n : NodeTree) → IsNodeUpTo P d n → HoldsOfCalls P n
+calls-hold P d n h = lists.weaker (IsOwnUpTo P d) (HoldsAt P) (nodes_in n) one h.each
+  where
+    one : (m : NodeTree) → IsOwnUpTo P d m → HoldsAt P m
+    one (nodes.node s form) k = k.2
+
 -- ---- a greater depth
-exps-raised : (c d : ℕ) (es : List CompExp) → c ≤ d → AreUpTo c es → AreUpTo d es
-exps-raised c d es le h = lists.weaker (IsUpTo c) (IsUpTo d) es (λ e k. omega arith) h
+pub nodes-raised : (P : FormTree → Type 0) (c d : ℕ) (ns : List NodeTree) → c ≤ d → AreOwnUpTo P c ns → AreOwnUpTo P d ns
+nodes-raised P c d ns le h = lists.weaker (IsOwnUpTo P c) (IsOwnUpTo P d) ns one h
+  where
+    one : (n : NodeTree) → IsOwnUpTo P c n → IsOwnUpTo P d n
+    one (nodes.node s form) k = (exps-raised c d (own_exps form) le k.0, exps-raised c d (made_exps s form) le k.1, k.2)
 
-pub nodes-raised : (c d : ℕ) (ns : List NodeTree) → c ≤ d → AreNodesUpTo c ns → AreNodesUpTo d ns
-nodes-raised c d ns le h = lists.weaker (λ n. AreUpTo c (exps_in n)) (λ n. AreUpTo d (exps_in n)) ns (λ n k. exps-raised c d (exps_in n) le k) h
-
-pub tree-raised : (c d : ℕ) (x : TypedTree) → c ≤ d → IsTreeUpTo c x → IsTreeUpTo d x
-tree-raised c d (value e) le h = omega arith
-tree-raised c d (dataset n) le h = record { some = omega arith; each = nodes-raised c d (nodes_in n) le h.each }
+pub tree-raised : (P : FormTree → Type 0) (c d : ℕ) (x : TypedTree) → c ≤ d → IsTreeUpTo P c x → IsTreeUpTo P d x
+tree-raised P c d (value e) le h = omega arith
+tree-raised P c d (dataset n) le h = record { some = omega arith; each = nodes-raised P c d (nodes_in n) le h.each }
 
 -- ---- component expressions
 some-exp : (e : CompExp) → 1 ≤ comp_depth e
@@ -95,9 +124,9 @@ some-exp (const v) = omega arith
 some-exp (call o kind args) = omega arith
 some-exp (aggregate a kind) = omega arith
 
-pub some-tree : (d : ℕ) (x : TypedTree) → IsTreeUpTo d x → 1 ≤ d
-some-tree d (value e) h = omega (arith, some-exp e)
-some-tree d (dataset n) h = h.some
+pub some-tree : (P : FormTree → Type 0) (d : ℕ) (x : TypedTree) → IsTreeUpTo P d x → 1 ≤ d
+some-tree P d (value e) h = omega (arith, some-exp e)
+some-tree P d (dataset n) h = h.some
 
 operands-up : (d : ℕ) (es : List CompExp) → AreUpTo d es → comps_depth (comp_exps_of es) ≤ d
 operands-up d [] h = omega arith
@@ -169,22 +198,35 @@ option-up d None h = tt
 option-up d (Some e) h = (h, tt)
 
 -- ---- a node over operands
-pub node-up : (d : ℕ) (s : Structure) (form : FormTree) → 1 ≤ d → AreUpTo d (held_exps form) → AreUpTo d (made_exps s form) → AreNodesUpTo d (form_nodes form) → IsNodeUpTo d (nodes.node s form)
-node-up d s form some held made below = record { some = some; each = (lists.appended (IsUpTo d) (held_exps form) (made_exps s form) held made, below) }
+module _ (P : FormTree → Type 0) where
+  pub node-up : (d : ℕ) (s : Structure) (form : FormTree) → 1 ≤ d → HoldsOfCall P form → AreUpTo d (own_exps form) → AreUpTo d (made_exps s form) → AreOwnUpTo P d (form_nodes form) → IsNodeUpTo P d (nodes.node s form)
+  node-up d s form some called held made below = record { some = some; each = ((held, made, called), below) }
 
--- the same as typing makes it, whatever its structure is
-pub dataset-up : (d : ℕ) (form : FormTree) (r : Result Structure Rule) → ((s : Structure) → IsNodeUpTo d (nodes.node s form)) → Gives (IsTreeUpTo d) (r >>= typed.made_of form)
-dataset-up d form (Ok s) h = h s
-dataset-up d form (Err broken) h = tt
+  -- the same as typing makes it, whatever its structure is
+  pub dataset-up : (d : ℕ) (form : FormTree) (r : Result Structure Rule) → ((s : Structure) → IsNodeUpTo P d (nodes.node s form)) → Gives (IsTreeUpTo P d) (r >>= typed.made_of form)
+  dataset-up d form (Ok s) h = h s
+  dataset-up d form (Err broken) h = tt
 
-pub clause-up : (d : ℕ) (form : FormTree) (r : Result Structure Rule) → ((s : Structure) → IsNodeUpTo d (nodes.node s form)) → Gives (IsNodeUpTo d) (r >>= clauses.made_of form)
-clause-up d form (Ok s) h = h s
-clause-up d form (Err broken) h = tt
+  pub clause-up : (d : ℕ) (form : FormTree) (r : Result Structure Rule) → ((s : Structure) → IsNodeUpTo P d (nodes.node s form)) → Gives (IsNodeUpTo P d) (r >>= clauses.made_of form)
+  clause-up d form (Ok s) h = h s
+  clause-up d form (Err broken) h = tt
 
--- operands beside each other
-pub beside : (d : ℕ) (xs ys : List NodeTree) → AreNodesUpTo d xs → AreNodesUpTo d ys → AreNodesUpTo d (xs ++ ys)
-beside d xs ys h k = lists.appended (λ n. AreUpTo d (exps_in n)) xs ys h k
+  -- operands beside each other
+  pub beside : (d : ℕ) (xs ys : List NodeTree) → AreOwnUpTo P d xs → AreOwnUpTo P d ys → AreOwnUpTo P d (xs ++ ys)
+  beside d xs ys h k = lists.appended (IsOwnUpTo P d) xs ys h k
 
-pub all-beside : (d : ℕ) (ns : List NodeTree) → AllByRecursion (IsNodeUpTo d) ns → AreNodesUpTo d (all_nodes (nodes.nodes_of ns))
-all-beside d [] h = tt
-all-beside d (n ∷ ns) h = beside d (nodes_in n) (all_nodes (nodes.nodes_of ns)) h.0.each (all-beside d ns h.1)
+  pub all-beside : (d : ℕ) (ns : List NodeTree) → AllByRecursion (IsNodeUpTo P d) ns → AreOwnUpTo P d (all_nodes (nodes.nodes_of ns))
+  all-beside d [] h = tt
+  all-beside d (n ∷ ns) h = beside d (nodes_in n) (all_nodes (nodes.nodes_of ns)) h.0.each (all-beside d ns h.1)
+
+  -- a call over its operand
+  pub call-over-up : (d : ℕ) (x y : TypedTree) → IsTreeUpTo P d x → IsCallOver P x y → IsTreeUpTo P d y
+  call-over-up d (value e) y h k = absurd k
+  call-over-up d (dataset a) (value e) h k = absurd k
+  call-over-up d (dataset a) (dataset (nodes.node s form)) h k = record { some = h.some; each = (own form k.0, subst (AreOwnUpTo P d) (sym k.1) h.each) }
+    where
+      own : (form : FormTree) → IsCallForm P form → IsOwnUpTo P d (nodes.node s form)
+      own (nodes.check_datapoint b rules out) c = (tt, tt, c)
+      own (nodes.check_hierarchy b rules m out) c = (tt, tt, c)
+      own (nodes.hierarchy b rules m i out) c = (tt, tt, c)
+      own form c = absurd c

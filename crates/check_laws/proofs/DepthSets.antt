@@ -23,7 +23,7 @@ use Rattle.vtl_tree.specs.CompExp.{CompExp}
 use Rattle.vtl_tree.specs.declared.structure.Structure.{Structure}
 use Rattle.vtl_tree.specs.Nodes.{maybe_nodes, nodes_in}
 use Rattle.vtl_tree.specs.Trees as nodes
-use Rattle.vtl_tree.specs.Trees.{NodeTree, maybe_node, nodes_of, structure_of}
+use Rattle.vtl_tree.specs.Trees.{FormTree, NodeTree, maybe_node, nodes_of, structure_of}
 use Rattle.vtl_tree.specs.declared.calls.Window.{Window}
 use Rattle.vtl_tree.specs.declared.specifications.CheckSpec.{CheckSpec}
 use Rattle.check_shapes.specs.Pairs as pairs
@@ -41,115 +41,117 @@ use Rattle.check_groups.specs.Windowed.{given_structure, or_count, over_dataset,
 use Rattle.check_groups.specs.declared.calls.Call.{Call}
 use Rattle.vtl_tree.specs.Depths.{argument_depth}
 use Rattle.check_laws.specs.Gives.{Gives}
-use Rattle.check_laws.proofs.DepthBounds.{AreNodesUpTo, IsNodeUpTo, IsTreeUpTo, IsUpTo, all-beside, beside, dataset-up, node-up, option-up, some-tree, tree-raised}
+use Rattle.check_laws.proofs.DepthBounds.{AreOwnUpTo, IsNodeUpTo, IsTreeUpTo, IsUpTo, all-beside, beside, dataset-up, node-up, option-up, some-tree, tree-raised}
 use Rattle.check_laws.proofs.Steps.{after, then}
 use Rattle.check_laws.proofs.Turns.{all-in-turn}
 
--- where a data set is needed
-dataset-in-up : (d : ℕ) (x : TypedTree) → IsTreeUpTo d x → Gives (IsNodeUpTo d) (dataset_in x)
-dataset-in-up d (value e) h = tt
-dataset-in-up d (dataset n) h = h
+-- where this holds of calls
+module _ (P : FormTree → Type 0) where
+  -- where a data set is needed
+  dataset-in-up : (d : ℕ) (x : TypedTree) → IsTreeUpTo P d x → Gives (IsNodeUpTo P d) (dataset_in x)
+  dataset-in-up d (value e) h = tt
+  dataset-in-up d (dataset n) h = h
 
-pub dataset-step : (d : ℕ) (r : Result TypedTree Rule) → Gives (IsTreeUpTo d) r → Gives (IsNodeUpTo d) (r >>= dataset_in)
-dataset-step d r h = then (IsTreeUpTo d) (IsNodeUpTo d) r dataset_in h (dataset-in-up d)
+  pub dataset-step : (d : ℕ) (r : Result TypedTree Rule) → Gives (IsTreeUpTo P d) r → Gives (IsNodeUpTo P d) (r >>= dataset_in)
+  dataset-step d r h = then (IsTreeUpTo P d) (IsNodeUpTo P d) r dataset_in h (dataset-in-up d)
 
--- `a#m`
-pub member-up : (d : ℕ) (c : Comp) (a : NodeTree) → IsNodeUpTo d a → Gives (IsTreeUpTo d) (member_of c a)
-unfolding member_of
-member-up d c a h = dataset-up d (nodes.member a (name_of c)) _ (λ s. node-up d s _ h.some tt tt h.each)
+  -- `a#m`
+  pub member-up : (d : ℕ) (c : Comp) (a : NodeTree) → IsNodeUpTo P d a → Gives (IsTreeUpTo P d) (member_of c a)
+  unfolding member_of
+  member-up d c a h = dataset-up P d (nodes.member a (name_of c)) _ (λ s. node-up P d s _ h.some tt tt tt h.each)
 
--- ---- set operators
-pub sets-up : (d : ℕ) (f : SetOpName) (xs : List TypedTree) → 1 ≤ d → AllByRecursion (IsTreeUpTo d) xs → Gives (IsTreeUpTo d) (sets_form f xs)
-unfolding sets_form
-sets-up d f xs some h = then (AllByRecursion (IsNodeUpTo d)) (IsTreeUpTo d) (datasets_in xs) (set_of f) (all-in-turn (IsTreeUpTo d) (IsNodeUpTo d) (λ done x. dataset_in x) (λ done x k. dataset-in-up d x k) [] xs tt h) (λ ns all. dataset-up d (set_tree f (nodes_of ns)) _ (made f ns all))
-  where
-    made : (f : SetOpName) (ns : List NodeTree) → AllByRecursion (IsNodeUpTo d) ns → (s : Structure) → IsNodeUpTo d (nodes.node s (set_tree f (nodes_of ns)))
-    made set.Union ns all s = node-up d s (nodes.union (nodes_of ns)) some tt tt (all-beside d ns all)
-    made set.Intersect ns all s = node-up d s (nodes.intersect (nodes_of ns)) some tt tt (all-beside d ns all)
+  -- ---- set operators
+  pub sets-up : (d : ℕ) (f : SetOpName) (xs : List TypedTree) → 1 ≤ d → AllByRecursion (IsTreeUpTo P d) xs → Gives (IsTreeUpTo P d) (sets_form f xs)
+  unfolding sets_form
+  sets-up d f xs some h = then (AllByRecursion (IsNodeUpTo P d)) (IsTreeUpTo P d) (datasets_in xs) (set_of f) (all-in-turn (IsTreeUpTo P d) (IsNodeUpTo P d) (λ done x. dataset_in x) (λ done x k. dataset-in-up d x k) [] xs tt h) (λ ns all. dataset-up P d (set_tree f (nodes_of ns)) _ (made f ns all))
+    where
+      made : (f : SetOpName) (ns : List NodeTree) → AllByRecursion (IsNodeUpTo P d) ns → (s : Structure) → IsNodeUpTo P d (nodes.node s (set_tree f (nodes_of ns)))
+      made set.Union ns all s = node-up P d s (nodes.union (nodes_of ns)) some tt tt tt (all-beside P d ns all)
+      made set.Intersect ns all s = node-up P d s (nodes.intersect (nodes_of ns)) some tt tt tt (all-beside P d ns all)
 
-pub difference-up : (d : ℕ) (f : DifferenceName) (x y : TypedTree) → IsTreeUpTo d x → IsTreeUpTo d y → Gives (IsTreeUpTo d) (difference_form f x y)
-unfolding difference_form
-difference-up d f x y hx hy =
-    then (IsNodeUpTo d) (IsTreeUpTo d) (dataset_in x) (λ a. dataset_in y >>= λ b. pairs.set_form (structure_of a) (structure_of b ∷ []) >>= made_of (difference_tree f a b)) (dataset-in-up d x hx)
-    (λ a ha. then (IsNodeUpTo d) (IsTreeUpTo d) (dataset_in y) (λ b. pairs.set_form (structure_of a) (structure_of b ∷ []) >>= made_of (difference_tree f a b)) (dataset-in-up d y hy)
-    (λ b hb. dataset-up d (difference_tree f a b) _ (made f a b ha hb)))
-  where
-    made : (f : DifferenceName) (a b : NodeTree) → IsNodeUpTo d a → IsNodeUpTo d b → (s : Structure) → IsNodeUpTo d (nodes.node s (difference_tree f a b))
-    made difference.Setdiff a b ha hb s = node-up d s (nodes.set_diff a b) ha.some tt tt (beside d (nodes_in a) (nodes_in b) ha.each hb.each)
-    made difference.Symdiff a b ha hb s = node-up d s (nodes.sym_diff a b) ha.some tt tt (beside d (nodes_in a) (nodes_in b) ha.each hb.each)
+  pub difference-up : (d : ℕ) (f : DifferenceName) (x y : TypedTree) → IsTreeUpTo P d x → IsTreeUpTo P d y → Gives (IsTreeUpTo P d) (difference_form f x y)
+  unfolding difference_form
+  difference-up d f x y hx hy =
+      then (IsNodeUpTo P d) (IsTreeUpTo P d) (dataset_in x) (λ a. dataset_in y >>= λ b. pairs.set_form (structure_of a) (structure_of b ∷ []) >>= made_of (difference_tree f a b)) (dataset-in-up d x hx)
+      (λ a ha. then (IsNodeUpTo P d) (IsTreeUpTo P d) (dataset_in y) (λ b. pairs.set_form (structure_of a) (structure_of b ∷ []) >>= made_of (difference_tree f a b)) (dataset-in-up d y hy)
+      (λ b hb. dataset-up P d (difference_tree f a b) _ (made f a b ha hb)))
+    where
+      made : (f : DifferenceName) (a b : NodeTree) → IsNodeUpTo P d a → IsNodeUpTo P d b → (s : Structure) → IsNodeUpTo P d (nodes.node s (difference_tree f a b))
+      made difference.Setdiff a b ha hb s = node-up P d s (nodes.set_diff a b) ha.some tt tt tt (beside P d (nodes_in a) (nodes_in b) ha.each hb.each)
+      made difference.Symdiff a b ha hb s = node-up P d s (nodes.sym_diff a b) ha.some tt tt tt (beside P d (nodes_in a) (nodes_in b) ha.each hb.each)
 
-pub exists-up : (d : ℕ) (r : Option Retain) (x y : TypedTree) → IsTreeUpTo d x → IsTreeUpTo d y → Gives (IsTreeUpTo d) (exists_form r x y)
-unfolding exists_form
-exists-up d r x y hx hy =
-    then (IsNodeUpTo d) (IsTreeUpTo d) (dataset_in x) (λ a. dataset_in y >>= λ b. pairs.exists_form (structure_of a) (structure_of b) >>= made_of (nodes.exists_in a b (unwrap_or r retain.All))) (dataset-in-up d x hx)
-    (λ a ha. then (IsNodeUpTo d) (IsTreeUpTo d) (dataset_in y) (λ b. pairs.exists_form (structure_of a) (structure_of b) >>= made_of (nodes.exists_in a b (unwrap_or r retain.All))) (dataset-in-up d y hy)
-    (λ b hb. dataset-up d (nodes.exists_in a b (unwrap_or r retain.All)) _ (λ s. node-up d s _ ha.some tt tt (beside d (nodes_in a) (nodes_in b) ha.each hb.each))))
+  pub exists-up : (d : ℕ) (r : Option Retain) (x y : TypedTree) → IsTreeUpTo P d x → IsTreeUpTo P d y → Gives (IsTreeUpTo P d) (exists_form r x y)
+  unfolding exists_form
+  exists-up d r x y hx hy =
+      then (IsNodeUpTo P d) (IsTreeUpTo P d) (dataset_in x) (λ a. dataset_in y >>= λ b. pairs.exists_form (structure_of a) (structure_of b) >>= made_of (nodes.exists_in a b (unwrap_or r retain.All))) (dataset-in-up d x hx)
+      (λ a ha. then (IsNodeUpTo P d) (IsTreeUpTo P d) (dataset_in y) (λ b. pairs.exists_form (structure_of a) (structure_of b) >>= made_of (nodes.exists_in a b (unwrap_or r retain.All))) (dataset-in-up d y hy)
+      (λ b hb. dataset-up P d (nodes.exists_in a b (unwrap_or r retain.All)) _ (λ s. node-up P d s _ ha.some tt tt tt (beside P d (nodes_in a) (nodes_in b) ha.each hb.each))))
 
--- ---- `check`
-imbalance-up : (d : ℕ) (i : Option TypedTree) → IfSome i (IsTreeUpTo d) → Gives (λ b. IfSome b (IsNodeUpTo d)) (imbalance_in i)
-imbalance-up d None h = tt
-imbalance-up d (Some x) h = then (IsNodeUpTo d) (λ b. IfSome b (IsNodeUpTo d)) (dataset_in x) (λ n. Ok (Some n)) (dataset-in-up d x h) (λ n k. k)
+  -- ---- `check`
+  imbalance-up : (d : ℕ) (i : Option TypedTree) → IfSome i (IsTreeUpTo P d) → Gives (λ b. IfSome b (IsNodeUpTo P d)) (imbalance_in i)
+  imbalance-up d None h = tt
+  imbalance-up d (Some x) h = then (IsNodeUpTo P d) (λ b. IfSome b (IsNodeUpTo P d)) (dataset_in x) (λ n. Ok (Some n)) (dataset-in-up d x h) (λ n k. k)
 
-maybe-beside : (d : ℕ) (b : Option NodeTree) → IfSome b (IsNodeUpTo d) → AreNodesUpTo d (maybe_nodes (maybe_node b))
-maybe-beside d None h = tt
-maybe-beside d (Some n) h = h.each
+  maybe-beside : (d : ℕ) (b : Option NodeTree) → IfSome b (IsNodeUpTo P d) → AreOwnUpTo P d (maybe_nodes (maybe_node b))
+  maybe-beside d None h = tt
+  maybe-beside d (Some n) h = h.each
 
-pub check-up : (d : ℕ) (spec : CheckSpec) (x : TypedTree) (i : Option TypedTree) → IsTreeUpTo d x → IfSome i (IsTreeUpTo d) → Gives (IsTreeUpTo d) (check_form spec x i)
-unfolding check_form
-check-up d spec x i hx hi =
-    then (IsNodeUpTo d) (IsTreeUpTo d) (dataset_in x) (λ a. imbalance_in i >>= λ b. pairs.check_form (structure_of a) (structures_in (option_to_list b)) >>= made_of (nodes.check a (maybe_node b) spec)) (dataset-in-up d x hx)
-    (λ a ha. then (λ b. IfSome b (IsNodeUpTo d)) (IsTreeUpTo d) (imbalance_in i) (λ b. pairs.check_form (structure_of a) (structures_in (option_to_list b)) >>= made_of (nodes.check a (maybe_node b) spec)) (imbalance-up d i hi)
-    (λ b hb. dataset-up d (nodes.check a (maybe_node b) spec) _ (λ s. node-up d s _ ha.some tt tt (beside d (nodes_in a) (maybe_nodes (maybe_node b)) ha.each (maybe-beside d b hb)))))
+  pub check-up : (d : ℕ) (spec : CheckSpec) (x : TypedTree) (i : Option TypedTree) → IsTreeUpTo P d x → IfSome i (IsTreeUpTo P d) → Gives (IsTreeUpTo P d) (check_form spec x i)
+  unfolding check_form
+  check-up d spec x i hx hi =
+      then (IsNodeUpTo P d) (IsTreeUpTo P d) (dataset_in x) (λ a. imbalance_in i >>= λ b. pairs.check_form (structure_of a) (structures_in (option_to_list b)) >>= made_of (nodes.check a (maybe_node b) spec)) (dataset-in-up d x hx)
+      (λ a ha. then (λ b. IfSome b (IsNodeUpTo P d)) (IsTreeUpTo P d) (imbalance_in i) (λ b. pairs.check_form (structure_of a) (structures_in (option_to_list b)) >>= made_of (nodes.check a (maybe_node b) spec)) (imbalance-up d i hi)
+      (λ b hb. dataset-up P d (nodes.check a (maybe_node b) spec) _ (λ s. node-up P d s _ ha.some tt tt tt (beside P d (nodes_in a) (maybe_nodes (maybe_node b)) ha.each (maybe-beside d b hb)))))
 
--- ---- aggregates
-aggregate-up : (d : ℕ) (f : AggregateName) (g : Option GroupPart) (a : NodeTree) (having : Option CompExp) → IsNodeUpTo d a → IfSome having (IsUpTo d) → Gives (IsTreeUpTo d) (aggregate_node f g a having)
-unfolding aggregate_node
-aggregate-up d f g a having h k =
-    dataset-up d (nodes.aggregate a (aggregate_tree f g a having)) _ (λ s. node-up d s _ h.some (option-up d having k) tt h.each)
+  -- ---- aggregates
+  aggregate-up : (d : ℕ) (f : AggregateName) (g : Option GroupPart) (a : NodeTree) (having : Option CompExp) → IsNodeUpTo P d a → IfSome having (IsUpTo d) → Gives (IsTreeUpTo P d) (aggregate_node f g a having)
+  unfolding aggregate_node
+  aggregate-up d f g a having h k =
+      dataset-up P d (nodes.aggregate a (aggregate_tree f g a having)) _ (λ s. node-up P d s _ h.some tt (option-up d having k) tt h.each)
 
--- over groups
-group-call-up : (d : ℕ) (f : AggregateName) (component : Option (List ℕ)) (grouped : Bool) (kind : Option Kind) → suc (argument_depth component) ≤ d → Gives (IsTreeUpTo d) (group_call_by f component grouped kind)
-group-call-up d f component grouped None le = tt
-group-call-up d f component grouped (Some kind) le = after (IsTreeUpTo d) (ruled ((rule.AggregateMisuse, grouped) ∷ []) (tt {0})) (λ u. group_call f component kind) (λ u. le)
+  -- over groups
+  group-call-up : (d : ℕ) (f : AggregateName) (component : Option (List ℕ)) (grouped : Bool) (kind : Option Kind) → suc (argument_depth component) ≤ d → Gives (IsTreeUpTo P d) (group_call_by f component grouped kind)
+  group-call-up d f component grouped None le = tt
+  group-call-up d f component grouped (Some kind) le = after (IsTreeUpTo P d) (ruled ((rule.AggregateMisuse, grouped) ∷ []) (tt {0})) (λ u. group_call f component kind) (λ u. le)
 
-argument-below : (o : Option (List ℕ)) → argument_depth o ≤ 1
-argument-below None = omega arith
-argument-below (Some name) = omega arith
+  argument-below : (o : Option (List ℕ)) → argument_depth o ≤ 1
+  argument-below None = omega arith
+  argument-below (Some name) = omega arith
 
-value-call-up : (d : ℕ) (at : Place) (f : AggregateName) (grouped : Bool) (e : MaybeExp) (v : CompExp) → 2 ≤ d → Gives (IsTreeUpTo d) (aggregate_value at f grouped e v)
-value-call-up d place.Outside f grouped e v le = tt
-value-call-up d (place.Inside i) f grouped e v le = group-call-up d f (operand_name e v) (is_misused i grouped (operand_name e v)) (aggregate_kind f (exp_kind v)) (omega (arith, argument-below (operand_name e v)))
+  value-call-up : (d : ℕ) (at : Place) (f : AggregateName) (grouped : Bool) (e : MaybeExp) (v : CompExp) → 2 ≤ d → Gives (IsTreeUpTo P d) (aggregate_value at f grouped e v)
+  value-call-up d place.Outside f grouped e v le = tt
+  value-call-up d (place.Inside i) f grouped e v le = group-call-up d f (operand_name e v) (is_misused i grouped (operand_name e v)) (aggregate_kind f (exp_kind v)) (omega (arith, argument-below (operand_name e v)))
 
-count-up : (d : ℕ) (at : Place) (f : AggregateName) (grouped : Bool) → 1 ≤ d → Gives (IsTreeUpTo d) (count_call at f grouped)
-count-up d place.Outside f grouped some = tt
-count-up d (place.Inside i) f grouped some = go (is_some i.grouping)
-  where
-    go : (b : Bool) → Gives (IsTreeUpTo d) (cond b (group_call_by f None grouped (count_kind f)) (Err rule.WrongKind))
-    go true = group-call-up d f None grouped (count_kind f) some
-    go false = tt
+  count-up : (d : ℕ) (at : Place) (f : AggregateName) (grouped : Bool) → 1 ≤ d → Gives (IsTreeUpTo P d) (count_call at f grouped)
+  count-up d place.Outside f grouped some = tt
+  count-up d (place.Inside i) f grouped some = go (is_some i.grouping)
+    where
+      go : (b : Bool) → Gives (IsTreeUpTo P d) (cond b (group_call_by f None grouped (count_kind f)) (Err rule.WrongKind))
+      go true = group-call-up d f None grouped (count_kind f) some
+      go false = tt
 
--- behind the operand, which is typed and less deep
-pub grouped-up : (c d : ℕ) (at : Place) (f : AggregateName) (e : MaybeExp) (g : Option GroupPart) (grouped : Bool) (having : Having) (x : Option TypedTree) → suc c ≤ d → ((groups : Place) → Gives (λ o. IfSome o (IsUpTo d)) (having groups)) → IfSome x (IsTreeUpTo c) → Gives (IsTreeUpTo d) (grouped_of at f e g grouped having x)
-grouped-up c d at f e g grouped having (Some (dataset n)) le hh h =
-    after (IsTreeUpTo d) (grouping_typed (components_in n) g) (λ names. having (place.Inside (at_groups None n names)) >>= aggregate_node f g n)
-    (λ names. then (λ o. IfSome o (IsUpTo d)) (IsTreeUpTo d) (having (place.Inside (at_groups None n names))) (aggregate_node f g n) (hh (place.Inside (at_groups None n names))) (λ o k. aggregate-up d f g n o (tree-raised c d (dataset n) (omega arith) h) k))
-grouped-up c d at f e g grouped having (Some (value v)) le hh h = after (IsTreeUpTo d) (own_groups at g having) (λ u. aggregate_value at f grouped e v) (λ u. value-call-up d at f grouped e v (omega (arith, some-tree c (value v) h)))
-grouped-up c d at f e g grouped having None le hh h = after (IsTreeUpTo d) (own_groups at g having) (λ u. count_call at f grouped) (λ u. count-up d at f grouped (omega arith))
+  -- behind the operand, which is typed and less deep
+  pub grouped-up : (c d : ℕ) (at : Place) (f : AggregateName) (e : MaybeExp) (g : Option GroupPart) (grouped : Bool) (having : Having) (x : Option TypedTree) → suc c ≤ d → ((groups : Place) → Gives (λ o. IfSome o (IsUpTo d)) (having groups)) → IfSome x (IsTreeUpTo P c) → Gives (IsTreeUpTo P d) (grouped_of at f e g grouped having x)
+  grouped-up c d at f e g grouped having (Some (dataset n)) le hh h =
+      after (IsTreeUpTo P d) (grouping_typed (components_in n) g) (λ names. having (place.Inside (at_groups None n names)) >>= aggregate_node f g n)
+      (λ names. then (λ o. IfSome o (IsUpTo d)) (IsTreeUpTo P d) (having (place.Inside (at_groups None n names))) (aggregate_node f g n) (hh (place.Inside (at_groups None n names))) (λ o k. aggregate-up d f g n o (tree-raised P c d (dataset n) (omega arith) h) k))
+  grouped-up c d at f e g grouped having (Some (value v)) le hh h = after (IsTreeUpTo P d) (own_groups at g having) (λ u. aggregate_value at f grouped e v) (λ u. value-call-up d at f grouped e v (omega (arith, some-tree P c (value v) h)))
+  grouped-up c d at f e g grouped having None le hh h = after (IsTreeUpTo P d) (own_groups at g having) (λ u. count_call at f grouped) (λ u. count-up d at f grouped (omega arith))
 
--- ---- analytic calls
-over-node-up : (d : ℕ) (e : Exp) (call : Call) (w : Window) (a : NodeTree) → IsNodeUpTo d a → Gives (IsTreeUpTo d) (over_node e call w a)
-unfolding over_node
-over-node-up d e call w a h = dataset-up d (nodes.analytic_of a (nodes.of_measures (or_count call.op) w)) _ (λ s. node-up d s _ h.some tt tt h.each)
+  -- ---- analytic calls
+  over-node-up : (d : ℕ) (e : Exp) (call : Call) (w : Window) (a : NodeTree) → IsNodeUpTo P d a → Gives (IsTreeUpTo P d) (over_node e call w a)
+  unfolding over_node
+  over-node-up d e call w a h = dataset-up P d (nodes.analytic_of a (nodes.of_measures (or_count call.op) w)) _ (λ s. node-up P d s _ h.some tt tt tt h.each)
 
-over-dataset-up : (d : ℕ) (at : Place) (e : Exp) (n : NodeTree) (call : Call) (w : Window) → IsNodeUpTo d n → Gives (IsTreeUpTo d) (over_dataset at e n call w)
-over-dataset-up d place.Outside e n call w h = over-node-up d e call w n h
-over-dataset-up d (place.Inside i) e n call w h = after (IsTreeUpTo d) (given_structure e (components_in n)) (λ s. Err rule.DatasetOrValue) (λ s. tt)
+  over-dataset-up : (d : ℕ) (at : Place) (e : Exp) (n : NodeTree) (call : Call) (w : Window) → IsNodeUpTo P d n → Gives (IsTreeUpTo P d) (over_dataset at e n call w)
+  over-dataset-up d place.Outside e n call w h = over-node-up d e call w n h
+  over-dataset-up d (place.Inside i) e n call w h = after (IsTreeUpTo P d) (given_structure e (components_in n)) (λ s. Err rule.DatasetOrValue) (λ s. tt)
 
-pub over-up : (d : ℕ) (p : Settings) (at : Place) (e : Exp) (x : Option TypedTree) → IfSome x (IsTreeUpTo d) → Gives (IsTreeUpTo d) (over_typed p at e x)
-unfolding over_typed
-over-up d p at e x h = after (IsTreeUpTo d) _ _ (λ parts. go x h parts.0 parts.1)
-  where
-    go : (x : Option TypedTree) → IfSome x (IsTreeUpTo d) → (call : Call) (w : Window) → Gives (IsTreeUpTo d) (over_form at e x call w)
-    go (Some (dataset n)) h call w = over-dataset-up d at e n call w h
-    go (Some (value v)) h call w = tt
-    go None h call w = tt
+  pub over-up : (d : ℕ) (p : Settings) (at : Place) (e : Exp) (x : Option TypedTree) → IfSome x (IsTreeUpTo P d) → Gives (IsTreeUpTo P d) (over_typed p at e x)
+  unfolding over_typed
+  over-up d p at e x h = after (IsTreeUpTo P d) _ _ (λ parts. go x h parts.0 parts.1)
+    where
+      go : (x : Option TypedTree) → IfSome x (IsTreeUpTo P d) → (call : Call) (w : Window) → Gives (IsTreeUpTo P d) (over_form at e x call w)
+      go (Some (dataset n)) h call w = over-dataset-up d at e n call w h
+      go (Some (value v)) h call w = tt
+      go None h call w = tt

@@ -23,6 +23,7 @@ use Rattle.check_values.specs.Columns.{column_typed}
 use Rattle.check_groups.specs.Aggregates.{agg_kind, aggregate_kind, aggregate_value, column_name, count_call, count_kind, group_call, group_call_by, is_component, operand_name}
 use Rattle.check_operators.specs.Places.{Env, Written, alone, component_typed, in_aggregate, name_written, with_alias, written_in, written_typed}
 use Rattle.check_operators.specs.Typed.{TypedTree, value, dataset, of_value}
+use Rattle.check_expressions.specs.Rulings.{Sight}
 use Rattle.check_expressions.specs.Typing.{maybe_typed, over_operand, typed}
 use Rattle.check_groups.specs.Windowed.{operand_exp}
 use Rattle.check_operators.specs.declared.places.Inside.{Inside}
@@ -65,30 +66,30 @@ IsWritten i e x = is_some (written_in e) ≡ true → IsNamed i.components x
 another : (i : Inside) (r : Result TypedTree Rule) → Gives (λ x. false ≡ true → IsNamed i.components x) r
 another i r = weaker (λ x. Unit {0}) (λ x. false ≡ true → IsNamed i.components x) r (λ x u yes. absurd (false≢true yes)) (anything r)
 
-exp-named : (env : Env) (i : Inside) (e : Exp) → Gives (IsWritten i e) (typed env (place.Inside i) e)
-exp-named env i (tree.component c) = weaker (IsNamed i.components) (IsWritten i (tree.component c)) (component_typed i (name_of c)) (λ x h yes. h) (component-named i (name_of c))
-exp-named env i (tree.member (tree.component (comp.Name alias)) c) = weaker (IsNamed i.components) (IsWritten i (tree.member (tree.component (comp.Name alias)) c)) (written_typed i (with_alias alias c)) (λ x h yes. h) (written-named i (with_alias alias c))
-exp-named env i e = another i (typed env (place.Inside i) e)
+exp-named : (sight : Sight) (i : Inside) (e : Exp) → Gives (IsWritten i e) (typed sight (place.Inside i) e)
+exp-named sight i (tree.component c) = weaker (IsNamed i.components) (IsWritten i (tree.component c)) (component_typed i (name_of c)) (λ x h yes. h) (component-named i (name_of c))
+exp-named sight i (tree.member (tree.component (comp.Name alias)) c) = weaker (IsNamed i.components) (IsWritten i (tree.member (tree.component (comp.Name alias)) c)) (written_typed i (with_alias alias c)) (λ x h yes. h) (written-named i (with_alias alias c))
+exp-named sight i e = another i (typed sight (place.Inside i) e)
 
-pub operand-named : (env : Env) (at : Place) (e : MaybeExp) → Gives (λ x. IfSome x (IsOperand at e)) (maybe_typed env (in_aggregate at) e)
-operand-named env place.Outside e = weaker (λ x. Unit {0}) (λ x. IfSome x (IsOperand place.Outside e)) (maybe_typed env place.Outside e) (λ x u. any x) (anything (maybe_typed env place.Outside e))
+pub operand-named : (sight : Sight) (at : Place) (e : MaybeExp) → Gives (λ x. IfSome x (IsOperand at e)) (maybe_typed sight (in_aggregate at) e)
+operand-named sight place.Outside e = weaker (λ x. Unit {0}) (λ x. IfSome x (IsOperand place.Outside e)) (maybe_typed sight place.Outside e) (λ x u. any x) (anything (maybe_typed sight place.Outside e))
   where
     any : (x : Option TypedTree) → IfSome x (IsOperand place.Outside e)
     any None = tt
     any (Some y) = tt
-operand-named env (place.Inside i) tree.no_exp = tt
-operand-named env (place.Inside i) (tree.some_exp e) = then (IsWritten inner e) (λ x. IfSome x (IsOperand (place.Inside i) (tree.some_exp e))) (typed env (place.Inside inner) e) (λ x. Ok (Some x)) (exp-named env inner e) (λ x h. h)
+operand-named sight (place.Inside i) tree.no_exp = tt
+operand-named sight (place.Inside i) (tree.some_exp e) = then (IsWritten inner e) (λ x. IfSome x (IsOperand (place.Inside i) (tree.some_exp e))) (typed sight (place.Inside inner) e) (λ x. Ok (Some x)) (exp-named sight inner e) (λ x h. h)
   where
     inner : Inside
     inner = record i { grouping = option_map (λ names. names_of i.components) i.grouping }
 
 -- the operand of an analytic call, where it has one
-pub call-operand-named : (env : Env) (i : Inside) (e : Exp) → Gives (λ x. IfSome x (IsOperand (place.Inside i) (operand_exp e))) (over_operand env (place.Inside i) e)
-call-operand-named env i (tree.aggregate_over f tree.no_exp o) = tt
-call-operand-named env i (tree.aggregate_over f (tree.some_exp e) o) = then (IsWritten i e) (λ x. IfSome x (IsOperand (place.Inside i) (tree.some_exp e))) (typed env (place.Inside i) e) (λ x. Ok (Some x)) (exp-named env i e) (λ x h. h)
-call-operand-named env i (tree.value_window f e o) = then (IsWritten i e) (λ x. IfSome x (IsOperand (place.Inside i) (tree.some_exp e))) (typed env (place.Inside i) e) (λ x. Ok (Some x)) (exp-named env i e) (λ x h. h)
-call-operand-named env i (tree.shift f e n l o) = then (IsWritten i e) (λ x. IfSome x (IsOperand (place.Inside i) (tree.some_exp e))) (typed env (place.Inside i) e) (λ x. Ok (Some x)) (exp-named env i e) (λ x h. h)
-call-operand-named env i e = tt
+pub call-operand-named : (sight : Sight) (i : Inside) (e : Exp) → Gives (λ x. IfSome x (IsOperand (place.Inside i) (operand_exp e))) (over_operand sight (place.Inside i) e)
+call-operand-named sight i (tree.aggregate_over f tree.no_exp o) = tt
+call-operand-named sight i (tree.aggregate_over f (tree.some_exp e) o) = then (IsWritten i e) (λ x. IfSome x (IsOperand (place.Inside i) (tree.some_exp e))) (typed sight (place.Inside i) e) (λ x. Ok (Some x)) (exp-named sight i e) (λ x h. h)
+call-operand-named sight i (tree.value_window f e o) = then (IsWritten i e) (λ x. IfSome x (IsOperand (place.Inside i) (tree.some_exp e))) (typed sight (place.Inside i) e) (λ x. Ok (Some x)) (exp-named sight i e) (λ x h. h)
+call-operand-named sight i (tree.shift f e n l o) = then (IsWritten i e) (λ x. IfSome x (IsOperand (place.Inside i) (tree.some_exp e))) (typed sight (place.Inside i) e) (λ x. Ok (Some x)) (exp-named sight i e) (λ x h. h)
+call-operand-named sight i e = tt
 
 -- ---- the aggregate
 in-groups : (p : Settings) (grouping : Option (List (List ℕ))) (xs : List Component) (f : AggregateName) (component : Option (List ℕ)) (kind : Kind) → is_none grouping ≡ false → Aggregates xs (agg_kind f) component kind → IsTypedIn p grouping xs (exp.aggregate (record { kind = agg_kind f; component = component }) kind)

@@ -13,6 +13,7 @@ use Rattle.vtl_tree.specs.CompExp.{CompExp}
 use Rattle.vtl_tree.specs.Kinds.{exp_kind}
 use Rattle.check_operators.specs.Places.{Env}
 use Rattle.check_operators.specs.Typed.{TypedTree, value, dataset, condition_in}
+use Rattle.check_expressions.specs.Rulings.{Sight, names_in}
 use Rattle.check_expressions.specs.Typing.{having_typed, maybe_typed, typed}
 use Rattle.check_operators.specs.declared.places.Place.{Place}
 use Rattle.check_laws.specs.Gives.{Gives}
@@ -24,15 +25,15 @@ use Rattle.check_laws.proofs.Tests.{not-false}
 abbrev pub IsCondition : Settings → Place → CompExp → Type 0
 IsCondition p at e = IsValueAt p at e × (meets k.Bool (exp_kind e) ≡ true)
 
-condition-gives : (env : Env) (at : Place) (x : TypedTree) → IsWellTyped env at x → Gives (IsCondition env.settings at) (condition_in x)
+pub condition-gives : (env : Env) (at : Place) (x : TypedTree) → IsWellTyped env at x → Gives (IsCondition env.settings at) (condition_in x)
 condition-gives env at (value e) h = tested (IsCondition env.settings at) ((rule.WrongKind, not (meets k.Bool (exp_kind e))) ∷ []) e (λ passed. (h, not-false (meets k.Bool (exp_kind e)) passed.0))
 condition-gives env at (dataset n) h = tt
 
 -- by the typing of its expression
-pub having-at : (env : Env) (at : Place) (e : MaybeExp) → Gives (λ x. IfSome x (IsWellTyped env at)) (maybe_typed env at e) → Gives (λ c. IfSome c (IsCondition env.settings at)) (having_typed env at e)
-having-at env at tree.no_exp h = tt
-having-at env at (tree.some_exp e) h = go (typed env at e) h
+pub having-at : (sight : Sight) (at : Place) (e : MaybeExp) → Gives (λ x. IfSome x (IsWellTyped (names_in sight) at)) (maybe_typed sight at e) → Gives (λ c. IfSome c (IsCondition sight.settings at)) (having_typed sight at e)
+having-at sight at tree.no_exp h = tt
+having-at sight at (tree.some_exp e) h = go (typed sight at e) h
   where
-    go : (r : Result TypedTree Rule) → Gives (λ x. IfSome x (IsWellTyped env at)) (r >>= λ x. Ok (Some x)) → Gives (λ c. IfSome c (IsCondition env.settings at)) (r >>= condition_in >>= λ c. Ok (Some c))
-    go (Ok x) h = then (IsCondition env.settings at) (λ c. IfSome c (IsCondition env.settings at)) (condition_in x) (λ c. Ok (Some c)) (condition-gives env at x h) (λ c k. k)
+    go : (r : Result TypedTree Rule) → Gives (λ x. IfSome x (IsWellTyped (names_in sight) at)) (r >>= λ x. Ok (Some x)) → Gives (λ c. IfSome c (IsCondition sight.settings at)) (r >>= condition_in >>= λ c. Ok (Some c))
+    go (Ok x) h = then (IsCondition sight.settings at) (λ c. IfSome c (IsCondition sight.settings at)) (condition_in x) (λ c. Ok (Some c)) (condition-gives (names_in sight) at x h) (λ c k. k)
     go (Err broken) h = tt

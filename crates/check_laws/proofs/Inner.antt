@@ -45,9 +45,9 @@ module _ (p : Settings) (known : Named) where
     form-made s (nodes.aggregate a spec) m = inner-made a m.0
     form-made s (nodes.analytic_of a spec) m = inner-made a m.0
     form-made s (nodes.check a i spec) m = two (nodes_in a) (maybe_nodes i) (inner-made a m.0) (maybe-made i m.1)
-    form-made s (nodes.check_datapoint a rules out) m = inner-made a m
-    form-made s (nodes.check_hierarchy a rules mode out) m = inner-made a m
-    form-made s (nodes.hierarchy a rules mode i out) m = inner-made a m
+    form-made s (nodes.check_datapoint a rules out) m = inner-made a m.0
+    form-made s (nodes.check_hierarchy a rules mode out) m = inner-made a m.0
+    form-made s (nodes.hierarchy a rules mode i out) m = inner-made a m.0
 
     all-made : (ns : NodeTrees) → AreMade p known ns → AllByRecursion P (all_nodes ns)
     all-made nodes.no_nodes m = tt

@@ -4,9 +4,12 @@ pub mod Among
 pub mod Analyzed
 pub mod CalcCalls
 pub mod Calculated
+pub mod Called
+pub mod CheckShapes
 pub mod Chosen
 pub mod Clauses
 pub mod Combined
+pub mod Conditions
 pub mod DepthBounds
 pub mod DepthClauses
 pub mod DepthOperators
@@ -34,6 +37,7 @@ pub mod Scripts
 pub mod Sets
 pub mod Shapes
 pub mod Sound
+pub mod SoundRulings
 pub mod Steps
 pub mod Tests
 pub mod Turned

@@ -67,7 +67,7 @@ fits s n = go (nat_lt (unsigned_abs n) (10 ^ (18 - s))) refl
     go true e = subst (λ b. IsOk {T = ℤ} {E = Fault} (cond b (Ok n) (Err Range))) (sym e) refl
     go false e = tt
 
-integer-fits : (p : Settings) (digits : List ℕ) → IfSome (integer_written p digits) (λ n. IsOk (fit_integer p.scale n))
+pub integer-fits : (p : Settings) (digits : List ℕ) → IfSome (integer_written p digits) (λ n. IsOk (fit_integer p.scale n))
 integer-fits p digits = some-then (λ n. Unit {0}) (λ n. IsOk (fit_integer p.scale n)) (integer_of p.scale) (numeral_of (encode_utf8_all digits)) (some-each (λ n. Unit {0}) (numeral_of (encode_utf8_all digits)) (λ n. tt)) (λ n u. go n (numerator 0 n % denominator n == 0))
   where
     go : (n : Numeral) (b : Bool) → IfSome (cond b (result_ok (fit_integer p.scale (signed n.negative (numerator 0 n / denominator n)))) None) (λ n. IsOk (fit_integer p.scale n))

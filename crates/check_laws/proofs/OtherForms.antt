@@ -3,15 +3,11 @@ use Rattle.std.proofs.Common.{ℕ, Bool, List, ◌++◌, map, None}
 use Rattle.std.specs.List.{filter}
 use Rattle.check_faults.specs.Rules.{ruled}
 use Rattle.vtl_tree.specs.declared.structure.Component.{Component}
-use Rattle.vtl_tree.specs.declared.structure.Structure.{Structure}
 use Rattle.vtl_tree.specs.Choices.{chosen}
 use Rattle.vtl_tree.specs.ClauseShapes.{calculated, is_new, target_component}
 use Rattle.check_shapes.specs.Clauses.{calc_form}
 use Rattle.vtl_tree.specs.Measures.{Gives as GivesKind, given_measures}
 use Rattle.check_shapes.specs.Measures.{measured_form, measured_tests}
-use Rattle.vtl_tree.specs.Operands.{agreed_identifiers}
-use Rattle.vtl_tree.specs.Pairs.{check_measures}
-use Rattle.check_shapes.specs.Pairs.{check_form, check_tests}
 use Rattle.check_shapes.specs.Shape.{shaped}
 use Rattle.vtl_tree.specs.declared.choices.Choice.{Choice}
 use Rattle.vtl_tree.specs.declared.measures.Outcome.{Outcome}
@@ -25,9 +21,6 @@ some-shaped xs = shaped-gives IsShaped xs (λ is. is)
 
 pub measured-shaped : (o : Outcome) (f : GivesKind) (literals : Bool) (c : Choice) (names : List (List ℕ)) (xs : List Component) → Gives IsShaped (measured_form o f literals c names xs)
 measured-shaped o f literals c names xs = any-shaped (ruled (measured_tests o f literals xs) (tt {0})) (λ u. chosen c names xs ++ given_measures o f None xs)
-
-pub check-shaped : (s : Structure) (others : List Structure) → Gives IsShaped (check_form s others)
-check-shaped s others = any-shaped (ruled (check_tests s others) (tt {0})) (λ u. agreed_identifiers others s.components ++ check_measures)
 
 pub calc-shaped : (ts : List Target) (xs : List Component) → Gives IsShaped (calc_form ts xs)
 calc-shaped ts xs = some-shaped (map (calculated ts) xs ++ map target_component (filter (is_new xs) ts))

@@ -1,5 +1,5 @@
 -- The nodes of typed scripts.
-use Rattle.std.proofs.Common.{◌≡◌, ℕ, ◌+◌, Bool, true, false, cond, ◌&&◌, not, List, [], ◌∷◌, ◌++◌, length, Some, None, is_some, Result, Ok, Err, refl, sym, ap, ◌∙◌, subst, append_assoc}
+use Rattle.std.proofs.Common.{◌≡◌, ℕ, suc, ◌+◌, Bool, true, false, cond, ◌&&◌, not, List, [], ◌∷◌, ◌++◌, length, Some, None, is_some, Result, Ok, Err, refl, sym, ap, ◌∙◌, subst, append_assoc}
 use Rattle.std.proofs.lemmas.Bool.{leb-true}
 use Rattle.std.proofs.lemmas.List.{append-nil}
 use Rattle.std.specs.List.{AllByRecursion, list_all}
@@ -12,28 +12,31 @@ use Rattle.vtl_lists.specs.Results.{◌>>=◌}
 use Rattle.check_faults.specs.Rules.{ruled}
 use Rattle.check_faults.specs.declared.rules.Rule.{Rule}
 use Rattle.check_faults.specs.declared.rules.Rule.TheVariants as rule
-use Rattle.vtl_syntax.specs.Trees.{Exp}
+use Rattle.vtl_syntax.specs.Trees as tree
+use Rattle.vtl_syntax.specs.Trees.{Exp, ScriptTree}
 use Rattle.vtl_tree.specs.Structure.{most_components, names_of, same_name}
 use Rattle.vtl_tree.specs.Structures.{AreStructures, Named, codes_fit, has_name, is_declarable, is_declarable_component, is_declarable_entry, is_null_kind}
 use Rattle.vtl_tree.proofs.StructuresLemmas.{not_found}
 use Rattle.vtl_tree.specs.declared.structure.Component.{Component}
 use Rattle.vtl_tree.specs.declared.structure.Structure.{Structure}
 use Rattle.vtl_tree.specs.Trees.{NodeTree, structure_of}
-use Rattle.check_operators.specs.Places.{Env}
 use Rattle.check_operators.specs.Typed.{dataset_in}
 use Rattle.check_operators.specs.declared.places.Place.TheVariants as place
+use Rattle.check_rules.specs.Definitions.{datapoint_defined, hierarchical_defined}
+use Rattle.check_expressions.specs.Rulesets.{is_defined}
 use Rattle.check_expressions.specs.Typing.{typed}
 use Rattle.vtl_check.specs.Checked.{IsTyped, TypedScript, env_over, nodes_of, tree_of}
 use Rattle.vtl_check.specs.Count.{count}
 use Rattle.vtl_check.specs.Names.{names_in}
-use Rattle.vtl_check.specs.Script.{assigned, at, is_too_much, transformations_typed, value_typed, with_result}
-use Rattle.vtl_check.specs.Transformations.{Transformation, transformations}
+use Rattle.vtl_check.specs.Script.{Standing, assigned, at, defined, env_at, is_taken, is_too_much, script_typed, sight_at, statements_typed, value_typed, with_result, with_ruleset}
+use Rattle.vtl_check.specs.Transformations.{Transformation, transformations, transformations_from}
 use Rattle.vtl_check.proofs.KnownLemmas.{has_name-lookup}
 use Rattle.vtl_scripts.specs.Made.{IsMade}
 use Rattle.vtl_meaning.specs.Shapes.{IsShaped}
 use Rattle.check_laws.specs.Gives.{Gives}
 use Rattle.vtl_tree.specs.Nodes.{nodes_in}
 use Rattle.check_laws.specs.Scripts.{AreMadeFrom, AreReadFrom}
+use Rattle.check_laws.specs.SoundRulings.{AreAccepted, IsAccepted}
 use Rattle.check_laws.specs.WellTyped.{AreShaped, IsWellTyped}
 use Rattle.vtl_meaning.proofs.FoundColumns.{same-true}
 use Rattle.vtl_meaning.proofs.Lists as lists
@@ -41,8 +44,9 @@ use Rattle.check_laws.proofs.Inner.{inner-shaped, made-shaped}
 use Rattle.check_laws.proofs.Over.{made_over, names_known}
 use Rattle.check_laws.proofs.Sets.{dataset-gives}
 use Rattle.check_laws.proofs.Sound.{sound}
-use Rattle.check_laws.proofs.Steps.{tested, tested-then, then}
-use Rattle.check_laws.proofs.Tests.{and-true, not-true}
+use Rattle.check_laws.proofs.SoundRulings.{rulings-of}
+use Rattle.check_laws.proofs.Steps.{after, tested, tested-then, then}
+use Rattle.check_laws.proofs.Tests.{and-true, not-true, or-false}
 
 -- ---- structures that are declared
 component-kind : (x : Component) → is_declarable_component x ≡ true → is_null_kind x.kind ≡ false
@@ -88,16 +92,27 @@ made-same : (p : Settings) (known other : Named) (n : NodeTree) → AreSame know
 made-same p known other n same m = made_over p known other n (lists.every (λ name. lookup (same_name name) known ≡ lookup (same_name name) other) (names_in n) same) m
 
 -- ---- statements
-assigned-gives : (env : Env) (before : ℕ) (name : List ℕ) (e : Exp) → AreShaped env.known → Gives (λ n. (has_name name env.known ≡ false) × IsMade env.settings env.known n) (assigned env before name e)
+assigned-gives : (s : Standing) (before : ℕ) (name : List ℕ) (e : Exp) → AreShaped s.known → AreAccepted s.settings s.definitions → Gives (λ n. (has_name name s.known ≡ false) × IsMade s.settings s.known n) (assigned s before name e)
 unfolding assigned
-assigned-gives env before name e are =
-    tested-then Q ((rule.NameTaken, has_name name env.known) ∷ []) (λ u. value_typed env e >>= λ n. ruled ((rule.TooManyNodes, is_too_much before n) ∷ []) n)
-    (λ passed. then (IsMade env.settings env.known) Q (value_typed env e) (λ n. ruled ((rule.TooManyNodes, is_too_much before n) ∷ []) n)
-    (then (IsWellTyped env place.Outside) (IsMade env.settings env.known) (typed env place.Outside e) dataset_in (sound env are place.Outside e) (dataset-gives env place.Outside))
-    (λ n is. tested Q ((rule.TooManyNodes, is_too_much before n) ∷ []) n (λ few. (passed.0, is))))
+assigned-gives s before name e are accepted =
+    tested-then Q ((rule.NameTaken, is_taken s name) ∷ []) (λ u. value_typed s e >>= λ n. ruled ((rule.TooManyNodes, is_too_much before (count n)) ∷ []) n)
+    (λ passed. then (IsMade s.settings s.known) Q (value_typed s e) (λ n. ruled ((rule.TooManyNodes, is_too_much before (count n)) ∷ []) n)
+    (then (IsWellTyped (env_at s) place.Outside) (IsMade s.settings s.known) (typed (sight_at s) place.Outside e) dataset_in (sound (sight_at s) are (rulings-of s.settings s.definitions accepted) place.Outside e) (dataset-gives (env_at s) place.Outside))
+    (λ n is. tested Q ((rule.TooManyNodes, is_too_much before (count n)) ∷ []) n (λ few. ((or-false (has_name name s.known) (is_defined name s.definitions) passed.0).0, is))))
   where
     Q : NodeTree → Type 0
-    Q n = (has_name name env.known ≡ false) × IsMade env.settings env.known n
+    Q n = (has_name name s.known ≡ false) × IsMade s.settings s.known n
+
+itself : (r : Result (Unit {0}) Rule) → Gives (λ u. r ≡ Ok tt) r
+itself (Ok tt) = refl
+itself (Err broken) = tt
+
+-- a definition that is typed is what a ruleset has to be
+defined-gives : (s : Standing) (before : ℕ) (name : List ℕ) (rules : ℕ) (fits : Result (Unit {0}) Rule) → Gives (λ u. fits ≡ Ok tt) (defined s before name rules fits)
+unfolding defined
+defined-gives s before name rules fits =
+    after (λ u. fits ≡ Ok tt) (ruled ((rule.NameTaken, is_taken s name) ∷ []) (tt {0})) (λ u. fits >>= λ u. ruled ((rule.TooManyNodes, is_too_much before rules) ∷ []) (tt {0}))
+    (λ u. then (λ u. fits ≡ Ok tt) (λ u. fits ≡ Ok tt) fits (λ u. ruled ((rule.TooManyNodes, is_too_much before rules) ∷ []) (tt {0})) (itself fits) (λ u e. tested (λ u. fits ≡ Ok tt) ((rule.TooManyNodes, is_too_much before rules) ∷ []) tt (λ passed. e)))
 
 pub at-then : {A B : Type 0} (P : A → Type 0) (Q : B → Type 0) (i : ℕ) (r : Result A Rule) (f : A → Result B (ℕ × ℕ)) → Gives P r → ((x : A) → P x → Gives Q (f x)) → Gives Q (at i r f)
 at-then P Q i (Ok x) f h g = g x h
@@ -106,24 +121,40 @@ at-then P Q i (Err broken) f h g = tt
 abbrev AreBehind : Settings → Named → List Transformation → List NodeTree → List NodeTree → Type 0
 AreBehind p other ts done all = (ns : List NodeTree) × (all ≡ done ++ ns) × AreMadeFrom p other ts ns
 
-transformations-give : (env : Env) (other : Named) (before : ℕ) (done : List NodeTree) (ts : List Transformation) → AreShaped env.known → AreSame env.known other → Gives (AreBehind env.settings other ts done) (transformations_typed env before done ts)
-transformations-give env other before done [] are same = ([], sym (append-nil done), tt)
-transformations-give env other before done (t ∷ ts) are same =
-    at-then (λ n. (has_name t.name env.known ≡ false) × IsMade env.settings env.known n) (AreBehind env.settings other (t ∷ ts) done) t.number (assigned env before t.name t.value) (λ n. transformations_typed (with_result env t.name n) (before + count n) (done ++ n ∷ []) ts) (assigned-gives env before t.name t.value are)
-    (λ n h. weaken n h (transformations_typed (with_result env t.name n) (before + count n) (done ++ n ∷ []) ts) (transformations-give (with_result env t.name n) ((t.name, structure_of n) ∷ other) (before + count n) (done ++ n ∷ []) ts (lists.appended (λ e. IsShaped e.1) env.known ((t.name, structure_of n) ∷ []) are (made-shaped env.settings env.known n h.1, tt)) (same-more env.known other t.name (structure_of n) h.0 same)))
+statements-give : (s : Standing) (other : Named) (i before : ℕ) (done : List NodeTree) (ss : ScriptTree) → AreShaped s.known → AreAccepted s.settings s.definitions → AreSame s.known other → Gives (AreBehind s.settings other (transformations_from i ss) done) (statements_typed s i before done ss)
+statements-give s other i before done [] are accepted same = ([], sym (append-nil done), tt)
+statements-give s other i before done (tree.assignment name kind e ∷ ss) are accepted same =
+    at-then Here (AreBehind s.settings other (transformations_from i (tree.assignment name kind e ∷ ss)) done) i (assigned s before name e) (λ n. statements_typed (with_result s name n) (suc i) (before + count n) (done ++ n ∷ []) ss) (assigned-gives s before name e are accepted)
+    (λ n h. weaken n h (statements_typed (with_result s name n) (suc i) (before + count n) (done ++ n ∷ []) ss)
+    (statements-give (with_result s name n) ((name, structure_of n) ∷ other) (suc i) (before + count n) (done ++ n ∷ []) ss (lists.appended (λ e. IsShaped e.1) s.known ((name, structure_of n) ∷ []) are (made-shaped s.settings s.known n h.1, tt)) accepted (same-more s.known other name (structure_of n) h.0 same)))
   where
-    new-there : has_name t.name env.known ≡ false → has_name t.name other ≡ false
-    new-there new = has_name-lookup t.name other ∙ ap is_some (sym (same t.name)) ∙ sym (has_name-lookup t.name env.known) ∙ new
+    Here : NodeTree → Type 0
+    Here n = (has_name name s.known ≡ false) × IsMade s.settings s.known n
 
-    weaken : (n : NodeTree) → (has_name t.name env.known ≡ false) × IsMade env.settings env.known n → (r : Result (List NodeTree) (ℕ × ℕ)) → Gives (AreBehind env.settings ((t.name, structure_of n) ∷ other) ts (done ++ n ∷ [])) r → Gives (AreBehind env.settings other (t ∷ ts) done) r
-    weaken n h (Ok all) k = (n ∷ k.0, k.1 ∙ append_assoc done (n ∷ []) k.0, (new-there h.0, made-same env.settings env.known other n same h.1, k.2))
+    new-there : has_name name s.known ≡ false → has_name name other ≡ false
+    new-there new = has_name-lookup name other ∙ ap is_some (sym (same name)) ∙ sym (has_name-lookup name s.known) ∙ new
+
+    weaken : (n : NodeTree) → Here n → (r : Result (List NodeTree) (ℕ × ℕ)) → Gives (AreBehind s.settings ((name, structure_of n) ∷ other) (transformations_from (suc i) ss) (done ++ n ∷ [])) r → Gives (AreBehind s.settings other (transformations_from i (tree.assignment name kind e ∷ ss)) done) r
+    weaken n h (Ok all) k = (n ∷ k.0, k.1 ∙ append_assoc done (n ∷ []) k.0, (new-there h.0, made-same s.settings s.known other n same h.1, k.2))
     weaken n h (Err fault) k = tt
+statements-give s other i before done (tree.datapoint name variables rules last ∷ ss) are accepted same =
+    at-then (λ u. datapoint_defined s.settings variables rules ≡ Ok tt) (AreBehind s.settings other (transformations_from (suc i) ss) done) i (defined s before name (length rules) (datapoint_defined s.settings variables rules))
+    (λ u. statements_typed (with_ruleset s name (tree.datapoint name variables rules last)) (suc i) (before + length rules) done ss) (defined-gives s before name (length rules) (datapoint_defined s.settings variables rules))
+    (λ u e. statements-give (with_ruleset s name (tree.datapoint name variables rules last)) other (suc i) (before + length rules) done ss are (lists.appended (λ d. IsAccepted s.settings d.1) s.definitions ((name, tree.datapoint name variables rules last) ∷ []) accepted (e, tt)) same)
+statements-give s other i before done (tree.hierarchical name item rules last ∷ ss) are accepted same =
+    at-then (λ u. hierarchical_defined s.settings rules ≡ Ok tt) (AreBehind s.settings other (transformations_from (suc i) ss) done) i (defined s before name (length rules) (hierarchical_defined s.settings rules))
+    (λ u. statements_typed (with_ruleset s name (tree.hierarchical name item rules last)) (suc i) (before + length rules) done ss) (defined-gives s before name (length rules) (hierarchical_defined s.settings rules))
+    (λ u e. statements-give (with_ruleset s name (tree.hierarchical name item rules last)) other (suc i) (before + length rules) done ss are (lists.appended (λ d. IsAccepted s.settings d.1) s.definitions ((name, tree.hierarchical name item rules last) ∷ []) accepted (e, tt)) same)
+
+-- the nodes of a whole script
+pub nodes-made : (p : Settings) (declared : Named) (ss : ScriptTree) (ns : List NodeTree) → AreStructures declared → script_typed (env_over p declared) ss ≡ Ok ns → AreMadeFrom p declared (transformations ss) ns
+nodes-made p declared ss ns are is = go (subst (Gives (AreBehind p declared (transformations ss) [])) is (statements-give (env_over p declared) declared 1 0 [] ss (structures-shaped declared are) tt (λ name. refl)))
+  where
+    go : AreBehind p declared (transformations ss) [] ns → AreMadeFrom p declared (transformations ss) ns
+    go h = subst (AreMadeFrom p declared (transformations ss)) (sym h.1) h.2
 
 pub script-made : (t : TypedScript) → AreStructures t.declared → IsTyped t → AreMadeFrom t.settings t.declared (transformations (tree_of t)) (nodes_of t)
-script-made t are is = go (subst (Gives (AreBehind t.settings t.declared (transformations (tree_of t)) [])) is (transformations-give (env_over t.settings t.declared) t.declared 0 [] (transformations (tree_of t)) (structures-shaped t.declared are) (λ name. refl)))
-  where
-    go : AreBehind t.settings t.declared (transformations (tree_of t)) [] (nodes_of t) → AreMadeFrom t.settings t.declared (transformations (tree_of t)) (nodes_of t)
-    go h = subst (AreMadeFrom t.settings t.declared (transformations (tree_of t))) (sym h.1) h.2
+script-made t are is = nodes-made t.settings t.declared (tree_of t) (nodes_of t) are is
 
 -- ---- what follows of all nodes
 read-from : (p : Settings) (known : Named) (ts : List Transformation) (ns : List NodeTree) → AreMadeFrom p known ts ns → AreReadFrom (keys_of known) ts ns

@@ -1,12 +1,17 @@
 -- Operators on whole data sets, aggregates and analytic calls.
-use Rattle.std.proofs.Common.{◌≡◌, List, [], ◌∷◌, Option, Some, None, Result, Ok, refl, sym, ap, subst}
+use Rattle.std.proofs.Common.{◌≡◌, ℕ, List, [], ◌∷◌, Option, Some, None, Ok, refl, sym, ap, subst}
 use Rattle.std.specs.List.{AllByRecursion}
 use Rattle.std.specs.Option.{IfSome}
-use Rattle.std.specs.Prelude.{option_to_list, unwrap_or}
+use Rattle.std.specs.Prelude.{ℤ, option_to_list, unwrap_or}
 use Rattle.vtl_decimal.specs.Settings.{Settings}
+use Rattle.vtl_cell.specs.Literals.{integer_written}
+use Rattle.vtl_cell.specs.Profile.{IsOfProfile}
+use Rattle.vtl_cell.specs.declared.cell.Cell.TheVariants as cell
 use Rattle.vtl_lists.specs.Results.{◌>>=◌}
-use Rattle.check_faults.specs.declared.rules.Rule.{Rule}
 use Rattle.vtl_syntax.specs.declared.parts.Comp.{Comp}
+use Rattle.vtl_syntax.specs.declared.parts.ErrorPart.{ErrorPart}
+use Rattle.vtl_syntax.specs.declared.word_groups.BasicOut.{BasicOut}
+use Rattle.vtl_syntax.specs.declared.word_groups.BasicOut.TheVariants as out
 use Rattle.vtl_syntax.specs.declared.word_groups.DifferenceName.{DifferenceName}
 use Rattle.vtl_syntax.specs.declared.word_groups.DifferenceName.TheVariants as difference
 use Rattle.vtl_syntax.specs.declared.word_groups.Retain.{Retain}
@@ -24,21 +29,23 @@ use Rattle.vtl_tree.specs.declared.choices.Choice.TheVariants as choice
 use Rattle.vtl_tree.specs.declared.names.Wanted.TheVariants as wanted
 use Rattle.vtl_tree.specs.Names.{name_of}
 use Rattle.check_operators.specs.Places.{Env}
-use Rattle.check_operators.specs.Sets.{check_form, datasets_in, difference_form, difference_tree, exists_form, imbalance_in, member_of, set_of, set_structure, set_tree, sets_form, structures_in}
+use Rattle.check_operators.specs.Sets.{check_form, check_spec, datasets_in, difference_form, difference_tree, exists_form, imbalance_in, level_read, level_typed, member_of, set_of, set_structure, set_tree, sets_form, structures_in}
 use Rattle.check_operators.specs.Typed.{TypedTree, value, dataset, components_in, dataset_in, made_of}
 use Rattle.check_operators.specs.declared.places.Place.{Place}
 use Rattle.check_operators.specs.declared.places.Place.TheVariants as place
+use Rattle.vtl_rulings.specs.Shaped.{IsChecked}
 use Rattle.vtl_meaning.specs.Made.{AreCombined, IsCombined, IsExistence, IsLeft}
-use Rattle.vtl_scripts.specs.Made.{AreMade, IsMade, IsMadeMaybe, node_structures}
+use Rattle.vtl_scripts.specs.Made.{AreMade, IsMade, IsMadeMaybe, maybe_structure, node_structures}
 use Rattle.vtl_meaning.specs.Shapes.{IsChosen, IsShaped}
 use Rattle.check_laws.specs.Gives.{Gives}
 use Rattle.check_laws.specs.WellTyped.{IsWellTyped}
+use Rattle.check_laws.proofs.CheckShapes.{check-fits}
 use Rattle.check_laws.proofs.Combined.{combined-fits, exists-fits}
 use Rattle.check_laws.proofs.Inner.{made-shaped}
 use Rattle.check_laws.proofs.Left.{member-fits}
 use Rattle.vtl_meaning.proofs.Lists as lists
+use Rattle.check_laws.proofs.Literals.{integer-fits}
 use Rattle.check_laws.proofs.Operators.{IsMadeWith, made-gives}
-use Rattle.check_laws.proofs.OtherForms.{check-shaped}
 use Rattle.check_laws.proofs.Steps.{then, weaker}
 use Rattle.check_laws.proofs.Turns.{all-in-turn}
 
@@ -46,10 +53,6 @@ use Rattle.check_laws.proofs.Turns.{all-in-turn}
 pub dataset-gives : (env : Env) (at : Place) (x : TypedTree) → IsWellTyped env at x → Gives (IsMade env.settings env.known) (dataset_in x)
 dataset-gives env at (value e) h = tt
 dataset-gives env at (dataset n) h = h
-
--- a form of which only its operands are told
-pub shape-gives : (env : Env) (at : Place) (form : nodes.FormTree) (r : Result Structure Rule) → Gives IsShaped r → ((s : Structure) → IsShaped s → IsMadeWith env form s) → Gives (IsWellTyped env at) (r >>= made_of form)
-shape-gives env at form r h f = made-gives env at form r (weaker IsShaped (IsMadeWith env form) r f h)
 
 -- `a#m`
 pub member-gives : (env : Env) (at : Place) (c : Comp) (a : NodeTree) → IsMade env.settings env.known a → Gives (IsWellTyped env at) (member_of c a)
@@ -110,6 +113,21 @@ exists-gives env at r x y hx hy =
     (λ b ib. made-gives env at (nodes.exists_in a b (unwrap_or r retain.All)) (pairs.exists_form (structure_of a) (structure_of b))
     (weaker (λ s. IsShaped s × IsExistence (structure_of a) (structure_of b) s) (IsMadeWith env (nodes.exists_in a b (unwrap_or r retain.All))) (pairs.exists_form (structure_of a) (structure_of b)) (λ s h. (h.0, (ia, ib, h.1))) (exists-fits (structure_of a) (structure_of b) (made-shaped env.settings env.known b ib)))))
 
+-- ---- levels
+abbrev pub IsLevel : Settings → Option ℤ → Type 0
+IsLevel p level = IfSome level (λ n. IsOfProfile p (cell.Int n))
+
+pub level-gives : (p : Settings) (level : Option (List ℕ)) → Gives (IsLevel p) (level_typed p level)
+level-gives p None = tt
+level-gives p (Some digits) = go (integer_written p digits) (integer-fits p digits)
+  where
+    go : (n : Option ℤ) → IsLevel p n → Gives (IsLevel p) (level_read n)
+    go None h = tt
+    go (Some n) h = h
+
+pub spec-gives : (p : Settings) (error : ErrorPart) (o : Option BasicOut) → Gives (λ s. IsLevel p s.errorlevel) (check_spec p error o)
+spec-gives p error o = then (IsLevel p) (λ s. IsLevel p s.errorlevel) (level_typed p error.level) (λ level. Ok (record { errorcode = error.code; errorlevel = level; output = unwrap_or o out.All })) (level-gives p error.level) (λ level h. h)
+
 -- ---- `check`
 imbalance-gives : (env : Env) (i : Option TypedTree) → IfSome i (IsWellTyped env place.Outside) → Gives (λ b. IfSome b (IsMade env.settings env.known)) (imbalance_in i)
 imbalance-gives env None h = tt
@@ -119,9 +137,21 @@ maybe-made : (p : Settings) (known : Named) (b : Option NodeTree) → IfSome b (
 maybe-made p known None h = tt
 maybe-made p known (Some n) h = h
 
-pub check-gives : (env : Env) (at : Place) (spec : CheckSpec) (x : TypedTree) (i : Option TypedTree) → IsWellTyped env place.Outside x → IfSome i (IsWellTyped env place.Outside) → Gives (IsWellTyped env at) (check_form spec x i)
+-- the structure of an imbalance, as typing and as meaning say it
+same-structure : (b : Option NodeTree) → structures_in (option_to_list b) ≡ option_to_list (maybe_structure (maybe_node b))
+same-structure None = refl
+same-structure (Some n) = refl
+
+maybe-shaped : (p : Settings) (known : Named) (b : Option NodeTree) → IfSome b (IsMade p known) → IfSome (maybe_structure (maybe_node b)) IsShaped
+maybe-shaped p known None h = tt
+maybe-shaped p known (Some n) h = made-shaped p known n h
+
+pub check-gives : (env : Env) (at : Place) (spec : CheckSpec) (x : TypedTree) (i : Option TypedTree) → IsLevel env.settings spec.errorlevel → IsWellTyped env place.Outside x → IfSome i (IsWellTyped env place.Outside) → Gives (IsWellTyped env at) (check_form spec x i)
 unfolding check_form
-check-gives env at spec x i hx hi =
+check-gives env at spec x i level hx hi =
     then (IsMade env.settings env.known) (IsWellTyped env at) (dataset_in x) (λ a. imbalance_in i >>= λ b. pairs.check_form (structure_of a) (structures_in (option_to_list b)) >>= made_of (nodes.check a (maybe_node b) spec)) (dataset-gives env place.Outside x hx)
     (λ a ia. then (λ b. IfSome b (IsMade env.settings env.known)) (IsWellTyped env at) (imbalance_in i) (λ b. pairs.check_form (structure_of a) (structures_in (option_to_list b)) >>= made_of (nodes.check a (maybe_node b) spec)) (imbalance-gives env i hi)
-    (λ b ib. shape-gives env at (nodes.check a (maybe_node b) spec) (pairs.check_form (structure_of a) (structures_in (option_to_list b))) (check-shaped (structure_of a) (structures_in (option_to_list b))) (λ s is. (is, (ia, maybe-made env.settings env.known b ib)))))
+    (λ b ib. subst (λ ss. Gives (IsWellTyped env at) (pairs.check_form (structure_of a) ss >>= made_of (nodes.check a (maybe_node b) spec))) (sym (same-structure b))
+    (made-gives env at (nodes.check a (maybe_node b) spec) (pairs.check_form (structure_of a) (option_to_list (maybe_structure (maybe_node b))))
+    (weaker (λ s. IsShaped s × IsChecked env.settings spec (maybe_structure (maybe_node b)) (structure_of a) s) (IsMadeWith env (nodes.check a (maybe_node b) spec)) (pairs.check_form (structure_of a) (option_to_list (maybe_structure (maybe_node b)))) (λ s h. (h.0, (ia, maybe-made env.settings env.known b ib, h.1)))
+    (check-fits env.settings spec (maybe_structure (maybe_node b)) (structure_of a) (made-shaped env.settings env.known a ia) (maybe-shaped env.settings env.known b ib) level)))))

@@ -44,3 +44,12 @@ both P Q (Err rule) h k = tt
 pub anything : {A : Type 0} (r : Result A Rule) → Gives (λ x. Unit {0}) r
 anything (Ok x) = tt
 anything (Err rule) = tt
+
+-- what is given where something holds
+pub under : {A : Type 0} (H : Type 0) (P : A → Type 0) (r : Result A Rule) → (H → Gives P r) → Gives (λ x. H → P x) r
+under H P (Ok x) f = f
+under H P (Err rule) f = tt
+
+-- tests of which none is broken
+pub passed : (tests : Tests) → ruled tests (tt {0}) ≡ Ok tt → ArePassed tests
+passed tests e = given (λ u. ArePassed tests) (ruled tests (tt {0})) tt (tested (λ u. ArePassed tests) tests tt (λ k. k)) e

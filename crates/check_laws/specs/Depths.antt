@@ -1,6 +1,6 @@
 -- How deep typed expressions on data sets are: the deepest of the component expressions by which their points are made.
-use Rattle.std.specs.Prelude.{ℕ, List, [], ◌∷◌, ◌++◌, option_to_list}
-use Rattle.std.specs.List.{flat_map}
+use Rattle.std.specs.Prelude.{◌≤◌, ℕ, List, [], ◌∷◌, ◌++◌, option_to_list}
+use Rattle.std.specs.List.{AllByRecursion, flat_map}
 use Rattle.vtl_syntax.specs.Depth.{deepest}
 use Rattle.vtl_tree.specs.CompExp.{CompExp}
 use Rattle.vtl_tree.specs.Depths.{comp_depth}
@@ -49,3 +49,7 @@ exps_in (nodes.node s form) = held_exps form ++ made_exps s form
 -- the depth of the deepest component expression of an expression on data sets and of all its operands
 abbrev pub node_depth : NodeTree → ℕ
 node_depth n = deepest comp_depth (flat_map exps_in (nodes_in n))
+
+-- the expressions that a form holds are at most so deep
+abbrev pub IsHeldUpTo : ℕ → FormTree → Type 0
+IsHeldUpTo b form = AllByRecursion (λ e. comp_depth e ≤ b) (held_exps form)

@@ -1,14 +1,13 @@
 -- The names of data sets that a script reads.
-use Rattle.std.specs.Prelude.{ℕ, Bool, true, false, ◌&&◌, cond, List, [], ◌∷◌, ◌++◌}
+use Rattle.std.specs.Prelude.{ℕ, Bool, true, false, ◌&&◌, cond, List, [], ◌∷◌, ◌++◌, Option, Some, None}
 use Rattle.std.specs.Option.{is_some}
 use Rattle.vtl_syntax.specs.Trees as tree
-use Rattle.vtl_syntax.specs.Trees.{Calcs, ClauseTree, Exp, Exps, MaybeExp, MaybeTargets, Parts, ScriptTree, TargetsTree}
+use Rattle.vtl_syntax.specs.Trees.{Calcs, ClauseTree, Exp, Exps, MaybeExp, MaybeTargets, Parts, PointRuleTree, ScriptTree, StatementTree, TargetsTree}
 use Rattle.vtl_syntax.specs.declared.parts.Comp.{Comp}
 use Rattle.vtl_syntax.specs.declared.parts.Comp.TheVariants as comp
 use Rattle.check_operators.specs.Places.{member_written}
 use Rattle.check_operators.specs.declared.places.Place.{Place}
 use Rattle.check_operators.specs.declared.places.Place.TheVariants as place
-use Rattle.vtl_check.specs.Transformations.{Transformation, transformations}
 
 -- inside the brackets of a data set names stand for components
 abbrev pub is_inside : Place → Bool
@@ -79,10 +78,29 @@ abbrev mutual
   parts_read tree.no_parts = []
   parts_read (tree.join_part e alias ps) = names_read false e ++ parts_read ps
 
--- the names in a script: those of results, and those that expressions read
-abbrev pub names_among : List Transformation → List (List ℕ)
-names_among [] = []
-names_among (t ∷ ts) = t.name ∷ names_read false t.value ++ names_among ts
+-- ---- rulesets
+-- the names in the rules of a datapoint ruleset, whose conditions stand inside
+abbrev pub antecedent_reads : Option Exp → List (List ℕ)
+antecedent_reads None = []
+antecedent_reads (Some e) = names_read true e
 
+abbrev pub rules_read : List PointRuleTree → List (List ℕ)
+rules_read [] = []
+rules_read (tree.point_rule name antecedent holds error ∷ rules) = (antecedent_reads antecedent ++ names_read true holds) ++ rules_read rules
+
+-- ---- scripts
+abbrev pub statement_reads : StatementTree → List (List ℕ)
+statement_reads (tree.assignment name kind e) = names_read false e
+statement_reads (tree.datapoint name variables rules last) = rules_read rules
+statement_reads (tree.hierarchical name item rules last) = []
+
+-- the name that a statement gives a result or a ruleset
+abbrev pub statement_name : StatementTree → List ℕ
+statement_name (tree.assignment name kind e) = name
+statement_name (tree.datapoint name variables rules last) = name
+statement_name (tree.hierarchical name item rules last) = name
+
+-- the names in a script: those of results and rulesets, and those that expressions and conditions read
 abbrev pub script_names : ScriptTree → List (List ℕ)
-script_names script = names_among (transformations script)
+script_names [] = []
+script_names (s ∷ ss) = statement_name s ∷ statement_reads s ++ script_names ss

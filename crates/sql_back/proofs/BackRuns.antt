@@ -95,7 +95,7 @@ all_built (t ∷ ts) (n ∷ ns) h =
     let parts = and_parts (is_built n) (list_all is_built ns) h in
     ap (λ b. b && list_all (λ s. is_built s.node) (with_nodes ts ns)) parts.0 ∙ all_built ts ns parts.1
 
-module _ (t : TypedScript) (tables : NamedTables) (built : is_script_built t ≡ true) (script : IsScript t.settings (inputs_of t) (statements_of t)) (there : AreInputs t tables) where
+module _ (t : TypedScript) (tables : NamedTables) (built : is_script_built t ≡ true) (script : IsScript t.settings (inputs_of t) (statements_of t)) (there : AreInputs t tables) (ranged : AreInRange t tables) where
   known : known_in (environment_of t tables) ≡ inputs_of t
   known = sets_known tables (inputs_of t)
 
@@ -109,7 +109,7 @@ module _ (t : TypedScript) (tables : NamedTables) (built : is_script_built t ≡
   outputs_are_sets os e = meaning_kept t.settings (statements_of t) (environment_of t tables) os (all_built (transformations (tree_of t)) (nodes_of t) built) made sets e
 
   value_is : script_value (script_for t.settings (inputs_of t) (statements_of t)) (rows_given tables) ≡ exported_as (script_meaning t tables)
-  value_is = script_means t.settings (inputs_of t) (statements_of t) script (environment_of t tables) known sets (rows_given tables) (are_read tables (inputs_of t))
+  value_is = script_means t.settings (inputs_of t) (statements_of t) script (environment_of t tables) known sets ranged (rows_given tables) (are_read tables (inputs_of t))
 
   pub text_runs : (text : List ℕ) → IsSpelled text (script_for t.settings (inputs_of t) (statements_of t)) → (before now : NamedTables) (r : Result (Unit {0}) RunErr) → RunsText text tables before now r → Runs t tables before now r
   text_runs text spelled before now r h =

@@ -44,7 +44,7 @@ text_for p reads ss text utf8 script spelled alone = record {
   typed = script_is_typed p reads ss script;
   settings = set_is p script.low;
   inputs = inputs_are p reads ss;
-  means = λ inputs taken. inputs_mean inputs p reads ss script taken;
+  means = λ inputs taken ranged. inputs_mean inputs p reads ss script taken ranged;
 }
 
 printable : (p : Settings) (reads : Named) (ss : List Statement) (tree : ScriptTree) → tree ≡ script_for p reads ss → IsScript p reads ss → PrintableScript tree

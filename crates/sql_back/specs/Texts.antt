@@ -10,6 +10,7 @@ use Rattle.sql_meaning.specs.Scripts.{Inputs, script_value}
 use Rattle.sql_check_parts.specs.Statements.{IsTypedScript, script_settings}
 use Rattle.vtl_check.specs.Checked.{TypedScript}
 use Rattle.vtl_backend.specs.Inputs.{inputs_of}
+use Rattle.vtl_meaning.specs.Profiles.{AllAreOfProfile}
 use Rattle.vtl_scripts.specs.Meaning.{Statement, meaning}
 use Rattle.vtl_backend.specs.Statements.{statements_of}
 use Rattle.vtl_to_sql.specs.Exports.{exported_as}
@@ -34,8 +35,8 @@ pub record IsTextFor (p : Settings) (reads : Named) (ss : List Statement) (text 
   -- it sets these settings, and reads these data sets: an INPUT for each, in order
   pub settings : script_settings script ≡ p
   pub inputs : inputs_in script ≡ map input_of reads
-  -- over all rows that its INPUTs take, it exports the outputs that the statements mean, or has their fault with its name
-  pub means : (inputs : Inputs) → AreTaken inputs reads → script_value script inputs ≡ exported_as (meaning p ss (sets_read inputs reads))
+  -- over all rows of the profile that its INPUTs take, it exports the outputs that the statements mean, or has their fault with its name
+  pub means : (inputs : Inputs) → AreTaken inputs reads → AllAreOfProfile p (sets_read inputs reads) → script_value script inputs ≡ exported_as (meaning p ss (sets_read inputs reads))
 
 -- the text of a typed script
 abbrev pub IsTextOf : TypedScript → List ℕ → Type 0

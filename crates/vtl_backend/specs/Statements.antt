@@ -27,8 +27,6 @@ is_script_built t = list_all is_built (nodes_of t)
 
 -- whether a node's own form is evaluated so far, whatever its operands
 abbrev pub is_evaluated_form : FormTree → Bool
-is_evaluated_form (nodes.check a i spec) = false
-is_evaluated_form (nodes.check_datapoint a rules out) = false
 is_evaluated_form (nodes.check_hierarchy a rules m out) = false
 is_evaluated_form (nodes.hierarchy a rules m i out) = false
 is_evaluated_form form = true

@@ -48,10 +48,7 @@ fn is_evaluated(node: &Node) -> bool
     ensures { result ≡ is_evaluated (node_tree node.now) }
 {
     match &node.form {
-        NodeForm::Check { .. }
-        | NodeForm::CheckDatapoint { .. }
-        | NodeForm::CheckHierarchy { .. }
-        | NodeForm::Hierarchy { .. } => false,
+        NodeForm::CheckHierarchy { .. } | NodeForm::Hierarchy { .. } => false,
         _ => true,
     }
 }

@@ -1,5 +1,5 @@
 -- What is left behind an expression is the number without its nodes.
-use Rattle.std.proofs.Common.{◌≡◌, ℕ, suc, ◌+◌, ◌-◌, ◌≤◌, ◌<◌, ◌⊎◌, inl, inr, Bool, true, false, cond, leb, List, [], ◌∷◌, ◌++◌, length, Option, Some, None, option_and_then, refl, sym, ap, ◌∙◌, arith}
+use Rattle.std.proofs.Common.{◌≡◌, ℕ, suc, ◌+◌, ◌-◌, ◌≤◌, ◌<◌, ◌⊎◌, inl, inr, Bool, true, false, cond, leb, List, [], ◌∷◌, ◌++◌, length, Option, Some, None, option_and_then, sym, ap, ◌∙◌, arith}
 use Rattle.std.specs.List.{filter, flat_map}
 use Rattle.std.proofs.lemmas.Bool.{le-leb}
 use Rattle.std.proofs.lemmas.Bool.Decides.{leb_tells}
@@ -90,7 +90,7 @@ spent-nothing n left e = without-nothing (count n) left e
 
 -- the nodes so far with those of an expression, where they are too many or few enough
 abbrev pub sum : NodeTree → ℕ → Option ℕ
-sum n before = cond (is_too_much before n) None (Some (before + count n))
+sum n before = cond (is_too_much before (count n)) None (Some (before + count n))
 
 pub sum-many : (n : NodeTree) (before : ℕ) → most_nodes - before < count n → sum n before ≡ None
 sum-many n before h = ap (λ b. cond b None (Some (before + count n))) (le-leb (suc most_nodes) (before + count n) (omega arith))

@@ -3,3 +3,4 @@ pub mod KnownLemmas
 pub mod LeftLemmas
 pub mod NameLemmas
 pub mod ScriptLemmas
+pub mod StepLemmas

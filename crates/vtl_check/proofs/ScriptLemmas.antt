@@ -3,6 +3,8 @@ use Rattle.std.proofs.Common.{◌≡◌, ℕ, suc, ◌+◌, List, [], ◌∷◌,
 use Rattle.std.specs.Map.{keys_of}
 use Rattle.std.proofs.lemmas.List.{length-map}
 use Rattle.vtl_decimal.specs.Settings.{Settings}
+use Rattle.vtl_syntax.specs.Trees as tree
+use Rattle.vtl_syntax.specs.Trees.{ScriptTree}
 use Rattle.vtl_syntax.specs.View.{statement_tree}
 use Rattle.vtl_syntax.specs.Written.{AreWritten}
 use Rattle.vtl_syntax.specs.declared.statements.Statement.{Statement}
@@ -10,33 +12,43 @@ use Rattle.vtl_tree.specs.Structures.{Named}
 use Rattle.vtl_tree.specs.Trees.{NodeTree}
 use Rattle.vtl_tree.specs.NodeView.{node_tree}
 use Rattle.vtl_tree.specs.declared.nodes.Node.{Node}
-use Rattle.check_operators.specs.Places.{Env}
+use Rattle.check_faults.specs.Rules.{number_of}
+use Rattle.check_faults.specs.declared.rules.Rule.{Rule}
+use Rattle.check_rules.specs.Definitions.{datapoint_defined, hierarchical_defined}
 use Rattle.vtl_check.specs.Checked.{AreUses, IsTyped, TypedScript, env_over}
 use Rattle.vtl_check.specs.Count.{count}
-use Rattle.vtl_check.specs.Script.{assigned, at, transformations_typed, with_result}
-use Rattle.vtl_check.specs.Transformations.{Transformation, transformations}
+use Rattle.vtl_check.specs.Script.{Standing, assigned, at, defined, statements_typed, with_result, with_ruleset}
+use Rattle.vtl_check.specs.Transformations.{transformations, transformations_from}
 use Rattle.vtl_check.specs.Uses.{outputs_in, reads, results_behind}
 use Rattle.vtl_check.specs.declared.uses.Uses.{Uses}
-use Rattle.check_faults.specs.declared.rules.Rule.{Rule}
 
--- a typed script has a node for each transformation
 same-ok : {T E : Type 0} (x y : T) (r : Result T E) → r ≡ Ok x → r ≡ Ok y → x ≡ y
 same-ok x y r e d = cc
 
-nodes-typed : (env : Env) (before : ℕ) (done : List NodeTree) (ts : List Transformation) (ns : List NodeTree)
-    → transformations_typed env before done ts ≡ Ok ns → length ns ≡ length done + length ts
-nodes-typed env before done [] ns e = sym (ap length (same-ok done ns (Ok done) refl e)) ∙ omega arith
-nodes-typed env before done (t ∷ ts) ns e =
-    go (λ n. transformations_typed (with_result env t.name n) (before + count n) (done ++ n ∷ []) ts)
-    (assigned env before t.name t.value)
-    (λ n. nodes-typed (with_result env t.name n) (before + count n) (done ++ n ∷ []) ts ns)
+-- what holds behind a statement that breaks no rule
+passed : {A B : Type 0} (i : ℕ) (r : Result A Rule) (f : A → Result B (ℕ × ℕ)) (y : B) (P : B → Type 0) → ((x : A) → f x ≡ Ok y → P y) → at i r f ≡ Ok y → P y
+passed i (Ok x) f y P h e = h x e
+passed i (Err broken) f y P h e = absurd (let wrong : Err (i, number_of broken) ≡ Ok y = e in cc)
+
+-- a typed script has a node for each assignment
+nodes-typed : (s : Standing) (i before : ℕ) (done : List NodeTree) (ss : ScriptTree) (ns : List NodeTree)
+    → statements_typed s i before done ss ≡ Ok ns → length ns ≡ length done + length (transformations_from i ss)
+nodes-typed s i before done [] ns e = sym (ap length (same-ok done ns (Ok done) refl e)) ∙ omega arith
+nodes-typed s i before done (tree.assignment name kind value ∷ ss) ns e =
+    passed i (assigned s before name value) (λ n. statements_typed (with_result s name n) (suc i) (before + count n) (done ++ n ∷ []) ss) ns
+    (λ ns. length ns ≡ length done + suc (length (transformations_from (suc i) ss)))
+    (λ n rest. nodes-typed (with_result s name n) (suc i) (before + count n) (done ++ n ∷ []) ss ns rest ∙ omega (arith, length-append done (n ∷ [])))
     e
-  where
-    go : (rest : NodeTree → Result (List NodeTree) (ℕ × ℕ)) (r : Result NodeTree Rule)
-        → ((n : NodeTree) → rest n ≡ Ok ns → length ns ≡ length (done ++ n ∷ []) + length ts)
-        → at t.number r rest ≡ Ok ns → length ns ≡ length done + suc (length ts)
-    go rest (Ok n) more e = more n e ∙ omega (arith, length-append done (n ∷ []))
-    go rest (Err rule) more e = cc
+nodes-typed s i before done (tree.datapoint name variables rules last ∷ ss) ns e =
+    passed i (defined s before name (length rules) (datapoint_defined s.settings variables rules)) (λ u. statements_typed (with_ruleset s name (tree.datapoint name variables rules last)) (suc i) (before + length rules) done ss) ns
+    (λ ns. length ns ≡ length done + length (transformations_from (suc i) ss))
+    (λ u rest. nodes-typed (with_ruleset s name (tree.datapoint name variables rules last)) (suc i) (before + length rules) done ss ns rest)
+    e
+nodes-typed s i before done (tree.hierarchical name item rules last ∷ ss) ns e =
+    passed i (defined s before name (length rules) (hierarchical_defined s.settings rules)) (λ u. statements_typed (with_ruleset s name (tree.hierarchical name item rules last)) (suc i) (before + length rules) done ss) ns
+    (λ ns. length ns ≡ length done + length (transformations_from (suc i) ss))
+    (λ u rest. nodes-typed (with_ruleset s name (tree.hierarchical name item rules last)) (suc i) (before + length rules) done ss ns rest)
+    e
 
 abbrev with_parts : List Statement → Named → Settings → List Node → TypedScript
 with_parts script declared settings nodes = record { script = script; declared = declared; settings = settings; nodes = nodes }
@@ -45,7 +57,7 @@ pub as_many_nodes : (script : List Statement) (declared : Named) (settings : Set
     → IsTyped (with_parts script declared settings nodes) → length nodes ≡ length (transformations (map statement_tree script))
 as_many_nodes script declared settings nodes typed =
     sym (length-map nodes node_tree)
-    ∙ nodes-typed (env_over settings declared) 0 [] (transformations (map statement_tree script)) (map node_tree nodes) typed
+    ∙ nodes-typed (env_over settings declared) 1 0 [] (map statement_tree script) (map node_tree nodes) typed
     ∙ omega arith
 
 -- the same script is written, and has as many transformations

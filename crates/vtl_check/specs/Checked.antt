@@ -1,5 +1,5 @@
 -- Scripts that are typed, with their nodes.
-use Rattle.std.specs.Prelude.{◌≡◌, ℕ, List, Ok, map}
+use Rattle.std.specs.Prelude.{◌≡◌, ℕ, List, [], Ok, map}
 use Rattle.std.specs.Map.{keys_of}
 use Rattle.vtl_decimal.specs.Settings.{Settings}
 use Rattle.vtl_syntax.specs.Trees.{ScriptTree}
@@ -10,13 +10,12 @@ use Rattle.vtl_tree.specs.Structures.{Named}
 use Rattle.vtl_tree.specs.Trees.{NodeTree}
 use Rattle.vtl_tree.specs.NodeView.{node_tree}
 use Rattle.vtl_tree.specs.declared.nodes.Node.{Node}
-use Rattle.check_operators.specs.Places.{Env}
-use Rattle.vtl_check.specs.Script.{script_typed}
+use Rattle.vtl_check.specs.Script.{Standing, script_typed}
 use Rattle.vtl_check.specs.Transformations.{transformations}
 use Rattle.vtl_check.specs.Uses.{outputs_in, reads, results_behind}
 use Rattle.vtl_check.specs.declared.uses.Uses.{Uses}
 
--- a script with the structures and the settings that it is typed over, and its nodes, one for each transformation
+-- a script with the structures and the settings that it is typed over, and its nodes, one for each assignment
 pub record TypedScript : Type 0 where
   pub script : List Statement
   pub declared : Named
@@ -27,8 +26,9 @@ pub record TypedScript : Type 0 where
 abbrev pub typed_script : Script → Named → Settings → List Node → TypedScript
 typed_script script declared settings nodes = record { script = script.statements; declared = declared; settings = settings; nodes = nodes }
 
-abbrev pub env_over : Settings → Named → Env
-env_over settings declared = record { settings = settings; known = declared }
+-- where a script begins: its declared data sets are known, and no ruleset
+abbrev pub env_over : Settings → Named → Standing
+env_over settings declared = record { settings = settings; known = declared; definitions = [] }
 
 abbrev pub tree_of : TypedScript → ScriptTree
 tree_of t = map statement_tree t.script

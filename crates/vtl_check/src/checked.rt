@@ -4,7 +4,7 @@
 // typing does not stand on the grammar. `parse` gives it, `check` asks for it.
 ghost use Rattle.std.specs.Map.{keys_of, lookup};
 ghost use Rattle.std.specs.Option.{option_copied};
-ghost use Rattle.std.specs.Prelude.{◌≡◌, IfOk, Ok, false, length, map};
+ghost use Rattle.std.specs.Prelude.{◌≡◌, IfOk, length, map};
 ghost use Rattle.vtl_syntax.specs.View.{script_tree, statement_tree};
 ghost use Rattle.vtl_syntax.specs.Written.{AreWritten};
 ghost use Rattle.vtl_tree.specs.NodeView.{node_tree};
@@ -13,7 +13,7 @@ ghost use Rattle.vtl_tree.specs.Structures.{AreStructures};
 ghost use Rattle.vtl_check.specs.Checked.{AreUses, IsTyped, TypedScript, env_over, inputs_of, known_of, nodes_of, outputs_of, tree_of, typed_script};
 ghost use Rattle.vtl_check.specs.Transformations.{transformations};
 ghost use Rattle.vtl_check.specs.Uses.{outputs_in, reads, results_behind};
-ghost use Rattle.vtl_check.specs.Script.{Checks, has_definitions, is_definition, script_typed};
+ghost use Rattle.vtl_check.specs.Script.{Checks, script_typed};
 
 use crate::CheckErr;
 use crate::known::share_structures;
@@ -149,27 +149,6 @@ impl Checked {
     }
 }
 
-fn is_definition(statement: &Statement) -> bool
-    ensures { result ≡ is_definition (statement_tree statement.now) }
-{
-    match statement {
-        Statement::Assignment { .. } => false,
-        _ => true,
-    }
-}
-
-/// Whether a script defines a ruleset, which is not typed yet.
-pub fn defines_rulesets(script: &Script) -> bool
-    ensures { result ≡ has_definitions (script_tree script.now) }
-{
-    for statement in script.statements.as_slice() {
-        if is_definition(statement) {
-            return true;
-        }
-    }
-    false
-}
-
 // What a typed script holds besides its nodes.
 #[derive(Drop)]
 struct Parts {
@@ -204,8 +183,8 @@ fn parts_of(
 }
 
 /// The typing of a script over declared structures (VTL 2.0; docs/TYPES.md): the script with its nodes, or the first
-/// statement that breaks a rule, and the least rule that its first wrong part breaks. It takes a written script without
-/// rulesets, and shares it.
+/// statement that breaks a rule, and the least rule that its first wrong part breaks. It takes a written script,
+/// and shares it.
 pub fn check(
     alloc: Global,
     script: &Script,
@@ -213,7 +192,6 @@ pub fn check(
     profile: &Profile,
 ) -> Result<Checked, CheckErr>
     requires written { AreWritten (script_tree script.now) }
-    requires plain { has_definitions (script_tree script.now) ≡ false }
     ensures typing { Checks nodes_of result (script_typed (env_over profile.now structures.now.sets) (script_tree script.now)) }
     ensures script { IfOk result (λ c. c.script ≡ script.now.statements) }
     ensures declared { IfOk result (λ c. c.declared ≡ structures.now.sets) }

@@ -1,4 +1,4 @@
-// How many nodes expressions have.
+// How many nodes expressions have, and a script with its rules.
 ghost use Rattle.std.specs.Prelude.{◌≡◌, ◌≤◌, ◌+◌, ◌∷◌, [], if◌then◌else◌, IfSome, None, Some};
 ghost use Rattle.vtl_tree.specs.NodeView.{node_tree};
 ghost use Rattle.vtl_check.specs.Count.{count, counted};
@@ -8,13 +8,25 @@ ghost use Rattle.vtl_check.specs.Spent.{without};
 use vtl_tree::{Node, NodeForm};
 use vtl_walks::operands;
 
-/// The most nodes of a script.
+/// The most nodes and rules of a script.
 const MAX_NODES: usize = 4096;
 
-/// The nodes so far and those of an expression, or none where they are more than a script may have.
+/// The nodes and rules so far and these, or none where they are more than a script may have.
+pub fn sum(before: usize, these: usize) -> Option<usize>
+    requires { before ≤ most_nodes }
+    ensures sum { result ≡ (if is_too_much before these then None else Some (before + these)) }
+    ensures few { IfSome result (λ all. all ≤ most_nodes) }
+{
+    if MAX_NODES - before < these {
+        return None;
+    }
+    Some(before + these)
+}
+
+/// The nodes and rules so far and the nodes of an expression, or none where they are more than a script may have.
 pub fn counted(before: usize, node: &Node) -> Option<usize>
     requires { before ≤ most_nodes }
-    ensures sum { result ≡ (if is_too_much before (node_tree node.now) then None else Some (before + count (node_tree node.now))) }
+    ensures sum { result ≡ (if is_too_much before (count (node_tree node.now)) then None else Some (before + count (node_tree node.now))) }
     ensures few { IfSome result (λ all. all ≤ most_nodes) }
 {
     let left = spend(node, MAX_NODES - before)?;

@@ -1,9 +1,8 @@
 // Whether a script is typed.
-ghost use Rattle.std.specs.Prelude.{◌≡◌, false};
 ghost use Rattle.vtl_syntax.specs.View.{script_tree};
 ghost use Rattle.vtl_syntax.specs.Written.{AreWritten};
 ghost use Rattle.vtl_check.specs.Checked.{env_over};
-ghost use Rattle.vtl_check.specs.Script.{Checks, has_definitions, script_typed, verdict};
+ghost use Rattle.vtl_check.specs.Script.{Checks, script_typed, verdict};
 
 use crate::{CheckErr, check};
 use std::alloc::Global;
@@ -19,7 +18,6 @@ pub fn verdict(
     profile: &Profile,
 ) -> Result<(), CheckErr>
     requires written { AreWritten (script_tree script.now) }
-    requires plain { has_definitions (script_tree script.now) ≡ false }
     ensures { Checks (λ u. u) result (verdict (script_typed (env_over profile.now structures.now.sets) (script_tree script.now))) }
 {
     match check(alloc, script, structures, profile) {

@@ -1,5 +1,6 @@
 -- What an expression evaluates to, from what its operands do.
-use Rattle.std.proofs.Common.{◌≡◌, ℕ, suc, List, [], ◌∷◌, ◌++◌, length, map, Result, Ok, Err, refl, sym, ap, subst, append_assoc, ◌∙◌}
+use Rattle.std.proofs.Common.{◌≡◌, ℕ, suc, List, [], ◌∷◌, ◌++◌, length, map, Option, Some, None, Result, Ok, Err, refl, sym, ap, subst, append_assoc, ◌∙◌}
+use Rattle.std.specs.Prelude.{option_map}
 use Rattle.std.proofs.lemmas.List.{append-nil, length-map}
 use Rattle.vtl_decimal.specs.Settings.{Settings}
 use Rattle.vtl_decimal.specs.declared.number.Fault.TheVariants.{DivZero, Range}
@@ -13,11 +14,11 @@ use Rattle.vtl_tree.specs.Environment.{DataSet, Environment}
 use Rattle.vtl_tree.specs.declared.joins.Operand.{Operand}
 use Rattle.vtl_tree.specs.declared.structure.Structure.{Structure}
 use Rattle.vtl_tree.specs.Trees as nodes
-use Rattle.vtl_tree.specs.Trees.{NodeTree, NodeTrees, OperandTree, OperandTrees, operands_of, structure_of}
+use Rattle.vtl_tree.specs.Trees.{MaybeNode, NodeTree, NodeTrees, OperandTree, OperandTrees, operands_of, structure_of}
 use Rattle.vtl_sets.specs.DataSets.{data_set, with_structure}
 use Rattle.vtl_meaning.specs.Joined.{structures_of}
-use Rattle.vtl_scripts.specs.Made.{node_structures, operands_in}
-use Rattle.vtl_scripts.specs.Meaning.{node_value, nodes_value, operands_value, with_first, with_operand}
+use Rattle.vtl_scripts.specs.Made.{maybe_structure, node_structures, operands_in}
+use Rattle.vtl_scripts.specs.Meaning.{maybe_value, node_value, nodes_value, operands_value, with_first, with_operand}
 use Rattle.vtl_meaning.specs.Points.{with_points}
 use Rattle.vtl_join.specs.Joining.{sets_of, typed_operands}
 use Rattle.vtl_join.specs.declared.joined.Operand as joining
@@ -47,6 +48,29 @@ stops view other p env a n err.OutOfMemory g h = tt
 -- what follows an operand that is evaluated
 pub then : (p : Settings) (env : Environment) (a : NodeTree) (d : DataSet) (f : DataSet → Outcome (List Row)) → Gives p env a d → with_operand a (node_value p env a) f ≡ f d
 then p env a d f g = ap (λ m. with_operand a m f) g.points ∙ ap (λ s. f (with_points s d.points)) (sym g.structure)
+
+-- ---- an operand that may be left out
+pub some_given : (p : Settings) (env : Environment) (n : NodeTree) (d : DataSet) → Gives p env n d → maybe_value p env (nodes.some_node n) ≡ Ok (Some d)
+some_given p env n d g =
+    ap (λ (m : Outcome (List Row)). after m (λ points. Ok (Some (with_points (structure_of n) points)))) g.points
+    ∙ ap (λ (s : Structure). Ok (Some (with_points s d.points))) (sym g.structure)
+
+pub some_stops : {A B : Type 0} (view : A → DataSet) (views : B → Option DataSet) (p : Settings) (env : Environment) (n : NodeTree) (e : ScalarErr)
+    → Evaluates view p env n (Err e) → AnswersBy views (Err e) (maybe_value p env (nodes.some_node n))
+some_stops view views p env n err.DivZero h = ap (λ (m : Outcome (List Row)). after m (λ points. Ok (Some (with_points (structure_of n) points)))) h
+some_stops view views p env n err.Range h = ap (λ (m : Outcome (List Row)). after m (λ points. Ok (Some (with_points (structure_of n) points)))) h
+some_stops view views p env n err.OutOfMemory h = tt
+
+-- its structure is that of what it gives
+pub given_structure : (p : Settings) (env : Environment) (i : MaybeNode) (o : Option DataSet) → maybe_value p env i ≡ Ok o → option_map (λ d. d.structure) o ≡ maybe_structure i
+given_structure p env nodes.no_node o e = let same : None ≡ o = cc in subst (λ (x : Option DataSet). option_map (λ d. d.structure) x ≡ None) same refl
+given_structure p env (nodes.some_node n) o e = go (node_value p env n) e
+  where
+    go : (m : Outcome (List Row)) → after m (λ points. Ok (Some (with_points (structure_of n) points))) ≡ Ok o → option_map (λ d. d.structure) o ≡ Some (structure_of n)
+    go (Ok points) e =
+        let same : Some (with_points (structure_of n) points) ≡ o = cc in
+        subst (λ (x : Option DataSet). option_map (λ d. d.structure) x ≡ Some (structure_of n)) same refl
+    go (Err f) e = cc
 
 -- ---- several operands, by what is given so far and what the rest gives
 pub none_given : (all : Outcome (List DataSet)) → all ≡ after all (λ ds. Ok ([] ++ ds))

@@ -12,18 +12,22 @@ use Rattle.vtl_tree.specs.Structure.{same_name}
 use Rattle.vtl_tree.specs.Structures.{Named}
 use Rattle.vtl_tree.specs.declared.structure.Structure.{Structure}
 use Rattle.vtl_tree.specs.Trees as nodes
-use Rattle.vtl_tree.specs.Trees.{FormTree, NodeTree, NodeTrees, OperandTrees, structure_of}
+use Rattle.vtl_tree.specs.Trees.{FormTree, MaybeNode, NodeTree, NodeTrees, OperandTrees, structure_of}
 use Rattle.vtl_check.proofs.NameLemmas.{names_append}
 use Rattle.vtl_check.specs.Names.{name_at_form, names_at, names_in}
-use Rattle.vtl_tree.specs.Nodes.{all_nodes, form_nodes, nodes_in, operand_nodes}
+use Rattle.vtl_tree.specs.Nodes.{all_nodes, form_nodes, maybe_nodes, nodes_in, operand_nodes}
 use Rattle.vtl_meaning.specs.Joined.{join_of}
 use Rattle.vtl_scripts.specs.Made.{AreMadeStatements}
-use Rattle.vtl_scripts.specs.Meaning.{Statement, data_set_of, form_value, kept_output, meaning, node_value, nodes_value, operands_value, stated, with_first, with_operand}
+use Rattle.vtl_scripts.specs.Meaning.{Statement, data_set_of, form_value, kept_output, maybe_value, meaning, node_value, nodes_value, operands_value, stated, with_first, with_operand}
 use Rattle.vtl_meaning.specs.Aggregates.{aggregate_of}
 use Rattle.vtl_meaning.specs.Analytics.{analytic_of}
 use Rattle.vtl_meaning.specs.Operators.{calculated_of, choice_of, left_of, measured_of, pair_of, sub_of}
 use Rattle.vtl_meaning.specs.Sets.{difference_of, existence_of, intersection_of, symmetric_difference_of, union_of}
+use Rattle.vtl_meaning.specs.Points.{with_points}
 use Rattle.vtl_meaning.specs.Turned.{pivot_of, unpivot_of}
+use Rattle.vtl_rulings.specs.Hierarchies.{hierarchy_of}
+use Rattle.vtl_rulings.specs.HierarchyChecks.{check_hierarchy_of, ruled_by}
+use Rattle.vtl_rulings.specs.PointChecks.{check_of, datapoint_of}
 use Rattle.check_laws.specs.Scripts.{AreKnownAlike}
 use Rattle.check_laws.proofs.Over.{made_over}
 
@@ -110,7 +114,17 @@ mutual
   form_same p e f s (nodes.exists_in a b r) h =
       let parts = data_parts e f (nodes_in a) (nodes_in b) h in
       pair_same a b (λ d q. Ok (existence_of d q r)) (node_value p e a) (node_value p f a) (node_value p e b) (node_value p f b) (node_same p e f a parts.0) (node_same p e f b parts.1)
-  form_same p e f s other h = refl
+  form_same p e f s (nodes.check a i spec) h =
+      let parts = data_parts e f (nodes_in a) (maybe_nodes i) h in
+      ap (λ r. with_operand a r (λ d. after (maybe_value p e i) (λ b. Ok (check_of p spec d b)))) (node_same p e f a parts.0)
+      ∙ ap (λ (r : Outcome (Option DataSet)). with_operand a (node_value p f a) (λ d. after r (λ b. Ok (check_of p spec d b)))) (maybe_same p e f i parts.1)
+  form_same p e f s (nodes.check_datapoint a rs out) h = ap (λ r. with_operand a r (λ d. datapoint_of p out rs.rules d)) (node_same p e f a h)
+  form_same p e f s (nodes.check_hierarchy a rs m out) h = ap (λ r. with_operand a r (λ d. check_hierarchy_of p out (ruled_by rs (structure_of a)) m d rs.rules)) (node_same p e f a h)
+  form_same p e f s (nodes.hierarchy a rs m i out) h = ap (λ r. with_operand a r (λ d. hierarchy_of p (ruled_by rs (structure_of a)) m i rs.rules d out s)) (node_same p e f a h)
+
+  maybe_same : (p : Settings) (e f : Environment) (i : MaybeNode) → SameData e f (names_at (maybe_nodes i)) → maybe_value p e i ≡ maybe_value p f i
+  maybe_same p e f nodes.no_node h = refl
+  maybe_same p e f (nodes.some_node n) h = ap (λ r. after r (λ points. Ok (Some (with_points (structure_of n) points)))) (node_same p e f n h)
 
   nodes_same : (p : Settings) (e f : Environment) (ns : NodeTrees) → SameData e f (names_at (all_nodes ns)) → nodes_value p e ns ≡ nodes_value p f ns
   nodes_same p e f nodes.no_nodes h = refl

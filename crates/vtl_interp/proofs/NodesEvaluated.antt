@@ -7,16 +7,17 @@ use Rattle.std.specs.Map.{lookup}
 use Rattle.vtl_decimal.specs.Settings.{Settings}
 use Rattle.vtl_text.specs.declared.shared_text.Txt.{Txt}
 use Rattle.vtl_cell.specs.declared.operator.ScalarOp.{ScalarOp}
-use Rattle.vtl_cell.specs.Outcome.{Outcome}
+use Rattle.vtl_cell.specs.Outcome.{Outcome, after}
 use Rattle.vtl_cell.specs.Row.{Row}
 use Rattle.vtl_scalar.specs.Answers.{AnswersBy}
 use Rattle.vtl_scalar.specs.declared.error.ScalarErr.{ScalarErr}
+use Rattle.vtl_scalar.specs.declared.error.ScalarErr.TheVariants as err
 use Rattle.vtl_tree.specs.Environment.{DataSet, Environment, data_of, known_in}
 use Rattle.vtl_tree.specs.Structure.{same_name}
 use Rattle.vtl_tree.specs.declared.structure.Structure.{Structure}
 use Rattle.vtl_tree.specs.Trees as nodes
 use Rattle.vtl_tree.specs.Trees.{FormTree, NodeTree, OperandTree, nodes_of, operands_of, structure_of}
-use Rattle.vtl_tree.specs.NodeView.{agg_tree, analytic_tree, form_tree, item_tree, measure_tree, node_tree, operand_tree}
+use Rattle.vtl_tree.specs.NodeView.{agg_tree, analytic_tree, form_tree, item_tree, measure_tree, node_tree, operand_tree, point_rules_tree}
 use Rattle.vtl_tree.specs.declared.clauses.CalcItem.{CalcItem}
 use Rattle.vtl_tree.specs.declared.clauses.SubItem.{SubItem}
 use Rattle.vtl_tree.specs.declared.renaming.Renaming.{Renaming}
@@ -29,23 +30,28 @@ use Rattle.vtl_tree.specs.declared.nodes.Node.{Node}
 use Rattle.vtl_tree.specs.declared.nodes.NodeForm.{NodeForm}
 use Rattle.vtl_tree.specs.declared.nodes.NodeForm.TheVariants as form
 use Rattle.vtl_tree.specs.declared.nodes.NodeForm as forms
+use Rattle.vtl_tree.specs.declared.rules.DatapointRules.{DatapointRules}
 use Rattle.vtl_tree.specs.declared.specifications.AggSpec.{AggSpec}
 use Rattle.vtl_tree.specs.declared.specifications.AnalyticSpec.{AnalyticSpec}
+use Rattle.vtl_tree.specs.declared.specifications.CheckSpec.{CheckSpec}
 use Rattle.vtl_tree.specs.declared.specifications.JoinSpec.{JoinSpec}
+use Rattle.vtl_syntax.specs.declared.word_groups.CheckOut.{CheckOut}
 use Rattle.vtl_syntax.specs.declared.word_groups.Retain.{Retain}
 use Rattle.vtl_meaning.specs.AggregateShapes.{IsAggregated}
 use Rattle.vtl_sets.specs.DataSets.{data_set, with_structure}
 use Rattle.vtl_meaning.specs.Joined.{structures_of}
 use Rattle.vtl_meaning.specs.Made.{AreCombined, IsChoice, IsJoined, IsMeasured, IsWindowed}
 use Rattle.vtl_scripts.specs.Made.{IsMade, IsMadeForm, node_structures}
-use Rattle.vtl_scripts.specs.Meaning.{form_value, node_value, nodes_value, operands_value, with_operand}
+use Rattle.vtl_scripts.specs.Meaning.{form_value, maybe_value, node_value, nodes_value, operands_value, with_operand}
 use Rattle.vtl_meaning.specs.Operators.{choice_of, pair_of}
 use Rattle.vtl_meaning.specs.Sets.{difference_of, existence_of, symmetric_difference_of}
 use Rattle.vtl_meaning.specs.Shapes.{IsJoinedFrom}
+use Rattle.vtl_rulings.specs.PointChecks.{check_of}
+use Rattle.vtl_rulings.specs.Shaped.{IsChecked}
 use Rattle.vtl_interp.specs.Evaluated.{Evaluates, Gives, GivesOne, GivesTwo}
-use Rattle.vtl_interp.specs.Values.{under_aliases}
+use Rattle.vtl_interp.specs.Values.{imbalance_tree, under_aliases}
 use Rattle.vtl_interp.proofs.Environments.{data_looked, known_looked}
-use Rattle.vtl_interp.proofs.Evaluates.{applied, nodes_structures, operands_structures, operands_under, stops, then}
+use Rattle.vtl_interp.proofs.Evaluates.{applied, given_structure, nodes_structures, operands_structures, operands_under, stops, then}
 
 -- the tree of a node, and of each form that is evaluated
 node_tree-is : (n : Node) → node_tree n ≡ nodes.node n.structure (form_tree n.form)
@@ -110,6 +116,13 @@ form_tree-SymDiff a b = search (rules, forms.the_lemmas)
 
 pub form_tree-ExistsIn : (a b : Box Node Global) (r : Retain) → form_tree (form.ExistsIn a b r) ≡ nodes.exists_in (node_tree a.value) (node_tree b.value) r
 form_tree-ExistsIn a b r = search (rules, forms.the_lemmas)
+
+pub form_tree-Check : (a : Box Node Global) (i : Option (Box Node Global)) (spec : CheckSpec) → form_tree (form.Check a i spec) ≡ nodes.check (node_tree a.value) (imbalance_tree i) spec
+form_tree-Check a None spec = search (rules, forms.the_lemmas)
+form_tree-Check a (Some b) spec = search (rules, forms.the_lemmas)
+
+pub form_tree-CheckDatapoint : (a : Box Node Global) (rs : DatapointRules) (out : CheckOut) → form_tree (form.CheckDatapoint a rs out) ≡ nodes.check_datapoint (node_tree a.value) (point_rules_tree rs) out
+form_tree-CheckDatapoint a rs out = search (rules, forms.the_lemmas)
 
 -- the tree of a node of this form
 tree_with : (n : Node) (f : NodeForm) (t : FormTree) → n.form ≡ f → form_tree f ≡ t → node_tree n ≡ nodes.node n.structure t
@@ -188,6 +201,14 @@ join_named p env n os spec ds is made g =
     (operands_under p env trees ds g ∙ ap (λ (names : List (List ℕ)). under_aliases names (structures_of ds)) (operands_named os.items))
     (made_form p env n (form.Join os spec) (nodes.join (operands_of trees) spec) is (form_tree-Join os spec) made).2
 
+pub check_fits : (p : Settings) (env : Environment) (n : Node) (a : Box Node Global) (i : Option (Box Node Global)) (spec : CheckSpec) (d : DataSet) (o : Option DataSet)
+    → n.form ≡ form.Check a i spec → IsMade p (known_in env) (node_tree n) → Gives p env (node_tree a.value) d → maybe_value p env (imbalance_tree i) ≡ Ok o
+    → IsChecked p spec (option_map (λ x. x.structure) o) d.structure n.structure
+check_fits p env n a i spec d o is made g k =
+    subst (λ (s : Structure). IsChecked p spec (option_map (λ x. x.structure) o) s n.structure) (sym g.structure)
+    (subst (λ (x : Option Structure). IsChecked p spec x (structure_of (node_tree a.value)) n.structure) (sym (given_structure p env (imbalance_tree i) o k))
+    (made_form p env n (form.Check a i spec) (nodes.check (node_tree a.value) (imbalance_tree i) spec) is (form_tree-Check a i spec) made).2)
+
 -- an operator on one operand
 pub one_operand : {A : Type 0} (view : A → DataSet) (p : Settings) (env : Environment) (n : Node) (f : NodeForm) (t : FormTree) (a : NodeTree) (d : DataSet) (op : DataSet → Outcome (List Row)) (r : Result A ScalarErr)
     → n.form ≡ f → form_tree f ≡ t → form_value p env n.structure t ≡ with_operand a (node_value p env a) op → Gives p env a d → AnswersBy view r (with_structure n.structure (op d))
@@ -243,6 +264,33 @@ second_stops view other p env n a b d e (inr (inr (inl is))) g k =
     two_stop view other p env n (form.SymDiff a b) (nodes.sym_diff (node_tree a.value) (node_tree b.value)) (node_tree a.value) (node_tree b.value) d (λ x y. Ok (symmetric_difference_of x y n.structure)) e is (form_tree-SymDiff a b) refl g k
 second_stops view other p env n a b d e (inr (inr (inr is))) g k =
     two_stop view other p env n (form.ExistsIn a b is.0) (nodes.exists_in (node_tree a.value) (node_tree b.value) is.0) (node_tree a.value) (node_tree b.value) d (λ x y. Ok (existence_of x y is.0)) e is.1 (form_tree-ExistsIn a b is.0) refl g k
+
+-- ---- `check`
+pub check_gives : {A : Type 0} (view : A → DataSet) (p : Settings) (env : Environment) (n : Node) (a : Box Node Global) (i : Option (Box Node Global)) (spec : CheckSpec) (d : DataSet) (o : Option DataSet) (r : Result A ScalarErr)
+    → n.form ≡ form.Check a i spec → Gives p env (node_tree a.value) d → maybe_value p env (imbalance_tree i) ≡ Ok o
+    → AnswersBy view r (Ok (data_set n.structure (check_of p spec d o))) → Evaluates view p env (node_tree n) r
+check_gives view p env n a i spec d o r is g k answer =
+    let tree = nodes.check (node_tree a.value) (imbalance_tree i) spec in
+    subst (λ (u : NodeTree). Evaluates view p env u r) (sym (tree_with n (form.Check a i spec) tree is (form_tree-Check a i spec)))
+    (applied view p env (nodes.node n.structure tree) (Ok (check_of p spec d o)) r
+    (then p env (node_tree a.value) d (λ x. after (maybe_value p env (imbalance_tree i)) (λ y. Ok (check_of p spec x y))) g
+    ∙ ap (λ (m : Outcome (Option DataSet)). after m (λ y. Ok (check_of p spec d y))) k) answer)
+
+-- the imbalance has the fault
+pub imbalance_stops : {A B : Type 0} (views : A → Option DataSet) (other : B → DataSet) (p : Settings) (env : Environment) (n : Node) (a : Box Node Global) (i : Option (Box Node Global)) (spec : CheckSpec) (d : DataSet) (e : ScalarErr)
+    → n.form ≡ form.Check a i spec → Gives p env (node_tree a.value) d → AnswersBy views (Err e) (maybe_value p env (imbalance_tree i)) → Evaluates other p env (node_tree n) (Err e)
+imbalance_stops views other p env n a i spec d e is g k =
+    let tree = nodes.check (node_tree a.value) (imbalance_tree i) spec in
+    subst (λ (u : NodeTree). Evaluates other p env u (Err e)) (sym (tree_with n (form.Check a i spec) tree is (form_tree-Check a i spec)))
+    (answered e (maybe_value p env (imbalance_tree i)) k (then p env (node_tree a.value) d (λ x. after (maybe_value p env (imbalance_tree i)) (λ y. Ok (check_of p spec x y))) g))
+  where
+    value : Outcome (List Row)
+    value = node_value p env (nodes.node n.structure (nodes.check (node_tree a.value) (imbalance_tree i) spec))
+
+    answered : (e : ScalarErr) (m : Outcome (Option DataSet)) → AnswersBy views (Err e) m → value ≡ after m (λ y. Ok (check_of p spec d y)) → Evaluates other p env (nodes.node n.structure (nodes.check (node_tree a.value) (imbalance_tree i) spec)) (Err e)
+    answered err.DivZero m k h = h ∙ ap (λ (x : Outcome (Option DataSet)). after x (λ y. Ok (check_of p spec d y))) k
+    answered err.Range m k h = h ∙ ap (λ (x : Outcome (Option DataSet)). after x (λ y. Ok (check_of p spec d y))) k
+    answered err.OutOfMemory m k h = tt
 
 -- ---- a name
 -- a name's node is made over what is held: its structure is that of the data set

@@ -1,24 +1,24 @@
 -- What typing says of the statements that are run.
-use Rattle.std.proofs.Common.{◌≡◌, ℕ, ◌+◌, Bool, true, false, ◌||◌, ◌&&◌, List, [], ◌∷◌, ◌++◌, Result, Ok, Err, refl, subst}
+use Rattle.std.proofs.Common.{◌≡◌, ℕ, suc, ◌+◌, Bool, true, false, ◌||◌, ◌&&◌, List, [], ◌∷◌, ◌++◌, length, Result, Ok, Err, refl, subst}
 use Rattle.std.specs.List.{AllByRecursion, list_all, list_any}
 use Rattle.std.specs.Map.{keys_of}
 use Rattle.std.proofs.lemmas.Bool.{and_parts}
 use Rattle.std.proofs.lemmas.List.{map-append}
-use Rattle.vtl_syntax.specs.Trees.{Exp}
+use Rattle.vtl_syntax.specs.Trees as tree
+use Rattle.vtl_syntax.specs.Trees.{Exp, ScriptTree}
 use Rattle.vtl_tree.specs.Structure.{same_name}
 use Rattle.vtl_tree.specs.Structures.{has_name}
 use Rattle.vtl_tree.specs.declared.structure.Structure.{Structure}
 use Rattle.vtl_tree.specs.Trees.{NodeTree, structure_of}
 use Rattle.vtl_lists.specs.Results.{◌>>=◌}
-use Rattle.check_faults.specs.Rules.{ruled}
+use Rattle.check_faults.specs.Rules.{number_of, ruled}
 use Rattle.check_faults.specs.declared.rules.Rule.{Rule}
 use Rattle.check_faults.specs.declared.rules.Rule.TheVariants as rule
-use Rattle.check_operators.specs.Places.{Env}
 use Rattle.vtl_check.specs.Checked.{IsTyped, TypedScript, env_over, nodes_of, tree_of}
 use Rattle.vtl_check.specs.Count.{count}
 use Rattle.vtl_check.specs.Names.{names_in, names_of}
-use Rattle.vtl_check.specs.Script.{assigned, at, is_too_much, transformations_typed, value_typed, with_result}
-use Rattle.vtl_check.specs.Transformations.{Transformation, transformations}
+use Rattle.vtl_check.specs.Script.{Standing, assigned, at, is_too_much, statements_typed, value_typed, with_result, with_ruleset}
+use Rattle.vtl_check.specs.Transformations.{Transformation, transformations_from}
 use Rattle.vtl_scripts.specs.Meaning.{Statement, is_built}
 use Rattle.vtl_backend.specs.Statements.{statements_of, with_nodes}
 use Rattle.vtl_interp.specs.Results.{AreNew}
@@ -46,31 +46,43 @@ names_statements P (t ∷ ts) (n ∷ ns) h =
     all_both P (names_in n) (names_read (with_nodes ts ns)) (all_front P (names_in n) (names_of ns) h) (names_statements P ts ns (all_back P (names_in n) (names_of ns) h))
 
 -- ---- results have new names
--- a typed statement's name is none that is known
-name_new : (env : Env) (before : ℕ) (name : List ℕ) (e : Exp) (n : NodeTree) → assigned env before name e ≡ Ok n → has_name name env.known ≡ false
+-- a typed assignment's name is none that is known
+name_new : (s : Standing) (before : ℕ) (name : List ℕ) (e : Exp) (n : NodeTree) → assigned s before name e ≡ Ok n → has_name name s.known ≡ false
 unfolding assigned
-name_new env before name e n h = go (has_name name env.known) h
+name_new s before name e n h = go (has_name name s.known) _ h
   where
-    go : (b : Bool) → (ruled ((rule.NameTaken, b) ∷ []) (tt {0}) >>= (λ u. value_typed env e >>= (λ n. ruled ((rule.TooManyNodes, is_too_much before n) ∷ []) n))) ≡ Ok n → b ≡ false
-    go false h = refl
-    go true h = cc
+    go : (b taken : Bool) → (ruled ((rule.NameTaken, b || taken) ∷ []) (tt {0}) >>= (λ u. value_typed s e >>= (λ n. ruled ((rule.TooManyNodes, is_too_much before (count n)) ∷ []) n))) ≡ Ok n → b ≡ false
+    go false taken h = refl
+    go true taken h = cc
 
-names_new : (env : Env) (before : ℕ) (done : List NodeTree) (ts : List Transformation) (all ns : List NodeTree) → transformations_typed env before done ts ≡ Ok all → AreNew (keys_of env.known) (with_nodes ts ns)
-names_new env before done [] all ns h = tt
-names_new env before done (t ∷ ts) all [] h = tt
-names_new env before done (t ∷ ts) all (n ∷ ns) h =
-    go (assigned env before t.name t.value) refl (λ m. names_new (with_result env t.name m) (before + count m) (done ++ m ∷ []) ts all ns) h
+-- what holds behind a definition that breaks no rule
+past : {P : Type 0} (i : ℕ) (r : Result (Unit {0}) Rule) (rest : Unit {0} → Result (List NodeTree) (ℕ × ℕ)) (all : List NodeTree) → ((u : Unit {0}) → rest u ≡ Ok all → P) → at i r rest ≡ Ok all → P
+past i (Ok u) rest all f h = f u h
+past i (Err broken) rest all f h = absurd (let wrong : Err (i, number_of broken) ≡ Ok all = h in cc)
+
+names_new : (s : Standing) (i before : ℕ) (done : List NodeTree) (ss : ScriptTree) (all ns : List NodeTree) → statements_typed s i before done ss ≡ Ok all → AreNew (keys_of s.known) (with_nodes (transformations_from i ss) ns)
+names_new s i before done [] all ns h = tt
+names_new s i before done (tree.assignment name kind e ∷ ss) all [] h = tt
+names_new s i before done (tree.assignment name kind e ∷ ss) all (n ∷ ns) h =
+    go (assigned s before name e) refl (λ m. names_new (with_result s name m) (suc i) (before + count m) (done ++ m ∷ []) ss all ns) h
   where
     rest : NodeTree → Result (List NodeTree) (ℕ × ℕ)
-    rest m = transformations_typed (with_result env t.name m) (before + count m) (done ++ m ∷ []) ts
+    rest m = statements_typed (with_result s name m) (suc i) (before + count m) (done ++ m ∷ []) ss
 
-    go : (r : Result NodeTree Rule) → assigned env before t.name t.value ≡ r → ((m : NodeTree) → rest m ≡ Ok all → AreNew (keys_of (env.known ++ (t.name, structure_of m) ∷ [])) (with_nodes ts ns))
-        → at t.number r rest ≡ Ok all → (list_any (same_name t.name) (keys_of env.known) ≡ false) × AreNew (keys_of env.known ++ t.name ∷ []) (with_nodes ts ns)
-    go (Ok m) e ih h = (name_new env before t.name _ m e, subst (λ l. AreNew l (with_nodes ts ns)) (map-append (λ (x : List ℕ × Structure). x.0) env.known ((t.name, structure_of m) ∷ [])) (ih m h))
+    go : (r : Result NodeTree Rule) → assigned s before name e ≡ r → ((m : NodeTree) → rest m ≡ Ok all → AreNew (keys_of (s.known ++ (name, structure_of m) ∷ [])) (with_nodes (transformations_from (suc i) ss) ns))
+        → at i r rest ≡ Ok all → (list_any (same_name name) (keys_of s.known) ≡ false) × AreNew (keys_of s.known ++ name ∷ []) (with_nodes (transformations_from (suc i) ss) ns)
+    go (Ok m) e ih h =
+        (name_new s before name _ m e, subst (λ l. AreNew l (with_nodes (transformations_from (suc i) ss) ns)) (map-append (λ (x : List ℕ × Structure). x.0) s.known ((name, structure_of m) ∷ [])) (ih m h))
     go (Err broken) e ih h = cc
+names_new s i before done (tree.datapoint name variables rules last ∷ ss) all ns h =
+    past i _ (λ u. statements_typed (with_ruleset s name (tree.datapoint name variables rules last)) (suc i) (before + length rules) done ss) all
+    (λ u rest. names_new (with_ruleset s name (tree.datapoint name variables rules last)) (suc i) (before + length rules) done ss all ns rest) h
+names_new s i before done (tree.hierarchical name item rules last ∷ ss) all ns h =
+    past i _ (λ u. statements_typed (with_ruleset s name (tree.hierarchical name item rules last)) (suc i) (before + length rules) done ss) all
+    (λ u rest. names_new (with_ruleset s name (tree.hierarchical name item rules last)) (suc i) (before + length rules) done ss all ns rest) h
 
 pub results_new : (t : TypedScript) → IsTyped t → AreNew (keys_of t.declared) (statements_of t)
-results_new t typed = names_new (env_over t.settings t.declared) 0 [] (transformations (tree_of t)) (nodes_of t) (nodes_of t) typed
+results_new t typed = names_new (env_over t.settings t.declared) 1 0 [] (tree_of t) (nodes_of t) (nodes_of t) typed
 
 -- fewer names leave new names new
 abbrev IsFewer : (fewer more : List (List ℕ)) → Type 0

@@ -15,6 +15,7 @@ use vtl_combine::{exists_in, pivot, setdiff, symdiff, unpivot};
 use vtl_decimal::Profile;
 use vtl_expr::{keep_columns, map_measures, pair_measures};
 use vtl_group::aggregate;
+use vtl_rules::check_datapoint;
 use vtl_scalar::ScalarErr;
 use vtl_sets::DataSet;
 use vtl_tree::{Node, NodeForm};
@@ -46,6 +47,9 @@ fn made_of_one(alloc: Global, node: &Node, a: DataSet, p: &Profile) -> Result<Da
         NodeForm::Unpivot { .. } => answered(unpivot(alloc, &a, made)),
         NodeForm::Aggregate { spec, .. } => aggregate(alloc, &a, spec, made, p),
         NodeForm::Analytic { spec, .. } => analytic(alloc, &a, spec, made, p),
+        NodeForm::CheckDatapoint { rules, out, .. } => {
+            check_datapoint(alloc, &a, rules, *out, p, made)
+        }
         _ => unreachable!(),
     }
 }

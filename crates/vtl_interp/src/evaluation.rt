@@ -3,13 +3,14 @@ ghost use Rattle.std.specs.Prelude.{◌≡◌, map, true};
 ghost use Rattle.vtl_tree.specs.Trees.{nodes_of, operands_of};
 ghost use Rattle.vtl_tree.specs.NodeView.{node_tree, operand_tree};
 ghost use Rattle.vtl_scalar.specs.Answers.{AnswersBy};
-ghost use Rattle.vtl_scripts.specs.Made.{AreMade, AreMadeOperands, IsMade};
-ghost use Rattle.vtl_scripts.specs.Meaning.{are_nodes_built, are_operands_built, is_built, nodes_value, operands_value};
+ghost use Rattle.vtl_scripts.specs.Made.{AreMade, AreMadeOperands, IsMade, IsMadeMaybe};
+ghost use Rattle.vtl_scripts.specs.Meaning.{are_nodes_built, are_operands_built, is_built, is_maybe_built, maybe_value, nodes_value, operands_value};
 ghost use Rattle.vtl_tree.specs.Environment.{known_in};
 ghost use Rattle.vtl_interp.specs.Evaluated.{Evaluates};
-ghost use Rattle.vtl_interp.specs.Values.{value_view, values_view};
+ghost use Rattle.vtl_interp.specs.Values.{imbalance_tree, maybe_view, value_view, values_view};
 
 use crate::applied::{apply_to_one, apply_to_two};
+use crate::checks::check;
 use crate::combinations::{choose, intersect, join, union};
 use crate::held::Known;
 use crate::value::Value;
@@ -47,7 +48,8 @@ pub fn evaluate<'a>(
         | NodeForm::Pivot { a, .. }
         | NodeForm::Unpivot { a, .. }
         | NodeForm::Aggregate { a, .. }
-        | NodeForm::Analytic { a, .. } => {
+        | NodeForm::Analytic { a, .. }
+        | NodeForm::CheckDatapoint { a, .. } => {
             apply_to_one(alloc, node, evaluate(alloc, known, a, p)?, p)
         }
         NodeForm::Pair { a, b, .. }
@@ -75,6 +77,11 @@ pub fn evaluate<'a>(
         NodeForm::Intersect(nodes) => {
             let sets = evaluate_all(alloc, known, nodes, p)?;
             intersect(alloc, &sets, &node.structure)
+        }
+        NodeForm::Check { a, imbalance, spec } => {
+            let tested = evaluate(alloc, known, a, p)?;
+            let other = evaluate_imbalance(alloc, known, imbalance, p)?;
+            check(alloc, tested, other, spec, p, &node.structure)
         }
         _ => unreachable!(),
     }
@@ -116,4 +123,22 @@ fn evaluate_operands<'a>(
         sets.push(evaluate(alloc, known, &operand.node, p)?)?;
     }
     Ok(sets)
+}
+
+// The data set of the imbalance of a check, where one is written.
+#[cycle(evaluated)]
+fn evaluate_imbalance<'a>(
+    alloc: Global,
+    known: &'a Known,
+    imbalance: &Option<Box<Node>>,
+    p: &Profile,
+) -> Result<Option<Value<'a>>, ScalarErr>
+    requires made { IsMadeMaybe p.now (known_in known.now.entries) (imbalance_tree imbalance.now) }
+    requires built { is_maybe_built (imbalance_tree imbalance.now) ≡ true }
+    ensures { AnswersBy maybe_view result (maybe_value p.now known.now.entries (imbalance_tree imbalance.now)) }
+{
+    match imbalance {
+        Some(node) => Ok(Some(evaluate(alloc, known, node, p)?)),
+        None => Ok(None),
+    }
 }

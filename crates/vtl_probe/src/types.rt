@@ -1,6 +1,4 @@
 // The typing of scripts.
-ghost use Rattle.std.specs.Prelude.{◌≡◌, false};
-ghost use Rattle.vtl_check.specs.Script.{has_definitions};
 ghost use Rattle.vtl_syntax.specs.View.{script_tree};
 ghost use Rattle.vtl_syntax.specs.Written.{AreWritten};
 
@@ -11,13 +9,11 @@ use crate::rows::Row;
 use crate::structures::push_components;
 use crate::trouble::CaseErr;
 use std::alloc::{AllocError, Global};
-use vtl_check::{Checked, check, defines_rulesets};
+use vtl_check::{Checked, check};
 use vtl_csv::read_structures;
 use vtl_decimal::Profile;
 use vtl_parser::parse;
-use vtl_status::Status;
 use vtl_syntax::Script;
-use vtl_text::Txt;
 use vtl_tree::Structures;
 
 // What is reported about a script, with the exit code that `vtl` has for it.
@@ -54,22 +50,6 @@ fn with_structures(
     profile: &Profile,
 ) -> Result<Report, AllocError>
     requires { AreWritten (script_tree script.now) }
-{
-    if defines_rulesets(script) {
-        refusals::answered(alloc, &Status::Unbuilt(Txt::new(alloc, "rulesets")?))
-    } else {
-        typed(alloc, script, structures, profile)
-    }
-}
-
-fn typed(
-    alloc: Global,
-    script: &Script,
-    structures: &Structures,
-    profile: &Profile,
-) -> Result<Report, AllocError>
-    requires written { AreWritten (script_tree script.now) }
-    requires plain { has_definitions (script_tree script.now) ≡ false }
 {
     match check(alloc, script, structures, profile) {
         Ok(checked) => last_structure(alloc, &checked),

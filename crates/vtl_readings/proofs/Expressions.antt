@@ -1,5 +1,5 @@
 -- What an expression gives by its operands is its value.
-use Rattle.std.proofs.Common.{◌≡◌, List, Ok, Err, refl, ap, ◌∙◌}
+use Rattle.std.proofs.Common.{◌≡◌, List, Option, Some, Ok, Err, refl, ap, ◌∙◌}
 use Rattle.vtl_decimal.specs.Settings.{Settings}
 use Rattle.vtl_cell.specs.Outcome.{Outcome, after}
 use Rattle.vtl_cell.specs.Row.{Row}
@@ -7,16 +7,19 @@ use Rattle.vtl_tree.specs.Clauses.{filter_of}
 use Rattle.vtl_tree.specs.Environment.{DataSet, Environment}
 use Rattle.vtl_tree.specs.declared.structure.Structure.{Structure}
 use Rattle.vtl_tree.specs.Trees as nodes
-use Rattle.vtl_tree.specs.Trees.{FormTree, NodeTree, NodeTrees, OperandTrees, structure_of}
+use Rattle.vtl_tree.specs.Trees.{FormTree, MaybeNode, NodeTree, NodeTrees, OperandTrees, structure_of}
 use Rattle.vtl_meaning.specs.Aggregates.{aggregate_of}
 use Rattle.vtl_meaning.specs.Analytics.{analytic_of}
 use Rattle.vtl_meaning.specs.Joined.{join_of}
-use Rattle.vtl_scripts.specs.Meaning.{data_set_of, form_value, node_value, nodes_value, operands_value, with_first, with_operand}
+use Rattle.vtl_scripts.specs.Meaning.{data_set_of, form_value, maybe_value, node_value, nodes_value, operands_value, with_first, with_operand}
 use Rattle.vtl_meaning.specs.Operators.{calculated_of, choice_of, left_of, measured_of, pair_of, sub_of}
 use Rattle.vtl_meaning.specs.Points.{with_points}
 use Rattle.vtl_meaning.specs.Sets.{difference_of, existence_of, intersection_of, symmetric_difference_of, union_of}
 use Rattle.vtl_meaning.specs.Turned.{pivot_of, unpivot_of}
-use Rattle.vtl_readings.specs.Expressions.{all, both, followed_by, given, given_each, given_operands, of_structure, one, points_of, three}
+use Rattle.vtl_rulings.specs.Hierarchies.{hierarchy_of}
+use Rattle.vtl_rulings.specs.HierarchyChecks.{check_hierarchy_of, ruled_by}
+use Rattle.vtl_rulings.specs.PointChecks.{check_of, datapoint_of}
+use Rattle.vtl_readings.specs.Expressions.{all, both, followed_by, given, given_each, given_maybe, given_operands, of_structure, one, points_of, there, three, with_other}
 
 -- the data set of an operand whose points are given
 abbrev Operand : NodeTree → Outcome (List Row) → Outcome DataSet
@@ -48,6 +51,15 @@ of_first a (Ok points) (Ok ds) = refl
 of_first a (Ok points) (Err e) = refl
 of_first a (Err e) rest = refl
 
+of_there : (a : NodeTree) (m : Outcome (List Row)) → there (Operand a m) ≡ after m (λ points. Ok (Some (with_points (structure_of a) points)))
+of_there a (Ok points) = refl
+of_there a (Err e) = refl
+
+of_other : (a : NodeTree) (m : Outcome (List Row)) (n : Outcome (Option DataSet)) (f : DataSet → Option DataSet → Outcome (List Row)) → with_other (Operand a m) n f ≡ with_operand a m (λ d. after n (f d))
+of_other a (Ok points) (Ok q) f = refl
+of_other a (Ok points) (Err e) f = refl
+of_other a (Err e) n f = refl
+
 renamed : (a : NodeTree) (m : Outcome (List Row)) → one (Operand a m) (λ d. Ok d.points) ≡ m
 renamed a (Ok points) = refl
 renamed a (Err e) = refl
@@ -65,6 +77,9 @@ module _ (p : Settings) (env : Environment) where
   triple t a b f h e g =
       ap (λ k. three k (given p env a) (given p env b) f) h ∙ ap (λ m. three (data_set_of p env t) m (given p env b) f) e ∙ ap (λ n. three (data_set_of p env t) (data_set_of p env a) n f) g
       ∙ of_three t a b (node_value p env t) (node_value p env a) (node_value p env b) f
+
+  beside : (a : NodeTree) (m n : Outcome (Option DataSet)) (f : DataSet → Option DataSet → Outcome (List Row)) → given p env a ≡ data_set_of p env a → m ≡ n → with_other (given p env a) m f ≡ with_operand a (node_value p env a) (λ d. after n (f d))
+  beside a m n f e g = ap (λ o. with_other o m f) e ∙ ap (λ o. with_other (data_set_of p env a) o f) g ∙ of_other a (node_value p env a) n f
 
   listed : (m n : Outcome (List DataSet)) (f : List DataSet → Outcome (List Row)) → m ≡ n → all m f ≡ after n f
   listed m n f e = ap (λ o. all o f) e ∙ of_all n f
@@ -98,10 +113,14 @@ mutual
   points_are p env s (nodes.exists_in a b retain) = pair p env a b (λ d e. Ok (existence_of d e retain)) (given_is p env a) (given_is p env b)
   points_are p env s (nodes.aggregate a spec) = first p env a (λ d. aggregate_of p spec d s) (given_is p env a)
   points_are p env s (nodes.analytic_of a spec) = first p env a (λ d. analytic_of p spec d s) (given_is p env a)
-  points_are p env s (nodes.check a i spec) = refl
-  points_are p env s (nodes.check_datapoint a rules out) = refl
-  points_are p env s (nodes.check_hierarchy a rules m out) = refl
-  points_are p env s (nodes.hierarchy a rules m i out) = refl
+  points_are p env s (nodes.check a m spec) = beside p env a (given_maybe p env m) (maybe_value p env m) (λ d e. Ok (check_of p spec d e)) (given_is p env a) (maybe_is p env m)
+  points_are p env s (nodes.check_datapoint a rules o) = first p env a (λ d. datapoint_of p o rules.rules d) (given_is p env a)
+  points_are p env s (nodes.check_hierarchy a rules m o) = first p env a (λ d. check_hierarchy_of p o (ruled_by rules d.structure) m d rules.rules) (given_is p env a)
+  points_are p env s (nodes.hierarchy a rules m i o) = first p env a (λ d. hierarchy_of p (ruled_by rules d.structure) m i rules.rules d o s) (given_is p env a)
+
+  maybe_is : (p : Settings) (env : Environment) (m : MaybeNode) → given_maybe p env m ≡ maybe_value p env m
+  maybe_is p env nodes.no_node = refl
+  maybe_is p env (nodes.some_node n) = ap there (given_is p env n) ∙ of_there n (node_value p env n)
 
   each_is : (p : Settings) (env : Environment) (ns : NodeTrees) → given_each p env ns ≡ nodes_value p env ns
   each_is p env nodes.no_nodes = refl

@@ -1,6 +1,6 @@
 -- What an expression gives: the points of its operands, from left to right, and then those of its operator. The first part that has a
 -- fault gives it to the whole.
-use Rattle.std.specs.Prelude.{List, [], ◌∷◌, Ok, Err}
+use Rattle.std.specs.Prelude.{List, [], ◌∷◌, Option, None, Some, Ok, Err}
 use Rattle.vtl_decimal.specs.Settings.{Settings}
 use Rattle.vtl_cell.specs.Outcome.{Outcome}
 use Rattle.vtl_cell.specs.Row.{Row}
@@ -8,15 +8,17 @@ use Rattle.vtl_tree.specs.Clauses.{filter_of}
 use Rattle.vtl_tree.specs.Environment.{DataSet, Environment, points_named}
 use Rattle.vtl_tree.specs.declared.structure.Structure.{Structure}
 use Rattle.vtl_tree.specs.Trees as nodes
-use Rattle.vtl_tree.specs.Trees.{FormTree, NodeTree, NodeTrees, OperandTrees}
+use Rattle.vtl_tree.specs.Trees.{FormTree, MaybeNode, NodeTree, NodeTrees, OperandTrees}
 use Rattle.vtl_meaning.specs.Aggregates.{aggregate_of}
 use Rattle.vtl_meaning.specs.Analytics.{analytic_of}
 use Rattle.vtl_meaning.specs.Joined.{join_of}
-use Rattle.vtl_scripts.specs.Meaning.{no_points_yet}
 use Rattle.vtl_meaning.specs.Operators.{calculated_of, choice_of, left_of, measured_of, pair_of, sub_of}
 use Rattle.vtl_meaning.specs.Points.{with_points}
 use Rattle.vtl_meaning.specs.Sets.{difference_of, existence_of, intersection_of, symmetric_difference_of, union_of}
 use Rattle.vtl_meaning.specs.Turned.{pivot_of, unpivot_of}
+use Rattle.vtl_rulings.specs.Hierarchies.{hierarchy_of}
+use Rattle.vtl_rulings.specs.HierarchyChecks.{check_hierarchy_of, ruled_by}
+use Rattle.vtl_rulings.specs.PointChecks.{check_of, datapoint_of}
 
 -- ---- operands before operators
 -- what an operator gives of one data set, of both, of three or of all, unless one of them has a fault
@@ -35,6 +37,16 @@ three (Err f) d e points = Err f
 abbrev pub all : Outcome (List DataSet) → (List DataSet → Outcome (List Row)) → Outcome (List Row)
 all (Ok ds) points = points ds
 all (Err f) points = Err f
+
+-- what it gives of a data set and of another one, which may be left out
+abbrev pub there : Outcome DataSet → Outcome (Option DataSet)
+there (Ok d) = Ok (Some d)
+there (Err f) = Err f
+
+abbrev pub with_other : Outcome DataSet → Outcome (Option DataSet) → (DataSet → Option DataSet → Outcome (List Row)) → Outcome (List Row)
+with_other (Ok d) (Ok e) points = points d e
+with_other (Ok d) (Err f) points = Err f
+with_other (Err f) e points = Err f
 
 -- a data set and those behind it, or the first fault
 abbrev pub followed_by : Outcome DataSet → Outcome (List DataSet) → Outcome (List DataSet)
@@ -76,10 +88,15 @@ abbrev mutual
   points_of p env s (nodes.exists_in a b retain) = both (given p env a) (given p env b) (λ d e. Ok (existence_of d e retain))
   points_of p env s (nodes.aggregate a spec) = one (given p env a) (λ d. aggregate_of p spec d s)
   points_of p env s (nodes.analytic_of a spec) = one (given p env a) (λ d. analytic_of p spec d s)
-  points_of p env s (nodes.check a i spec) = no_points_yet
-  points_of p env s (nodes.check_datapoint a rules out) = no_points_yet
-  points_of p env s (nodes.check_hierarchy a rules m out) = no_points_yet
-  points_of p env s (nodes.hierarchy a rules m i out) = no_points_yet
+  points_of p env s (nodes.check a imbalance spec) = with_other (given p env a) (given_maybe p env imbalance) (λ d e. Ok (check_of p spec d e))
+  points_of p env s (nodes.check_datapoint a rules output) = one (given p env a) (λ d. datapoint_of p output rules.rules d)
+  points_of p env s (nodes.check_hierarchy a rules mode output) = one (given p env a) (λ d. check_hierarchy_of p output (ruled_by rules d.structure) mode d rules.rules)
+  points_of p env s (nodes.hierarchy a rules mode input output) = one (given p env a) (λ d. hierarchy_of p (ruled_by rules d.structure) mode input rules.rules d output s)
+
+  -- the data set of an expression that may be left out
+  pub given_maybe : Settings → Environment → MaybeNode → Outcome (Option DataSet)
+  given_maybe p env nodes.no_node = Ok None
+  given_maybe p env (nodes.some_node n) = there (given p env n)
 
   -- those that several expressions give
   pub given_each : Settings → Environment → NodeTrees → Outcome (List DataSet)

@@ -1,8 +1,8 @@
 //! The definitions that are longest to read, in a reader's words, and laws that they are the ones that hold.
 //!
-//! The definitions of `vtl_meaning` are shaped for proofs of code: they are walked by place and key, as the code goes.
-//! Those here are shaped for reading: each is a sentence on data sets, groups, pairs of points and operands. Each law
-//! says that the two give the same, so whoever has read the sentence knows what the other one means.
+//! The definitions of `vtl_meaning` and `vtl_scripts` are shaped for proofs of code: they are walked by place and key,
+//! as the code goes. Those here are shaped for reading: each is a sentence on data sets, groups, pairs of points and
+//! operands. Each law says that the two give the same, so whoever has read the sentence knows what the other one means.
 //! It has no code, and no crate stands on it.
 //! Begin with specs/Aggregates.antt, Expressions.antt and Pairs.antt; then src/laws.rt.
 #![tactic(auto)]

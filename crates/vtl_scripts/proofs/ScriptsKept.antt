@@ -1,6 +1,6 @@
 -- Expressions and scripts keep data sets.
-use Rattle.std.proofs.Common.{◌≡◌, ℕ, Bool, true, false, cond, ◌&&◌, List, [], ◌∷◌, Some, Ok, Err, Result, refl, sym, ap, subst, true≢false}
-use Rattle.std.specs.Prelude.{IfOk}
+use Rattle.std.proofs.Common.{◌≡◌, ℕ, Bool, true, false, cond, ◌&&◌, List, [], ◌∷◌, Option, None, Some, Ok, Err, Result, refl, sym, ap, subst, true≢false}
+use Rattle.std.specs.Prelude.{IfOk, IfSome, option_map}
 use Rattle.std.specs.List.{list_all}
 use Rattle.std.specs.Map.{lookup}
 use Rattle.std.specs.Option.{option_map_or}
@@ -15,7 +15,7 @@ use Rattle.vtl_tree.specs.Environment.{DataSet, Environment, data_of, known_in, 
 use Rattle.vtl_tree.specs.Structure.{same_name}
 use Rattle.vtl_tree.specs.declared.structure.Structure.{Structure}
 use Rattle.vtl_tree.specs.Trees as nodes
-use Rattle.vtl_tree.specs.Trees.{FormTree, NodeTree, NodeTrees, OperandTrees, structure_of}
+use Rattle.vtl_tree.specs.Trees.{FormTree, MaybeNode, NodeTree, NodeTrees, OperandTrees, structure_of}
 use Rattle.vtl_tree.specs.Joins as joins
 use Rattle.vtl_meaning.specs.Aggregates.{aggregate_of}
 use Rattle.vtl_meaning.specs.Analytics.{analytic_of}
@@ -23,8 +23,8 @@ use Rattle.vtl_meaning.proofs.AnalyticPoints.{result_is as analytic_is}
 use Rattle.vtl_meaning.proofs.GroupPoints.{result_is}
 use Rattle.vtl_meaning.specs.Joined.{join_of, structures_of}
 use Rattle.vtl_meaning.specs.Made.{AreCombined, IsJoined, IsLeft}
-use Rattle.vtl_scripts.specs.Made.{AreMade, AreMadeOperands, AreMadeStatements, IsMade, IsMadeForm, node_structures, operands_in}
-use Rattle.vtl_scripts.specs.Meaning.{AreDataSets, Outputs, Statement, are_nodes_built, are_operands_built, form_value, is_built, is_built_form, meaning, node_value, nodes_value, operands_value, stated, with_first, with_operand, with_output}
+use Rattle.vtl_scripts.specs.Made.{AreMade, AreMadeOperands, AreMadeStatements, IsMade, IsMadeForm, IsMadeMaybe, maybe_structure, node_structures, operands_in}
+use Rattle.vtl_scripts.specs.Meaning.{AreDataSets, Outputs, Statement, are_nodes_built, are_operands_built, form_value, is_built, is_built_form, is_maybe_built, maybe_value, meaning, node_value, nodes_value, operands_value, stated, with_first, with_operand, with_output}
 use Rattle.vtl_meaning.specs.Operators.{calculated_of, choice_of, left_of, measured_of, pair_of, sub_of}
 use Rattle.vtl_meaning.specs.Points.{with_points}
 use Rattle.vtl_meaning.specs.Sets.{difference_of, existence_of, intersection_of, symmetric_difference_of, union_of}
@@ -35,6 +35,14 @@ use Rattle.vtl_meaning.proofs.Kept.{after_ok, calculated_kept, choice_kept, filt
 use Rattle.vtl_meaning.proofs.Places.{same_name-sym}
 use Rattle.vtl_meaning.proofs.SetsKept.{difference_kept, existence_kept, intersection_kept, symmetric_difference_kept, union_kept}
 use Rattle.vtl_meaning.proofs.TurnedKept.{pivot_kept, unpivot_kept}
+use Rattle.vtl_rulings.specs.Hierarchies.{hierarchy_of}
+use Rattle.vtl_rulings.specs.HierarchyChecks.{check_hierarchy_of, ruled_by}
+use Rattle.vtl_rulings.specs.PointChecks.{check_of, datapoint_of}
+use Rattle.vtl_rulings.specs.Shaped.{IsChecked}
+use Rattle.vtl_rulings.proofs.ChecksKept.{check_kept}
+use Rattle.vtl_rulings.proofs.HierarchiesKept.{check_hierarchy_kept}
+use Rattle.vtl_rulings.proofs.HierarchiesMade.{hierarchy_kept}
+use Rattle.vtl_rulings.proofs.PointsKept.{datapoint_kept}
 
 -- what a node's data set gives, where it has one
 operand_ok : (a : NodeTree) (m : Outcome (List Row)) (f : DataSet → Outcome (List Row)) (out : List Row) → with_operand a m f ≡ Ok out → (points : List Row) × (m ≡ Ok points) × (f (with_points (structure_of a) points) ≡ Ok out)
@@ -81,6 +89,10 @@ no_operand ds e = subst (λ l. (structures_of l ≡ []) × AreSets l) e (refl, t
 
 more_operands : (n : NodeTree) (points : List Row) (others ds : List DataSet) (ss : List Structure) → with_points (structure_of n) points ∷ others ≡ ds → IsDataSet (structure_of n) points → (structures_of others ≡ ss) × AreSets others → (structures_of ds ≡ structure_of n ∷ ss) × AreSets ds
 more_operands n points others ds ss e h i = subst (λ l. (structures_of l ≡ structure_of n ∷ ss) × AreSets l) e (ap (λ l. structure_of n ∷ l) i.0, (h, i.1))
+
+-- a data set of this structure, or neither
+abbrev IsGiven : Option Structure → Option DataSet → Type 0
+IsGiven s given = (option_map (λ d. d.structure) given ≡ s) × IfSome given (λ d. IsDataSet d.structure d.points)
 
 mutual
   -- of an expression over an environment of data sets
@@ -163,7 +175,34 @@ mutual
       let built = both_built (is_built a) (is_built c) b in
       let x = two_ok a c (node_value p env a) (node_value p env c) (λ d q. existence_of d q r) out e in
       subst (λ l. IsDataSet s l) x.4 (existence_kept (with_points (structure_of a) x.0) (with_points (structure_of c) x.1) r s i.2 (node_kept p env a x.0 built.0 i.0 h x.2))
-  form_kept p env s other out b i h e = cc
+  form_kept p env s (nodes.check a m spec) out b i h e =
+      let built = both_built (is_built a) (is_maybe_built m) b in
+      let x = operand_ok a (node_value p env a) (λ d. after (maybe_value p env m) (λ q. Ok (check_of p spec d q))) out e in
+      let d = with_points (structure_of a) x.0 in
+      let y = after_ok (maybe_value p env m) (λ q. Ok (check_of p spec d q)) out x.2 in
+      let imbalance = maybe_kept p env m y.0 built.1 i.1 h y.1 in
+      subst (λ l. IsDataSet s l) (ok_is (check_of p spec d y.0) out y.2)
+      (check_kept p spec (structure_of a) s y.0 x.0 (subst (λ q. IsChecked p spec q (structure_of a) s) (sym imbalance.0) i.2) (node_kept p env a x.0 built.0 i.0 h x.1) imbalance.1)
+  form_kept p env s (nodes.check_datapoint a rules o) out b i h e =
+      let x = operand_ok a (node_value p env a) (λ d. datapoint_of p o rules.rules d) out e in
+      datapoint_kept p o rules.rules (structure_of a) s x.0 i.1 (node_kept p env a x.0 b i.0 h x.1) out x.2
+  form_kept p env s (nodes.check_hierarchy a rules m o) out b i h e =
+      let built : is_built a ≡ true = cc in
+      let ruled = ruled_by rules (structure_of a) in
+      let x = operand_ok a (node_value p env a) (λ d. check_hierarchy_of p o ruled m d rules.rules) out e in
+      check_hierarchy_kept p o ruled m rules.rules (structure_of a) s x.0 i.1 (node_kept p env a x.0 built i.0 h x.1) out x.2
+  form_kept p env s (nodes.hierarchy a rules m input o) out b i h e =
+      let built : is_built a ≡ true = cc in
+      let ruled = ruled_by rules (structure_of a) in
+      let x = operand_ok a (node_value p env a) (λ d. hierarchy_of p ruled m input rules.rules d o s) out e in
+      hierarchy_kept p ruled m input rules.rules (structure_of a) s x.0 i.1 (node_kept p env a x.0 built i.0 h x.1) o out x.2
+
+  -- an operand that may be left out
+  maybe_kept : (p : Settings) (env : Environment) (m : MaybeNode) (given : Option DataSet) → is_maybe_built m ≡ true → IsMadeMaybe p (known_in env) m → AreDataSets env → maybe_value p env m ≡ Ok given → IsGiven (maybe_structure m) given
+  maybe_kept p env nodes.no_node given b i h e = subst (IsGiven None) (ok_is None given e) (refl, tt)
+  maybe_kept p env (nodes.some_node n) given b i h e =
+      let x = after_ok (node_value p env n) (λ points. Ok (Some (with_points (structure_of n) points))) given e in
+      subst (IsGiven (Some (structure_of n))) (ok_is (Some (with_points (structure_of n) x.0)) given x.2) (refl, node_kept p env n x.0 b i h x.1)
 
   -- the operands have the structures of their expressions, and are data sets
   pub nodes_kept : (p : Settings) (env : Environment) (ns : NodeTrees) (ds : List DataSet) → are_nodes_built ns ≡ true → AreMade p (known_in env) ns → AreDataSets env → nodes_value p env ns ≡ Ok ds → (structures_of ds ≡ node_structures ns) × AreSets ds

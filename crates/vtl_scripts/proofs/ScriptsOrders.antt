@@ -1,5 +1,5 @@
 -- The meaning of a script does not depend on the order of points.
-use Rattle.std.proofs.Common.{◌≡◌, ℕ, Bool, true, false, cond, ◌&&◌, List, [], ◌∷◌, Some, Result, Ok, Err, refl, sym, ap, subst, true≢false}
+use Rattle.std.proofs.Common.{◌≡◌, ℕ, Bool, true, false, cond, ◌&&◌, List, [], ◌∷◌, Option, None, Some, Result, Ok, Err, refl, sym, ap, subst, true≢false}
 use Rattle.std.specs.List.{list_all}
 use Rattle.std.specs.Option.{option_map_or}
 use Rattle.std.proofs.lemmas.Bool.{and_parts}
@@ -22,7 +22,7 @@ use Rattle.vtl_meaning.proofs.GroupOrders.{aggregates_respect}
 use Rattle.vtl_meaning.specs.Joined.{join_of}
 use Rattle.vtl_meaning.specs.Made.{AreCombined, IsJoined}
 use Rattle.vtl_scripts.specs.Made.{AreMade, AreMadeOperands, AreMadeStatements, IsMade, IsMadeForm}
-use Rattle.vtl_scripts.specs.Meaning.{AreDataSets, Outputs, Statement, are_nodes_built, are_operands_built, form_value, is_built, is_built_form, meaning, node_value, nodes_value, operands_value, stated, with_first, with_operand, with_output}
+use Rattle.vtl_scripts.specs.Meaning.{AreDataSets, Outputs, Statement, are_nodes_built, are_operands_built, form_value, is_built, is_built_form, maybe_value, meaning, node_value, nodes_value, operands_value, stated, with_first, with_operand, with_output}
 use Rattle.vtl_meaning.specs.Operators.{calculated_exps, calculated_of, choice_of, left_of, measured_exps, measured_of, pair_of, sub_of}
 use Rattle.vtl_meaning.specs.Orders.{SameData, SameOperands}
 use Rattle.vtl_scripts.specs.Orders.{SameMeaning}
@@ -31,9 +31,14 @@ use Rattle.vtl_meaning.specs.Sets.{difference_of, existence_of, intersection_of,
 use Rattle.vtl_meaning.specs.Turned.{pivot_of, unpivot_of}
 use Rattle.vtl_meaning.proofs.JoinOrders.{join_order}
 use Rattle.vtl_meaning.proofs.Orders.{choice_respects, each_respects, filtered_respects, pair_respects, shown_respects, sub_respects}
-use Rattle.vtl_scripts.proofs.ScriptsKept.{node_kept, nodes_kept, operands_kept}
 use Rattle.vtl_meaning.proofs.SetsOrders.{difference_order, existence_order, intersection_order, symmetric_difference_order, union_order}
 use Rattle.vtl_meaning.proofs.TurnedOrders.{pivot_order, unpivot_order}
+use Rattle.vtl_rulings.specs.Hierarchies.{hierarchy_of}
+use Rattle.vtl_rulings.specs.HierarchyChecks.{check_hierarchy_of, ruled_by}
+use Rattle.vtl_rulings.specs.PointChecks.{check_of, datapoint_of}
+use Rattle.vtl_rulings.proofs.HierarchyOrders.{check_respects as sides_respect, output_respects}
+use Rattle.vtl_rulings.proofs.Orders.{check_respects, datapoint_respects, imbalanced_respects}
+use Rattle.vtl_scripts.proofs.ScriptsKept.{node_kept, nodes_kept, operands_kept}
 
 -- ---- expressions
 same_after : (m n : Outcome (List Row)) (f g : List Row → Outcome (List Row)) → Same m n → ((d e : List Row) → m ≡ Ok d → Perm d e → Same (f d) (g e)) → Same (after m f) (after n g)
@@ -54,6 +59,14 @@ same_two : (a c : NodeTree) (m n k l : Outcome (List Row)) (f : DataSet → Data
 same_two a c m n k l f s u h =
     same_operand a m n (λ d. with_operand c k (λ e. Ok (f d e))) (λ d. with_operand c l (λ e. Ok (f d e))) s
     (λ d t is q. same_operand c k l (λ e. Ok (f (with_points (structure_of a) d) e)) (λ e. Ok (f (with_points (structure_of a) t) e)) u (λ e g is_too v. h d t e g is is_too q v))
+
+-- an operand that may be left out, and is there
+same_given : (c : NodeTree) (k l : Outcome (List Row)) (f g : Option DataSet → List Row) → Same k l → ((d e : List Row) → k ≡ Ok d → Perm d e → Perm (f (Some (with_points (structure_of c) d))) (g (Some (with_points (structure_of c) e))))
+    → Same (after (after k (λ points. Ok (Some (with_points (structure_of c) points)))) (λ q. Ok (f q))) (after (after l (λ points. Ok (Some (with_points (structure_of c) points)))) (λ q. Ok (g q)))
+same_given c (Ok d) (Ok e) f g s h = h d e refl s
+same_given c (Err x) (Err y) f g s h = s
+same_given c (Ok d) (Err y) f g s h = absurd s
+same_given c (Err x) (Ok e) f g s h = absurd s
 
 -- the same operands up to the order of points, or the same fault
 abbrev SameGiven : Outcome (List DataSet) → Outcome (List DataSet) → Type 0
@@ -162,7 +175,29 @@ module _ (p : Settings) (env other : Environment) (h : AreDataSets env) (same : 
         let built = and_parts (is_built a) (is_built c) b in
         same_two a c (node_value p env a) (node_value p other a) (node_value p env c) (node_value p other c) (λ d e. existence_of d e r) (node_respects a built.0 i.0) (node_respects c built.1 i.1)
         (λ d t e f is is_too q u. existence_order (structure_of a) (structure_of c) d t e f r q u)
-    form_respects s form b i = cc
+    form_respects s (nodes.check a nodes.no_node spec) b i =
+        let built = and_parts (is_built a) true b in
+        same_operand a (node_value p env a) (node_value p other a) (λ d. Ok (check_of p spec d None)) (λ d. Ok (check_of p spec d None)) (node_respects a built.0 i.0)
+        (λ d e is q. check_respects p spec (structure_of a) d e q)
+    form_respects s (nodes.check a (nodes.some_node c) spec) b i =
+        let built = and_parts (is_built a) (is_built c) b in
+        let F : Environment → DataSet → Outcome (List Row) = λ en d. after (maybe_value p en (nodes.some_node c)) (λ q. Ok (check_of p spec d q)) in
+        same_operand a (node_value p env a) (node_value p other a) (F env) (F other) (node_respects a built.0 i.0)
+        (λ d t is q. same_given c (node_value p env c) (node_value p other c) (check_of p spec (with_points (structure_of a) d)) (check_of p spec (with_points (structure_of a) t)) (node_respects c built.1 i.1)
+        (λ e f is_too u. imbalanced_respects p spec (structure_of a) (structure_of c) s e f i.2 (node_kept p env c e built.1 i.1 h is_too) u d t q))
+    form_respects s (nodes.check_datapoint a rules o) b i =
+        same_operand a (node_value p env a) (node_value p other a) (λ d. datapoint_of p o rules.rules d) (λ d. datapoint_of p o rules.rules d) (node_respects a b i.0)
+        (λ d e is q. datapoint_respects p o rules.rules (structure_of a) d e q)
+    form_respects s (nodes.check_hierarchy a rules m o) b i =
+        let built : is_built a ≡ true = cc in
+        let ruled = ruled_by rules (structure_of a) in
+        same_operand a (node_value p env a) (node_value p other a) (λ d. check_hierarchy_of p o ruled m d rules.rules) (λ d. check_hierarchy_of p o ruled m d rules.rules) (node_respects a built i.0)
+        (λ d e is q. sides_respect ruled (structure_of a) d e (node_kept p env a d built i.0 h is) q p m o rules.rules)
+    form_respects s (nodes.hierarchy a rules m input o) b i =
+        let built : is_built a ≡ true = cc in
+        let ruled = ruled_by rules (structure_of a) in
+        same_operand a (node_value p env a) (node_value p other a) (λ d. hierarchy_of p ruled m input rules.rules d o s) (λ d. hierarchy_of p ruled m input rules.rules d o s) (node_respects a built i.0)
+        (λ d e is q. output_respects ruled (structure_of a) d e (node_kept p env a d built i.0 h is) q p m input rules.rules o s i.1)
 
     nodes_respect : (ns : NodeTrees) → are_nodes_built ns ≡ true → AreMade p (known_in env) ns → SameGiven (nodes_value p env ns) (nodes_value p other ns)
     nodes_respect nodes.no_nodes b i = tt

@@ -23,7 +23,7 @@ use Rattle.vtl_meaning.proofs.AnalyticPoints.{result_is_proper as analytic_is_pr
 use Rattle.vtl_meaning.proofs.GroupPoints.{result_is_proper}
 use Rattle.vtl_meaning.specs.Joined.{join_of}
 use Rattle.vtl_scripts.specs.Made.{AreMade, AreMadeOperands, AreMadeStatements, IsMade, IsMadeForm}
-use Rattle.vtl_scripts.specs.Meaning.{Outputs, Statement, form_value, meaning, node_value, nodes_value, operands_value, stated, with_first, with_operand, with_output}
+use Rattle.vtl_scripts.specs.Meaning.{Outputs, Statement, form_value, maybe_value, meaning, node_value, nodes_value, operands_value, stated, with_first, with_operand, with_output}
 use Rattle.vtl_meaning.specs.Operators.{calculated_exps, has_values, measured_exps, pair_columns, pair_exps}
 use Rattle.vtl_meaning.specs.Points.{each_point, with_points}
 use Rattle.vtl_meaning.specs.Profiles.{AllAreOfProfile}
@@ -33,6 +33,11 @@ use Rattle.vtl_meaning.proofs.JoinProfiles.{join_profile}
 use Rattle.vtl_meaning.proofs.Profiles.{GivePoints, IsRowOfProfile, choice_are, each_gives, filter_gives, pairs, pairs_are, shown_are, taken_at}
 use Rattle.vtl_meaning.proofs.SetsProfiles.{AllOfProfile, difference_profile, existence_profile, intersection_profile, pivot_profile, symmetric_difference_profile, union_profile, unpivot_profile}
 use Rattle.vtl_meaning.proofs.ValueKinds.{after_if}
+use Rattle.vtl_rulings.specs.Hierarchies.{hierarchy_of}
+use Rattle.vtl_rulings.specs.HierarchyChecks.{check_hierarchy_of, ruled_by}
+use Rattle.vtl_rulings.specs.PointChecks.{check_of, datapoint_of}
+use Rattle.vtl_rulings.proofs.HierarchyProfiles.{check_hierarchy_profile, hierarchy_profile}
+use Rattle.vtl_rulings.proofs.Profiles.{check_profile, datapoint_profile}
 
 -- ---- expressions
 named_are : (p : Settings) (name : List ℕ) (env : Environment) → AllAreOfProfile p env → AreOfProfile p (points_named name env)
@@ -47,6 +52,11 @@ module _ (p : Settings) (env : Environment) (h : AllAreOfProfile p env) where
   -- what comes of an operand of the profile
   onward : (m : Outcome (List Row)) (f : List Row → Outcome (List Row)) → GivePoints p m → ((d : List Row) → AreOfProfile p d → GivePoints p (f d)) → GivePoints p (after m f)
   onward m f i g = after_if m f (AreOfProfile p) (AreOfProfile p) i g
+
+  -- what comes of another operand, whatever it gives
+  whatever : {A : Type 0} (m : Outcome A) (f : A → List Row) → ((x : A) → AreOfProfile p (f x)) → GivePoints p (after m (λ x. Ok (f x)))
+  whatever (Ok x) f g = g x
+  whatever (Err e) f g = tt
 
   -- columns that are left
   left_gives : (a : NodeTree) (s : Structure) → GivePoints p (node_value p env a) → GivePoints p (after (node_value p env a) (λ d. Ok (map (cells_at (places_in (columns_of (structure_of a)) (columns_of s))) d)))
@@ -125,7 +135,20 @@ module _ (p : Settings) (env : Environment) (h : AllAreOfProfile p env) where
     form_gives s (nodes.set_diff a b) i = onward_two a b (λ d e. difference_of d e s) (node_gives a i.0) (node_gives b i.1) (λ d e k l. difference_profile p d e s k)
     form_gives s (nodes.sym_diff a b) i = onward_two a b (λ d e. symmetric_difference_of d e s) (node_gives a i.0) (node_gives b i.1) (λ d e k l. symmetric_difference_profile p d e s k l)
     form_gives s (nodes.exists_in a b r) i = onward_two a b (λ d e. existence_of d e r) (node_gives a i.0) (node_gives b i.1) (λ d e k l. existence_profile p d e r k)
-    form_gives s other i = tt
+    form_gives s (nodes.check a m spec) i =
+        onward (node_value p env a) (λ d. after (maybe_value p env m) (λ e. Ok (check_of p spec (with_points (structure_of a) d) e))) (node_gives a i.0)
+        (λ d k. whatever (maybe_value p env m) (check_of p spec (with_points (structure_of a) d)) (λ e. check_profile p spec (structure_of a) e d i.2.level k))
+    form_gives s (nodes.check_datapoint a rules o) i =
+        onward (node_value p env a) (λ d. datapoint_of p o rules.rules (with_points (structure_of a) d)) (node_gives a i.0)
+        (λ d k. datapoint_profile p o rules.rules (structure_of a) d i.1.typed k)
+    form_gives s (nodes.check_hierarchy a rules m o) i =
+        let ruled = ruled_by rules (structure_of a) in
+        onward (node_value p env a) (λ d. check_hierarchy_of p o ruled m (with_points (structure_of a) d) rules.rules) (node_gives a i.0)
+        (λ d k. check_hierarchy_profile p (structure_of a) d k o ruled m rules.rules)
+    form_gives s (nodes.hierarchy a rules m input o) i =
+        let ruled = ruled_by rules (structure_of a) in
+        onward (node_value p env a) (λ d. hierarchy_of p ruled m input rules.rules (with_points (structure_of a) d) o s) (node_gives a i.0)
+        (λ d k. hierarchy_profile p (structure_of a) d k ruled m input rules.rules o s)
 
     nodes_give : (ns : NodeTrees) → AreMade p (known_in env) ns → GiveSets (nodes_value p env ns)
     nodes_give nodes.no_nodes i = tt

@@ -1,5 +1,5 @@
 -- What typing gives of expressions and statements: each node fits its operands, and each name is known with its structure.
-use Rattle.std.specs.Prelude.{◌≡◌, List, [], ◌∷◌, Some}
+use Rattle.std.specs.Prelude.{◌≡◌, List, [], ◌∷◌, Option, None, Some}
 use Rattle.std.specs.Map.{lookup}
 use Rattle.vtl_decimal.specs.Settings.{Settings}
 use Rattle.vtl_tree.specs.Structure.{same_name}
@@ -14,6 +14,9 @@ use Rattle.vtl_tree.specs.declared.names.Wanted.TheVariants as wanted
 use Rattle.vtl_meaning.specs.Made.{AreCombined, IsCalculated, IsChoice, IsCombined, IsExistence, IsFiltered, IsGrouped, IsJoined, IsLeft, IsMeasured, IsPaired, IsPivoted, IsRenamed, IsSub, IsUnpivoted, IsWindowed}
 use Rattle.vtl_meaning.specs.Reaches.{AreNear}
 use Rattle.vtl_meaning.specs.Shapes.{IsChosen, IsJoinedFrom, IsRenamedBy, IsShaped}
+use Rattle.vtl_rulings.specs.HierarchyChecks.{ruled_by}
+use Rattle.vtl_rulings.specs.HierarchyShapes.{IsHierarchyChecked, IsHierarchyMade}
+use Rattle.vtl_rulings.specs.Shaped.{IsChecked, IsPointChecked}
 use Rattle.vtl_scripts.specs.Meaning.{Statement}
 
 -- ---- operands
@@ -25,9 +28,13 @@ abbrev pub node_structures : NodeTrees → List Structure
 node_structures nodes.no_nodes = []
 node_structures (nodes.and_node n ns) = structure_of n ∷ node_structures ns
 
+abbrev pub maybe_structure : MaybeNode → Option Structure
+maybe_structure nodes.no_node = None
+maybe_structure (nodes.some_node n) = Some (structure_of n)
+
 -- ---- nodes
 -- Each node has a structure whose components have kinds and which fits its operands, and each name is known with its structure.
--- Of analytic calls it is told too how far they reach; of the forms that are not evaluated yet only the operands.
+-- Of analytic calls it is told too how far they reach.
 abbrev mutual
   pub IsMade : Settings → Named → NodeTree → Type 0
   IsMade p known (nodes.node s form) = IsShaped s × IsMadeForm p known s form
@@ -54,10 +61,10 @@ abbrev mutual
   IsMadeForm p known s (nodes.exists_in a b r) = IsMade p known a × IsMade p known b × IsExistence (structure_of a) (structure_of b) s
   IsMadeForm p known s (nodes.aggregate a spec) = IsMade p known a × IsGrouped p spec (structure_of a) s
   IsMadeForm p known s (nodes.analytic_of a spec) = IsMade p known a × IsWindowed p spec (structure_of a) s × AreNear spec
-  IsMadeForm p known s (nodes.check a i spec) = IsMade p known a × IsMadeMaybe p known i
-  IsMadeForm p known s (nodes.check_datapoint a rules out) = IsMade p known a
-  IsMadeForm p known s (nodes.check_hierarchy a rules m out) = IsMade p known a
-  IsMadeForm p known s (nodes.hierarchy a rules m i out) = IsMade p known a
+  IsMadeForm p known s (nodes.check a i spec) = IsMade p known a × IsMadeMaybe p known i × IsChecked p spec (maybe_structure i) (structure_of a) s
+  IsMadeForm p known s (nodes.check_datapoint a rules out) = IsMade p known a × IsPointChecked p out rules.rules (structure_of a) s
+  IsMadeForm p known s (nodes.check_hierarchy a rules m out) = IsMade p known a × IsHierarchyChecked out (ruled_by rules (structure_of a)) rules.rules (structure_of a) s
+  IsMadeForm p known s (nodes.hierarchy a rules m i out) = IsMade p known a × IsHierarchyMade (ruled_by rules (structure_of a)) rules.rules (structure_of a) s
 
   pub AreMade : Settings → Named → NodeTrees → Type 0
   AreMade p known nodes.no_nodes = Unit {0}

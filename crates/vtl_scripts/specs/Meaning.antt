@@ -1,5 +1,5 @@
 -- The meaning of typed expressions and of statements over an environment of data sets.
-use Rattle.std.specs.Prelude.{ℕ, Bool, true, false, ◌&&◌, cond, List, [], ◌∷◌, Result, Ok, Err}
+use Rattle.std.specs.Prelude.{ℕ, Bool, true, false, ◌&&◌, cond, List, [], ◌∷◌, Option, None, Some, Result, Ok, Err}
 use Rattle.std.specs.List.{AllByRecursion}
 use Rattle.vtl_decimal.specs.Settings.{Settings}
 use Rattle.vtl_cell.specs.Row.{Row}
@@ -10,7 +10,7 @@ use Rattle.vtl_tree.specs.DataSet.{IsDataSet}
 use Rattle.vtl_tree.specs.Environment.{DataSet, Environment, points_named}
 use Rattle.vtl_tree.specs.declared.structure.Structure.{Structure}
 use Rattle.vtl_tree.specs.Trees as nodes
-use Rattle.vtl_tree.specs.Trees.{FormTree, NodeTree, NodeTrees, OperandTrees, structure_of}
+use Rattle.vtl_tree.specs.Trees.{FormTree, MaybeNode, NodeTree, NodeTrees, OperandTrees, structure_of}
 use Rattle.vtl_meaning.specs.Aggregates.{aggregate_of}
 use Rattle.vtl_meaning.specs.Analytics.{analytic_of}
 use Rattle.vtl_meaning.specs.Joined.{join_of}
@@ -18,6 +18,9 @@ use Rattle.vtl_meaning.specs.Operators.{calculated_of, choice_of, left_of, measu
 use Rattle.vtl_meaning.specs.Points.{with_points}
 use Rattle.vtl_meaning.specs.Sets.{difference_of, existence_of, intersection_of, symmetric_difference_of, union_of}
 use Rattle.vtl_meaning.specs.Turned.{pivot_of, unpivot_of}
+use Rattle.vtl_rulings.specs.Hierarchies.{hierarchy_of}
+use Rattle.vtl_rulings.specs.HierarchyChecks.{check_hierarchy_of, ruled_by}
+use Rattle.vtl_rulings.specs.PointChecks.{check_of, datapoint_of}
 
 -- each data set of an environment is one
 abbrev pub AreDataSets : Environment → Type 0
@@ -30,10 +33,6 @@ with_operand a m f = after m (λ points. f (with_points (structure_of a) points)
 -- the data set that the first of several operands gives, and those of the others, or the first fault
 abbrev pub with_first : NodeTree → Outcome (List Row) → Outcome (List DataSet) → Outcome (List DataSet)
 with_first a m rest = after m (λ points. after rest (λ ds. Ok (with_points (structure_of a) points ∷ ds)))
-
--- the points of a form that is not evaluated yet; no script that is run holds one (`is_built`)
-abbrev pub no_points_yet : Outcome (List Row)
-no_points_yet = Ok []
 
 -- The points of an expression, or the fault of the first of its parts that has one: operands before operators, from left to right.
 -- Each form has its line, so that no new one is passed over.
@@ -63,15 +62,20 @@ abbrev mutual
   form_value p env s (nodes.exists_in a b r) = with_operand a (node_value p env a) (λ d. with_operand b (node_value p env b) (λ e. Ok (existence_of d e r)))
   form_value p env s (nodes.aggregate a spec) = with_operand a (node_value p env a) (λ d. aggregate_of p spec d s)
   form_value p env s (nodes.analytic_of a spec) = with_operand a (node_value p env a) (λ d. analytic_of p spec d s)
-  form_value p env s (nodes.check a i spec) = no_points_yet
-  form_value p env s (nodes.check_datapoint a rules out) = no_points_yet
-  form_value p env s (nodes.check_hierarchy a rules m out) = no_points_yet
-  form_value p env s (nodes.hierarchy a rules m i out) = no_points_yet
+  form_value p env s (nodes.check a i spec) = with_operand a (node_value p env a) (λ d. after (maybe_value p env i) (λ e. Ok (check_of p spec d e)))
+  form_value p env s (nodes.check_datapoint a rules out) = with_operand a (node_value p env a) (λ d. datapoint_of p out rules.rules d)
+  form_value p env s (nodes.check_hierarchy a rules m out) = with_operand a (node_value p env a) (λ d. check_hierarchy_of p out (ruled_by rules (structure_of a)) m d rules.rules)
+  form_value p env s (nodes.hierarchy a rules m i out) = with_operand a (node_value p env a) (λ d. hierarchy_of p (ruled_by rules (structure_of a)) m i rules.rules d out s)
 
   -- the data sets of several expressions, or the fault of the first that has one
   pub nodes_value : Settings → Environment → NodeTrees → Outcome (List DataSet)
   nodes_value p env nodes.no_nodes = Ok []
   nodes_value p env (nodes.and_node n ns) = with_first n (node_value p env n) (nodes_value p env ns)
+
+  -- the data set of an expression that may be left out
+  pub maybe_value : Settings → Environment → MaybeNode → Outcome (Option DataSet)
+  maybe_value p env nodes.no_node = Ok None
+  maybe_value p env (nodes.some_node n) = after (node_value p env n) (λ points. Ok (Some (with_points (structure_of n) points)))
 
   pub operands_value : Settings → Environment → OperandTrees → Outcome (List DataSet)
   operands_value p env nodes.no_operands = Ok []
@@ -109,7 +113,7 @@ abbrev pub meaning : Settings → List Statement → Environment → Result Outp
 meaning p [] env = Ok []
 meaning p (s ∷ rest) env = stated s (data_set_of p env s.node) (λ d. meaning p rest ((s.result, d) ∷ env))
 
--- ---- what is evaluated so far: a form with `no_points_yet` is not
+-- ---- what is evaluated so far
 abbrev mutual
   pub is_built : NodeTree → Bool
   is_built (nodes.node s form) = is_built_form form
@@ -136,14 +140,18 @@ abbrev mutual
   is_built_form (nodes.exists_in a b r) = is_built a && is_built b
   is_built_form (nodes.aggregate a spec) = is_built a
   is_built_form (nodes.analytic_of a spec) = is_built a
-  is_built_form (nodes.check a i spec) = false
-  is_built_form (nodes.check_datapoint a rules out) = false
+  is_built_form (nodes.check a i spec) = is_built a && is_maybe_built i
+  is_built_form (nodes.check_datapoint a rules out) = is_built a
   is_built_form (nodes.check_hierarchy a rules m out) = false
   is_built_form (nodes.hierarchy a rules m i out) = false
 
   pub are_nodes_built : NodeTrees → Bool
   are_nodes_built nodes.no_nodes = true
   are_nodes_built (nodes.and_node n ns) = is_built n && are_nodes_built ns
+
+  pub is_maybe_built : MaybeNode → Bool
+  is_maybe_built nodes.no_node = true
+  is_maybe_built (nodes.some_node n) = is_built n
 
   pub are_operands_built : OperandTrees → Bool
   are_operands_built nodes.no_operands = true

@@ -12,7 +12,7 @@ ghost use Rattle.vtl_tree.specs.Trees.{FormTree, NodeTree, structure_of};
 ghost use Rattle.vtl_meaning.specs.Orders.{SameData};
 ghost use Rattle.vtl_meaning.specs.Profiles.{AllAreOfProfile};
 ghost use Rattle.vtl_scripts.specs.Made.{AreMadeStatements, IsMade, IsMadeForm};
-ghost use Rattle.vtl_scripts.specs.Meaning.{AreDataSets, Outputs, Statement, is_built, is_built_form, meaning, node_value};
+ghost use Rattle.vtl_scripts.specs.Meaning.{AreDataSets, Outputs, Statement, is_built, meaning, node_value};
 ghost use Rattle.vtl_scripts.specs.Orders.{SameMeaning};
 
 /// Over data sets, a typed expression that is evaluated gives a data set of its structure, and so is each output of a
@@ -39,5 +39,5 @@ pub fn meaning_does_not_see_order()
 
 /// The structure of a result is one: two with which the same form is made are equal.
 pub fn results_are_determined()
-    ensures { (p : Settings) (known : Named) (s t : Structure) (form : FormTree) → is_built_form form ≡ true → IsMadeForm p known s form → IsMadeForm p known t form → s ≡ t }
+    ensures { (p : Settings) (known : Named) (s t : Structure) (form : FormTree) → IsMadeForm p known s form → IsMadeForm p known t form → s ≡ t }
 {}

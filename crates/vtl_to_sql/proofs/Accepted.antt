@@ -10,10 +10,10 @@ use Rattle.vtl_syntax.specs.Written.{AreWritten}
 use Rattle.vtl_tree.specs.Structure.{same_name}
 use Rattle.vtl_tree.specs.Structures.{AreStructures, Named, has_name}
 use Rattle.vtl_tree.specs.declared.structure.Structure.{Structure}
-use Rattle.vtl_scripts.specs.Meaning.{are_nodes_built, are_operands_built, is_built, is_built_form}
-use Rattle.vtl_tree.specs.Nodes.{all_nodes, nodes_in, operand_nodes}
+use Rattle.vtl_scripts.specs.Meaning.{are_nodes_built, are_operands_built, is_built, is_built_form, is_maybe_built}
+use Rattle.vtl_tree.specs.Nodes.{all_nodes, maybe_nodes, nodes_in, operand_nodes}
 use Rattle.vtl_tree.specs.Trees as nodes
-use Rattle.vtl_tree.specs.Trees.{FormTree, NodeTree, NodeTrees, OperandTrees, structure_of}
+use Rattle.vtl_tree.specs.Trees.{FormTree, MaybeNode, NodeTree, NodeTrees, OperandTrees, structure_of}
 use Rattle.vtl_check.specs.Checked.{IsTyped, TypedScript, nodes_of, tree_of}
 use Rattle.vtl_check.specs.Names.{names_at, names_in, names_of}
 use Rattle.vtl_check.specs.Transformations.{Transformation, transformations}
@@ -35,7 +35,7 @@ use Rattle.vtl_to_sql.proofs.AcceptedForms.{evaluated}
 use Rattle.vtl_to_sql.proofs.AcceptedNodes.{node_translated}
 use Rattle.vtl_to_sql.proofs.AcceptedReads.{IsWord, reads_alike, reads_fewer, reads_readable}
 use Rattle.vtl_to_sql.proofs.AcceptedScripts.{results_named, script_worded}
-use Rattle.vtl_to_sql.proofs.AcceptedWords.{FormHasWords, HasWords, HaveWords, IsWorded, OperandsHaveWords, name_word}
+use Rattle.vtl_to_sql.proofs.AcceptedWords.{FormHasWords, HasWords, HaveWords, IsWorded, MaybeHasWords, OperandsHaveWords, name_word}
 
 -- ---- the names that an expression reads are words
 module _ (p : Settings) where
@@ -73,11 +73,17 @@ module _ (p : Settings) where
     form_words b s (nodes.set_diff a c) t w = let both = and_parts (is_built a) (is_built c) t in two_words (nodes_in a) (nodes_in c) (names_words false a both.0 w.0) (names_words false c both.1 w.1)
     form_words b s (nodes.sym_diff a c) t w = let both = and_parts (is_built a) (is_built c) t in two_words (nodes_in a) (nodes_in c) (names_words false a both.0 w.0) (names_words false c both.1 w.1)
     form_words b s (nodes.exists_in a c r) t w = let both = and_parts (is_built a) (is_built c) t in two_words (nodes_in a) (nodes_in c) (names_words false a both.0 w.0) (names_words false c both.1 w.1)
+    form_words b s (nodes.check a i spec) t w = let both = and_parts (is_built a) (is_maybe_built i) t in two_words (nodes_in a) (maybe_nodes i) (names_words false a both.0 w.0) (maybe_words i both.1 w.1)
+    form_words b s (nodes.check_datapoint a rules out) t w = names_words false a t w.0
     form_words b s other t w = absurd (false≢true t)
 
     all_words : (ns : NodeTrees) → are_nodes_built ns ≡ true → HaveWords p ns → AllByRecursion IsWord (names_at (all_nodes ns))
     all_words nodes.no_nodes t w = tt
     all_words (nodes.and_node n ns) t w = let both = and_parts (is_built n) (are_nodes_built ns) t in two_words (nodes_in n) (all_nodes ns) (names_words false n both.0 w.0) (all_words ns both.1 w.1)
+
+    maybe_words : (i : MaybeNode) → is_maybe_built i ≡ true → MaybeHasWords p i → AllByRecursion IsWord (names_at (maybe_nodes i))
+    maybe_words nodes.no_node t w = tt
+    maybe_words (nodes.some_node n) t w = names_words false n t w
 
     operand_words : (os : OperandTrees) → are_operands_built os ≡ true → OperandsHaveWords p os → AllByRecursion IsWord (names_at (operand_nodes os))
     operand_words nodes.no_operands t w = tt

@@ -39,8 +39,9 @@ use Rattle.vtl_tree.specs.declared.clauses.SubItem.{SubItem}
 use Rattle.vtl_syntax.specs.Trees as tree
 use Rattle.vtl_syntax.specs.Written.{AreMoreCalcs, AreWrittenCalcs, AreWrittenTargets}
 use Rattle.check_values.specs.Groupings.{grouping_of, grouping_typed}
-use Rattle.check_operators.specs.Places.{at_points, Env, at_groups}
+use Rattle.check_operators.specs.Places.{at_points, at_groups}
 use Rattle.check_clauses.specs.Targets.{aggr_clause, aggr_name, aggr_tree, calc_name, call_in, is_aggregate, item_of, made_as, with_item, with_made, calc_clause, is_analytic, target_of}
+use Rattle.check_expressions.specs.Rulings.{Sight}
 use Rattle.check_expressions.specs.Typing.{aggrs_typed, calc_value, calcs_typed, having_typed, over_operand, targets_typed, typed}
 use Rattle.check_clauses.specs.declared.targets.Made.{Made}
 use Rattle.check_faults.specs.InTurn.{in_turn}
@@ -113,7 +114,7 @@ module _ (p : Settings) (b : Bool) (rs : List Renaming) where
       go false = clause_at (nodes.calc n items) r (λ t. (((h t).0, named), (h t).1))
 
   -- each target has a name; of its value nothing is asked
-  targets_named : (env : Env) (at : Place) (n : NodeTree) (done : List ItemTree) (cs : Calcs) → AllByRecursion IsTarget done → AreMoreCalcs cs → Gives (AllByRecursion IsTarget) (calcs_typed env at n done cs)
+  targets_named : (env : Sight) (at : Place) (n : NodeTree) (done : List ItemTree) (cs : Calcs) → AllByRecursion IsTarget done → AreMoreCalcs cs → Gives (AllByRecursion IsTarget) (calcs_typed env at n done cs)
   targets_named env at n done tree.no_calcs hd w = hd
   targets_named env at n done (tree.calc_part r c e cs) hd w =
       after (AllByRecursion IsTarget) (calc_name n done c) (λ u. calc_value env.settings at e (typed env at e) (over_operand env at e) >>= with_item r c done >>= λ items. calcs_typed env at n items cs)
@@ -135,7 +136,7 @@ module _ (p : Settings) (b : Bool) (rs : List Renaming) where
       after (AllByRecursion IsNamed) (value_in x) (λ v. call_in (is_aggregate e) v >>= λ call. Ok (done ++ made_as r c call ∷ []))
       (λ v. after (AllByRecursion IsNamed) (call_in (is_aggregate e) v) (λ call. Ok (done ++ made_as r c call ∷ [])) (λ call. lists.appended IsNamed done (made_as r c call ∷ []) hd (component_named c w, tt)))
 
-  calls_named : (env : Env) (at : Place) (done : List Made) (cs : Calcs) → AllByRecursion IsNamed done → AreMoreCalcs cs → Gives (AllByRecursion IsNamed) (aggrs_typed env at done cs)
+  calls_named : (env : Sight) (at : Place) (done : List Made) (cs : Calcs) → AllByRecursion IsNamed done → AreMoreCalcs cs → Gives (AllByRecursion IsNamed) (aggrs_typed env at done cs)
   calls_named env at done tree.no_calcs hd w = hd
   calls_named env at done (tree.calc_part r c e cs) hd w =
       after (AllByRecursion IsNamed) (aggr_name done c) (λ u. typed env at e >>= with_made r c e done >>= λ made. aggrs_typed env at made cs)
@@ -147,7 +148,7 @@ module _ (p : Settings) (b : Bool) (rs : List Renaming) where
   unfolding aggr_clause
   aggr_clause_at g n made having h named = clause_at (nodes.aggregate n (aggr_tree g n made having)) _ (λ t. (((h t).0, lists.mapped (λ t. IsColumnName t.target) (λ m. m.target) made named), (h t).1))
 
-  pub targets_at : (env : Env) (j : Option Joined) (n : NodeTree) (m : TargetsTree) → AreWrittenTargets m → IsAt p b rs n → Gives (IsAt p b rs) (targets_typed env j n m)
+  pub targets_at : (env : Sight) (j : Option Joined) (n : NodeTree) (m : TargetsTree) → AreWrittenTargets m → IsAt p b rs n → Gives (IsAt p b rs) (targets_typed env j n m)
   targets_at env j n (tree.calc cs) w h =
       then (AllByRecursion IsTarget) (IsAt p b rs) (calcs_typed env (place.Inside (at_points j n)) n [] cs) (calc_clause n) (targets_named env (place.Inside (at_points j n)) n [] cs tt (more_calcs cs w))
       (λ items named. calc_at n items h named)

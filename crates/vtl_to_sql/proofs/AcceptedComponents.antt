@@ -1,5 +1,5 @@
 -- Components with names, and what operators and clauses make of them.
-use Rattle.std.proofs.Common.{◌≡◌, ◌⊎◌, inl, inr, ℕ, Bool, true, false, cond, ◌&&◌, not, List, [], ◌∷◌, map, length, Option, Some, None, refl, sym, ap, ◌∙◌, subst}
+use Rattle.std.proofs.Common.{◌≡◌, ◌⊎◌, inl, inr, ℕ, Bool, true, false, cond, ◌&&◌, not, List, [], ◌∷◌, ◌++◌, map, length, Option, Some, None, refl, sym, ap, ◌∙◌, subst}
 use Rattle.std.proofs.lemmas.Bool.{and_parts, false≢true}
 use Rattle.std.specs.List.{AllByRecursion, filter, list_all, list_any}
 use Rattle.std.specs.Map.{lookup}
@@ -19,7 +19,9 @@ use Rattle.vtl_tree.specs.declared.structure.Structure.{Structure}
 use Rattle.vtl_meaning.specs.AggregateShapes as aggregates
 use Rattle.vtl_meaning.specs.AggregateShapes.{made_components}
 use Rattle.vtl_meaning.specs.AnalyticShapes.{analyzed_components, of_measure}
-use Rattle.vtl_tree.specs.Columns.{identifiers_of, kind_named}
+use Rattle.vtl_syntax.specs.declared.word_groups.CheckOut.{CheckOut}
+use Rattle.vtl_syntax.specs.declared.word_groups.CheckOut.TheVariants as out
+use Rattle.vtl_tree.specs.Columns.{identifiers_of, kind_named, measures_of}
 use Rattle.vtl_meaning.specs.Shapes.{calculated_components, target_of}
 use Rattle.vtl_tree.specs.Trees as nodes
 use Rattle.vtl_tree.specs.Trees.{AnalyticTree}
@@ -31,7 +33,8 @@ use Rattle.vtl_tree.specs.ClauseShapes.{calculated, code_measure, is_new, new_na
 use Rattle.vtl_tree.specs.ClauseShapes as clauses
 use Rattle.vtl_tree.specs.Measures.{Gives, bool_var, given_measure, given_measures, int_var, is_measure, measures}
 use Rattle.vtl_tree.specs.Operands.{agreed, agreed_identifiers, is_coded_alike}
-use Rattle.vtl_tree.specs.Pairs.{contains, pair_identifiers}
+use Rattle.vtl_tree.specs.Checks.{error_measures, ruled_measures, ruleid}
+use Rattle.vtl_tree.specs.Pairs.{check_measures, contains, errorcode, errorlevel, imbalance, pair_identifiers}
 use Rattle.vtl_tree.specs.declared.choices.Choice.{Choice}
 use Rattle.vtl_tree.specs.declared.choices.Choice.TheVariants as choice
 use Rattle.vtl_tree.specs.declared.measures.Outcome.{Outcome}
@@ -195,6 +198,40 @@ pair_named a b ha hb = go (contains a b)
     go : (t : Bool) → ArePlain [] (cond t (agreed_identifiers (b ∷ []) a.components) (agreed_identifiers (a ∷ []) b.components))
     go true = agreed_named [] (b ∷ []) a.components ha
     go false = agreed_named [] (a ∷ []) b.components hb
+
+-- ---- checks
+imbalance_named : IsPlain [] imbalance
+unfolding is_component_name encode
+imbalance_named = plain [] imbalance refl tt
+
+errorcode_named : IsPlain [] errorcode
+unfolding is_component_name encode
+errorcode_named = plain [] errorcode refl tt
+
+errorlevel_named : IsPlain [] errorlevel
+unfolding is_component_name encode
+errorlevel_named = plain [] errorlevel refl tt
+
+ruleid_named : IsPlain [] ruleid
+unfolding is_component_name encode
+ruleid_named = plain [] ruleid refl tt
+
+errors_named : ArePlain [] error_measures
+errors_named = (errorcode_named, (errorlevel_named, tt))
+
+pub check_named : (others : List Structure) (xs : List Component) → ArePlain [] xs → ArePlain [] (agreed_identifiers others xs ++ check_measures)
+check_named others xs h = lists.appended (IsPlain []) (agreed_identifiers others xs) check_measures (agreed_named [] others xs h) (bool_var_named, (imbalance_named, errors_named))
+
+pub ruled_named : (o : CheckOut) (a : Structure) → ArePlain [] a.components → ArePlain [] (identifiers_of a ++ ruleid ∷ ruled_measures o a)
+ruled_named o a h = lists.appended (IsPlain []) (identifiers_of a) (ruleid ∷ ruled_measures o a) (role_named [] role.Identifier a h) (ruleid_named, go o)
+  where
+    measured : ArePlain [] (measures_of a)
+    measured = role_named [] role.Measure a h
+
+    go : (o : CheckOut) → ArePlain [] (ruled_measures o a)
+    go out.Invalid = lists.appended (IsPlain []) (measures_of a) error_measures measured errors_named
+    go out.All = (bool_var_named, errors_named)
+    go out.AllMeasures = lists.appended (IsPlain []) (measures_of a) (bool_var ∷ error_measures) measured (bool_var_named, errors_named)
 
 -- ---- `pivot`: codes are texts
 pub codes_are_texts : (id : List ℕ) (a : Structure) → ArePlain [] a.components → HasCodes id a → kind_named id (identifiers_of a) ≡ k.Text

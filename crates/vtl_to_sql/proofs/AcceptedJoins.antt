@@ -27,8 +27,9 @@ use Rattle.vtl_tree.specs.Names.{is_among}
 use Rattle.vtl_tree.specs.declared.renaming.Renaming.{Renaming}
 use Rattle.check_clauses.specs.Clauses.{filter_form}
 use Rattle.check_clauses.specs.JoinOperands.{PartTyped, alias_of, aliases_in, is_left, joined_node, joined_of, last_naming, left_names, new_alias, operand_in, operands_in, own_alias, shape_of, using_names, with_part}
-use Rattle.check_operators.specs.Places.{Env, at_points}
+use Rattle.check_operators.specs.Places.{at_points}
 use Rattle.check_operators.specs.Typed.{TypedTree, components_in, dataset_in}
+use Rattle.check_expressions.specs.Rulings.{Sight}
 use Rattle.check_expressions.specs.Typing.{as_dataset, body_end, filter_step, filtered_join, join_end, keeping_step, last_step, renaming_step, targets_step, typed}
 use Rattle.check_operators.specs.declared.places.Joined.{Joined}
 use Rattle.check_operators.specs.declared.places.Place.TheVariants as place
@@ -108,7 +109,7 @@ end_worded p j k rs n w h =
     renamed None w z hz = hz
     renamed (Some rs) w z hz = renaming_at p true (given_back j) (Some j) z rs w.1 hz
 
-pub joins_worded : (env : Env) (kind : JoinKind) (parts : Result (List PartTyped) Rule) (u : Option (List Comp)) (f : MaybeExp) (m : MaybeTargets) (k : Option Keeping) (rs : Option (List RenamePart)) → Gives (AllByRecursion (IsPart env.settings)) parts → written.IsWrittenStep m → IfSome rs (written.SomeAll written.IsRenaming) → Gives (IsTreeWorded env.settings) (parts >>= operands_in >>= λ os. filtered_join env (Some (joined_of kind os)) f kind u os >>= join_end env (Some (joined_of kind os)) m k rs)
+pub joins_worded : (env : Sight) (kind : JoinKind) (parts : Result (List PartTyped) Rule) (u : Option (List Comp)) (f : MaybeExp) (m : MaybeTargets) (k : Option Keeping) (rs : Option (List RenamePart)) → Gives (AllByRecursion (IsPart env.settings)) parts → written.IsWrittenStep m → IfSome rs (written.SomeAll written.IsRenaming) → Gives (IsTreeWorded env.settings) (parts >>= operands_in >>= λ os. filtered_join env (Some (joined_of kind os)) f kind u os >>= join_end env (Some (joined_of kind os)) m k rs)
 joins_worded env kind parts u f m k rs hp wm wr =
     then (AllByRecursion (IsOperand env.settings)) (IsTreeWorded env.settings) (parts >>= operands_in) (λ os. filtered_join env (Some (joined_of kind os)) f kind u os >>= join_end env (Some (joined_of kind os)) m k rs) (then (AllByRecursion (IsPart env.settings)) (AllByRecursion (IsOperand env.settings)) parts operands_in hp (operands_worded env.settings))
     (λ os hos. then (Body os) (IsTreeWorded env.settings) (filtered_join env (Some (joined_of kind os)) f kind u os) (join_end env (Some (joined_of kind os)) m k rs)

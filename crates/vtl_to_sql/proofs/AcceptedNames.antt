@@ -2,6 +2,7 @@
 use Rattle.std.proofs.Common.{◌≡◌, inl, inr, Bool, true, false, cond, ◌&&◌, List, [], ◌∷◌, map, Some, None, refl, sym, ap, ◌∙◌, subst}
 use Rattle.std.proofs.lemmas.Bool.{and_parts, false≢true}
 use Rattle.std.specs.List.{AllByRecursion, filter}
+use Rattle.std.specs.Option.{option_to_list}
 use Rattle.vtl_decimal.specs.Settings.{Settings}
 use Rattle.vtl_tree.specs.Structure.{columns_of, of_role, same_name, same_role}
 use Rattle.vtl_tree.specs.Structures.{Named}
@@ -11,11 +12,11 @@ use Rattle.vtl_tree.specs.declared.structure.Structure.{Structure}
 use Rattle.vtl_meaning.specs.AggregateShapes.{made_components}
 use Rattle.vtl_tree.specs.Columns.{kind_named, measures_of}
 use Rattle.vtl_meaning.specs.Made.{AreCombined, IsCombined}
-use Rattle.vtl_scripts.specs.Made.{AreMade, AreMadeOperands, IsMade, IsMadeForm, node_structures, operands_in}
+use Rattle.vtl_scripts.specs.Made.{AreMade, AreMadeOperands, IsMade, IsMadeForm, maybe_structure, node_structures, operands_in}
 use Rattle.vtl_meaning.specs.Shapes.{given_between, given_of_two, outcome_of, target_of}
 use Rattle.vtl_tree.specs.Trees as nodes
 use Rattle.vtl_tree.specs.Trees.{FormTree, NodeTree, NodeTrees, OperandTrees, structure_of}
-use Rattle.vtl_scripts.specs.Meaning.{are_nodes_built, are_operands_built, is_built, is_built_form}
+use Rattle.vtl_scripts.specs.Meaning.{are_nodes_built, are_operands_built, is_built, is_built_form, is_maybe_built}
 use Rattle.vtl_tree.specs.Joins.{held_names}
 use Rattle.vtl_tree.specs.Choices.{chosen}
 use Rattle.vtl_tree.specs.ClauseShapes.{first_kind, names_column, renamed}
@@ -25,7 +26,7 @@ use Rattle.vtl_tree.specs.Pairs.{pair_identifiers}
 use Rattle.vtl_tree.specs.declared.choices.Choice.TheVariants as choice
 use Rattle.vtl_tree.specs.declared.renaming.Renaming.{Renaming}
 use Rattle.vtl_meaning.proofs.Lists as lists
-use Rattle.vtl_to_sql.proofs.AcceptedComponents.{AreKnownNamed, ArePlain, Fits, IsPlain, agreed_named, all_weaker, analyzed_named, bool_var_named, calculated_named, chosen_named, found_named, given_named, made_named, pair_named, pivot_named, plain, renamed_named, role_named}
+use Rattle.vtl_to_sql.proofs.AcceptedComponents.{AreKnownNamed, ArePlain, Fits, IsPlain, agreed_named, all_weaker, analyzed_named, bool_var_named, calculated_named, check_named, chosen_named, found_named, given_named, made_named, pair_named, pivot_named, plain, renamed_named, role_named, ruled_named}
 use Rattle.vtl_to_sql.proofs.AcceptedMarks.{IsOperandPlain, given_back_named, joined_named, last_named}
 use Rattle.vtl_to_sql.proofs.AcceptedWords.{AreRenamings, FormHasWords, HasWords, HaveWords, IsColumnName, OperandsHaveWords, form_renamings, renamings_below}
 
@@ -119,6 +120,8 @@ module _ (p : Settings) (known : Named) (all : AreKnownNamed known) where
     form_named b s (nodes.exists_in a c r) m t w =
         outside b s _ m.2.shape
         (lists.appended (IsPlain []) (agreed_identifiers (structure_of c ∷ []) (structure_of a).components) (bool_var ∷ []) (agreed_named [] (structure_of c ∷ []) (structure_of a).components (components_named false a m.0 (and_parts (is_built a) (is_built c) t).0 w.0).0) (bool_var_named, tt))
+    form_named b s (nodes.check a i spec) m t w = outside b s _ m.2.shape (check_named (option_to_list (maybe_structure i)) (structure_of a).components (components_named false a m.0 (and_parts (is_built a) (is_maybe_built i) t).0 w.0).0)
+    form_named b s (nodes.check_datapoint a rules out) m t w = outside b s _ m.1.shape (ruled_named out (structure_of a) (components_named false a m.0 t w.0).0)
     form_named b s other m t w = absurd (false≢true t)
 
     -- the components of the first operand

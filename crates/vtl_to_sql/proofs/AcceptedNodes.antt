@@ -22,26 +22,27 @@ use Rattle.vtl_tree.specs.declared.structure.Structure.{Structure}
 use Rattle.vtl_meaning.proofs.Places.{same_name-is, same_name-refl}
 use Rattle.vtl_tree.specs.Columns.{identifiers_of, kind_named, place_of}
 use Rattle.vtl_meaning.specs.Made.{IsColumnAt, IsSub}
-use Rattle.vtl_scripts.specs.Made.{AreMade, AreMadeOperands, IsMade, IsMadeForm}
-use Rattle.vtl_tree.specs.Nodes.{all_nodes, form_nodes, nodes_in, operand_nodes}
+use Rattle.vtl_scripts.specs.Made.{AreMade, AreMadeOperands, IsMade, IsMadeForm, IsMadeMaybe}
+use Rattle.vtl_tree.specs.Nodes.{all_nodes, form_nodes, maybe_nodes, nodes_in, operand_nodes}
 use Rattle.vtl_meaning.specs.Operators.{calculated_exps, measured_exps, pair_exps}
 use Rattle.vtl_meaning.specs.Shapes.{IsShaped}
 use Rattle.vtl_tree.specs.Trees as nodes
-use Rattle.vtl_tree.specs.Trees.{AnalyticTree, FormTree, ItemTree, NodeTree, NodeTrees, OperandTrees, ValueTree, structure_of}
+use Rattle.vtl_tree.specs.Trees.{AnalyticTree, FormTree, ItemTree, MaybeNode, NodeTree, NodeTrees, OperandTrees, PointRuleTree, ValueTree, structure_of}
 use Rattle.vtl_tree.specs.declared.clauses.SubItem.{SubItem}
-use Rattle.check_laws.specs.Depths.{analytic_exps, exps_in, held_exps, item_exps, made_exps, value_exps}
+use Rattle.check_laws.specs.Depths.{analytic_exps, exps_in, held_exps, item_exps, made_exps, rule_exps, value_exps}
 use Rattle.check_laws.proofs.DepthBounds.{AreNodesUpTo, AreUpTo, IsUpTo}
 use Rattle.check_laws.proofs.Inner.{made-shaped}
 use Rattle.vtl_meaning.proofs.Lists as lists
 use Rattle.expressions_to_sql.specs.Held.{HoldsValues}
-use Rattle.vtl_to_sql.specs.Accepted.{AllHoldValues, AnalyticHoldsValues, FormHoldsParts, HoldsParts, MadeHoldsValues, NodesHoldParts, OperandsHoldParts, are_nodes_translated, are_operands_translated, is_form_translated, is_translated}
+use Rattle.vtl_to_sql.specs.Accepted.{AllHoldValues, AnalyticHoldsValues, FormHoldsParts, HoldsParts, MadeHoldsValues, MaybeHoldsParts, NodesHoldParts, OperandsHoldParts, RuleHoldsValues, are_nodes_translated, are_operands_translated, is_form_translated, is_maybe_translated, is_translated}
 use Rattle.selects_to_sql.specs.Writable.{AllCanBeWritten, CanBeWritten, HasValue}
-use Rattle.vtl_to_sql.specs.Conditions.{AreNodesTranslated, AreOperandsTranslated, IsFormTranslated, IsTranslated}
+use Rattle.vtl_to_sql.specs.Conditions.{AreNodesTranslated, AreOperandsTranslated, IsFormTranslated, IsMaybeTranslated, IsTranslated}
 use Rattle.groups_to_sql.specs.Writable.{CallsCanBeWritten, ValueCanBeWritten}
+use Rattle.rules_to_sql.specs.Writable.{CanBeCondition, CanRuleBeWritten}
 use Rattle.vtl_to_sql.proofs.AcceptedComponents.{AreKnownNamed, codes_are_texts, columns_named}
 use Rattle.vtl_to_sql.proofs.AcceptedForms.{evaluated, form_evaluated}
 use Rattle.vtl_to_sql.proofs.AcceptedNames.{components_named, form_named, marks}
-use Rattle.vtl_to_sql.proofs.AcceptedWords.{AreValues, FormHasWords, HasWords, HaveWords, IsFilled, OperandsHaveWords}
+use Rattle.vtl_to_sql.proofs.AcceptedWords.{AreValues, FormHasWords, HasWords, HaveWords, IsFilled, MaybeHasWords, OperandsHaveWords}
 
 -- ---- expressions
 written : (e : CompExp) → HoldsValues e → IsUpTo depth_limit e → CanBeWritten e
@@ -65,6 +66,29 @@ calls_written (nodes.of_items items) others h d = each items h (lists.front (IsU
     each : (us : List ItemTree) → AllByRecursion (λ i. MadeHoldsValues i.value) us → AreUpTo depth_limit (flat_map item_exps us) → AllByRecursion (λ i. ValueCanBeWritten i.value) us
     each [] h d = tt
     each (u ∷ us) h d = (one u.value h.0 (lists.front (IsUpTo depth_limit) (value_exps u.value) (flat_map item_exps us) d), each us h.1 (lists.back (IsUpTo depth_limit) (value_exps u.value) (flat_map item_exps us) d))
+
+-- ---- rules
+condition_written : (e : CompExp) → HoldsValues e → IsUpTo depth_limit e → CanBeCondition e
+condition_written e h d = record { constants = h; shallow = omega arith }
+
+antecedent_written : (o : Option CompExp) (others : List CompExp) → IfSome o HoldsValues → AreUpTo depth_limit (option_to_list o ++ others) → IfSome o CanBeCondition
+antecedent_written None others h d = tt
+antecedent_written (Some e) others h d = condition_written e h d.0
+
+rule_written : (r : PointRuleTree) → RuleHoldsValues r → AreUpTo depth_limit (rule_exps r) → CanRuleBeWritten r
+rule_written r h d = record {
+  name = h.name;
+  antecedent = antecedent_written r.antecedent (r.condition ∷ []) h.antecedent d;
+  condition = condition_written r.condition h.condition (lists.back (IsUpTo depth_limit) (option_to_list r.antecedent) (r.condition ∷ []) d).0;
+  errors = h.errors;
+}
+
+rules_written : (rules : List PointRuleTree) (others : List CompExp) → AllByRecursion RuleHoldsValues rules → AreUpTo depth_limit (flat_map rule_exps rules ++ others) → AllByRecursion CanRuleBeWritten rules
+rules_written rules others h d = go rules h (lists.front (IsUpTo depth_limit) (flat_map rule_exps rules) others d)
+  where
+    go : (rs : List PointRuleTree) → AllByRecursion RuleHoldsValues rs → AreUpTo depth_limit (flat_map rule_exps rs) → AllByRecursion CanRuleBeWritten rs
+    go [] h d = tt
+    go (r ∷ rs) h d = (rule_written r h.0 (lists.front (IsUpTo depth_limit) (rule_exps r) (flat_map rule_exps rs) d), go rs h.1 (lists.back (IsUpTo depth_limit) (rule_exps r) (flat_map rule_exps rs) d))
 
 -- ---- no more texts that are apart than there are texts that they are among
 IsAmong : List (List ℕ) → List ℕ → Type 0
@@ -174,6 +198,11 @@ module _ (p : Settings) (known : Named) (all : AreKnownNamed known) where
         (node_translated false a m.0 both.0 w.0 h.0 (left (nodes_in a) (nodes_in c) d), node_translated false c m.1 both.1 w.1 h.1 (right (nodes_in a) (nodes_in c) d))
     form_translated true s (nodes.join os spec) m t w h own d = (operands_translated os m.0 t w h.0 d, h.1)
     form_translated false s (nodes.join os spec) m t w h own d = absurd w
+    form_translated b s (nodes.check a i spec) m t w h own d =
+        let both = and_parts (is_translated a) (is_maybe_translated i) t in
+        (node_translated false a m.0 both.0 w.0 h.0 (left (nodes_in a) (maybe_nodes i) d), maybe_translated i m.1 both.1 w.1 h.1 (right (nodes_in a) (maybe_nodes i) d), h.2)
+    form_translated b s (nodes.check_datapoint a rules out) m t w h own d =
+        (node_translated false a m.0 t w.0 h.0 d, record { written = rules_written rules.rules (made_exps s (nodes.check_datapoint a rules out)) h.1 own; some = w.1; few = h.2 })
     form_translated b s other m t w h own d = absurd (false≢true t)
 
     nodes_translated : (ns : NodeTrees) → AreMade p known ns → are_nodes_translated ns ≡ true → HaveWords p ns → NodesHoldParts ns → AreNodesUpTo depth_limit (all_nodes ns) → AreNodesTranslated p ns
@@ -181,6 +210,10 @@ module _ (p : Settings) (known : Named) (all : AreKnownNamed known) where
     nodes_translated (nodes.and_node n ns) m t w h d =
         let both = and_parts (is_translated n) (are_nodes_translated ns) t in
         (node_translated false n m.0 both.0 w.0 h.0 (left (nodes_in n) (all_nodes ns) d), nodes_translated ns m.1 both.1 w.1 h.1 (right (nodes_in n) (all_nodes ns) d))
+
+    maybe_translated : (i : MaybeNode) → IsMadeMaybe p known i → is_maybe_translated i ≡ true → MaybeHasWords p i → MaybeHoldsParts i → AreNodesUpTo depth_limit (maybe_nodes i) → IsMaybeTranslated p i
+    maybe_translated nodes.no_node m t w h d = tt
+    maybe_translated (nodes.some_node n) m t w h d = node_translated false n m t w h d
 
     operands_translated : (os : OperandTrees) → AreMadeOperands p known os → are_operands_translated os ≡ true → OperandsHaveWords p os → OperandsHoldParts os → AreNodesUpTo depth_limit (operand_nodes os) → AreOperandsTranslated p os
     operands_translated nodes.no_operands m t w h d = tt

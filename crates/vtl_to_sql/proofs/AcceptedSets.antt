@@ -1,12 +1,12 @@
--- The words of set operators, `pivot` and `unpivot`: those of their operands, and their own. `check` is not evaluated yet.
+-- The words of set operators, `pivot`, `unpivot` and `check`: those of their operands, and their own.
 use Rattle.std.proofs.Common.{◌≡◌, true, List, [], ◌∷◌, Option, Some, None, Result, Ok, Err, refl}
-use Rattle.std.proofs.lemmas.Bool.{and_parts, false≢true}
+use Rattle.std.proofs.lemmas.Bool.{and_parts}
+use Rattle.std.specs.Option.{IfSome}
 use Rattle.std.specs.List.{AllByRecursion, list_all}
 use Rattle.std.specs.Prelude.{ℕ, option_to_list, unwrap_or}
 use Rattle.vtl_lists.specs.Results.{◌>>=◌}
 use Rattle.vtl_decimal.specs.Settings.{Settings}
 use Rattle.vtl_text.specs.Words.{is_component_name}
-use Rattle.vtl_syntax.specs.Trees.{Exp, MaybeExp}
 use Rattle.vtl_syntax.specs.Written as written
 use Rattle.vtl_syntax.specs.declared.parts.Comp.{Comp}
 use Rattle.vtl_syntax.specs.declared.parts.ErrorPart.{ErrorPart}
@@ -36,10 +36,6 @@ use Rattle.vtl_tree.specs.Names.{name_of}
 use Rattle.check_clauses.specs.Clauses as clauses
 use Rattle.check_clauses.specs.Clauses.{pivot_names, pivot_of, unpivot_of}
 use Rattle.check_operators.specs.Sets.{check_form, check_spec, datasets_in, difference_form, difference_tree, exists_form, imbalance_in, set_of, set_tree, sets_form, structures_in}
-use Rattle.check_operators.specs.Places.{Env}
-use Rattle.check_operators.specs.declared.places.Place.TheVariants as place
-use Rattle.check_expressions.specs.Typing as typing
-use Rattle.check_expressions.specs.Typing.{maybe_typed}
 use Rattle.check_operators.specs.Typed as typed
 use Rattle.check_operators.specs.Typed.{TypedTree, components_in, dataset_in}
 use Rattle.check_laws.specs.Gives.{Gives}
@@ -116,15 +112,23 @@ module _ (p : Settings) where
   unfolding unpivot_of
   unpivot_worded id m n wi wm h = after (IsWorded p) (unpivot_form (name_of id) (name_of m) (components_in n)) (clauses.made_of (nodes.unpivot n (name_of id) (name_of m))) (λ s t. (h t, component_named id wi, component_named m wm))
 
--- ---- `check`, which is not evaluated yet
-check_form_worded : (p : Settings) (spec : CheckSpec) (x : TypedTree) (i : Option TypedTree) → Gives (IsTreeWorded p) (check_form spec x i)
-unfolding check_form
-check_form_worded p spec x i =
-    after (IsTreeWorded p) (dataset_in x) (λ a. imbalance_in i >>= λ b. pairs.check_form (structure_of a) (structures_in (option_to_list b)) >>= typed.made_of (nodes.check a (maybe_node b) spec))
-    (λ a. after (IsTreeWorded p) (imbalance_in i) (λ b. pairs.check_form (structure_of a) (structures_in (option_to_list b)) >>= typed.made_of (nodes.check a (maybe_node b) spec)) (λ b. dataset_worded p (nodes.check a (maybe_node b) spec) _ (λ t. absurd (false≢true t))))
+-- ---- `check`
+module _ (p : Settings) where
+  imbalance_worded : (i : Option TypedTree) → IfSome i (IsTreeWorded p) → Gives (λ b. IfSome b (IsWorded p)) (imbalance_in i)
+  imbalance_worded None h = tt
+  imbalance_worded (Some x) h = then (IsWorded p) (λ b. IfSome b (IsWorded p)) (dataset_in x) (λ n. Ok (Some n)) (dataset_in_worded p x h) (λ n k. k)
 
-pub check_worded : (env : Env) (e : Exp) (err : ErrorPart) (i : MaybeExp) (o : Option BasicOut) → Gives (IsTreeWorded env.settings) (typing.typed env place.Outside e >>= λ x. check_spec env.settings err o >>= λ s. maybe_typed env place.Outside i >>= check_form s x)
-check_worded env e err i o =
-    after (IsTreeWorded env.settings) (typing.typed env place.Outside e) (λ x. check_spec env.settings err o >>= λ s. maybe_typed env place.Outside i >>= check_form s x)
-    (λ x. after (IsTreeWorded env.settings) (check_spec env.settings err o) (λ s. maybe_typed env place.Outside i >>= check_form s x)
-    (λ s. after (IsTreeWorded env.settings) (maybe_typed env place.Outside i) (check_form s x) (λ y. check_form_worded env.settings s x y)))
+  checked : (a : NodeTree) (b : Option NodeTree) (spec : CheckSpec) → IsWorded p a → IfSome b (IsWorded p) → FormIsWorded p (nodes.check a (maybe_node b) spec)
+  checked a None spec ha hb t = (ha (and_parts (is_built a) true t).0, tt)
+  checked a (Some n) spec ha hb t = let both = and_parts (is_built a) (is_built n) t in (ha both.0, hb both.1)
+
+  check_form_worded : (spec : CheckSpec) (x : TypedTree) (i : Option TypedTree) → IsTreeWorded p x → IfSome i (IsTreeWorded p) → Gives (IsTreeWorded p) (check_form spec x i)
+  unfolding check_form
+  check_form_worded spec x i hx hi =
+      then (IsWorded p) (IsTreeWorded p) (dataset_in x) (λ a. imbalance_in i >>= λ b. pairs.check_form (structure_of a) (structures_in (option_to_list b)) >>= typed.made_of (nodes.check a (maybe_node b) spec)) (dataset_in_worded p x hx)
+      (λ a ha. then (λ b. IfSome b (IsWorded p)) (IsTreeWorded p) (imbalance_in i) (λ b. pairs.check_form (structure_of a) (structures_in (option_to_list b)) >>= typed.made_of (nodes.check a (maybe_node b) spec)) (imbalance_worded i hi)
+      (λ b hb. dataset_worded p (nodes.check a (maybe_node b) spec) _ (checked a b spec ha hb)))
+
+  pub check_worded : (q : Settings) (err : ErrorPart) (o : Option BasicOut) (x : TypedTree) (i : Result (Option TypedTree) Rule) → IsTreeWorded p x → Gives (λ y. IfSome y (IsTreeWorded p)) i → Gives (IsTreeWorded p) (check_spec q err o >>= λ s. i >>= check_form s x)
+  check_worded q err o x i hx hi =
+      after (IsTreeWorded p) (check_spec q err o) (λ s. i >>= check_form s x) (λ s. then (λ y. IfSome y (IsTreeWorded p)) (IsTreeWorded p) i (check_form s x) hi (λ y hy. check_form_worded s x y hx hy))

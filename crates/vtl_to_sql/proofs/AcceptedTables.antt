@@ -82,6 +82,9 @@ module _ (p : Settings) (r : Text) where
     form_counted s (nodes.sym_diff a b) k = let x = sources_of p r a k in behind_counted x (sources_of p r b x.next) k (operand_counted a k) (operand_counted b x.next)
     form_counted s (nodes.exists_in a b kept) k = let x = sources_of p r a k in behind_counted x (sources_of p r b x.next) k (operand_counted a k) (operand_counted b x.next)
     form_counted s (nodes.join os spec) k = join_counted p r spec.kind (structures_of (operands_in os)) s (operands_of p r os k) k (operands_counted os k)
+    form_counted s (nodes.check a nodes.no_node spec) k = operand_counted a k
+    form_counted s (nodes.check a (nodes.some_node i) spec) k = let x = sources_of p r a k in behind_counted x (sources_of p r i x.next) k (operand_counted a k) (operand_counted i x.next)
+    form_counted s (nodes.check_datapoint a rules out) k = operand_counted a k
     form_counted s other k = omega arith
 
     operands_counted : (os : OperandTrees) (k : ℕ) → (operands_of p r os k).next ≡ k + length (operands_of p r os k).tables

@@ -1,5 +1,5 @@
--- The words of typed nodes: names of data sets, new names of columns, and the values of `sub`.
-use Rattle.std.proofs.Common.{◌≡◌, ◌⊎◌, ℕ, Bool, true, false, not, ◌&&◌, List, [], ◌∷◌, length, Some, Result, Ok, Err, arith}
+-- The words of typed nodes: names of data sets, new names of columns, the values of `sub`, and rules.
+use Rattle.std.proofs.Common.{◌≡◌, ◌≤◌, ◌⊎◌, ℕ, Bool, true, false, not, ◌&&◌, List, [], ◌∷◌, length, Some, Result, Ok, Err, arith}
 use Rattle.std.proofs.lemmas.Bool.{and_from, and_parts, false≢true}
 use Rattle.std.proofs.lemmas.Bool.Decides.{nat_tests}
 use Rattle.std.specs.List.{AllByRecursion, filter, list_all}
@@ -19,7 +19,7 @@ use Rattle.vtl_syntax.specs.declared.parts.Comp.TheVariants as comp
 use Rattle.vtl_scripts.specs.Made.{operands_in}
 use Rattle.vtl_scripts.specs.Meaning.{is_built, is_built_form}
 use Rattle.vtl_tree.specs.Trees as nodes
-use Rattle.vtl_tree.specs.Trees.{AnalyticTree, FormTree, NodeTree, NodeTrees, OperandTrees, structure_of}
+use Rattle.vtl_tree.specs.Trees.{AnalyticTree, FormTree, MaybeNode, NodeTree, NodeTrees, OperandTrees, structure_of}
 use Rattle.vtl_tree.specs.declared.clauses.SubItem.{SubItem}
 use Rattle.vtl_tree.specs.declared.specifications.AggItems.{AggItems}
 use Rattle.vtl_tree.specs.declared.specifications.AggItems.TheVariants as items
@@ -142,11 +142,18 @@ abbrev mutual
   FormHasWords p b (nodes.set_diff a c) = HasWords p false a × HasWords p false c
   FormHasWords p b (nodes.sym_diff a c) = HasWords p false a × HasWords p false c
   FormHasWords p b (nodes.exists_in a c r) = HasWords p false a × HasWords p false c
+  FormHasWords p b (nodes.check a i spec) = HasWords p false a × MaybeHasWords p i
+  -- there is a rule
+  FormHasWords p b (nodes.check_datapoint a rules out) = HasWords p false a × (1 ≤ length rules.rules)
   FormHasWords p b other = Unit {0}
 
   pub HaveWords : Settings → NodeTrees → Type 0
   HaveWords p nodes.no_nodes = Unit {0}
   HaveWords p (nodes.and_node n ns) = HasWords p false n × HaveWords p ns
+
+  pub MaybeHasWords : Settings → MaybeNode → Type 0
+  MaybeHasWords p nodes.no_node = Unit {0}
+  MaybeHasWords p (nodes.some_node n) = HasWords p false n
 
   pub OperandsHaveWords : Settings → OperandTrees → Type 0
   OperandsHaveWords p nodes.no_operands = Unit {0}

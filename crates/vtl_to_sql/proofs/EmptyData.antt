@@ -1,11 +1,12 @@
 -- Over data sets without points no expression has a fault.
 use Rattle.vtl_cell.specs.Row.{Row, same_key}
-use Rattle.std.proofs.Common.{◌≡◌, ℕ, Bool, true, false, cond, List, [], ◌∷◌, map, Some, Ok, refl, ap, ◌∙◌}
+use Rattle.std.proofs.Common.{◌≡◌, ℕ, Bool, true, false, cond, List, [], ◌∷◌, map, Option, Some, None, Ok, refl, ap, ◌∙◌}
 use Rattle.std.specs.List.{AllByRecursion, flat_map}
 use Rattle.std.specs.Option.{option_map_or}
-use Rattle.vtl_cell.specs.Outcome.{Outcome, after}
+use Rattle.vtl_cell.specs.Outcome.{Outcome, after, faults_by, unless}
 use Rattle.vtl_lists.specs.Perm.{empty}
 use Rattle.vtl_decimal.specs.Settings.{Settings}
+use Rattle.vtl_syntax.specs.declared.word_groups.CheckOut.{CheckOut}
 use Rattle.vtl_tree.specs.Clauses.{filter_of}
 use Rattle.vtl_tree.specs.CompExp.{CompExp}
 use Rattle.vtl_tree.specs.Environment.{DataSet, Environment, data_of, known_in, points_named}
@@ -17,14 +18,16 @@ use Rattle.vtl_tree.specs.Pairs.{contains}
 use Rattle.vtl_meaning.specs.Aggregates.{aggregate_of}
 use Rattle.vtl_meaning.specs.Analytics.{analytic_of}
 use Rattle.vtl_meaning.specs.Joined.{join_of}
-use Rattle.vtl_scripts.specs.Meaning.{AreDataSets, operands_value, Outputs, Statement, form_value, kept_output, meaning, node_value, nodes_value, stated, with_first, with_operand}
+use Rattle.vtl_scripts.specs.Meaning.{AreDataSets, operands_value, Outputs, Statement, form_value, kept_output, maybe_value, meaning, node_value, nodes_value, stated, with_first, with_operand}
 use Rattle.vtl_meaning.specs.Operators.{calculated_of, choice_of, left_of, measured_of, pair_exps, pair_of, sub_of}
 use Rattle.vtl_meaning.specs.Points.{each_point, with_points}
+use Rattle.vtl_meaning.specs.Profiles.{AllAreOfProfile}
 use Rattle.vtl_meaning.specs.Sets.{all_left_of, difference_of, intersection_of, symmetric_difference_of, union_of, existence_of}
 use Rattle.vtl_meaning.specs.Turned.{pivot_of, unpivot_of}
 use Rattle.vtl_tree.specs.Trees as nodes
-use Rattle.vtl_tree.specs.Trees.{FormTree, NodeTree, NodeTrees, OperandTrees, structure_of}
-use Rattle.vtl_to_sql.specs.Conditions.{AreNodesTranslated, AreOperandsTranslated, IsFormTranslated, IsTranslated}
+use Rattle.vtl_tree.specs.Trees.{FormTree, MaybeNode, NodeTree, NodeTrees, OperandTrees, structure_of}
+use Rattle.vtl_rulings.specs.PointChecks.{PointRule, check_of, datapoint_of, point_rules, rule_fault, rule_points}
+use Rattle.vtl_to_sql.specs.Conditions.{AreNodesTranslated, AreOperandsTranslated, IsFormTranslated, IsMaybeTranslated, IsTranslated}
 use Rattle.vtl_to_sql.specs.Exports.{AreRead}
 use Rattle.vtl_to_sql.proofs.EmptyJoins.{empty_joined, joined_empty, none_joined}
 
@@ -46,6 +49,10 @@ empty_empty (e ∷ es) = (refl, empty_empty es)
 pub empty_are_sets : (reads : Named) → AllByRecursion (λ e. IsStructure e.1) reads → AreDataSets (empty_sets reads)
 empty_are_sets [] h = tt
 empty_are_sets (e ∷ es) h = (record { well_formed = h.0; typed = tt; distinct = refl }, empty_are_sets es h.1)
+
+pub empty_ranged : (p : Settings) (reads : Named) → AllAreOfProfile p (empty_sets reads)
+empty_ranged p [] = tt
+empty_ranged p (e ∷ es) = (tt, empty_ranged p es)
 
 pub empty_read : (reads : Named) → AreRead [] (empty_sets reads)
 empty_read [] = tt
@@ -83,6 +90,15 @@ no_points (nodes.and_node n ns) s = no_points ns s
 no_common : (ns : NodeTrees) (s : Structure) → (Ok (intersection_of (empty_operands ns) s)) ≡ no_outcome
 no_common nodes.no_nodes s = refl
 no_common (nodes.and_node n ns) s = refl
+
+abbrev empty_maybe : MaybeNode → Option DataSet
+empty_maybe nodes.no_node = None
+empty_maybe (nodes.some_node n) = Some (with_points (structure_of n) [])
+
+-- rules without points
+none_ruled : (p : Settings) (o : CheckOut) (a : Structure) (rules : List PointRule) → unless (faults_by (rule_fault p (with_points a [])) rules) (flat_map (rule_points p o (with_points a [])) rules) ≡ no_outcome
+none_ruled p o a [] = refl
+none_ruled p o a (rule ∷ rules) = none_ruled p o a rules
 
 module _ (p : Settings) (env : Environment) (h : AreEmpty env) where
   mutual
@@ -123,11 +139,19 @@ module _ (p : Settings) (env : Environment) (h : AreEmpty env) where
     form_empty s (nodes.unpivot a id m) c = ap (λ v. with_operand a v (λ d. Ok (unpivot_of d))) (node_empty a c)
     form_empty s (nodes.aggregate a spec) c = ap (λ v. with_operand a v (λ d. aggregate_of p spec d s)) (node_empty a c.0)
     form_empty s (nodes.analytic_of a spec) c = ap (λ v. with_operand a v (λ d. analytic_of p spec d s)) (node_empty a c.0)
+    form_empty s (nodes.check a i spec) c =
+        ap (λ v. with_operand a v (λ d. after (maybe_value p env i) (λ e. Ok (check_of p spec d e)))) (node_empty a c.0)
+        ∙ ap (λ o. after o (λ e. Ok (check_of p spec (with_points (structure_of a) []) e))) (maybe_empty i c.1)
+    form_empty s (nodes.check_datapoint a rules out) c = ap (λ v. with_operand a v (λ d. datapoint_of p out rules.rules d)) (node_empty a c.0) ∙ none_ruled p out (structure_of a) (point_rules rules.rules)
     form_empty s other c = absurd c
 
     nodes_empty : (ns : NodeTrees) → AreNodesTranslated p ns → nodes_value p env ns ≡ Ok (empty_operands ns)
     nodes_empty nodes.no_nodes c = refl
     nodes_empty (nodes.and_node n ns) c = ap (λ v. with_first n v (nodes_value p env ns)) (node_empty n c.0) ∙ ap (with_first n (Ok [])) (nodes_empty ns c.1)
+
+    maybe_empty : (i : MaybeNode) → IsMaybeTranslated p i → maybe_value p env i ≡ Ok (empty_maybe i)
+    maybe_empty nodes.no_node c = refl
+    maybe_empty (nodes.some_node n) c = ap (λ v. after v (λ points. Ok (Some (with_points (structure_of n) points)))) (node_empty n c)
 
     operands_empty : (os : OperandTrees) → AreOperandsTranslated p os → operands_value p env os ≡ Ok (empty_joined os)
     operands_empty nodes.no_operands c = refl

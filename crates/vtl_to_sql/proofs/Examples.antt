@@ -1,10 +1,11 @@
 -- What expressions on data sets are written as in SQL, each by computation. Between tokens stands a space.
 use Rattle.std.proofs.Common.{◌≡◌, ℕ, true, false, List, [], ◌∷◌, map, Option, Some, None, refl, sym, ◌∙◌, arith, append-nil, ◌<◌, ◌+◌}
-use Rattle.std.specs.Prelude.{codes}
+use Rattle.std.specs.Prelude.{codes, pos}
 use Rattle.std.specs.Fmt.{decimal}
 use Rattle.grammar_forms.specs.Written.{run}
 use Rattle.vtl_decimal.proofs.WritingLemmas.{decimal_last}
 use Rattle.vtl_decimal.specs.Settings.{Settings}
+use Rattle.vtl_decimal.specs.Written.{last_digits, shortest_digits}
 use Rattle.vtl_decimal.specs.declared.settings.Rounding.TheVariants.{HalfUp}
 use Rattle.vtl_cell.specs.declared.cell.Cell.TheVariants as c
 use Rattle.vtl_cell.specs.declared.kind.Kind.TheVariants as k
@@ -16,12 +17,16 @@ use Rattle.vtl_tree.specs.declared.expression.AggCall.{AggCall}
 use Rattle.vtl_tree.specs.declared.structure.Component.{Component}
 use Rattle.vtl_tree.specs.declared.structure.Role.TheVariants as role
 use Rattle.vtl_tree.specs.declared.structure.Structure.{Structure}
-use Rattle.vtl_tree.specs.Measures.{made}
+use Rattle.vtl_tree.specs.Measures.{bool_var, made}
+use Rattle.vtl_syntax.specs.declared.word_groups.BasicOut.TheVariants as basic
+use Rattle.vtl_syntax.specs.declared.word_groups.CheckOut.TheVariants as out
 use Rattle.vtl_syntax.specs.declared.word_groups.Retain.TheVariants as retain
+use Rattle.vtl_tree.specs.Checks.{error_measures, ruleid}
 use Rattle.vtl_tree.specs.Columns.{column_named}
+use Rattle.vtl_tree.specs.Pairs.{check_measures}
 use Rattle.vtl_scripts.specs.Meaning.{Statement}
 use Rattle.vtl_tree.specs.Trees as nodes
-use Rattle.vtl_tree.specs.Trees.{AggTree, AnalyticTree, NodeTree}
+use Rattle.vtl_tree.specs.Trees.{AggTree, AnalyticTree, NodeTree, PointRuleTree}
 use Rattle.vtl_tree.specs.declared.calls.AnalyticOp.TheVariants as window
 use Rattle.vtl_tree.specs.declared.calls.OrderKey.{OrderKey}
 use Rattle.vtl_tree.specs.declared.calls.Window.{Window}
@@ -33,6 +38,8 @@ use Rattle.sql_tree.specs.declared.word_groups.JoinKind.TheVariants as joining
 use Rattle.joins_to_sql.specs.FullJoins.{full_query, key_structure, keys_query, once_query}
 use Rattle.groups_to_sql.specs.Grouped.{aggregate_query}
 use Rattle.joins_to_sql.specs.Joins.{cross_query, reference_query}
+use Rattle.rules_to_sql.specs.CheckQueries.{check_query, imbalance_query}
+use Rattle.rules_to_sql.specs.PointQueries.{datapoint_query}
 use Rattle.selects_to_sql.specs.Queries as q
 use Rattle.vtl_to_sql.specs.Sets as sets
 use Rattle.groups_to_sql.specs.Turned as turned
@@ -232,6 +239,42 @@ keys_are = refl
 
 full : shown (full_query scale_six counted (counted ∷ sized ∷ []) both (table ∷ other ∷ []) (codes "K")) ≡ codes " SELECT \"a$0\" . \"area\" AS \"area\" , \"a$1\" . \"people\" AS \"people\" , \"a$2\" . \"size\" AS \"size\" FROM \"K\" AS \"a$0\" LEFT JOIN \"A\" AS \"a$1\" ON \"a$1\" . \"area\" = \"a$0\" . \"area\" LEFT JOIN \"B\" AS \"a$2\" ON \"a$2\" . \"area\" = \"a$0\" . \"area\""
 full = rw (digit 0 (omega arith), digit 1 (omega arith), digit 2 (omega arith)) refl
+
+-- ---- checks: of values, and by datapoint rules, each of which is a select
+
+abbrev checked : Structure
+checked = of_components (area ∷ check_measures)
+
+abbrev shown_false : Structure
+shown_false = of_components (area ∷ ruleid ∷ people ∷ error_measures)
+
+abbrev shown_all : Structure
+shown_all = of_components (area ∷ ruleid ∷ bool_var ∷ error_measures)
+
+abbrev known : PointRuleTree
+known = record { name = Some (codes "known"); antecedent = None; condition = is_there; errorcode = Some (codes "there"); errorlevel = None }
+
+-- without a name, it goes by its number
+abbrev still_known : PointRuleTree
+still_known = record { name = None; antecedent = Some is_there; condition = is_there; errorcode = None; errorlevel = Some (pos 2) }
+
+false_alone : shown (check_query scale_six (record { errorcode = Some (codes "few"); errorlevel = None; output = basic.Invalid }) answers checked table)
+    ≡ codes " SELECT \"a\" . \"area\" AS \"area\" , \"a\" . \"bool_var\" AS \"bool_var\" , CASE WHEN FALSE THEN 0.0 ELSE NULL END AS \"imbalance\" , CASE WHEN NOT \"a\" . \"bool_var\" THEN 'few' ELSE NULL END AS \"errorcode\" , CASE WHEN FALSE THEN 0 ELSE NULL END AS \"errorlevel\" FROM \"A\" AS \"a\" WHERE NOT \"a\" . \"bool_var\""
+unfolding shortest_digits last_digits
+false_alone = rw (digit 0 (omega arith)) refl
+
+imbalanced : shown (imbalance_query scale_six (record { errorcode = None; errorlevel = Some (pos 2); output = basic.All }) answers counted checked table other)
+    ≡ codes " SELECT \"a\" . \"area\" AS \"area\" , \"a\" . \"bool_var\" AS \"bool_var\" , CASE WHEN TRUE THEN \"b\" . \"people\" ELSE 0.0 END AS \"imbalance\" , CASE WHEN FALSE THEN '' ELSE NULL END AS \"errorcode\" , CASE WHEN NOT \"a\" . \"bool_var\" THEN 2 ELSE NULL END AS \"errorlevel\" FROM \"A\" AS \"a\" LEFT JOIN \"B\" AS \"b\" ON \"b\" . \"area\" = \"a\" . \"area\""
+unfolding shortest_digits last_digits
+imbalanced = rw (digit 0 (omega arith), digit 2 (omega arith)) refl
+
+rules_false : shown (datapoint_query scale_six (known ∷ still_known ∷ []) out.Invalid counted shown_false table)
+    ≡ codes " SELECT \"a\" . \"area\" AS \"area\" , 'known' AS \"ruleid\" , \"a\" . \"people\" AS \"people\" , 'there' AS \"errorcode\" , CASE WHEN FALSE THEN 0 ELSE NULL END AS \"errorlevel\" FROM \"A\" AS \"a\" WHERE NOT \"a\" . \"people\" IS NULL UNION ALL SELECT \"a\" . \"area\" AS \"area\" , '2' AS \"ruleid\" , \"a\" . \"people\" AS \"people\" , CASE WHEN FALSE THEN '' ELSE NULL END AS \"errorcode\" , 2 AS \"errorlevel\" FROM \"A\" AS \"a\" WHERE NOT CASE WHEN \"a\" . \"people\" IS NULL THEN \"a\" . \"people\" IS NULL ELSE NOT \"a\" . \"people\" IS NULL END"
+rules_false = rw (digit 0 (omega arith), digit 2 (omega arith)) refl
+
+rules_all : shown (datapoint_query scale_six (known ∷ []) out.All counted shown_all table)
+    ≡ codes " SELECT \"a\" . \"area\" AS \"area\" , 'known' AS \"ruleid\" , \"a\" . \"people\" IS NULL AS \"bool_var\" , CASE WHEN NOT \"a\" . \"people\" IS NULL THEN 'there' ELSE NULL END AS \"errorcode\" , CASE WHEN FALSE THEN 0 ELSE NULL END AS \"errorlevel\" FROM \"A\" AS \"a\""
+rules_all = rw (digit 0 (omega arith)) refl
 
 -- ---- data sets without identifiers, which have one point at most
 

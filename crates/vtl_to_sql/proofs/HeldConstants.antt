@@ -1,11 +1,13 @@
 -- Constants of expressions that a program holds.
-use Rattle.std.proofs.Common.{◌≡◌, ℕ, suc, ◌+◌, ◌<◌, ◌^◌, arith, refl, ℕ, Bool, rules, true, false, cond, List, [], ◌∷◌, ◌++◌, map, length, Some, find, sym, ap, subst, ◌∙◌}
+use Rattle.std.proofs.Common.{◌≡◌, ℕ, suc, ◌+◌, ◌<◌, ◌^◌, arith, refl, ℕ, Bool, rules, true, false, cond, List, [], ◌∷◌, ◌++◌, map, length, Option, None, Some, find, sym, ap, subst, ◌∙◌}
 use Rattle.std.specs.List.{AllByRecursion}
 use Rattle.std.specs.Prelude.{Box, Vec}
 use Rattle.std.specs.declared.alloc.Global.{Global}
-use Rattle.std.specs.Option.{option_map_or}
+use Rattle.std.specs.Option.{IfSome, option_map_or}
+use Rattle.std.proofs.lemmas.List.{length-map}
 use Rattle.vtl_cell.specs.declared.kind.Kind.{Kind}
 use Rattle.vtl_cell.specs.declared.operator.ScalarOp.{ScalarOp}
+use Rattle.vtl_syntax.specs.declared.word_groups.CheckOut.{CheckOut}
 use Rattle.vtl_tree.specs.CompExp.{CompExp, aggregate, call, column, const}
 use Rattle.vtl_tree.specs.Structure.{columns_of}
 use Rattle.vtl_tree.specs.View.{comp_exp_of, comp_exps_of}
@@ -13,9 +15,11 @@ use Rattle.vtl_tree.specs.declared.expression.CompExpr as exprs
 use Rattle.vtl_tree.specs.declared.expression.CompExpr.{CompExpr}
 use Rattle.vtl_tree.specs.declared.expression.CompExpr.TheVariants as expr
 use Rattle.vtl_tree.specs.Trees as nodes
-use Rattle.vtl_tree.specs.NodeView.{form_tree, item_tree, measure_tree, node_tree, operand_tree, value_tree}
+use Rattle.vtl_tree.specs.NodeView.{form_tree, item_tree, measure_tree, node_tree, operand_tree, point_rule_tree, point_rules_tree, value_tree}
 use Rattle.vtl_tree.specs.declared.clauses.CalcItem.{CalcItem}
 use Rattle.vtl_scripts.specs.Made.{operands_in}
+use Rattle.vtl_tree.specs.declared.rules.DatapointRules.{DatapointRules}
+use Rattle.vtl_tree.specs.declared.specifications.CheckSpec.{CheckSpec}
 use Rattle.vtl_tree.specs.declared.specifications.JoinSpec.{JoinSpec}
 use Rattle.vtl_tree.specs.declared.nodes.JoinOperand as operand
 use Rattle.vtl_tree.specs.declared.nodes.JoinOperand.{JoinOperand}
@@ -32,7 +36,8 @@ use Rattle.vtl_tree.specs.Columns.{column_behind, column_named, columns_named, i
 use Rattle.vtl_meaning.specs.Operators.{calculated_exp, calculated_exps, for_measures, measured_exps, pair_exps, value_exp, with_measure, with_namesake}
 use Rattle.vtl_tree.specs.Trees.{FormTree, ItemTree, MeasureTree, NodeTree, OperandTree, nodes_of, operands_of, structure_of}
 use Rattle.expressions_to_sql.specs.Held.{AllHold, HoldsValues, IsMemberHeld, OperandsHold, asks_a_set}
-use Rattle.vtl_to_sql.specs.Accepted.{AllHoldValues, FormHoldsParts, HoldsParts, NodesHoldParts, OperandsHoldParts}
+use Rattle.rules_to_sql.specs.Writable.{AreErrorsHeld}
+use Rattle.vtl_to_sql.specs.Accepted.{AllHoldValues, FormHoldsParts, HoldsParts, NodesHoldParts, OperandsHoldParts, RuleHoldsValues}
 
 -- ---- lists
 
@@ -170,3 +175,16 @@ pub join_node_held : (n : Node) (os : Vec JoinOperand Global) (spec : JoinSpec) 
 join_node_held n os spec e h few =
     let tree : form_tree (form.Join os spec) ≡ nodes.join (operands_of (map operand_tree os.items)) spec = search (rules, forms.the_lemmas) in
     form_held n (form.Join os spec) (nodes.join (operands_of (map operand_tree os.items)) spec) e tree (operands_hold_parts os.items h, omega (arith, few, as_many_operands os.items))
+
+pub check_node_held : (n : Node) (a : Box Node Global) (i : Option (Box Node Global)) (spec : CheckSpec) → n.form ≡ form.Check a i spec → HoldsParts (node_tree a.value) → IfSome i (λ b. HoldsParts (node_tree b.value)) → AreErrorsHeld spec.errorcode spec.errorlevel → HoldsParts (node_tree n)
+check_node_held n a None spec e h k errors =
+    let tree : form_tree (form.Check a None spec) ≡ nodes.check (node_tree a.value) nodes.no_node spec = search (rules, forms.the_lemmas) in
+    form_held n (form.Check a None spec) (nodes.check (node_tree a.value) nodes.no_node spec) e tree (h, tt, errors)
+check_node_held n a (Some b) spec e h k errors =
+    let tree : form_tree (form.Check a (Some b) spec) ≡ nodes.check (node_tree a.value) (nodes.some_node (node_tree b.value)) spec = search (rules, forms.the_lemmas) in
+    form_held n (form.Check a (Some b) spec) (nodes.check (node_tree a.value) (nodes.some_node (node_tree b.value)) spec) e tree (h, k, errors)
+
+pub datapoint_node_held : (n : Node) (a : Box Node Global) (ruled : DatapointRules) (out : CheckOut) → n.form ≡ form.CheckDatapoint a ruled out → HoldsParts (node_tree a.value) → AllByRecursion (λ r. RuleHoldsValues (point_rule_tree r)) ruled.rules → length ruled.rules < 2 ^ 64 → HoldsParts (node_tree n)
+datapoint_node_held n a ruled out e h held few =
+    let tree : form_tree (form.CheckDatapoint a ruled out) ≡ nodes.check_datapoint (node_tree a.value) (point_rules_tree ruled) out = search (rules, forms.the_lemmas) in
+    form_held n (form.CheckDatapoint a ruled out) (nodes.check_datapoint (node_tree a.value) (point_rules_tree ruled) out) e tree (h, of_mapped RuleHoldsValues point_rule_tree ruled.rules held, omega (arith, few, length-map ruled.rules point_rule_tree))

@@ -4,6 +4,7 @@ use Rattle.std.specs.List.{AllByRecursion}
 use Rattle.vtl_decimal.specs.Settings.{Settings}
 use Rattle.vtl_lists.proofs.Perms.{Perm-refl}
 use Rattle.vtl_tree.specs.Structures.{Named, is_declarable}
+use Rattle.vtl_meaning.specs.Profiles.{AllAreOfProfile}
 use Rattle.vtl_scripts.specs.Meaning.{AreDataSets, Statement, meaning}
 use Rattle.vtl_tree.specs.Environment.{known_in}
 use Rattle.sql_meaning.specs.Scripts.{Inputs, rows_read, script_value}
@@ -28,6 +29,6 @@ module _ (inputs : Inputs) where
   are_read [] = tt
   are_read (e ∷ es) = (Perm-refl (rows_read inputs e.0), are_read es)
 
-  pub inputs_mean : (p : Settings) (reads : Named) (ss : List Statement) → IsScript p reads ss → AreTaken inputs reads → script_value (script_for p reads ss) inputs ≡ exported_as (meaning p ss (sets_read inputs reads))
-  inputs_mean p reads ss script taken =
-      script_means p reads ss script (sets_read inputs reads) (sets_known reads) (are_sets reads (declared_each_entry reads script.readable.structures) taken) inputs (are_read reads)
+  pub inputs_mean : (p : Settings) (reads : Named) (ss : List Statement) → IsScript p reads ss → AreTaken inputs reads → AllAreOfProfile p (sets_read inputs reads) → script_value (script_for p reads ss) inputs ≡ exported_as (meaning p ss (sets_read inputs reads))
+  inputs_mean p reads ss script taken ranged =
+      script_means p reads ss script (sets_read inputs reads) (sets_known reads) (are_sets reads (declared_each_entry reads script.readable.structures) taken) ranged inputs (are_read reads)

@@ -1,5 +1,5 @@
 -- A join of the program and what is left of it behind the tables of its operands.
-use Rattle.std.proofs.Common.{◌≡◌, ℕ, ◌+◌, List, ◌++◌, map, rules, sym, ap, ◌∙◌, subst}
+use Rattle.std.proofs.Common.{◌≡◌, ℕ, List, ◌++◌, map, rules, sym, ap, ◌∙◌, subst}
 use Rattle.std.specs.Prelude.{Vec}
 use Rattle.std.specs.declared.alloc.Global.{Global}
 use Rattle.vtl_decimal.specs.Settings.{Settings}
@@ -18,7 +18,6 @@ use Rattle.sql_tree.specs.Trees.{StatementTree, Text}
 use Rattle.selects_to_sql.specs.Tables.{create_for, by_names}
 use Rattle.joins_to_sql.specs.JoinTables.{join_made}
 use Rattle.vtl_to_sql.specs.Tables.{made_of_form, operands_of}
-use Rattle.selects_to_sql.proofs.Behind.{given}
 use Rattle.joins_to_sql.proofs.JoinTables.{GivesRest, rest_given}
 
 tree_of_join : (f : NodeForm) (os : Vec JoinOperand Global) (spec : JoinSpec) → f ≡ form.Join os spec → form_tree f ≡ nodes.join (nodes.operands_of (map operand_tree os.items)) spec

@@ -43,7 +43,7 @@ use Rattle.selects_to_sql.specs.Runs.{AreLawful, entries, given_behind, held, pr
 use Rattle.selects_to_sql.specs.Tables.{create_for, Table}
 use Rattle.vtl_to_sql.specs.Scripts.{export_for, input_column, input_for, script_for, statements_for, written_of}
 use Rattle.vtl_to_sql.specs.Tables.{script_tables}
-use Rattle.vtl_to_sql.proofs.EmptyData.{empty_are_sets, empty_empty, empty_known, empty_read, empty_sets, meaning_there}
+use Rattle.vtl_to_sql.proofs.EmptyData.{empty_are_sets, empty_empty, empty_known, empty_ranged, empty_read, empty_sets, meaning_there}
 use Rattle.selects_to_sql.proofs.Names.{word_is_name}
 use Rattle.vtl_to_sql.proofs.Nodes.{names_in}
 use Rattle.selects_to_sql.proofs.Running.{columns_there, given_is}
@@ -160,7 +160,7 @@ module _ (p : Settings) (reads : Named) (ss : List Statement) (script : IsScript
   stores : Stores p before (script_tables p ss) outputs.0
   stores =
       subst (ScriptGives p before (script_tables p ss)) outputs.1
-      (tables_give p reads ss script (empty_sets reads) (empty_known reads) (empty_are_sets reads (all_more IsReadable (λ e. IsStructure e.1) (λ e h. h.shaped.well_formed) reads readable)) [] (empty_read reads))
+      (tables_give p reads ss script (empty_sets reads) (empty_known reads) (empty_are_sets reads (all_more IsReadable (λ e. IsStructure e.1) (λ e h. h.shaped.well_formed) reads readable)) (empty_ranged p reads) [] (empty_read reads))
 
   abbrev now : Tables
   now = tables_in (before ++ stores.more)

@@ -19,6 +19,7 @@ pub mod AcceptedWords
 pub mod AcceptedOperators
 pub mod AcceptedClauses
 pub mod AcceptedSets
+pub mod AcceptedRules
 pub mod AcceptedJoins
 pub mod AcceptedTyping
 pub mod AcceptedScripts

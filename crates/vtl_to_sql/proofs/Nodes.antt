@@ -2,8 +2,8 @@
 use Rattle.vtl_to_sql.proofs.Existences.{existence_means}
 use Rattle.vtl_meaning.proofs.SetsOrders.{existence_order}
 use Rattle.sql_tree.specs.Formed.{IsName}
-use Rattle.std.proofs.Common.{◌≡◌, ◌+◌, ◌<◌, ◌^◌, ℕ, true, ◌&&◌, List, [], ◌∷◌, ◌++◌, length, map, Ok, Err, refl, sym, subst, arith, append-nil, length-append, ap, ◌≤◌, ◌∙◌}
-use Rattle.std.specs.Prelude.{fold}
+use Rattle.std.proofs.Common.{◌≡◌, ◌+◌, ◌<◌, ◌^◌, ℕ, true, ◌&&◌, List, [], ◌∷◌, ◌++◌, length, map, Option, Some, Ok, Err, refl, sym, subst, arith, append-nil, length-append, ap, ◌≤◌, ◌∙◌}
+use Rattle.std.specs.Prelude.{IfOk, fold}
 use Rattle.std.specs.List.{AllByRecursion}
 use Rattle.std.proofs.lemmas.Bool.{and_from}
 use Rattle.std.proofs.lemmas.List.{length-map}
@@ -13,7 +13,7 @@ use Rattle.vtl_decimal.specs.Settings.{Settings}
 use Rattle.vtl_text.specs.Words.{is_word}
 use Rattle.vtl_rows.specs.Tables.{cells_at}
 use Rattle.vtl_tree.specs.Clauses.{filter_of}
-use Rattle.vtl_tree.specs.DataSet.{IsDataSet, is_point}
+use Rattle.vtl_tree.specs.DataSet.{AreOfProfile, IsDataSet, is_point}
 use Rattle.vtl_tree.specs.Environment.{DataSet, Environment, known_in, points_named}
 use Rattle.vtl_tree.specs.Structure.{columns_of, IsStructure, key_width}
 use Rattle.vtl_tree.specs.declared.structure.Component.{Component}
@@ -23,13 +23,14 @@ use Rattle.vtl_tree.specs.Columns.{identifiers_of, measures_of, others_of, place
 use Rattle.vtl_tree.specs.Joins as joins
 use Rattle.vtl_meaning.specs.Made.{IsAlternative, IsLeft}
 use Rattle.vtl_scripts.specs.Made.{AreMade, AreMadeOperands, IsMade, IsMadeForm, node_structures, operands_in}
-use Rattle.vtl_scripts.specs.Meaning.{AreDataSets, are_nodes_built, are_operands_built, operands_value, form_value, is_built, is_built_form, node_value, nodes_value, with_first}
+use Rattle.vtl_scripts.specs.Meaning.{AreDataSets, are_nodes_built, are_operands_built, operands_value, form_value, is_built, is_built_form, is_maybe_built, node_value, nodes_value, with_first}
 use Rattle.vtl_meaning.specs.Operators.{calculated_exps, calculated_of, choice_of, left_of, measured_exps, measured_of, pair_of, sub_of}
 use Rattle.vtl_meaning.specs.Points.{with_points}
+use Rattle.vtl_meaning.specs.Profiles.{AllAreOfProfile}
 use Rattle.vtl_meaning.specs.Sets.{all_left_of, either_only, intersected, intersection_of, reduced, union_of, united, existence_of}
 use Rattle.vtl_meaning.specs.Shapes.{IsRenamedBy, IsShaped}
 use Rattle.vtl_tree.specs.Trees as nodes
-use Rattle.vtl_tree.specs.Trees.{FormTree, NodeTree, NodeTrees, OperandTrees, structure_of}
+use Rattle.vtl_tree.specs.Trees.{FormTree, MaybeNode, NodeTree, NodeTrees, OperandTrees, PointRuleTree, structure_of}
 use Rattle.vtl_meaning.specs.Aggregates.{aggregate_of}
 use Rattle.vtl_meaning.specs.Analytics.{analytic_of}
 use Rattle.vtl_meaning.specs.Turned.{pivot_of, unpivot_of}
@@ -37,11 +38,12 @@ use Rattle.vtl_meaning.proofs.Orders.{choice_respects, each_respects, filtered_r
 use Rattle.vtl_meaning.proofs.OwnColumns.{own_identifiers, own_measures}
 use Rattle.vtl_meaning.proofs.Places.{all_front, all_more, columns_split}
 use Rattle.vtl_scripts.proofs.ScriptsKept.{node_kept, operands_kept}
+use Rattle.vtl_scripts.proofs.ScriptsProfiles as profiles
 use Rattle.vtl_meaning.proofs.SetsFolds.{each_own, own_cells}
 use Rattle.vtl_meaning.proofs.SetsKept.{shown_kept}
 use Rattle.sql_tree.specs.Trees.{QueryTree, Text}
 use Rattle.sql_meaning.specs.Scripts.{Data}
-use Rattle.vtl_to_sql.specs.Conditions.{AreNodesTranslated, AreOperandsTranslated, IsFormTranslated, IsTranslated}
+use Rattle.vtl_to_sql.specs.Conditions.{AreNodesTranslated, AreOperandsTranslated, IsFormTranslated, IsMaybeTranslated, IsTranslated}
 use Rattle.selects_to_sql.specs.Writable.{HaveNames}
 use Rattle.selects_to_sql.specs.Means.{AreEarlier, Means, NodeGives, SourcesGive, Stands, StandsAs, Extends}
 use Rattle.selects_to_sql.specs.Queries.{calc_query, choose_query, copy_query, filter_query, left_query, measures_query, pair_query, rename_query, sub_query}
@@ -69,6 +71,12 @@ use Rattle.selects_to_sql.proofs.Subs.{sub_means}
 use Rattle.selects_to_sql.proofs.TwoOperands.{pair_means}
 use Rattle.groups_to_sql.proofs.Unpivots.{unpivot_means}
 use Rattle.groups_to_sql.proofs.Windowed.{analytic_means}
+use Rattle.vtl_rulings.specs.PointChecks.{check_of, datapoint_of}
+use Rattle.vtl_rulings.specs.Shaped.{IsPointChecked}
+use Rattle.rules_to_sql.specs.CheckQueries.{imbalance_query}
+use Rattle.rules_to_sql.specs.PointQueries.{datapoint_query}
+use Rattle.rules_to_sql.specs.Writable.{CanRuleBeWritten}
+use Rattle.rules_to_sql.proofs.Composed.{check_gives, datapoint_gives, imbalance_gives}
 
 -- ---- a naming that renames nothing
 
@@ -113,11 +121,17 @@ mutual
   form_built p s (nodes.unpivot a id q) c = translated_built p a c
   form_built p s (nodes.aggregate a spec) c = translated_built p a c.0
   form_built p s (nodes.analytic_of a spec) c = translated_built p a c.0
+  form_built p s (nodes.check a i spec) c = and_from (is_built a) (is_maybe_built i) (translated_built p a c.0) (maybe_built p i c.1)
+  form_built p s (nodes.check_datapoint a rules out) c = translated_built p a c.0
   form_built p s other c = absurd c
 
   nodes_built : (p : Settings) (ns : NodeTrees) → AreNodesTranslated p ns → are_nodes_built ns ≡ true
   nodes_built p nodes.no_nodes c = refl
   nodes_built p (nodes.and_node n ns) c = and_from (is_built n) (are_nodes_built ns) (translated_built p n c.0) (nodes_built p ns c.1)
+
+  maybe_built : (p : Settings) (i : MaybeNode) → IsMaybeTranslated p i → is_maybe_built i ≡ true
+  maybe_built p nodes.no_node c = refl
+  maybe_built p (nodes.some_node n) c = translated_built p n c
 
   operands_built : (p : Settings) (os : OperandTrees) → AreOperandsTranslated p os → are_operands_built os ≡ true
   operands_built p nodes.no_operands c = refl
@@ -131,6 +145,11 @@ operands_named p (nodes.operand n alias os) c = (names_in p n c.0, operands_name
 after_ok_is : (v : Outcome (List Row)) → after v (λ d. Ok d) ≡ v
 after_ok_is (Ok d) = refl
 after_ok_is (Err f) = refl
+
+-- a ruleset has a rule
+some_rules : (P : List PointRuleTree → Type 0) → ((rule : PointRuleTree) (rules : List PointRuleTree) → P (rule ∷ rules)) → (rules : List PointRuleTree) → 1 ≤ length rules → P rules
+some_rules P h [] some = absurd (omega (arith, some))
+some_rules P h (rule ∷ rules) some = h rule rules
 
 -- ---- values of operands
 
@@ -186,7 +205,7 @@ front_stays p r q s (nodes.and_node b (nodes.and_node c ns)) a os =
     let both = over (and_then os (sources_of p r b)) (with_two (q a (structure_of b))) in
     omega (arith, length-append os.tables (sources_of p r b os.next).tables, length-append both.tables (table_of (numbered r both.next) both.query ∷ []), front_stays p r q s (nodes.and_node c ns) s (stored r both))
 
-module _ (p : Settings) (law : Translates p) (r : Text) (word : is_word r ≡ true) (env : Environment) (sets : AreDataSets env) where
+module _ (p : Settings) (law : Translates p) (r : Text) (word : is_word r ≡ true) (env : Environment) (sets : AreDataSets env) (ranged : AllAreOfProfile p env) where
   -- one operand and others
   together_is : (a : Structure) (v : Outcome (List Row)) (w : Outcome (List DataSet)) → together p r word (alone p r word a v) w ≡ after v (λ points. after w (λ ds. Ok (with_points a points ∷ ds)))
   together_is a (Ok d) w = refl
@@ -205,6 +224,13 @@ module _ (p : Settings) (law : Translates p) (r : Text) (word : is_word r ≡ tr
   -- the rows of an operand's table are those of a data set
   set_of : (a : NodeTree) (now : Data) (x : Text) (d : List Row) → IsTranslated p a → IsMade p (known_in env) a → node_value p env a ≡ Ok d → (st : StandsAs now x (structure_of a) d) → IsDataSet (structure_of a) st.rows
   set_of a now x d c i is st = set_turned (structure_of a) d st.rows st.same (node_kept p env a d (translated_built p a c) i sets is)
+
+  -- the data sets that an operand gives
+  given_sets : (a : NodeTree) → IsTranslated p a → IsMade p (known_in env) a → (d : List Row) → node_value p env a ≡ Ok d → IsDataSet (structure_of a) d
+  given_sets a c i d is = node_kept p env a d (translated_built p a c) i sets is
+
+  given_ranged : (a : NodeTree) → IsMade p (known_in env) a → (d : List Row) → node_value p env a ≡ Ok d → AreOfProfile p d
+  given_ranged a i d is = subst (λ v. IfOk v (AreOfProfile p)) is (profiles.node_gives p env ranged a i)
 
   left_gives : (s : Structure) (a : NodeTree) (m : ℕ) (before : Data) → IsTranslated p a → IsMade p (known_in env) a → SourcesGive p before r m (sources_of p r a m) (alone p r word (structure_of a) (node_value p env a)) → IsLeft (structure_of a) s → AreGiven (columns_of s)
       → NodeGives p before r m (over (sources_of p r a m) (with_one (left_query p (structure_of a) s))) s (after (node_value p env a) (λ d. Ok (left_of (with_points (structure_of a) d) s)))
@@ -384,6 +410,23 @@ module _ (p : Settings) (law : Translates p) (r : Text) (word : is_word r ≡ tr
         let many = c.1 in
         join_gives p law r word s (columns_given s w n) ss (operands_named p os c.0) (omega (arith, many, size)) spec.kind i.1 before m sources (operands_value p env os) (λ ds is. operands_kept p env os ds (operands_built p os c.0) i.0 sets is) apart few
         (operands_give os m before stands apart i.0 c.0 (omega (arith, few, operands_first p r spec.kind ss s sources)))
+    form_gives s (nodes.check a nodes.no_node spec) m before stands apart w i n c few =
+        check_gives p law r word before m (sources_of p r a m) (structure_of a) s (node_value p env a) (names_in p a c.0) (columns_given s w n) (given_sets a c.0 i.0) spec i.2 c.2 (operand_gives a m before stands apart i.0 c.0 few)
+    form_gives s (nodes.check a (nodes.some_node k) spec) m before stands apart w i n c few =
+        let first = sources_of p r a m in
+        let second = sources_of p r k first.next in
+        let F = λ (d : List Row) (e : Option DataSet). check_of p spec (with_points (structure_of a) d) e in
+        subst (λ f. NodeGives p before r m (over (and_then first (sources_of p r k)) (with_two (imbalance_query p spec (structure_of a) (structure_of k) s))) s (after (node_value p env a) f))
+        (same_functions (λ d. after (node_value p env k) (λ e. Ok (F d (Some (with_points (structure_of k) e))))) (λ d. after (after (node_value p env k) (λ e. Ok (Some (with_points (structure_of k) e)))) (λ e. Ok (F d e)))
+        (λ d. sym (after_then (node_value p env k) (λ e. Some (with_points (structure_of k) e)) (λ e. Ok (F d e)))))
+        (imbalance_gives p law r word before m (and_then first (sources_of p r k)) (structure_of a) s (node_value p env a) (names_in p a c.0) (columns_given s w n) (given_sets a c.0 i.0) (structure_of k) (node_value p env k) (names_in p k c.1) (given_sets k c.1 i.1) (given_ranged k i.1) spec i.2 c.2
+        (beside_gives p r word before m first (sources_of p r k) (alone p r word (structure_of a) (node_value p env a)) (alone p r word (structure_of k) (node_value p env k)) (operand_gives a m before stands apart i.0 c.0 (omega (arith, few, length-append first.tables second.tables)))
+        (λ x. operand_gives k first.next (before ++ x.more) (all_stand_still before x.more env stands) (all_earlier p r word m first.next before x.more (omega (arith, x.counted)) apart x.new) i.1 c.1 (omega (arith, few, x.counted, length-append first.tables second.tables)))))
+    form_gives s (nodes.check_datapoint a rules out) m before stands apart w i n c few =
+        some_rules (λ all. IsPointChecked p out all (structure_of a) s → AllByRecursion CanRuleBeWritten all → length all < 2 ^ 64 → NodeGives p before r m (over (sources_of p r a m) (with_one (datapoint_query p all out (structure_of a) s))) s (after (node_value p env a) (λ d. datapoint_of p out all (with_points (structure_of a) d))))
+        (λ rule others checked written numbered.
+        datapoint_gives p law r word before m (sources_of p r a m) (structure_of a) s (node_value p env a) (names_in p a c.0) (columns_given s w n) (given_sets a c.0 i.0) out rule others checked written numbered (operand_gives a m before stands apart i.0 c.0 few))
+        rules.rules c.1.some i.1 c.1.written c.1.few
     form_gives s other m before stands apart w i n c few = absurd c
 
     -- the operands of a join

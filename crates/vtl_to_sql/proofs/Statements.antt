@@ -1,5 +1,6 @@
 -- The tables of a script hold its outputs, or the first one that has a fault has the script's.
 use Rattle.std.proofs.Common.{◌≡◌, Bool, true, false, cond, List, [], ◌∷◌, ◌++◌, Some, Ok, Err, Result, refl, ap, sym, ◌∙◌, subst, append_assoc, append-nil, inl, true≢false}
+use Rattle.std.specs.Prelude.{IfOk}
 use Rattle.std.specs.List.{AllByRecursion}
 use Rattle.std.specs.Map.{lookup}
 use Rattle.std.specs.Option.{option_map_or}
@@ -14,9 +15,12 @@ use Rattle.vtl_tree.specs.Structure.{same_name}
 use Rattle.vtl_scripts.specs.Made.{AreMadeStatements}
 use Rattle.vtl_scripts.specs.Meaning.{AreDataSets, Outputs, Statement, kept_output, meaning, node_value, stated}
 use Rattle.vtl_meaning.specs.Points.{with_points}
+use Rattle.vtl_meaning.specs.Profiles.{AllAreOfProfile}
+use Rattle.vtl_tree.specs.DataSet.{AreOfProfile}
 use Rattle.vtl_tree.specs.Trees.{structure_of}
 use Rattle.vtl_meaning.proofs.Places.{all_append, all_more, same_name-is, same_name-refl, same_name-sym}
 use Rattle.vtl_scripts.proofs.ScriptsKept.{node_kept}
+use Rattle.vtl_scripts.proofs.ScriptsProfiles as profiles
 use Rattle.sql_tree.specs.Formed.{IsName}
 use Rattle.sql_tree.specs.Trees.{Text}
 use Rattle.sql_meaning.specs.Scripts.{Data, NamedFault, base_of, fault_name, tables_in}
@@ -123,19 +127,19 @@ module _ (p : Settings) (s : Statement) where
     stores ss true (Err f) g = run_on p before (before ++ added) (statement_tables p s) ss ran ∙ g
     stores ss false (Err f) g = run_on p before (before ++ added) (statement_tables p s) ss ran ∙ g
 
-pub script_gives : (p : Settings) → Translates p → (ss : List Statement) (env : Environment) (before : Data) → AreDataSets env → Stands before env → AreNamed p before ss → AreMadeStatements p (known_in env) ss → AllByRecursion (λ s. IsTranslated p s.node) ss → ScriptGives p before (script_tables p ss) (meaning p ss env)
-script_gives p law [] env before sets stands given typed written = record { more = []; ran = ap Ok (sym (append-nil before)); lawful = tt; stored = tt }
-script_gives p law (s ∷ ss) env before sets stands given typed written =
+pub script_gives : (p : Settings) → Translates p → (ss : List Statement) (env : Environment) (before : Data) → AreDataSets env → AllAreOfProfile p env → Stands before env → AreNamed p before ss → AreMadeStatements p (known_in env) ss → AllByRecursion (λ s. IsTranslated p s.node) ss → ScriptGives p before (script_tables p ss) (meaning p ss env)
+script_gives p law [] env before sets ranged stands given typed written = record { more = []; ran = ap Ok (sym (append-nil before)); lawful = tt; stored = tt }
+script_gives p law (s ∷ ss) env before sets ranged stands given typed written =
     go (node_value p env s.node) refl
-    (node_gives p law s.result given.0 env sets s.node first_number before stands (all_more (λ t. same_text s.result (fault_name t.0) ≡ false) (λ t. IsEarlier s.result first_number t.0) (λ t h. inl h) before given.1) typed.0 written.0 given.3)
-    (λ d now is stands_now named_now. script_gives p law ss ((s.result, with_points (structure_of s.node) d) ∷ env) now is stands_now named_now typed.1 written.1)
+    (node_gives p law s.result given.0 env sets ranged s.node first_number before stands (all_more (λ t. same_text s.result (fault_name t.0) ≡ false) (λ t. IsEarlier s.result first_number t.0) (λ t h. inl h) before given.1) typed.0 written.0 given.3)
+    (λ d now is ranged_now stands_now named_now. script_gives p law ss ((s.result, with_points (structure_of s.node) d) ∷ env) now is ranged_now stands_now named_now typed.1 written.1)
   where
     go : (v : Outcome (List Row)) → node_value p env s.node ≡ v → NodeGives p before s.result first_number (made_of p s.result s.node first_number) (structure_of s.node) v
-        → ((d : List Row) (now : Data) → AreDataSets ((s.result, with_points (structure_of s.node) d) ∷ env) → Stands now ((s.result, with_points (structure_of s.node) d) ∷ env) → AreNamed p now ss → ScriptGives p now (script_tables p ss) (meaning p ss ((s.result, with_points (structure_of s.node) d) ∷ env)))
+        → ((d : List Row) (now : Data) → AreDataSets ((s.result, with_points (structure_of s.node) d) ∷ env) → AllAreOfProfile p ((s.result, with_points (structure_of s.node) d) ∷ env) → Stands now ((s.result, with_points (structure_of s.node) d) ∷ env) → AreNamed p now ss → ScriptGives p now (script_tables p ss) (meaning p ss ((s.result, with_points (structure_of s.node) d) ∷ env)))
         → ScriptGives p before (statement_tables p s ++ script_tables p ss) (stated s (after v (λ d. Ok (with_points (structure_of s.node) d))) (λ d. meaning p ss ((s.result, d) ∷ env)))
     go (Err f) e g ih = run_stops p before (statement_tables p s) (script_tables p ss) (f, s.result) (g s.result (plain_name s.result given.0))
     go (Ok d) e g ih =
         let now = before ++ added p s env before stands given.0 given.1 d g.0 g.1 in
         stores p s env before stands given.0 given.1 d g.0 g.1 (script_tables p ss) s.persistent (meaning p ss ((s.result, with_points (structure_of s.node) d) ∷ env))
-        (ih d now (node_kept p env s.node d (translated_built p s.node written.0) typed.0 sets e, sets) (now_stands p s env before stands given.0 given.1 d g.0 g.1)
+        (ih d now (node_kept p env s.node d (translated_built p s.node written.0) typed.0 sets e, sets) (subst (λ v. IfOk v (AreOfProfile p)) e (profiles.node_gives p env ranged s.node typed.0), ranged) (now_stands p s env before stands given.0 given.1 d g.0 g.1)
         (named_still p before (added p s env before stands given.0 given.1 d g.0 g.1) s.result ss (of_statement p s env before stands given.0 given.1 d g.0 g.1) given.2 given.4))

@@ -10,6 +10,7 @@ use Rattle.vtl_tree.specs.Structures.{Named, has_name}
 use Rattle.vtl_scripts.specs.Made.{AreMadeStatements}
 use Rattle.vtl_scripts.specs.Meaning.{AreDataSets, Statement, meaning}
 use Rattle.vtl_tree.specs.Trees.{structure_of}
+use Rattle.vtl_meaning.specs.Profiles.{AllAreOfProfile}
 use Rattle.vtl_meaning.proofs.Places.{all_more}
 use Rattle.sql_tree.specs.Trees.{Text}
 use Rattle.sql_meaning.specs.Scripts.{Data, Inputs, script_value}
@@ -80,7 +81,7 @@ module _ (p : Settings) (reads : Named) (ss : List Statement) (script : IsScript
       all_named p (tables_read inputs reads) reads ss script.translated
       (all_more (λ t. has_name t.result reads ≡ false) (λ t. IsApartFrom t.result (tables_read inputs reads)) (λ t h. apart_from_reads inputs t.result reads script.readable.words h) ss (all_new p reads ss script.translated))
 
-  module _ (env : Environment) (same : known_in env ≡ reads) (sets : AreDataSets env) (inputs : Inputs) (rows : AreRead inputs env) where
+  module _ (env : Environment) (same : known_in env ≡ reads) (sets : AreDataSets env) (ranged : AllAreOfProfile p env) (inputs : Inputs) (rows : AreRead inputs env) where
     structures : (es : Environment) → AreDataSets es → AllByRecursion (λ e. is_word e.0 ≡ true) (known_in es) → AllByRecursion (λ d. IsStructure d.1.structure × (is_word d.0 ≡ true)) es
     structures [] h i = tt
     structures (d ∷ ds) h i = ((h.0.well_formed, i.0), structures ds h.1 i.1)
@@ -93,10 +94,10 @@ module _ (p : Settings) (reads : Named) (ss : List Statement) (script : IsScript
 
     pub tables_give : ScriptGives p (tables_read inputs reads) (script_tables p ss) (meaning p ss env)
     tables_give =
-        script_gives p (translates p low) ss env (tables_read inputs reads) sets
+        script_gives p (translates p low) ss env (tables_read inputs reads) sets ranged
         (subst (λ known. Stands (tables_read inputs known) env) same (reads_stand inputs env (structures env sets words) rows)) (named inputs) made (all_translated p reads ss script.translated)
 
     pub script_means : script_value (script_for p reads ss) inputs ≡ exported_as (meaning p ss env)
     script_means =
-        script_is p low (translates p low) reads ss env inputs sets
+        script_is p low (translates p low) reads ss env inputs sets ranged
         (subst (λ known. Stands (tables_read inputs known) env) same (reads_stand inputs env (structures env sets words) rows)) (named inputs) made (all_translated p reads ss script.translated)

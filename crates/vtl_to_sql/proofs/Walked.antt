@@ -1,10 +1,11 @@
 -- Expressions as trees, and the tables of several operands one behind the other.
-use Rattle.std.proofs.Common.{◌≡◌, ◌⊎◌, inl, inr, ℕ, List, [], ◌∷◌, ◌++◌, map, length, ◌<◌, ◌≤◌, arith, append_assoc, refl, rules, sym, ap, subst, ◌∙◌}
+use Rattle.std.proofs.Common.{◌≡◌, ◌⊎◌, inl, inr, ℕ, List, [], ◌∷◌, ◌++◌, map, length, ◌<◌, ◌≤◌, arith, append_assoc, None, Some, refl, rules, sym, ap, subst, ◌∙◌}
 use Rattle.std.specs.Prelude.{Box}
 use Rattle.std.specs.declared.alloc.Global.{Global}
 use Rattle.std.proofs.lemmas.List.{map-append}
 use Rattle.vtl_decimal.specs.Settings.{Settings}
 use Rattle.vtl_cell.specs.declared.operator.ScalarOp.{ScalarOp}
+use Rattle.vtl_syntax.specs.declared.word_groups.CheckOut.{CheckOut}
 use Rattle.vtl_syntax.specs.declared.word_groups.Retain.{Retain}
 use Rattle.vtl_text.specs.declared.shared_text.Txt.{Txt}
 use Rattle.vtl_tree.specs.View.{comp_exp_of}
@@ -13,7 +14,7 @@ use Rattle.vtl_tree.specs.declared.structure.Structure.{Structure}
 use Rattle.vtl_tree.specs.declared.renaming.Renaming.{Renaming}
 use Rattle.vtl_tree.specs.Trees as nodes
 use Rattle.vtl_tree.specs.Trees.{FormTree, NodeTree}
-use Rattle.vtl_tree.specs.NodeView.{agg_tree, analytic_tree, form_tree, item_tree, measure_tree, node_tree}
+use Rattle.vtl_tree.specs.NodeView.{agg_tree, analytic_tree, form_tree, item_tree, measure_tree, node_tree, point_rules_tree}
 use Rattle.vtl_tree.specs.declared.clauses.CalcItem.{CalcItem}
 use Rattle.vtl_tree.specs.declared.clauses.SubItem.{SubItem}
 use Rattle.vtl_tree.specs.declared.nodes.MeasureOp.{MeasureOp}
@@ -24,6 +25,8 @@ use Rattle.vtl_tree.specs.declared.nodes.NodeForm.{NodeForm}
 use Rattle.vtl_tree.specs.declared.nodes.NodeForm.TheVariants as form
 use Rattle.vtl_tree.specs.declared.specifications.AggSpec.{AggSpec}
 use Rattle.vtl_tree.specs.declared.specifications.AnalyticSpec.{AnalyticSpec}
+use Rattle.vtl_tree.specs.declared.specifications.CheckSpec.{CheckSpec}
+use Rattle.vtl_tree.specs.declared.rules.DatapointRules.{DatapointRules}
 use Rattle.sql_tree.specs.Trees.{StatementTree, Text}
 use Rattle.selects_to_sql.specs.Tables.{create_for, Sources, and_then, over, with_one, with_two}
 use Rattle.vtl_to_sql.specs.FormQueries.{query_of_one, query_of_two}
@@ -85,6 +88,15 @@ tree_of_symmetric_difference f a b e = ap form_tree e ∙ search (rules, forms.t
 pub tree_of_existence : (f : NodeForm) (a b : Box Node Global) (kept : Retain) → f ≡ form.ExistsIn a b kept → form_tree f ≡ nodes.exists_in (node_tree a.value) (node_tree b.value) kept
 tree_of_existence f a b kept e = ap form_tree e ∙ search (rules, forms.the_lemmas)
 
+pub tree_of_datapoint : (f : NodeForm) (a : Box Node Global) (ruled : DatapointRules) (out : CheckOut) → f ≡ form.CheckDatapoint a ruled out → form_tree f ≡ nodes.check_datapoint (node_tree a.value) (point_rules_tree ruled) out
+tree_of_datapoint f a ruled out e = ap form_tree e ∙ search (rules, forms.the_lemmas)
+
+pub tree_of_check : (f : NodeForm) (a : Box Node Global) (spec : CheckSpec) → f ≡ form.Check a None spec → form_tree f ≡ nodes.check (node_tree a.value) nodes.no_node spec
+tree_of_check f a spec e = ap form_tree e ∙ search (rules, forms.the_lemmas)
+
+pub tree_of_imbalance : (f : NodeForm) (a b : Box Node Global) (spec : CheckSpec) → f ≡ form.Check a (Some b) spec → form_tree f ≡ nodes.check (node_tree a.value) (nodes.some_node (node_tree b.value)) spec
+tree_of_imbalance f a b spec e = ap form_tree e ∙ search (rules, forms.the_lemmas)
+
 -- ---- forms of one operand, and of two that are no list
 abbrev IsOf : NodeForm → Box Node Global → Type 0
 IsOf f a =
@@ -99,6 +111,7 @@ IsOf f a =
     ⊎ ((m : Txt) × f ≡ form.Member a m)
     ⊎ ((names : List Txt) × f ≡ form.Keep a names)
     ⊎ ((names : List Txt) × f ≡ form.DropNamed a names)
+    ⊎ ((ruled : DatapointRules) × (out : CheckOut) × f ≡ form.CheckDatapoint a ruled out)
 
 one_at : (p : Settings) (r : Text) (s : Structure) (b : NodeTree) (n : ℕ) (f t : FormTree) → f ≡ t → made_of_form p r s t n ≡ over (sources_of p r b n) (with_one (query_of_one p t s))
     → made_of_form p r s f n ≡ over (sources_of p r b n) (with_one (query_of_one p f s))
@@ -115,7 +128,8 @@ one_made p r s f a n (inr (inr (inr (inr (inr (inr (inl (spec, e)))))))) = let b
 one_made p r s f a n (inr (inr (inr (inr (inr (inr (inr (inl (id, m, e))))))))) = let b = node_tree a.value in one_at p r s b n (form_tree f) (nodes.unpivot b id m) (tree_of_unpivot f a id m e) refl
 one_made p r s f a n (inr (inr (inr (inr (inr (inr (inr (inr (inl (m, e)))))))))) = let b = node_tree a.value in one_at p r s b n (form_tree f) (nodes.member b m) (tree_of_member f a m e) refl
 one_made p r s f a n (inr (inr (inr (inr (inr (inr (inr (inr (inr (inl (names, e))))))))))) = let b = node_tree a.value in one_at p r s b n (form_tree f) (nodes.keep b names) (tree_of_keep f a names e) refl
-one_made p r s f a n (inr (inr (inr (inr (inr (inr (inr (inr (inr (inr (names, e))))))))))) = let b = node_tree a.value in one_at p r s b n (form_tree f) (nodes.drop_named b names) (tree_of_drop f a names e) refl
+one_made p r s f a n (inr (inr (inr (inr (inr (inr (inr (inr (inr (inr (inl (names, e)))))))))))) = let b = node_tree a.value in one_at p r s b n (form_tree f) (nodes.drop_named b names) (tree_of_drop f a names e) refl
+one_made p r s f a n (inr (inr (inr (inr (inr (inr (inr (inr (inr (inr (inr (ruled, out, e)))))))))))) = let b = node_tree a.value in one_at p r s b n (form_tree f) (nodes.check_datapoint b (point_rules_tree ruled) out) (tree_of_datapoint f a ruled out e) refl
 
 -- ---- a naming
 
@@ -150,6 +164,14 @@ two_made p r s f a b n (inl (o, e)) = let c = node_tree a.value in let d = node_
 two_made p r s f a b n (inr (inl e)) = let c = node_tree a.value in let d = node_tree b.value in two_at p r s c d n (form_tree f) (nodes.set_diff c d) (tree_of_difference f a b e) refl
 two_made p r s f a b n (inr (inr (inl e))) = let c = node_tree a.value in let d = node_tree b.value in two_at p r s c d n (form_tree f) (nodes.sym_diff c d) (tree_of_symmetric_difference f a b e) refl
 two_made p r s f a b n (inr (inr (inr (kept, e)))) = let c = node_tree a.value in let d = node_tree b.value in two_at p r s c d n (form_tree f) (nodes.exists_in c d kept) (tree_of_existence f a b kept e) refl
+
+-- ---- `check`, of one operand or of two
+pub check_made : (p : Settings) (r : Text) (s : Structure) (f : NodeForm) (a : Box Node Global) (spec : CheckSpec) (n : ℕ) → f ≡ form.Check a None spec → made_of_form p r s (form_tree f) n ≡ over (sources_of p r (node_tree a.value) n) (with_one (query_of_one p (form_tree f) s))
+check_made p r s f a spec n e = let b = node_tree a.value in one_at p r s b n (form_tree f) (nodes.check b nodes.no_node spec) (tree_of_check f a spec e) refl
+
+pub imbalance_made : (p : Settings) (r : Text) (s : Structure) (f : NodeForm) (a b : Box Node Global) (spec : CheckSpec) (n : ℕ) → f ≡ form.Check a (Some b) spec
+    → made_of_form p r s (form_tree f) n ≡ over (and_then (sources_of p r (node_tree a.value) n) (sources_of p r (node_tree b.value))) (with_two (query_of_two p (form_tree f) s))
+imbalance_made p r s f a b spec n e = let c = node_tree a.value in let d = node_tree b.value in two_at p r s c d n (form_tree f) (nodes.check c (nodes.some_node d) spec) (tree_of_imbalance f a b spec e) refl
 
 -- ---- tables
 

@@ -23,6 +23,7 @@ use Rattle.vtl_tree.specs.Columns.{identifiers_of}
 use Rattle.vtl_scripts.specs.Made.{AreMadeStatements}
 use Rattle.vtl_scripts.specs.Meaning.{AreDataSets, Outputs, Statement, kept_output, meaning, node_value, stated}
 use Rattle.vtl_meaning.specs.Points.{with_points}
+use Rattle.vtl_meaning.specs.Profiles.{AllAreOfProfile}
 use Rattle.vtl_tree.specs.Trees.{structure_of}
 use Rattle.sql_tree.specs.Trees.{StatementTree}
 use Rattle.sql_check_parts.specs.Statements.{scale_of, scale_written, settings_of}
@@ -123,12 +124,12 @@ exports_are p inputs now before (o ∷ os) h =
 
 -- ---- the script
 
-pub script_is : (p : Settings) → p.scale ≤ 9 → Translates p → (reads : Named) (ss : List Statement) (env : Environment) (inputs : Inputs) → AreDataSets env → Stands (tables_read inputs reads) env → AreNamed p (tables_read inputs reads) ss → AreMadeStatements p (known_in env) ss → AllByRecursion (λ s. IsTranslated p s.node) ss
+pub script_is : (p : Settings) → p.scale ≤ 9 → Translates p → (reads : Named) (ss : List Statement) (env : Environment) (inputs : Inputs) → AreDataSets env → AllAreOfProfile p env → Stands (tables_read inputs reads) env → AreNamed p (tables_read inputs reads) ss → AreMadeStatements p (known_in env) ss → AllByRecursion (λ s. IsTranslated p s.node) ss
     → script_value (script_for p reads ss) inputs ≡ exported_as (meaning p ss env)
-script_is p low law reads ss env inputs sets stands named typed written =
+script_is p low law reads ss env inputs sets ranged stands named typed written =
     ap (λ q. statements_made q inputs (made [] []) (statements_for p reads ss) >>= (λ m. Ok m.exports)) (set_is p low)
     ∙ ap (λ o. o >>= (λ m. Ok m.exports)) (inputs_are p inputs [] reads (map create_for (script_tables p ss) ++ map export_for (written_of ss)))
-    ∙ go (meaning p ss env) refl (script_gives p law ss env (tables_read inputs reads) sets stands named typed written)
+    ∙ go (meaning p ss env) refl (script_gives p law ss env (tables_read inputs reads) sets ranged stands named typed written)
   where
     go : (m : Result Outputs NamedFault) → meaning p ss env ≡ m → ScriptGives p (tables_read inputs reads) (script_tables p ss) m
         → statements_made p inputs (made (tables_read inputs reads) []) (map create_for (script_tables p ss) ++ map export_for (written_of ss)) >>= (λ n. Ok n.exports) ≡ exported_as m

@@ -4,6 +4,7 @@ use Rattle.std.specs.Prelude.{◌+◌, ◌<◌, ◌^◌, Bool, true, false, ◌&
 use Rattle.std.specs.List.{AllByRecursion, list_all}
 use Rattle.std.specs.Option.{IfSome}
 use Rattle.vtl_cell.specs.Held.{IsHeld}
+use Rattle.vtl_cell.specs.declared.cell.Cell.TheVariants as c
 use Rattle.vtl_decimal.specs.Settings.{Settings}
 use Rattle.vtl_tree.specs.CompExp.{CompExp}
 use Rattle.vtl_tree.specs.declared.structure.Structure.{Structure}
@@ -11,10 +12,11 @@ use Rattle.vtl_scripts.specs.Made.{operands_in}
 use Rattle.vtl_scripts.specs.Meaning.{Statement}
 use Rattle.vtl_meaning.specs.Operators.{calculated_exps, measured_exps, pair_exps}
 use Rattle.vtl_tree.specs.Trees as nodes
-use Rattle.vtl_tree.specs.Trees.{AnalyticTree, FormTree, NodeTree, NodeTrees, OperandTrees, ValueTree, structure_of}
+use Rattle.vtl_tree.specs.Trees.{AnalyticTree, FormTree, MaybeNode, NodeTree, NodeTrees, OperandTrees, PointRuleTree, ValueTree, structure_of}
 use Rattle.vtl_tree.specs.declared.calls.AnalyticOp.{AnalyticOp}
 use Rattle.vtl_meaning.specs.AnalyticShapes.{default_in}
 use Rattle.expressions_to_sql.specs.Held.{HoldsValues}
+use Rattle.rules_to_sql.specs.Writable.{AreErrorsHeld}
 use Rattle.vtl_to_sql.specs.Conditions.{HasFewTables}
 
 -- ---- which forms are translated so far. Each form has its line, so that no new one is passed over.
@@ -44,14 +46,18 @@ abbrev mutual
   is_form_translated (nodes.exists_in a b r) = is_translated a && is_translated b
   is_form_translated (nodes.aggregate a spec) = is_translated a
   is_form_translated (nodes.analytic_of a spec) = is_translated a
-  is_form_translated (nodes.check a i spec) = false
-  is_form_translated (nodes.check_datapoint a rules out) = false
+  is_form_translated (nodes.check a i spec) = is_translated a && is_maybe_translated i
+  is_form_translated (nodes.check_datapoint a rules out) = is_translated a
   is_form_translated (nodes.check_hierarchy a rules m out) = false
   is_form_translated (nodes.hierarchy a rules m i out) = false
 
   pub are_nodes_translated : NodeTrees → Bool
   are_nodes_translated nodes.no_nodes = true
   are_nodes_translated (nodes.and_node n ns) = is_translated n && are_nodes_translated ns
+
+  pub is_maybe_translated : MaybeNode → Bool
+  is_maybe_translated nodes.no_node = true
+  is_maybe_translated (nodes.some_node n) = is_translated n
 
   pub are_operands_translated : OperandTrees → Bool
   are_operands_translated nodes.no_operands = true
@@ -60,7 +66,8 @@ abbrev mutual
 abbrev pub are_translated : List NodeTree → Bool
 are_translated ns = list_all is_translated ns
 
--- ---- what a program holds: constants in the expressions that queries take, values of `sub`, and joins whose operands can be numbered
+-- ---- what a program holds: constants in the expressions that queries take, values of `sub`, texts of rules, and joins and rulesets
+-- whose operands and rules can be numbered
 abbrev pub AllHoldValues : List CompExp → Type 0
 AllHoldValues es = AllByRecursion HoldsValues es
 
@@ -75,6 +82,13 @@ MadeHoldsValues (nodes.analytic x) = OperatorHoldsValue x.op
 abbrev pub AnalyticHoldsValues : AnalyticTree → Type 0
 AnalyticHoldsValues (nodes.of_measures o w) = OperatorHoldsValue o
 AnalyticHoldsValues (nodes.of_items items) = AllByRecursion (λ i. MadeHoldsValues i.value) items
+
+-- the texts of a rule, its level and its conditions
+pub record RuleHoldsValues (r : PointRuleTree) : Type 0 where
+  pub name : IfSome r.name (λ text. IsHeld (c.Text text))
+  pub antecedent : IfSome r.antecedent HoldsValues
+  pub condition : HoldsValues r.condition
+  pub errors : AreErrorsHeld r.errorcode r.errorlevel
 
 abbrev mutual
   pub HoldsParts : NodeTree → Type 0
@@ -102,12 +116,18 @@ abbrev mutual
   FormHoldsParts s (nodes.set_diff a b) = HoldsParts a × HoldsParts b
   FormHoldsParts s (nodes.sym_diff a b) = HoldsParts a × HoldsParts b
   FormHoldsParts s (nodes.exists_in a b r) = HoldsParts a × HoldsParts b
+  FormHoldsParts s (nodes.check a i spec) = HoldsParts a × MaybeHoldsParts i × AreErrorsHeld spec.errorcode spec.errorlevel
+  FormHoldsParts s (nodes.check_datapoint a rules out) = HoldsParts a × AllByRecursion RuleHoldsValues rules.rules × (length rules.rules < 2 ^ 64)
   -- the other forms are not translated yet
   FormHoldsParts s other = Unit {0}
 
   pub NodesHoldParts : NodeTrees → Type 0
   NodesHoldParts nodes.no_nodes = Unit {0}
   NodesHoldParts (nodes.and_node n ns) = HoldsParts n × NodesHoldParts ns
+
+  pub MaybeHoldsParts : MaybeNode → Type 0
+  MaybeHoldsParts nodes.no_node = Unit {0}
+  MaybeHoldsParts (nodes.some_node n) = HoldsParts n
 
   pub OperandsHoldParts : OperandTrees → Type 0
   OperandsHoldParts nodes.no_operands = Unit {0}

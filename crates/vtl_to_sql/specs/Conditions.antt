@@ -14,13 +14,20 @@ use Rattle.vtl_scripts.specs.Made.{IsMade, operands_in}
 use Rattle.vtl_scripts.specs.Meaning.{Statement}
 use Rattle.vtl_meaning.specs.Operators.{calculated_exps, measured_exps, pair_exps}
 use Rattle.vtl_tree.specs.Trees as nodes
-use Rattle.vtl_tree.specs.Trees.{FormTree, NodeTree, NodeTrees, OperandTrees, structure_of}
+use Rattle.vtl_tree.specs.Trees.{FormTree, MaybeNode, NodeTree, NodeTrees, OperandTrees, PointRuleTree, structure_of}
 use Rattle.selects_to_sql.specs.Tables.{first_number}
 use Rattle.vtl_to_sql.specs.Tables.{made_of}
 use Rattle.selects_to_sql.specs.Writable.{CanBeWritten, AllCanBeWritten, HaveNames, HasValue}
 use Rattle.groups_to_sql.specs.Writable.{CallsCanBeWritten}
+use Rattle.rules_to_sql.specs.Writable.{AreErrorsHeld, CanRuleBeWritten}
 
 -- ---- expressions on data sets
+
+-- there is a rule, and rules can be numbered
+pub record CanRulesBeWritten (rules : List PointRuleTree) : Type 0 where
+  pub written : AllByRecursion CanRuleBeWritten rules
+  pub some : 1 ≤ length rules
+  pub few : length rules < 2 ^ 64
 
 abbrev mutual
   pub IsTranslated : Settings → NodeTree → Type 0
@@ -50,12 +57,18 @@ abbrev mutual
   IsFormTranslated p s (nodes.unpivot a id m) = IsTranslated p a
   IsFormTranslated p s (nodes.aggregate a spec) = IsTranslated p a × IfSome spec.having CanBeWritten
   IsFormTranslated p s (nodes.analytic_of a spec) = IsTranslated p a × CallsCanBeWritten spec
-  -- the other forms have no meaning yet
+  IsFormTranslated p s (nodes.check a i spec) = IsTranslated p a × IsMaybeTranslated p i × AreErrorsHeld spec.errorcode spec.errorlevel
+  IsFormTranslated p s (nodes.check_datapoint a rules out) = IsTranslated p a × CanRulesBeWritten rules.rules
+  -- the other forms are not evaluated yet
   IsFormTranslated p s other = ⊥
 
   pub AreNodesTranslated : Settings → NodeTrees → Type 0
   AreNodesTranslated p nodes.no_nodes = Unit {0}
   AreNodesTranslated p (nodes.and_node n ns) = IsTranslated p n × AreNodesTranslated p ns
+
+  pub IsMaybeTranslated : Settings → MaybeNode → Type 0
+  IsMaybeTranslated p nodes.no_node = Unit {0}
+  IsMaybeTranslated p (nodes.some_node n) = IsTranslated p n
 
   pub AreOperandsTranslated : Settings → OperandTrees → Type 0
   AreOperandsTranslated p nodes.no_operands = Unit {0}

@@ -16,6 +16,8 @@ use Rattle.vtl_to_sql.specs.Sets.{difference_query, intersection_query, shown_qu
 use Rattle.groups_to_sql.specs.Turned.{pivot_query, unpivot_query}
 use Rattle.groups_to_sql.specs.Windowed.{analytic_query}
 use Rattle.joins_to_sql.specs.JoinTables.{join_made}
+use Rattle.rules_to_sql.specs.CheckQueries.{check_query, imbalance_query}
+use Rattle.rules_to_sql.specs.PointQueries.{datapoint_query}
 use Rattle.selects_to_sql.specs.Tables.{Table, table_of, Made, Sources, by_name, stored, and_then, with_one, with_two, with_three, over, by_names, first_number}
 
 abbrev pub source_of : Text → FormTree → ℕ → Made → Sources
@@ -56,7 +58,10 @@ abbrev mutual
   made_of_form p r s (nodes.analytic_of a spec) n = over (sources_of p r a n) (with_one (analytic_query p spec (structure_of a) s))
   made_of_form p r s (nodes.aggregate a spec) n = over (sources_of p r a n) (with_one (aggregate_query p spec (structure_of a) s))
   made_of_form p r s (nodes.unpivot a id m) n = over (sources_of p r a n) (with_one (unpivot_query p (structure_of a) s))
-  -- the other forms have no meaning yet, and no script that is translated holds one
+  made_of_form p r s (nodes.check a nodes.no_node spec) n = over (sources_of p r a n) (with_one (check_query p spec (structure_of a) s))
+  made_of_form p r s (nodes.check a (nodes.some_node i) spec) n = over (and_then (sources_of p r a n) (sources_of p r i)) (with_two (imbalance_query p spec (structure_of a) (structure_of i) s))
+  made_of_form p r s (nodes.check_datapoint a rules out) n = over (sources_of p r a n) (with_one (datapoint_query p rules.rules out (structure_of a) s))
+  -- the other forms are not evaluated yet, and no script that is translated holds one
   made_of_form p r s other n = record { tables = []; query = []; next = n }
 
   -- all operands of a join

@@ -2,21 +2,25 @@
 // are asked, one by one.
 ghost use Rattle.std.specs.List.{AllByRecursion};
 ghost use Rattle.std.specs.Option.{IfSome, option_map};
-ghost use Rattle.std.specs.Prelude.{◌≡◌, map};
+ghost use Rattle.std.specs.Prelude.{◌<◌, ◌^◌, length};
 ghost use Rattle.vtl_cell.specs.Held.{IsHeld};
+ghost use Rattle.vtl_cell.specs.declared.cell.Cell.TheVariants as c;
 ghost use Rattle.vtl_tree.specs.View.{comp_exp_of};
-ghost use Rattle.vtl_tree.specs.NodeView.{analytic_tree, node_tree, value_tree};
+ghost use Rattle.vtl_tree.specs.NodeView.{analytic_tree, node_tree, point_rule_tree, value_tree};
 ghost use Rattle.vtl_meaning.specs.Operators.{value_exp};
 ghost use Rattle.vtl_check.specs.Checked.{nodes_of};
 ghost use Rattle.expressions_to_sql.specs.Held.{HoldsValues};
-ghost use Rattle.vtl_to_sql.specs.Accepted.{AnalyticHoldsValues, AreHeld, HoldsParts, MadeHoldsValues, OperatorHoldsValue};
+ghost use Rattle.rules_to_sql.specs.Writable.{AreErrorsHeld};
+ghost use Rattle.vtl_to_sql.specs.Accepted.{AnalyticHoldsValues, AreHeld, HoldsParts, MadeHoldsValues, OperatorHoldsValue, RuleHoldsValues};
 
 use std::alloc::Global;
 use vtl_cell::{Cell, write_cell};
 use vtl_check::Checked;
 use vtl_decimal::Profile;
+use vtl_text::Txt;
 use vtl_tree::{
-    AnalyticOp, AnalyticSpec, CalcItem, CalcValue, CompExpr, JoinOperand, Node, NodeForm, SubItem,
+    AnalyticOp, AnalyticSpec, CalcItem, CalcValue, CompExpr, DatapointRule, JoinOperand, Node,
+    NodeForm, SubItem,
 };
 
 // A value is one that a program holds, whether or not there is memory to write it.
@@ -104,6 +108,50 @@ fn condition_is_held(alloc: Global, condition: &Option<CompExpr>, p: &Profile)
     }
 }
 
+// A text is one that a program holds: its characters are read.
+fn text_is_held(text: &Option<Txt>)
+    ensures { IfSome text.now (λ t. IsHeld (c.Text t)) }
+{
+    if let Some(text) = text {
+        let _characters = text.as_str();
+    }
+}
+
+fn level_is_held(level: &Option<i64>)
+    ensures { IfSome level.now (λ n. IsHeld (c.Int n)) }
+{
+    if let Some(level) = level {
+        let _level = *level;
+    }
+}
+
+fn errors_are_held(code: &Option<Txt>, level: &Option<i64>)
+    ensures { AreErrorsHeld code.now level.now }
+{
+    text_is_held(code);
+    level_is_held(level);
+}
+
+fn rule_is_held(alloc: Global, rule: &DatapointRule, p: &Profile)
+    ensures { RuleHoldsValues (point_rule_tree rule.now) }
+{
+    text_is_held(&rule.name);
+    condition_is_held(alloc, &rule.antecedent, p);
+    expression_is_held(alloc, &rule.condition, p);
+    errors_are_held(&rule.errorcode, &rule.errorlevel);
+}
+
+// They can be numbered, too.
+fn rules_are_held(alloc: Global, rules: &[DatapointRule], p: &Profile)
+    ensures rules { AllByRecursion (λ r. RuleHoldsValues (point_rule_tree r)) rules.now }
+    ensures few { length rules.now < 2 ^ 64 }
+{
+    let _numbered = rules.len();
+    for rule in rules {
+        rule_is_held(alloc, rule, p);
+    }
+}
+
 #[cycle(constants)]
 fn node_is_held(alloc: Global, node: &Node, p: &Profile)
     ensures { HoldsParts (node_tree node.now) }
@@ -162,6 +210,15 @@ fn node_is_held(alloc: Global, node: &Node, p: &Profile)
             node_is_held(alloc, a, p);
             node_is_held(alloc, b, p)
         }
+        NodeForm::Check { a, imbalance, spec } => {
+            errors_are_held(&spec.errorcode, &spec.errorlevel);
+            maybe_is_held(alloc, imbalance, p);
+            node_is_held(alloc, a, p)
+        }
+        NodeForm::CheckDatapoint { a, rules, .. } => {
+            rules_are_held(alloc, rules.rules.as_slice(), p);
+            node_is_held(alloc, a, p)
+        }
         NodeForm::Union(nodes) => nodes_are_held(alloc, nodes, p),
         NodeForm::Intersect(nodes) => nodes_are_held(alloc, nodes, p),
         NodeForm::Join { operands, .. } => {
@@ -169,6 +226,15 @@ fn node_is_held(alloc: Global, node: &Node, p: &Profile)
             operands_are_held(alloc, operands, p)
         }
         _ => {}
+    }
+}
+
+#[cycle(constants)]
+fn maybe_is_held(alloc: Global, node: &Option<Box<Node>>, p: &Profile)
+    ensures { IfSome node.now (λ n. HoldsParts (node_tree n.value)) }
+{
+    if let Some(node) = node {
+        node_is_held(alloc, node, p);
     }
 }
 

@@ -9,6 +9,7 @@ use crate::existence_queries::existence_query;
 use crate::set_operators::SetOperator;
 use crate::set_queries::set_query;
 use groups_to_sql::{aggregate_query, analytic_query, pivot_query, unpivot_query};
+use rules_to_sql::{check_query, datapoint_query, imbalance_query};
 use selects_to_sql::{
     Operand, Writer, calc_query, choose_query, filter_query, left_query, measures_query, no_query,
     pair_query, rename_query, sub_query,
@@ -56,6 +57,15 @@ pub(crate) fn query_of_one(
         NodeForm::Member { .. } => left_query(alloc, writer, s, table),
         NodeForm::Keep { .. } => left_query(alloc, writer, s, table),
         NodeForm::DropNamed { .. } => left_query(alloc, writer, s, table),
+        NodeForm::Check {
+            a,
+            imbalance: None,
+            spec,
+        } => check_query(alloc, writer, spec, &operand(a, table), s),
+        NodeForm::CheckDatapoint { a, rules, out } => {
+            let rules = rules.rules.as_slice();
+            datapoint_query(alloc, writer, rules, *out, &operand(a, table), s)
+        }
         _ => Ok(no_query(alloc)),
     }
 }
@@ -86,6 +96,14 @@ pub(crate) fn query_of_two(
         NodeForm::ExistsIn { a, b, retain } => {
             let (a, b) = (operand(a, first), operand(b, second));
             existence_query(alloc, writer, *retain, &a, &b, s)
+        }
+        NodeForm::Check {
+            a,
+            imbalance: Some(imbalance),
+            spec,
+        } => {
+            let (a, imbalance) = (operand(a, first), operand(imbalance, second));
+            imbalance_query(alloc, writer, spec, &a, &imbalance, s)
         }
         _ => Ok(no_query(alloc)),
     }

@@ -7,9 +7,13 @@
 // accepted script meets it is shown by a walk over typing (proofs/AcceptedTyping.antt), which tells the words that
 // nodes take from the script; the names of all other columns follow from the structures that typing gives
 // (proofs/AcceptedNames.antt). A name stands behind an alias only inside the body of a join, whose last naming gives
-// the names back. What only a program can tell is a premise (specs/Accepted.antt): that constants are in the range of
-// their types, and that tables and operands can be numbered; a union of many names is one node, so the limit on nodes
-// does not bound the tables.
+// the names back. That a ruleset has a rule comes from its definition, which the walk follows to its calls
+// (proofs/AcceptedRules.antt). What only a program can tell is a premise (specs/Accepted.antt): that constants are in
+// the range of their types and texts of rules are texts, and that tables, operands and rules can be numbered; a union
+// of many names is one node, so the limit on nodes does not bound the tables.
+//
+// An integer outside the profile is no number: where `check` shows it as an imbalance, null stands there, and SQL has a
+// fault. So the laws of meaning speak of data sets of the profile, as those are that a back end runs over.
 ghost use Rattle.std.specs.Prelude.{◌≡◌, ◌≤◌, ◌<◌, ◌+◌, ◌^◌, ℕ, List, length, true};
 ghost use Rattle.vtl_cell.specs.Row.{Row};
 ghost use Rattle.vtl_decimal.specs.Settings.{Settings};
@@ -18,6 +22,7 @@ ghost use Rattle.vtl_tree.specs.Structure.{IsStructure, columns_of};
 ghost use Rattle.vtl_syntax.specs.Written.{AreWritten};
 ghost use Rattle.vtl_tree.specs.Structures.{AreStructures, Named, is_declarable};
 ghost use Rattle.vtl_tree.specs.declared.structure.Structure.{Structure};
+ghost use Rattle.vtl_meaning.specs.Profiles.{AllAreOfProfile};
 ghost use Rattle.vtl_scripts.specs.Meaning.{AreDataSets, Statement, is_built, meaning};
 ghost use Rattle.vtl_tree.specs.Trees.{NodeTree};
 ghost use Rattle.vtl_check.specs.Checked.{IsTyped, TypedScript, nodes_of, tree_of};
@@ -36,15 +41,15 @@ ghost use Rattle.vtl_to_sql.specs.Scripts.{input_of, script_for};
 ghost use Rattle.selects_to_sql.specs.Tables.{first_number};
 ghost use Rattle.vtl_to_sql.specs.Tables.{made_of};
 
-/// Over the data sets that a script reads, their rows in any order, the script in SQL exports the outputs in order, each
-/// sorted by its identifiers; or it has the same fault with the name of the same result.
+/// Over the data sets that a script reads, whose integers are of the profile, their rows in any order, the script in SQL
+/// exports the outputs in order, each sorted by its identifiers; or it has the same fault with the name of the same result.
 pub fn scripts_are_translated()
-    ensures { (p : Settings) (reads : Named) (ss : List Statement) (env : Environment) (inputs : Inputs) → IsScript p reads ss → known_in env ≡ reads → AreDataSets env → AreRead inputs env → script_value (script_for p reads ss) inputs ≡ exported_as (meaning p ss env) }
+    ensures { (p : Settings) (reads : Named) (ss : List Statement) (env : Environment) (inputs : Inputs) → IsScript p reads ss → known_in env ≡ reads → AreDataSets env → AllAreOfProfile p env → AreRead inputs env → script_value (script_for p reads ss) inputs ≡ exported_as (meaning p ss env) }
 {}
 
-/// So over any rows that its INPUTs take it exports the outputs over the data sets of these rows.
+/// So over any rows of the profile that its INPUTs take it exports the outputs over the data sets of these rows.
 pub fn scripts_are_translated_over_inputs()
-    ensures { (p : Settings) (reads : Named) (ss : List Statement) (inputs : Inputs) → IsScript p reads ss → AreTaken inputs reads → script_value (script_for p reads ss) inputs ≡ exported_as (meaning p ss (sets_read inputs reads)) }
+    ensures { (p : Settings) (reads : Named) (ss : List Statement) (inputs : Inputs) → IsScript p reads ss → AreTaken inputs reads → AllAreOfProfile p (sets_read inputs reads) → script_value (script_for p reads ss) inputs ≡ exported_as (meaning p ss (sets_read inputs reads)) }
 {}
 
 /// The script in SQL breaks no rule, and can be printed so that it reads back.

@@ -167,7 +167,8 @@ pub(crate) fn query(
         | NodeForm::Unpivot { a, .. }
         | NodeForm::Member { a, .. }
         | NodeForm::Keep { a, .. }
-        | NodeForm::DropNamed { a, .. } => {
+        | NodeForm::DropNamed { a, .. }
+        | NodeForm::CheckDatapoint { a, .. } => {
             let table = source(alloc, writer, a, target, draft)?;
             query_of_one(alloc, writer, form, s, &table)
         }
@@ -177,6 +178,14 @@ pub(crate) fn query(
         | NodeForm::ExistsIn { a, b, .. } => {
             let first = source(alloc, writer, a, target, draft)?;
             let second = source(alloc, writer, b, target, draft)?;
+            query_of_two(alloc, writer, form, s, &first, &second)
+        }
+        NodeForm::Check { a, imbalance, .. } => {
+            let first = source(alloc, writer, a, target, draft)?;
+            let Some(imbalance) = imbalance else {
+                return query_of_one(alloc, writer, form, s, &first);
+            };
+            let second = source(alloc, writer, imbalance, target, draft)?;
             query_of_two(alloc, writer, form, s, &first, &second)
         }
         NodeForm::Choose { c, a, b } => {

@@ -11,12 +11,14 @@ use Rattle.vtl_cell.specs.Row.{Row}
 use Rattle.vtl_text.specs.Texts.{same_text}
 use Rattle.vtl_lists.proofs.Aparts.{apart_parts}
 use Rattle.vtl_decimal.specs.Settings.{Settings}
-use Rattle.vtl_tree.specs.Environment.{Environment}
+use Rattle.vtl_meaning.specs.Profiles.{AllAreOfProfile}
+use Rattle.vtl_tree.specs.DataSet.{AreOfProfile}
+use Rattle.vtl_tree.specs.Environment.{DataSet, Environment}
 use Rattle.vtl_tree.specs.Structure.{IsStructure, columns_of, same_name}
 use Rattle.vtl_tree.specs.Structures.{Named, codes_fit}
 use Rattle.vtl_tree.specs.declared.structure.Structure.{Structure}
 use Rattle.vtl_csv.specs.InputFile.{Fault, dataset_rows}
-use Rattle.vtl_csv.proofs.InputDataSetLemmas.{dataset_good}
+use Rattle.vtl_csv.proofs.InputDataSetLemmas.{dataset_good, dataset_of_profile}
 use Rattle.sql_tree.specs.Trees as tree
 use Rattle.sql_tree.specs.Trees.{ScriptTree}
 use Rattle.sql_tree.specs.declared.statements.SqlInput.{SqlInput}
@@ -209,3 +211,16 @@ module _ (p : Settings) where
 
   pub sets_again : (es : Named) (ds : Environment) → all_apart same_name (keys_of es) ≡ true → AreSetsOf es ds → sets_read (rows_by_name ds) es ≡ ds
   sets_again es ds apart are = sets_of (rows_by_name ds) es ds are (all_found es ds are apart)
+
+  -- their integers are of the profile, as those of files are
+  ranged_of : (es : Named) (ds : Environment) → AllByRecursion IsDeclared es → AreSetsOf es ds → AllAreOfProfile p ds
+  ranged_of [] [] all are = tt
+  ranged_of [] (d ∷ ds) all are = absurd are
+  ranged_of (e ∷ es) [] all are = absurd are
+  ranged_of (e ∷ es) (d ∷ ds) all are = (
+    subst (λ (x : List ℕ × DataSet). AreOfProfile p x.1.points) (sym are.0.1) (dataset_of_profile p e.1 [] are.0.2.0 are.0.0 all.0.lawful are.0.2.1),
+    ranged_of es ds all.1 are.1,
+  )
+
+  pub sets_ranged : (es : Named) (ds : Environment) → AllByRecursion IsDeclared es → all_apart same_name (keys_of es) ≡ true → AreSetsOf es ds → AllAreOfProfile p (sets_read (rows_by_name ds) es)
+  sets_ranged es ds all apart are = subst (AllAreOfProfile p) (sym (sets_again es ds apart are)) (ranged_of es ds all are)

@@ -4,6 +4,7 @@ use Rattle.std.specs.Prelude.{codes, encode_utf8_all}
 use Rattle.std.specs.List.{AllByRecursion}
 use Rattle.vtl_decimal.specs.Settings.{Settings}
 use Rattle.vtl_decimal.specs.declared.number.Fault.{Fault as EvaluationFault}
+use Rattle.vtl_meaning.specs.Profiles.{AllAreOfProfile}
 use Rattle.vtl_tree.specs.Environment.{Environment}
 use Rattle.vtl_tree.specs.Structures.{AreStructures, Named}
 use Rattle.sql_tree.specs.Trees.{ScriptTree}
@@ -26,7 +27,7 @@ use Rattle.vtl_top.specs.Words.{Engine, Run, Source, engine, run, settings_of}
 use Rattle.vtl_status.specs.declared.status.Status.{Status}
 use Rattle.vtl_top.proofs.AgreementDeclared.{all_declared, step_declares}
 use Rattle.vtl_top.proofs.AgreementExports.{exports_are_outputs}
-use Rattle.vtl_top.proofs.AgreementInputs.{IsDeclared, SameRows, as_input, sets_again, sets_alike, sets_are, sets_given, sets_in, sets_taken, structures_are, then_gives, then_on}
+use Rattle.vtl_top.proofs.AgreementInputs.{IsDeclared, SameRows, as_input, sets_again, sets_alike, sets_are, sets_given, sets_in, sets_ranged, sets_taken, structures_are, then_gives, then_on}
 use Rattle.vtl_top.proofs.AgreementStructures.{HaveStructures, nodes_have_structures, outputs_have_structures, results_have_structures}
 use Rattle.vtl_top.proofs.InputLemmas.{inputs_are}
 use Rattle.vtl_top.proofs.MeantLemmas.{accepted_always}
@@ -65,7 +66,7 @@ made_same first second (Ok here) (Err status) same = absurd same
 made_same first second (Err status) (Ok there) same = absurd same
 made_same first second (Err status) (Err other) same = same
 
--- ---- what a text exports is what its script's outputs are, whatever rows its INPUTs take
+-- ---- what a text exports is what its script's outputs are, whatever rows of the profile its INPUTs take
 module _ (s : Source) (held : Held) (text : Text) (is : IsTextMeant s held text) where
   declared : AreStructures is.typed.structures
   declared = step_declares s.structures held is.typed.structures is.script.source.declared
@@ -73,12 +74,12 @@ module _ (s : Source) (held : Held) (text : Text) (is : IsTextMeant s held text)
   shaped : HaveStructures is.typed.nodes
   shaped = nodes_have_structures (settings_of s) is.typed.structures is.typed.tree is.typed.nodes declared is.script.fits
 
-  pub writes_alike : (folder : Path) (inputs : Inputs) → AreTaken inputs (reads is.typed.structures is.typed.nodes)
+  pub writes_alike : (folder : Path) (inputs : Inputs) → AreTaken inputs (reads is.typed.structures is.typed.nodes) → AllAreOfProfile is.typed.settings (sets_read inputs (reads is.typed.structures is.typed.nodes))
       → exports_of folder is.typed.settings (script_value is.text_of.script inputs) ≡ outputs_of folder is.typed.settings (meant is.typed (sets_read inputs (reads is.typed.structures is.typed.nodes)))
-  writes_alike folder inputs taken =
+  writes_alike folder inputs taken ranged =
       let t = is.typed in
       let sets = sets_read inputs (reads t.structures t.nodes) in
-      ap (exports_of folder t.settings) (is.text_of.means inputs taken)
+      ap (exports_of folder t.settings) (is.text_of.means inputs taken ranged)
       ∙ exports_are_outputs folder t.settings (meaning t.settings (statements_in t) sets) (λ outputs i. outputs_have_structures t.settings (statements_in t) sets outputs i (results_have_structures (transformations t.tree) t.nodes shaped))
 
 module _ (r : Run) (e : Engine) (held other : Held) (twins : AreTwins r e held other) where
@@ -137,7 +138,7 @@ module _ (r : Run) (e : Engine) (held other : Held) (twins : AreTwins r e held o
   value_same : (env : Environment) → sets_in r.input t.settings held [] es ≡ Ok env → exports_of e.output t.settings (script_value tree (rows_by_name env)) ≡ outputs_of e.output t.settings (meant t env)
   value_same env q =
       let are = sets_are t.settings r.input held es env q in
-      writes_alike r.source held twins.text twins.script e.output (rows_by_name env) (sets_taken t.settings es env each read.distinct are)
+      writes_alike r.source held twins.text twins.script e.output (rows_by_name env) (sets_taken t.settings es env each read.distinct are) (sets_ranged t.settings es env each read.distinct are)
       ∙ ap (λ sets. outputs_of e.output t.settings (meant t sets)) (sets_again t.settings es env read.distinct are)
 
   result_same : result_by r.input t.settings (map as_input es) ≡ result_in e.output

@@ -16,7 +16,7 @@ use Rattle.vtl_csv.specs.StructuresFile.{Fault as StructuresFault, structures_of
 use Rattle.vtl_tree.specs.Trees.{NodeTree}
 use Rattle.vtl_scripts.specs.Meaning.{Outputs, is_built}
 use Rattle.vtl_check.specs.Checked.{env_over, TypedScript}
-use Rattle.vtl_check.specs.Script.{has_definitions, script_typed}
+use Rattle.vtl_check.specs.Script.{script_typed}
 use Rattle.vtl_check.specs.Uses.{reads}
 use Rattle.vtl_top.specs.Expected.{Typed, built_step, csv_limit, dataset_step, fault_status, file_in, folder_step, inputs_step, meant, one_more_step, outputs_of, points_or_fault, read, run_step, script_in, script_limit, script_of, script_step, sized, structures_limit, structures_step, text_for, text_step, typed_by, typed_or_fault, typed_step, typing_of, unbuilt, with_points}
 use Rattle.vtl_top.specs.Meant.{IsFaulted, IsMistyped, IsRead, IsReady}
@@ -32,7 +32,7 @@ use Rattle.vtl_top.specs.Wanted.{Placed, all_placed_in, entry_of}
 use Rattle.vtl_top.specs.Words.{Run, Source, settings_of}
 use Rattle.vtl_status.specs.declared.status.Status.{Status}
 use Rattle.vtl_status.specs.declared.status.Status.TheVariants as st
-use Rattle.vtl_top.proofs.MeantLemmas.{after_built, after_plain, after_script, after_structures, after_typing, passes, ready_from, ready_gives, script_there, source_from}
+use Rattle.vtl_top.proofs.MeantLemmas.{after_built, after_script, after_structures, after_typing, ready_from, ready_gives, script_there, source_from}
 
 -- where a status comes from: typing, evaluation, or the files and the form of the script
 pub data Cause : Type 0 where
@@ -165,21 +165,16 @@ module _ (status : Status) (own : is_other (cause status) ≡ false) (held : Hel
       at_typing tree structures is (inl e) = record { tree = tree; structures = structures; is_read = is; typing = e }
       at_typing tree structures is (inr (nodes, given, e)) = absurd (never_ok (typed_by tree structures (settings_of s) nodes) e)
 
-      at_structures : (tree : ScriptTree) (u : Unit {0}) → (script_step s.script).gives held (Ok tree) → (refused_if (has_definitions tree) (unbuilt s)).gives held (Ok u)
+      at_structures : (tree : ScriptTree) → (script_step s.script).gives held (Ok tree)
           → (structures_step s.structures).gives held (Err status) ⊎ ((structures : Named) × (structures_step s.structures).gives held (Ok structures) × (after_structures s tree structures).gives held (Err status)) → ByTypes s
-      at_structures tree u script plain (inl e) =
+      at_structures tree script (inl e) =
           absurd (never_onward (read s.structures structures_limit) (λ bytes. settled (structures_in s.structures bytes)) (never_read s.structures structures_limit) (never_structures s.structures) e)
-      at_structures tree u script plain (inr (structures, is, rest)) =
-          at_typing tree structures (source_from s held tree structures u script plain is) (refused_at (settled (typing_of s tree structures)) (λ nodes. settled (Ok (typed_by tree structures (settings_of s) nodes))) held status rest)
-
-      at_plain : (tree : ScriptTree) → (script_step s.script).gives held (Ok tree)
-          → (refused_if (has_definitions tree) (unbuilt s)).gives held (Err status) ⊎ ((u : Unit {0}) × (refused_if (has_definitions tree) (unbuilt s)).gives held (Ok u) × (after_plain s tree).gives held (Err status)) → ByTypes s
-      at_plain tree script (inl e) = absurd (never_refused (has_definitions tree) (unbuilt s) refl e)
-      at_plain tree script (inr (u, plain, rest)) = at_structures tree u script plain (refused_at (structures_step s.structures) (after_structures s tree) held status rest)
+      at_structures tree script (inr (structures, is, rest)) =
+          at_typing tree structures (source_from s held tree structures script is) (refused_at (settled (typing_of s tree structures)) (λ nodes. settled (Ok (typed_by tree structures (settings_of s) nodes))) held status rest)
 
       at_script : (script_step s.script).gives held (Err status) ⊎ ((tree : ScriptTree) × (script_step s.script).gives held (Ok tree) × (after_script s tree).gives held (Err status)) → ByTypes s
       at_script (inl e) = absurd (never_onward (read s.script script_limit) (script_of s.script) (never_read s.script script_limit) (never_script s.script) e)
-      at_script (inr (tree, is, rest)) = at_plain tree is (refused_at (refused_if (has_definitions tree) (unbuilt s)) (λ plain. after_plain s tree) held status rest)
+      at_script (inr (tree, is, rest)) = at_structures tree is (refused_at (structures_step s.structures) (after_structures s tree) held status rest)
 
   by_types_built : (s : Source) → (built_step s).gives held (Err status) → ByTypes s
   by_types_built s gives = at_types (refused_at (typed_step s) (after_typing s) held status gives)
@@ -252,7 +247,7 @@ mistyped_built : (s : Source) (held : Held) (i rule : ℕ) → IsMistyped s held
 mistyped_built s held i rule is =
     let typing : (settled (typing_of s is.tree is.structures)).gives held (Err (st.Mistyped i rule)) = sym (ap typed_or_fault is.fault) in
     let typed : (typed_step s).gives held (Err (st.Mistyped i rule)) =
-    (Ok is.tree, script_there s held is.tree is.structures is.source, (Ok tt, passes (has_definitions is.tree) (unbuilt s) is.source.plain, (Ok is.structures, is.source.declared, (Err (st.Mistyped i rule), typing, refl)))) in
+    (Ok is.tree, script_there s held is.tree is.structures is.source, (Ok is.structures, is.source.declared, (Err (st.Mistyped i rule), typing, refl))) in
     (Err (st.Mistyped i rule), typed, refl)
 
 pub mistyped_always : (r : Run) (held : Held) (i rule : ℕ) → IsMistyped r.source held i rule → (run_step r).gives held (Err (st.Mistyped i rule))

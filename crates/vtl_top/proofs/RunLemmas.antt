@@ -25,7 +25,6 @@ use Rattle.vtl_syntax.specs.declared.statements.Script.{Script}
 use Rattle.vtl_tree.specs.NotNull.{Declared}
 use Rattle.vtl_tree.specs.Structures.{Named}
 use Rattle.vtl_check.specs.Checked.{TypedScript, nodes_of, tree_of}
-use Rattle.vtl_check.specs.Script.{has_definitions}
 use Rattle.vtl_backend.specs.Inputs.{environment_of, inputs_of}
 use Rattle.vtl_top.specs.Expected.{IsTextOf, Typed, built_step, fault_status, folder_step, meant, outputs_of, points_or_fault, run_step, script_step, structures_step, text_for, text_step, typed_by, typed_step, typing_of, unbuilt}
 use Rattle.vtl_top.specs.InputsRead.{rows_in}
@@ -38,7 +37,7 @@ use Rattle.vtl_status.specs.declared.status.Status.{Status}
 use Rattle.vtl_status.specs.declared.status.Status.TheVariants as st
 use Rattle.vtl_top.proofs.ReadScripts.{if_some_all, settled_given, typing_given}
 use Rattle.vtl_top.proofs.StepLemmas.{misses_none, nothing_read, takes_onward, takes_stopped}
-use Rattle.vtl_top.proofs.MeantLemmas.{after_built, after_plain, after_script, after_structures, after_typing}
+use Rattle.vtl_top.proofs.MeantLemmas.{after_built, after_script, after_structures, after_typing}
 
 module _ {F : Type 0} (g : Ghosts F) (a : F) where
   pub settled_ok : {A X : Type 0} (view : X → A) (x : X) (wanted : Result A Status) → wanted ≡ Ok (view x) → Takes g a a (settled wanted) view (Ok x)
@@ -105,26 +104,17 @@ module _ {F X : Type 0} (g : Ghosts F) (s : Source) (view : X → Typed) (a b : 
   script_refused status t = takes_stopped g (script_step s.script) (after_script s) a b script_tree view status t
 
   module _ (script : Script) (t : Takes g a b (script_step s.script) script_tree (Ok script)) where
-    pub defines_refused : (status : Status) → has_definitions (script_tree script) ≡ true → IsOrMemory (unbuilt s) status → Takes g a b (typed_step s) view (Err status)
-    defines_refused status defines is =
-        takes_onward g (script_step s.script) (after_script s) a b b script_tree view script (Err status) t
-        (takes_stopped g (refused_if (has_definitions (script_tree script)) (unbuilt s)) (λ plain. after_plain s (script_tree script)) b b (λ (u : Unit {0}). u) view status
-        (test_refuses g b (λ (u : Unit {0}). u) s.script (has_definitions (script_tree script)) status defines is))
+    onward : (c : F) (result : Result X Status) → Takes g b c (after_script s (script_tree script)) view result → Takes g a c (typed_step s) view result
+    onward c result rest = takes_onward g (script_step s.script) (after_script s) a b c script_tree view script result t rest
 
-    plainly : (c : F) (result : Result X Status) → has_definitions (script_tree script) ≡ false → Takes g b c (after_plain s (script_tree script)) view result → Takes g a c (typed_step s) view result
-    plainly c result plain rest =
-        takes_onward g (script_step s.script) (after_script s) a b c script_tree view script result t
-        (takes_onward g (refused_if (has_definitions (script_tree script)) (unbuilt s)) (λ plain. after_plain s (script_tree script)) b b c (λ (u : Unit {0}). u) view tt result
-        (test_passes g b (has_definitions (script_tree script)) (unbuilt s) plain) rest)
+    pub structures_refused : (c : F) (status : Status) → Takes g b c (structures_step s.structures) (λ (x : Declared). x.sets) (Err status) → Takes g a c (typed_step s) view (Err status)
+    structures_refused c status u =
+        onward c (Err status) (takes_stopped g (structures_step s.structures) (after_structures s (script_tree script)) b c (λ (x : Declared). x.sets) view status u)
 
-    pub structures_refused : (c : F) (status : Status) → has_definitions (script_tree script) ≡ false → Takes g b c (structures_step s.structures) (λ (x : Declared). x.sets) (Err status) → Takes g a c (typed_step s) view (Err status)
-    structures_refused c status plain u =
-        plainly c (Err status) plain (takes_stopped g (structures_step s.structures) (after_structures s (script_tree script)) b c (λ (x : Declared). x.sets) view status u)
-
-    pub then_typed : (c : F) (structures : Declared) (result : Result X Status) → has_definitions (script_tree script) ≡ false → Takes g b c (structures_step s.structures) (λ (x : Declared). x.sets) (Ok structures)
+    pub then_typed : (c : F) (structures : Declared) (result : Result X Status) → Takes g b c (structures_step s.structures) (λ (x : Declared). x.sets) (Ok structures)
         → Takes g c c (after_structures s (script_tree script) structures.sets) view result → Takes g a c (typed_step s) view result
-    then_typed c structures result plain u rest =
-        plainly c result plain (takes_onward g (structures_step s.structures) (after_structures s (script_tree script)) b c c (λ (x : Declared). x.sets) view structures result u rest)
+    then_typed c structures result u rest =
+        onward c result (takes_onward g (structures_step s.structures) (after_structures s (script_tree script)) b c c (λ (x : Declared). x.sets) view structures result u rest)
 
 module _ {F : Type 0} (g : Ghosts F) (s : Source) (a : F) (tree : ScriptTree) (structures : Named) where
   typed_same : (t : TypedScript) → tree_of t ≡ tree → t.declared ≡ structures → t.settings ≡ (settings_of s) → typed_by tree structures (settings_of s) (nodes_of t) ≡ typed_view t

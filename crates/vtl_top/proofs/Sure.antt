@@ -91,10 +91,9 @@ folder_sure folder p es = inputs_sure p [] (all_placed_in folder es)
 typed_sure : (s : Source) → Sure (typed_step s)
 typed_sure s =
     then_sure _ _ (then_sure _ _ (looked_sure _ _) (λ bytes. script_sure s.script bytes)) (λ tree.
-    then_sure _ _ (settled_sure _) (λ plain.
     then_sure _ _ (structures_sure s.structures) (λ structures.
     then_sure _ _ (settled_sure _) (λ nodes.
-    settled_sure _))))
+    settled_sure _)))
 
 pub built_sure : (s : Source) → Sure (built_step s)
 built_sure s = then_sure _ _ (typed_sure s) (λ t. then_sure _ _ (settled_sure _) (λ built. settled_sure _))

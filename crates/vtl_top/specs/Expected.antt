@@ -17,7 +17,7 @@ use Rattle.vtl_tree.specs.declared.structure.Structure.{Structure}
 use Rattle.vtl_csv.specs.CsvText.{csv_of}
 use Rattle.vtl_csv.specs.InputFile.{Fault, dataset_rows}
 use Rattle.vtl_check.specs.Checked.{env_over}
-use Rattle.vtl_check.specs.Script.{has_definitions, script_typed}
+use Rattle.vtl_check.specs.Script.{script_typed}
 use Rattle.vtl_check.specs.Uses.{reads}
 use Rattle.sql_back.specs.Texts.{IsTextFor}
 use Rattle.vtl_top.specs.ScriptFile.{IsParsed, Parsed, faulty, no_text, whole}
@@ -143,7 +143,6 @@ unbuilt s = st.Unbuilt (chars s.script)
 abbrev pub typed_step : Source → Step Typed
 typed_step s =
     script_step s.script >>= λ tree.
-    refused_if (has_definitions tree) (unbuilt s) >>= λ plain.
     structures_step s.structures >>= λ structures.
     settled (typing_of s tree structures) >>= λ nodes.
     settled (Ok (typed_by tree structures (settings_of s) nodes))

@@ -1,12 +1,12 @@
 -- The outputs of a run, and the text of a script in SQL, in the words of the language: what the script means over its inputs.
-use Rattle.std.specs.Prelude.{◌≡◌, ℕ, false, true, List, map, Err, Ok, IsUtf8}
+use Rattle.std.specs.Prelude.{◌≡◌, ℕ, true, List, map, Err, Ok, IsUtf8}
 use Rattle.vtl_syntax.specs.Trees.{ScriptTree}
 use Rattle.vtl_parser.specs.Parsed.{IsScript}
 use Rattle.vtl_tree.specs.Environment.{Environment}
 use Rattle.vtl_tree.specs.Structures.{Named}
 use Rattle.vtl_decimal.specs.declared.number.Fault.{Fault}
 use Rattle.vtl_check.specs.Checked.{env_over}
-use Rattle.vtl_check.specs.Script.{has_definitions, script_typed}
+use Rattle.vtl_check.specs.Script.{script_typed}
 use Rattle.vtl_check.specs.Uses.{reads}
 use Rattle.vtl_scripts.specs.Meaning.{Outputs, is_built}
 use Rattle.std.specs.List.{list_all}
@@ -14,13 +14,12 @@ use Rattle.vtl_top.specs.Expected.{IsTextOf, Typed, content, folder_step, meant,
 use Rattle.vtl_top.specs.Steps.{File, Held, Name, Text}
 use Rattle.vtl_top.specs.Words.{Run, Source, settings_of}
 
--- The script's tree and the structures are those of the files, and the script defines no rulesets.
+-- The script's tree and the structures are those of the files.
 pub record IsRead (s : Source) (held : Held) (tree : ScriptTree) (structures : Named) : Type 0 where
   pub text : Text
   pub script : content s.script script_limit held ≡ Ok text
   pub utf8 : IsUtf8 text
   pub parsed : IsScript text tree
-  pub plain : has_definitions tree ≡ false
   pub declared : (structures_step s.structures).gives held (Ok structures)
 
 -- That script is typed over the structures with the settings of the source, and each of its expressions is evaluated.

@@ -11,6 +11,7 @@ ghost use Rattle.vtl_csv.specs.InputFile.{dataset_rows};
 ghost use Rattle.vtl_csv.specs.StructuresFile.{structures_of_file};
 ghost use Rattle.vtl_check.specs.Uses.{reads};
 ghost use Rattle.vtl_decimal.specs.Settings.{Settings};
+ghost use Rattle.vtl_meaning.specs.Profiles.{AllAreOfProfile};
 ghost use Rattle.sql_engine.specs.Structures.{structure_of};
 ghost use Rattle.sql_meaning.specs.Scripts.{Inputs, script_value};
 ghost use Rattle.vtl_to_sql.specs.Inputs.{AreTaken, sets_read};
@@ -41,9 +42,9 @@ pub fn output_is_meant()
     ensures always { (r : Run) (held : Held) (files : List File) → IsMeant r held files → (run_step r).gives held (Ok files) }
 {}
 
-/// A run, in SQL or not, is `Mistyped` exactly where its script, without rulesets, breaks a rule over its structures: by
-/// the first statement that does, and by its rule. Neither the form of the statements nor the data sets are looked at
-/// before. The same holds where the text of the script in SQL is asked for.
+/// A run, in SQL or not, is `Mistyped` exactly where its script breaks a rule over its structures: by the first statement
+/// that does, and by its rule. Neither whether the forms are evaluated nor the data sets are looked at before. The same
+/// holds where the text of the script in SQL is asked for.
 pub fn mistyped_is_first_fault()
     ensures only { (r : Run) (held : Held) (statement rule : ℕ) → (run_step r).gives held (Err (Status.Mistyped statement rule)) → IsMistyped r.source held statement rule }
     ensures always { (r : Run) (held : Held) (statement rule : ℕ) → IsMistyped r.source held statement rule → (run_step r).gives held (Err (Status.Mistyped statement rule)) }
@@ -92,10 +93,10 @@ pub fn inputs_take_alike()
     ensures { (name : Name) (text : Text) (all : Named) (t : Structure) (p : Settings) (bytes : Text) → structures_of_file text ≡ Ok all → lookup (same_name name) all ≡ Some t → dataset_rows p (structure_of (input_of (name, t))) [] bytes ≡ dataset_rows p t [] bytes }
 {}
 
-/// What the text of a script exports, over all rows that its INPUTs take, is in names and bytes what the outputs of the
-/// script are, or the same fault.
+/// What the text of a script exports, over all rows that its INPUTs take and whose integers are of the profile, is in names
+/// and bytes what the outputs of the script are, or the same fault.
 pub fn texts_write_alike()
-    ensures { (s : Source) (held : Held) (text : Text) (is : IsTextMeant s held text) (folder : Path) (inputs : Inputs) → AreTaken inputs (reads is.typed.structures is.typed.nodes) → exports_of folder is.typed.settings (script_value is.text_of.script inputs) ≡ outputs_of folder is.typed.settings (meant is.typed (sets_read inputs (reads is.typed.structures is.typed.nodes))) }
+    ensures { (s : Source) (held : Held) (text : Text) (is : IsTextMeant s held text) (folder : Path) (inputs : Inputs) → AreTaken inputs (reads is.typed.structures is.typed.nodes) → AllAreOfProfile is.typed.settings (sets_read inputs (reads is.typed.structures is.typed.nodes)) → exports_of folder is.typed.settings (script_value is.text_of.script inputs) ≡ outputs_of folder is.typed.settings (meant is.typed (sets_read inputs (reads is.typed.structures is.typed.nodes))) }
 {}
 
 /// Two outcomes of a command over the same held bytes have the same status, and but for `sql`, whose text may be any text

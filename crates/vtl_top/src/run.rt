@@ -24,7 +24,7 @@ use sql_back::text_of;
 use std::alloc::Global;
 use std::str;
 use vtl_backend::{Backend, is_built};
-use vtl_check::{Checked, defines_rulesets};
+use vtl_check::Checked;
 use vtl_files::Files;
 use vtl_parser::{ParseErr, parse};
 use vtl_status::Status;
@@ -101,9 +101,6 @@ pub fn read_typed<F: Files>(
     ensures { Takes F.Files files.old files.new (typed_step (source_view source.now)) typed_view result }
 {
     let script = read_script(alloc, files, source.script)?;
-    if defines_rulesets(&script) {
-        return Err(unbuilt(alloc, source.script));
-    }
     let structures = read_structures_file(alloc, files, source.structures)?;
     let profile = source.chosen.profile(None);
     typed(alloc, &script, &structures, &profile)

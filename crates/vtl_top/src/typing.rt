@@ -2,11 +2,11 @@
 //
 // The settings of a run stand in the typed script alone once it is typed: typing is handed them, and inputs
 // are read and outputs written with what `Checked` holds. So no clause ties two copies of them.
-ghost use Rattle.std.specs.Prelude.{◌≡◌, IfOk, false};
+ghost use Rattle.std.specs.Prelude.{◌≡◌, IfOk};
 ghost use Rattle.vtl_syntax.specs.View.{script_tree};
 ghost use Rattle.vtl_syntax.specs.Written.{AreWritten};
 ghost use Rattle.vtl_check.specs.Checked.{env_over, nodes_of};
-ghost use Rattle.vtl_check.specs.Script.{has_definitions, script_typed};
+ghost use Rattle.vtl_check.specs.Script.{script_typed};
 ghost use Rattle.vtl_top.specs.Expected.{typed_or_fault};
 ghost use Rattle.vtl_top.specs.Refusal.{SettlesBy};
 
@@ -25,8 +25,7 @@ pub fn typed(
     structures: &Structures,
     profile: &Profile,
 ) -> Result<Checked, Status>
-    requires written { AreWritten (script_tree script.now) }
-    requires plain { has_definitions (script_tree script.now) ≡ false }
+    requires { AreWritten (script_tree script.now) }
     ensures typing { SettlesBy nodes_of (typed_or_fault (script_typed (env_over profile.now structures.now.sets) (script_tree script.now))) result }
     ensures script { IfOk result (λ c. c.script ≡ script.now.statements) }
     ensures declared { IfOk result (λ c. c.declared ≡ structures.now.sets) }

@@ -1,12 +1,13 @@
-use Rattle.std.proofs.Common.{◌≡◌, ◌≤◌, map, []}
-use Rattle.vtl_tree.specs.NodeView.{node_tree}
-use Rattle.check_operators.specs.Places.{env_of}
-use Rattle.vtl_check.specs.Script.{most_nodes, transformations_typed}
-use Rattle.vtl_check.proofs.LeftLemmas.{left}
+use Rattle.std.proofs.Common.{◌≡◌, ◌≤◌, map}
+use Rattle.vtl_syntax.specs.View.{statement_tree}
+use Rattle.vtl_check.specs.Checked.{env_over}
+use Rattle.vtl_check.specs.Script.{most_nodes, script_typed}
+use Rattle.vtl_check.specs.Steps.{walked}
+use Rattle.vtl_check.proofs.StepLemmas.{typed_from}
 use Rattle.vtl_check.proofs.script.typed_statements.Given as goal
 
 abbrev pub invariant-loop-i : goal.invariant-loop-i
 invariant-loop-i l = record {
-  few : l.before ≤ most_nodes;
-  typing : transformations_typed (env_of l.scope) l.before (map node_tree l.nodes.items) (left l.statements l.i) ≡ transformations_typed (env_of l.fn.scope) 0 [] (left l.statements 0);
+  few : l.walk.before ≤ most_nodes;
+  typing : typed_from l.statements l.i (walked l.walk) ≡ script_typed (env_over l.fn.scope.profile l.fn.scope.known) (map statement_tree l.statements);
 }

@@ -2,7 +2,7 @@ use Rattle.std.proofs.Common.{◌≡◌, ◌∷◌, [], Ok, map, refl, subst}
 use Rattle.std.specs.Prelude.{IfOk}
 use Rattle.vtl_scalar.specs.Answers.{Answers}
 use Rattle.vtl_tree.specs.Trees as nodes
-use Rattle.vtl_tree.specs.NodeView.{agg_tree, analytic_tree, item_tree, measure_tree, node_tree}
+use Rattle.vtl_tree.specs.NodeView.{agg_tree, analytic_tree, item_tree, measure_tree, node_tree, point_rules_tree}
 use Rattle.vtl_tree.specs.declared.choices.Choice.TheVariants as choice
 use Rattle.vtl_tree.specs.declared.names.Wanted.TheVariants as wanted
 use Rattle.vtl_tree.specs.declared.nodes.NodeForm.TheVariants as form
@@ -13,7 +13,9 @@ use Rattle.vtl_meaning.specs.Made.{IsLeft, IsRenamed}
 use Rattle.vtl_meaning.specs.Operators.{calculated_of, left_of, measured_of, sub_of}
 use Rattle.vtl_meaning.specs.Shapes.{IsChosen, IsRenamedBy}
 use Rattle.vtl_meaning.specs.Turned.{pivot_of, unpivot_of}
-use Rattle.vtl_interp.proofs.NodesEvaluated.{aggregate_fits, analytic_fits, form_tree-Aggregate, form_tree-Analytic, form_tree-Calc, form_tree-DropNamed, form_tree-Keep, form_tree-Measures, form_tree-Member, form_tree-Pivot, form_tree-Rename, form_tree-Sub, form_tree-Unpivot, measures_fit, one_fits, one_given_at, one_operand, renamed}
+use Rattle.vtl_rulings.specs.PointChecks.{datapoint_of}
+use Rattle.vtl_rulings.specs.Shaped.{IsPointChecked}
+use Rattle.vtl_interp.proofs.NodesEvaluated.{aggregate_fits, analytic_fits, form_tree-Aggregate, form_tree-Analytic, form_tree-Calc, form_tree-CheckDatapoint, form_tree-DropNamed, form_tree-Keep, form_tree-Measures, form_tree-Member, form_tree-Pivot, form_tree-Rename, form_tree-Sub, form_tree-Unpivot, measures_fit, one_fits, one_given_at, one_operand, renamed}
 use Rattle.vtl_interp.proofs.applied.made_of_one.Goals as goal
 
 pub map_measures-requires : goal.map_measures-requires
@@ -244,3 +246,24 @@ returns-in-Analytic c env made g =
     one_operand (λ d. d) c.args.p.now env n (form.Analytic x.a x.spec) (nodes.analytic_of a (analytic_tree x.spec)) a v (λ d. analytic_of c.args.p.now (analytic_tree x.spec) d s) c.analytic.result x.is (form_tree-Analytic x.a x.spec) refl
     (one_given_at c.args.p.now env n (form.Analytic x.a x.spec) (nodes.analytic_of a (analytic_tree x.spec)) v x.is (form_tree-Analytic x.a x.spec) g)
     c.analytic.ensures
+
+pub check_datapoint-requires : goal.check_datapoint-requires
+check_datapoint-requires c =
+    let n = c.args.node.now in
+    let v = c.args.a in
+    let x = c.in-CheckDatapoint in
+    let a = node_tree x.a.value in
+    let tree = nodes.check_datapoint a (point_rules_tree x.rules) x.out in
+    one_fits (IsPointChecked c.args.p.now x.out (point_rules_tree x.rules).rules) c.args.p.now c.requires.0 n (form.CheckDatapoint x.a x.rules x.out) tree a v x.is (form_tree-CheckDatapoint x.a x.rules x.out) (λ m. m.1) c.requires.1
+    (one_given_at c.args.p.now c.requires.0 n (form.CheckDatapoint x.a x.rules x.out) tree v x.is (form_tree-CheckDatapoint x.a x.rules x.out) c.requires.2)
+
+pub returns-in-CheckDatapoint : goal.returns-in-CheckDatapoint
+returns-in-CheckDatapoint c env made g =
+    let n = c.args.node.now in
+    let v = c.args.a in
+    let x = c.in-CheckDatapoint in
+    let a = node_tree x.a.value in
+    let tree = nodes.check_datapoint a (point_rules_tree x.rules) x.out in
+    one_operand (λ d. d) c.args.p.now env n (form.CheckDatapoint x.a x.rules x.out) tree a v (λ d. datapoint_of c.args.p.now x.out (point_rules_tree x.rules).rules d) c.check_datapoint.result x.is (form_tree-CheckDatapoint x.a x.rules x.out) refl
+    (one_given_at c.args.p.now env n (form.CheckDatapoint x.a x.rules x.out) tree v x.is (form_tree-CheckDatapoint x.a x.rules x.out) g)
+    c.check_datapoint.ensures

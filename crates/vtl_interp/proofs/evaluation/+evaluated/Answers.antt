@@ -10,9 +10,9 @@ use Rattle.vtl_meaning.specs.Made.{AreCombined, IsJoined}
 use Rattle.vtl_scripts.specs.Meaning.{nodes_value, operands_value}
 use Rattle.vtl_meaning.specs.Shapes.{IsJoinedFrom}
 use Rattle.vtl_interp.specs.Evaluated.{Evaluates, Gives}
-use Rattle.vtl_interp.specs.Values.{under_aliases, value_view, values_view}
-use Rattle.vtl_interp.proofs.Evaluates.{operands_named}
-use Rattle.vtl_interp.proofs.NodesEvaluated.{choice_gives, choose_fits, form_tree-Intersect, form_tree-Union, join_fits, join_named, name_gives, name_is_held, second_stops, several_fit}
+use Rattle.vtl_interp.specs.Values.{maybe_view, under_aliases, value_view, values_view}
+use Rattle.vtl_interp.proofs.Evaluates.{operands_named, some_given, some_stops}
+use Rattle.vtl_interp.proofs.NodesEvaluated.{check_fits, check_gives, choice_gives, choose_fits, form_tree-Intersect, form_tree-Union, imbalance_stops, join_fits, join_named, name_gives, name_is_held, second_stops, several_fit}
 use Rattle.vtl_interp.proofs.evaluation.+evaluated.Goals as goal
 
 pub evaluate-unreachable-requires : goal.evaluate-unreachable-requires
@@ -102,3 +102,32 @@ evaluate-intersect-requires t c =
     subst (λ xs. AreCombined (structures_of (map value_view xs)) c.args.node.now.structure) (sym c.deref-in-Intersect-2.ensures.value)
     (several_fit c.args.p.now env c.args.node.now (form.Intersect ns) ns.items (values_view sets) (nodes.intersect (nodes_of (map node_tree ns.items))) c.in-Intersect.is (form_tree-Intersect ns) (λ m. m.1) c.requires.made
     (subst (λ xs. nodes_value c.args.p.now env (nodes_of (map node_tree xs)) ≡ Ok (values_view sets)) c.deref-in-Intersect.ensures.value c.in_ok-sets-in-Intersect.ensures))
+
+pub evaluate-check-requires : goal.evaluate-check-requires
+evaluate-check-requires t c =
+    let env = c.args.known.now.entries in
+    let x = c.in-Check in
+    let d = value_view c.in_ok-tested-in-Check.tested in
+    check_fits c.args.p.now env c.args.node.now x.a x.imbalance x.spec d (maybe_view c.in_ok-other-in-Check.other) x.is c.requires.made
+    (subst (λ n. Gives c.args.p.now env (node_tree n) d) c.deref-in-Check.ensures c.in_ok-tested-in-Check.ensures)
+    c.in_ok-other-in-Check.ensures
+
+pub evaluate-returns-in_ok-other-in-Check : goal.evaluate-returns-in_ok-other-in-Check
+evaluate-returns-in_ok-other-in-Check t c =
+    let env = c.args.known.now.entries in
+    let x = c.in-Check in
+    let d = value_view c.in_ok-tested-in-Check.tested in
+    check_gives value_view c.args.p.now env c.args.node.now x.a x.imbalance x.spec d (maybe_view c.in_ok-other-in-Check.other) c.check.result x.is
+    (subst (λ n. Gives c.args.p.now env (node_tree n) d) c.deref-in-Check.ensures c.in_ok-tested-in-Check.ensures)
+    c.in_ok-other-in-Check.ensures c.check.ensures
+
+pub evaluate-returns-in_err-other-in-Check : goal.evaluate-returns-in_err-other-in-Check
+evaluate-returns-in_err-other-in-Check t c =
+    let env = c.args.known.now.entries in
+    let x = c.in-Check in
+    let d = value_view c.in_ok-tested-in-Check.tested in
+    let e = c.in_err-other-in-Check.field-0.0 in
+    let passed : c.from_residual-in_err-other-in-Check.result ≡ Err e = search rules in
+    rw passed (imbalance_stops maybe_view value_view c.args.p.now env c.args.node.now x.a x.imbalance x.spec d e x.is
+    (subst (λ n. Gives c.args.p.now env (node_tree n) d) c.deref-in-Check.ensures c.in_ok-tested-in-Check.ensures)
+    c.in_err-other-in-Check.ensures)

@@ -1,11 +1,12 @@
-use Rattle.std.proofs.Common.{arith, subst}
+use Rattle.std.proofs.Common.{◌<◌, ◌^◌, List, length, arith, subst}
 use Rattle.std.specs.List.{AllByRecursion}
 use Rattle.vtl_tree.specs.View.{comp_exp_of}
-use Rattle.vtl_tree.specs.NodeView.{node_tree, value_tree}
+use Rattle.vtl_tree.specs.NodeView.{node_tree, point_rule_tree, value_tree}
+use Rattle.vtl_tree.specs.declared.rules.DatapointRule.{DatapointRule}
 use Rattle.vtl_meaning.specs.Operators.{value_exp}
 use Rattle.expressions_to_sql.specs.Held.{HoldsValues}
-use Rattle.vtl_to_sql.specs.Accepted.{HoldsParts}
-use Rattle.vtl_to_sql.proofs.HeldConstants.{calc_node_held, intersect_node_held, join_node_held, measures_node_held, pair_node_held, union_node_held}
+use Rattle.vtl_to_sql.specs.Accepted.{HoldsParts, RuleHoldsValues}
+use Rattle.vtl_to_sql.proofs.HeldConstants.{calc_node_held, check_node_held, datapoint_node_held, intersect_node_held, join_node_held, measures_node_held, pair_node_held, union_node_held}
 use Rattle.vtl_to_sql.proofs.constants.+constants.Goals as goal
 
 pub node_is_held-returns-in-Measures : goal.node_is_held-returns-in-Measures
@@ -41,3 +42,12 @@ node_is_held-returns-in-Join t c =
     let ok = c.in-Join.operands.ok in
     let many = c.len-numbered.ensures in
     join_node_held c.args.node.now c.in-Join.operands c.in-Join.spec c.in-Join.is (subst (AllByRecursion (λ o. HoldsParts (node_tree o.node))) c.deref-in-Join.ensures.value c.operands_are_held.ensures) (omega (arith, small, ok, many))
+
+pub node_is_held-returns-in-Check : goal.node_is_held-returns-in-Check
+node_is_held-returns-in-Check t c =
+    check_node_held c.args.node.now c.in-Check.a c.in-Check.imbalance c.in-Check.spec c.in-Check.is (subst (λ n. HoldsParts (node_tree n)) c.deref-in-Check.ensures c.node_is_held-in-Check.ensures) c.maybe_is_held.ensures c.errors_are_held.ensures
+
+pub node_is_held-returns-in-CheckDatapoint : goal.node_is_held-returns-in-CheckDatapoint
+node_is_held-returns-in-CheckDatapoint t c =
+    datapoint_node_held c.args.node.now c.in-CheckDatapoint.a c.in-CheckDatapoint.rules c.in-CheckDatapoint.out c.in-CheckDatapoint.is (subst (λ n. HoldsParts (node_tree n)) c.deref-in-CheckDatapoint.ensures c.node_is_held-in-CheckDatapoint.ensures)
+    (subst (AllByRecursion (λ r. RuleHoldsValues (point_rule_tree r))) c.as_slice-in-CheckDatapoint.ensures c.rules_are_held.ensures.rules) (subst (λ (l : List DatapointRule). length l < 2 ^ 64) c.as_slice-in-CheckDatapoint.ensures c.rules_are_held.ensures.few)

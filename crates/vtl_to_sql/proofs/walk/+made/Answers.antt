@@ -1,9 +1,12 @@
-use Rattle.std.proofs.Common.{◌∷◌, [], ◌++◌, ℕ, ◌+◌, ◌-◌, ◌≤◌, List, length, take, drop, ap, map, refl, subst, sym, ◌∙◌}
+use Rattle.std.proofs.Common.{◌∷◌, [], ◌++◌, ℕ, ◌+◌, ◌-◌, ◌≤◌, List, Option, length, take, drop, ap, map, refl, subst, sym, ◌∙◌}
 use Rattle.std.proofs.lemmas.Result.{IfOk-weaker}
+use Rattle.std.specs.Prelude.{Box}
+use Rattle.std.specs.declared.alloc.Global.{Global}
 use Rattle.vtl_tree.specs.Shown.{shown}
 use Rattle.vtl_tree.specs.Trees.{FormTree, structure_of}
 use Rattle.vtl_tree.specs.NodeView.{form_tree, node_tree}
 use Rattle.vtl_tree.specs.declared.nodes.Node.{Node}
+use Rattle.vtl_tree.specs.declared.nodes.NodeForm.TheVariants as form
 use Rattle.vtl_tree.specs.declared.renaming.Renaming.{Renaming}
 use Rattle.sql_tree.specs.View.{query_tree, statement_tree}
 use Rattle.vtl_to_sql.specs.Combined.{combined_made}
@@ -12,7 +15,7 @@ use Rattle.selects_to_sql.specs.Tables.{create_for, Made, and_then, with_one, wi
 use Rattle.vtl_to_sql.specs.Tables.{made_of_form, sources_of}
 use Rattle.vtl_to_sql.proofs.JoinNodes.{join_gives, join_of_form}
 use Rattle.vtl_to_sql.proofs.Combining.{alone, begun, ended, ends, intersection_of_form, left_ready, one_more, turn_made, union_of_form}
-use Rattle.vtl_to_sql.proofs.Walked.{behind_names, behind_others, one_made, one_renamed, tree_of_choose, tree_of_named, two_made}
+use Rattle.vtl_to_sql.proofs.Walked.{behind_names, behind_others, check_made, imbalance_made, one_made, one_renamed, tree_of_choose, tree_of_named, two_made}
 use Rattle.vtl_to_sql.proofs.walk.+made.Goals as goal
 
 pub join-returns-clause-query : goal.join-returns-clause-query
@@ -64,7 +67,7 @@ query-returns-in_ok-operand-in-len1-up-clause-query t c =
     let f = c.args.form.now in
     let some = subst (λ (l : List Renaming). 1 ≤ length l) c.as_slice.ensures c.in-len1-up.len_at_least in
     let named = c.in_ok-operand-in-len1-up.ensures.name ∙ ap (λ (x : Node). (sources_of p r (node_tree x) n).names) c.deref-in-len1-up.ensures in
-    IfOk-weaker c.query_of_one.result _ _ (λ q e. e ∙ ap (with_one (query_of_one p (form_tree f) s)) named ∙ sym (ap (λ (m : Made). m.query) (one_renamed p r s f c.in-Rename.a c.in-Rename.pairs n c.in-Rename.is some))) c.query_of_one.ensures
+    IfOk-weaker c.query_of_one-in-len1-up.result _ _ (λ q e. e ∙ ap (with_one (query_of_one p (form_tree f) s)) named ∙ sym (ap (λ (m : Made). m.query) (one_renamed p r s f c.in-Rename.a c.in-Rename.pairs n c.in-Rename.is some))) c.query_of_one-in-len1-up.ensures
 
 pub query-returns-in_ok-second-in-Pair-clause-query : goal.query-returns-in_ok-second-in-Pair-clause-query
 query-returns-in_ok-second-in-Pair-clause-query t c =
@@ -82,7 +85,7 @@ query-returns-in_ok-second-in-Pair-clause-query t c =
     ∙ ap (λ (x : Node). (and_then (of x n) (of c.deref-in-Pair-2.result.now)).names) c.deref-in-Pair.ensures
     ∙ ap (λ (x : Node). (and_then (of a.value n) (of x)).names) c.deref-in-Pair-2.ensures
     in
-    IfOk-weaker c.query_of_two.result _ _ (λ q e. e ∙ ap (with_two (query_of_two p (form_tree f) s)) named ∙ sym (ap (λ (m : Made). m.query) (two_made p r s f a b n c.in-Pair.is))) c.query_of_two.ensures
+    IfOk-weaker c.query_of_two-in-Pair.result _ _ (λ q e. e ∙ ap (with_two (query_of_two p (form_tree f) s)) named ∙ sym (ap (λ (m : Made). m.query) (two_made p r s f a b n c.in-Pair.is))) c.query_of_two-in-Pair.ensures
 
 pub query-returns-in_ok-second-in-Pair-clause-tables : goal.query-returns-in_ok-second-in-Pair-clause-tables
 query-returns-in_ok-second-in-Pair-clause-tables t c =
@@ -102,6 +105,114 @@ query-returns-in_ok-second-in-Pair-clause-tables t c =
     ∙ ap (λ (x : Node). old ++ map create_for (and_then (of c.in-Pair.a.value n) (of x)).tables) c.deref-in-Pair-2.ensures
     ∙ sym (ap (λ (m : Made). old ++ map create_for m.tables) (two_made p r c.args.s.now f c.in-Pair.a c.in-Pair.b n c.in-Pair.is))
     in
+    IfOk-weaker c.query_of_two-in-Pair.result _ _ (λ q e. fact) c.query_of_two-in-Pair.ensures
+
+pub query-returns-in_default-imbalance-clause-query : goal.query-returns-in_default-imbalance-clause-query
+query-returns-in_default-imbalance-clause-query t c =
+    let p = c.args.writer.now in
+    let r = c.args.target.now in
+    let s = c.args.s.now in
+    let n = c.args.draft.now.next in
+    let f = c.args.form.now in
+    let a = c.in-Check.a in
+    let spec = c.in-Check.spec in
+    let is = c.in-Check.is ∙ ap (λ (o : Option (Box Node Global)). form.Check a o spec) c.in_default-imbalance.is in
+    let named = c.in_ok-first-in-Check.ensures.name ∙ ap (λ (x : Node). (sources_of p r (node_tree x) n).names) c.deref.ensures in
+    IfOk-weaker c.query_of_one.result _ _ (λ q e. e ∙ ap (with_one (query_of_one p (form_tree f) s)) named ∙ sym (ap (λ (m : Made). m.query) (check_made p r s f a spec n is))) c.query_of_one.ensures
+
+pub query-returns-in_default-imbalance-clause-tables : goal.query-returns-in_default-imbalance-clause-tables
+query-returns-in_default-imbalance-clause-tables t c =
+    let p = c.args.writer.now in
+    let r = c.args.target.now in
+    let n = c.args.draft.now.next in
+    let a = c.in-Check.a in
+    let spec = c.in-Check.spec in
+    let is = c.in-Check.is ∙ ap (λ (o : Option (Box Node Global)). form.Check a o spec) c.in_default-imbalance.is in
+    let old = map statement_tree c.args.draft.now.statements.items in
+    let fact =
+    c.in_ok-first-in-Check.ensures.tables
+    ∙ ap (λ (x : Node). old ++ map create_for (sources_of p r (node_tree x) n).tables) c.deref.ensures
+    ∙ sym (ap (λ (m : Made). old ++ map create_for m.tables) (check_made p r c.args.s.now c.args.form.now a spec n is))
+    in
+    IfOk-weaker c.query_of_one.result _ _ (λ q e. fact) c.query_of_one.ensures
+
+pub query-returns-in_default-imbalance-clause-next : goal.query-returns-in_default-imbalance-clause-next
+query-returns-in_default-imbalance-clause-next t c =
+    let p = c.args.writer.now in
+    let r = c.args.target.now in
+    let n = c.args.draft.now.next in
+    let a = c.in-Check.a in
+    let spec = c.in-Check.spec in
+    let is = c.in-Check.is ∙ ap (λ (o : Option (Box Node Global)). form.Check a o spec) c.in_default-imbalance.is in
+    let fact =
+    c.in_ok-first-in-Check.ensures.next
+    ∙ ap (λ (x : Node). (sources_of p r (node_tree x) n).next) c.deref.ensures
+    ∙ sym (ap (λ (m : Made). m.next) (check_made p r c.args.s.now c.args.form.now a spec n is))
+    in
+    IfOk-weaker c.query_of_one.result _ _ (λ q e. fact) c.query_of_one.ensures
+
+pub query-returns-in_ok-second-in-Check-clause-query : goal.query-returns-in_ok-second-in-Check-clause-query
+query-returns-in_ok-second-in-Check-clause-query t c =
+    let p = c.args.writer.now in
+    let r = c.args.target.now in
+    let s = c.args.s.now in
+    let n = c.args.draft.now.next in
+    let f = c.args.form.now in
+    let of = λ (x : Node) (m : ℕ). sources_of p r (node_tree x) m in
+    let a = c.in-Check.a in
+    let b = c.in-Some.imbalance in
+    let spec = c.in-Check.spec in
+    let is = c.in-Check.is ∙ ap (λ (o : Option (Box Node Global)). form.Check a o spec) c.in-Some.is in
+    let one = c.in_ok-first-in-Check.ensures in
+    let named =
+    behind_names (of c.deref.result.now n) (of c.deref-in-Check.result.now) c.in_ok-first-in-Check.first c.in_ok-second-in-Check.second c.source.new.draft.next one.name one.next c.in_ok-second-in-Check.ensures.name
+    ∙ ap (λ (x : Node). (and_then (of x n) (of c.deref-in-Check.result.now)).names) c.deref.ensures
+    ∙ ap (λ (x : Node). (and_then (of a.value n) (of x)).names) c.deref-in-Check.ensures
+    in
+    IfOk-weaker c.query_of_two.result _ _ (λ q e. e ∙ ap (with_two (query_of_two p (form_tree f) s)) named ∙ sym (ap (λ (m : Made). m.query) (imbalance_made p r s f a b spec n is))) c.query_of_two.ensures
+
+pub query-returns-in_ok-second-in-Check-clause-tables : goal.query-returns-in_ok-second-in-Check-clause-tables
+query-returns-in_ok-second-in-Check-clause-tables t c =
+    let p = c.args.writer.now in
+    let r = c.args.target.now in
+    let n = c.args.draft.now.next in
+    let old = map statement_tree c.args.draft.now.statements.items in
+    let of = λ (x : Node) (m : ℕ). sources_of p r (node_tree x) m in
+    let x = c.deref.result.now in
+    let y = c.deref-in-Check.result.now in
+    let a = c.in-Check.a in
+    let b = c.in-Some.imbalance in
+    let spec = c.in-Check.spec in
+    let is = c.in-Check.is ∙ ap (λ (o : Option (Box Node Global)). form.Check a o spec) c.in-Some.is in
+    let one = c.in_ok-first-in-Check.ensures in
+    let fact =
+    behind_others (of x n) (of y) old (map statement_tree c.source.new.draft.statements.items) (map statement_tree c.source-in-Check.new.draft.statements.items) c.source.new.draft.next
+    one.tables one.next c.in_ok-second-in-Check.ensures.tables
+    ∙ ap (λ (z : Node). old ++ map create_for (and_then (of z n) (of y)).tables) c.deref.ensures
+    ∙ ap (λ (z : Node). old ++ map create_for (and_then (of a.value n) (of z)).tables) c.deref-in-Check.ensures
+    ∙ sym (ap (λ (m : Made). old ++ map create_for m.tables) (imbalance_made p r c.args.s.now c.args.form.now a b spec n is))
+    in
+    IfOk-weaker c.query_of_two.result _ _ (λ q e. fact) c.query_of_two.ensures
+
+pub query-returns-in_ok-second-in-Check-clause-next : goal.query-returns-in_ok-second-in-Check-clause-next
+query-returns-in_ok-second-in-Check-clause-next t c =
+    let p = c.args.writer.now in
+    let r = c.args.target.now in
+    let n = c.args.draft.now.next in
+    let of = λ (x : Node) (m : ℕ). sources_of p r (node_tree x) m in
+    let x = c.deref.result.now in
+    let y = c.deref-in-Check.result.now in
+    let a = c.in-Check.a in
+    let b = c.in-Some.imbalance in
+    let spec = c.in-Check.spec in
+    let is = c.in-Check.is ∙ ap (λ (o : Option (Box Node Global)). form.Check a o spec) c.in-Some.is in
+    let fact =
+    c.in_ok-second-in-Check.ensures.next
+    ∙ ap (λ (m : ℕ). (of y m).next) c.in_ok-first-in-Check.ensures.next
+    ∙ ap (λ (z : Node). (and_then (of z n) (of y)).next) c.deref.ensures
+    ∙ ap (λ (z : Node). (and_then (of a.value n) (of z)).next) c.deref-in-Check.ensures
+    ∙ sym (ap (λ (m : Made). m.next) (imbalance_made p r c.args.s.now c.args.form.now a b spec n is))
+    in
     IfOk-weaker c.query_of_two.result _ _ (λ q e. fact) c.query_of_two.ensures
 
 pub query-returns-in_ok-third-in-Choose-clause-tables : goal.query-returns-in_ok-third-in-Choose-clause-tables
@@ -111,20 +222,20 @@ query-returns-in_ok-third-in-Choose-clause-tables t c =
     let n = c.args.draft.now.next in
     let old = map statement_tree c.args.draft.now.statements.items in
     let of = λ (x : Node) (m : ℕ). sources_of p r (node_tree x) m in
-    let u = c.deref.result.now in
-    let a = c.deref-in-Choose.result.now in
-    let b = c.deref-in-Choose-2.result.now in
-    let tested = map statement_tree c.source.new.draft.statements.items in
-    let first = c.source-in-Choose.new.draft in
-    let new = map statement_tree c.source-in-Choose-2.new.draft.statements.items in
+    let u = c.deref-in-Choose.result.now in
+    let a = c.deref-in-Choose-2.result.now in
+    let b = c.deref-in-Choose-3.result.now in
+    let tested = map statement_tree c.source-in-Choose.new.draft.statements.items in
+    let first = c.source-in-Choose-2.new.draft in
+    let new = map statement_tree c.source-in-Choose-3.new.draft.statements.items in
     let one = c.in_ok-first-in-Choose.ensures in
     let two = c.in_ok-second-in-Choose.ensures in
     let fact =
-    behind_others (of u n) (λ m. and_then (of a m) (of b)) old tested new c.source.new.draft.next one.tables one.next
-    (behind_others (of a c.source.new.draft.next) (of b) tested (map statement_tree first.statements.items) new first.next two.tables two.next c.in_ok-third-in-Choose.ensures.tables)
-    ∙ ap (λ (x : Node). old ++ map create_for (and_then (of x n) (λ m. and_then (of a m) (of b))).tables) c.deref.ensures
-    ∙ ap (λ (x : Node). old ++ map create_for (and_then (of c.in-Choose.c.value n) (λ m. and_then (of x m) (of b))).tables) c.deref-in-Choose.ensures
-    ∙ ap (λ (x : Node). old ++ map create_for (and_then (of c.in-Choose.c.value n) (λ m. and_then (of c.in-Choose.a.value m) (of x))).tables) c.deref-in-Choose-2.ensures
+    behind_others (of u n) (λ m. and_then (of a m) (of b)) old tested new c.source-in-Choose.new.draft.next one.tables one.next
+    (behind_others (of a c.source-in-Choose.new.draft.next) (of b) tested (map statement_tree first.statements.items) new first.next two.tables two.next c.in_ok-third-in-Choose.ensures.tables)
+    ∙ ap (λ (x : Node). old ++ map create_for (and_then (of x n) (λ m. and_then (of a m) (of b))).tables) c.deref-in-Choose.ensures
+    ∙ ap (λ (x : Node). old ++ map create_for (and_then (of c.in-Choose.c.value n) (λ m. and_then (of x m) (of b))).tables) c.deref-in-Choose-2.ensures
+    ∙ ap (λ (x : Node). old ++ map create_for (and_then (of c.in-Choose.c.value n) (λ m. and_then (of c.in-Choose.a.value m) (of x))).tables) c.deref-in-Choose-3.ensures
     ∙ sym (ap (λ (f : FormTree). old ++ map create_for (made_of_form p r c.args.s.now f n).tables) (tree_of_choose c.args.form.now c.in-Choose.c c.in-Choose.a c.in-Choose.b c.in-Choose.is))
     in
     IfOk-weaker c.query_of_three.result _ _ (λ q e. fact) c.query_of_three.ensures

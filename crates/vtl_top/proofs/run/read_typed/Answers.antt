@@ -1,4 +1,4 @@
-use Rattle.std.proofs.Common.{◌≡◌, sym, subst, ◌∙◌, Result}
+use Rattle.std.proofs.Common.{◌≡◌, sym, subst, Result}
 use Rattle.std.specs.Prelude.{IfOk}
 use Rattle.vtl_syntax.specs.View.{script_tree}
 use Rattle.vtl_check.specs.Checked.{TypedScript, env_over, nodes_of}
@@ -19,7 +19,7 @@ returns-in_err-structures g c =
     subst (λ (res : Result TypedScript Status). Takes g.F.Files c.args.files.now c.read_structures_file.new.files (typed_step s) typed_view res)
     (sym (passed_on c.from_residual-in_err-structures.result c.in_err-structures.field-0.0 c.from_residual-in_err-structures.ensures.1))
     (structures_refused g.F.Files s typed_view c.args.files.now c.read_script.new.files c.in_ok-script.script c.in_ok-script.ensures.takes c.read_structures_file.new.files c.in_err-structures.field-0.0
-    (sym c.defines_rulesets.ensures ∙ c.if-defines_rulesets.false) c.in_err-structures.ensures)
+    c.in_err-structures.ensures)
 
 pub returns : goal.returns
 returns g c =
@@ -28,7 +28,7 @@ returns g c =
     let tree = script_tree c.in_ok-script.script in
     let same : c.profile-profile.result ≡ settings_of s = c.profile-profile.ensures in
     then_typed g.F.Files s typed_view c.args.files.now c.read_script.new.files c.in_ok-script.script c.in_ok-script.ensures.takes c.read_structures_file.new.files c.in_ok-structures.structures c.typed.result
-    (sym c.defines_rulesets.ensures ∙ c.if-defines_rulesets.false) c.in_ok-structures.ensures
+    c.in_ok-structures.ensures
     (typed_takes g.F.Files s c.read_structures_file.new.files tree known c.typed.result
     (subst (λ p. SettlesBy nodes_of (typed_or_fault (script_typed (env_over p known) tree)) c.typed.result) same c.typed.ensures.typing)
     (same_tree c.typed.result c.in_ok-script.script.statements c.typed.ensures.script) c.typed.ensures.declared
