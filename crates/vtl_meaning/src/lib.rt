@@ -1,4 +1,4 @@
-//! What typed expressions and scripts mean over data sets: definitions on lists of points, and their laws. It has
+//! What operators give over data sets: definitions on lists of points, and their laws. It has
 //! no code.
 //!
 //! Every back end must keep to `meaning`. The laws say that operators give data sets, do not depend on the order of
@@ -8,7 +8,7 @@
 //! lists, and ranks, are those of vtl_cell/specs/Frames.antt and Sorted.antt.
 //! It knows no tables, no files and no program: `vtl_expr`, `vtl_clause`, `vtl_group` and their neighbours compute this.
 //! Begin with specs/Operators.antt, Joined.antt, Sets.antt, Turned.antt, Groups.antt, Aggregates.antt, Windows.antt,
-//! Analytics.antt and Meaning.antt; LookUps.antt says the same in the words of the manual.
+//! and Analytics.antt; LookUps.antt says the same in the words of the manual.
 //!
 //! The laws of joins and sets stand here with those of the other operators, and not in a crate above: the laws of
 //! whole scripts go over all forms, and the code of a join needs that its result is a data set.
