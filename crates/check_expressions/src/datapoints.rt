@@ -19,6 +19,7 @@ use crate::{NoRulesets, typing};
 use check_faults::{Rule, TypeErr, broken};
 use check_operators::{Inside, Place, Scope, Typed, condition, made_of, points};
 use check_rules::{point_checked, seen_columns, sees_names, variables_known};
+use check_values::share_text;
 use std::alloc::{AllocError, Global};
 use vtl_cell::integer_written;
 use vtl_decimal::Profile;
@@ -110,15 +111,6 @@ fn level(profile: &Profile, digits: &Option<Txt>) -> Result<Option<i64>, TypeErr
     match integer_written(profile, digits) {
         Some(level) => Ok(Some(level)),
         None => Err(TypeErr::Broken(Rule::WrongLiteral)),
-    }
-}
-
-fn share_text(text: &Option<Txt>) -> Result<Option<Txt>, AllocError>
-    ensures { IfOk result (λ copy. copy ≡ text.now) }
-{
-    match text {
-        Some(text) => Ok(Some(text.share()?)),
-        None => Ok(None),
     }
 }
 

@@ -15,7 +15,7 @@ use crate::Typed;
 use crate::typed::made_of;
 use check_faults::{Rule, TypeErr};
 use check_shapes::{choose_known, exists_in, set_operator};
-use check_values::name;
+use check_values::{name, share_text};
 use std::alloc::{AllocError, Global};
 use vtl_cell::integer_written;
 use vtl_decimal::Profile;
@@ -149,15 +149,6 @@ fn level(profile: &Profile, digits: &Option<Txt>) -> Result<Option<i64>, TypeErr
             Some(level) => Ok(Some(level)),
             None => Err(TypeErr::Broken(Rule::WrongLiteral)),
         },
-        None => Ok(None),
-    }
-}
-
-fn share_text(text: &Option<Txt>) -> Result<Option<Txt>, AllocError>
-    ensures { IfOk result (λ copy. copy ≡ text.now) }
-{
-    match text {
-        Some(text) => Ok(Some(text.share()?)),
         None => Ok(None),
     }
 }

@@ -1,56 +1,26 @@
 // The components that checks show.
-ghost use Rattle.std.specs.Prelude.{◌≡◌, ◌++◌, ◌∷◌, [], IfOk, OnOk, chars};
+ghost use Rattle.std.specs.Prelude.{◌≡◌, ◌++◌, ◌∷◌, [], IfOk, OnOk};
 ghost use Rattle.vtl_tree.specs.Checks.{error_measures, output_parts, ruleid};
 ghost use Rattle.vtl_tree.specs.Columns.{measures_of};
-ghost use Rattle.vtl_tree.specs.Measures.{bool_var, made};
-ghost use Rattle.vtl_tree.specs.Pairs.{errorcode, errorlevel, imbalance};
+ghost use Rattle.vtl_tree.specs.Measures.{bool_var};
+ghost use Rattle.vtl_tree.specs.Pairs.{imbalance};
 
+use check_shapes::{bool_var, errorcode, errorlevel, imbalance};
 use std::alloc::{AllocError, Global};
 use vtl_cell::Kind;
 use vtl_syntax::CheckOut;
 use vtl_text::Txt;
 use vtl_tree::{Component, Role, Structure, push_measures};
 
-// A component without codes.
-fn made(alloc: Global, name: &str, role: Role, kind: Kind) -> Result<Component, AllocError>
-    ensures { IfOk result (λ x. x ≡ made (chars name.now) role kind) }
-{
-    Ok(Component {
-        name: Txt::new(alloc, name)?,
-        role,
-        kind,
-        codes: None,
-    })
-}
-
 fn ruleid(alloc: Global) -> Result<Component, AllocError>
     ensures { IfOk result (λ x. x ≡ ruleid) }
 {
-    made(alloc, "ruleid", Role::Identifier, Kind::Text)
-}
-
-fn bool_var(alloc: Global) -> Result<Component, AllocError>
-    ensures { IfOk result (λ x. x ≡ bool_var) }
-{
-    made(alloc, "bool_var", Role::Measure, Kind::Bool)
-}
-
-fn imbalance(alloc: Global) -> Result<Component, AllocError>
-    ensures { IfOk result (λ x. x ≡ imbalance) }
-{
-    made(alloc, "imbalance", Role::Measure, Kind::Num)
-}
-
-fn errorcode(alloc: Global) -> Result<Component, AllocError>
-    ensures { IfOk result (λ x. x ≡ errorcode) }
-{
-    made(alloc, "errorcode", Role::Measure, Kind::Text)
-}
-
-fn errorlevel(alloc: Global) -> Result<Component, AllocError>
-    ensures { IfOk result (λ x. x ≡ errorlevel) }
-{
-    made(alloc, "errorlevel", Role::Measure, Kind::Int)
+    Ok(Component {
+        name: Txt::new(alloc, "ruleid")?,
+        role: Role::Identifier,
+        kind: Kind::Text,
+        codes: None,
+    })
 }
 
 /// Adds the identifier of rules.

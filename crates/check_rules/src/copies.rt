@@ -1,18 +1,10 @@
 // Rules are copied: their texts are shared.
 ghost use Rattle.std.specs.Prelude.{◌≡◌, IfOk};
 
+use check_values::share_text;
 use std::alloc::{AllocError, Global};
 use vtl_syntax::{Comp, ErrorPart, HierRule, SignedComp};
 use vtl_text::{List, Txt};
-
-fn share_text(text: &Option<Txt>) -> Result<Option<Txt>, AllocError>
-    ensures { IfOk result (λ copy. copy ≡ text.now) }
-{
-    match text {
-        Some(text) => Ok(Some(text.share()?)),
-        None => Ok(None),
-    }
-}
 
 fn share_comp(component: &Comp) -> Result<Comp, AllocError>
     ensures { IfOk result (λ copy. copy ≡ component.now) }

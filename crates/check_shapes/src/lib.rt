@@ -7,6 +7,7 @@
 //! Begin with specs/Shape.antt, then Names.antt and Clauses.antt.
 #![tactic(auto)]
 
+mod checks;
 mod choices;
 mod measures;
 mod names;
@@ -16,6 +17,7 @@ mod renaming;
 mod shape;
 mod targets;
 
+pub use checks::{bool_var, errorcode, errorlevel, imbalance};
 pub use choices::{choose, choose_known};
 pub use measures::{Operator, any_unmet, measured};
 pub use names::{check_names, known};

@@ -3,7 +3,7 @@ ghost use Rattle.std.specs.Option.{option_copied};
 ghost use Rattle.std.specs.Prelude.{◌≡◌, ◌++◌, IfOk, OnOk, chars, map};
 ghost use Rattle.vtl_tree.specs.declared.structure.Role.TheVariants as role;
 ghost use Rattle.check_faults.specs.Answers.{Answers};
-ghost use Rattle.vtl_tree.specs.Measures.{any_unmet, bool_var as bool_measure, int_var as int_measure, given_measure, given_measures, is_measure, is_miscounted, is_unmet, made, measures, namesake, paired};
+ghost use Rattle.vtl_tree.specs.Measures.{any_unmet, int_var as int_measure, given_measure, given_measures, is_measure, is_miscounted, is_unmet, made, measures, namesake, paired};
 ghost use Rattle.check_shapes.specs.Measures.{measured_form};
 
 use crate::shaped;
@@ -106,12 +106,6 @@ pub(crate) fn new_measure(alloc: Global, name: &str, kind: Kind) -> Result<Compo
         kind,
         codes: None,
     })
-}
-
-pub(crate) fn bool_var(alloc: Global) -> Result<Component, AllocError>
-    ensures { IfOk result (λ x. x ≡ bool_measure) }
-{
-    new_measure(alloc, "bool_var", Kind::Bool)
 }
 
 fn int_var(alloc: Global) -> Result<Component, AllocError>

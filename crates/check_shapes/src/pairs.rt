@@ -6,10 +6,11 @@ ghost use Rattle.vtl_tree.specs.Shown.{shown};
 ghost use Rattle.check_faults.specs.Answers.{Answers};
 ghost use Rattle.vtl_tree.specs.Choices.{is_identifier as is_id};
 ghost use Rattle.vtl_tree.specs.Measures.{measures};
-ghost use Rattle.vtl_tree.specs.Pairs.{check_measures, contains, errorcode as errorcode_measure, errorlevel as errorlevel_measure, imbalance as imbalance_measure, is_common};
+ghost use Rattle.vtl_tree.specs.Pairs.{check_measures, contains, is_common};
 ghost use Rattle.check_shapes.specs.Pairs.{are_choices, check_form, exists_form, has_one_number, identified, if_form, is_at_odds, pair_form, set_form};
 
-use crate::measures::{any_unmet, bool_var, is_miscounted, new_measure, push_given};
+use crate::checks::{bool_var, errorcode, errorlevel, imbalance};
+use crate::measures::{any_unmet, is_miscounted, push_given};
 use crate::{Operator, shaped};
 use check_faults::{Rule, TypeErr, broken};
 use std::alloc::{AllocError, Global};
@@ -175,24 +176,6 @@ pub fn exists_in(alloc: Global, left: &Structure, right: &Structure) -> Result<S
     push_identifiers(&mut out, &[right], components)?;
     out.push(bool_var(alloc)?)?;
     shaped(alloc, out)
-}
-
-fn imbalance(alloc: Global) -> Result<Component, AllocError>
-    ensures { IfOk result (λ x. x ≡ imbalance_measure) }
-{
-    new_measure(alloc, "imbalance", Kind::Num)
-}
-
-fn errorcode(alloc: Global) -> Result<Component, AllocError>
-    ensures { IfOk result (λ x. x ≡ errorcode_measure) }
-{
-    new_measure(alloc, "errorcode", Kind::Text)
-}
-
-fn errorlevel(alloc: Global) -> Result<Component, AllocError>
-    ensures { IfOk result (λ x. x ≡ errorlevel_measure) }
-{
-    new_measure(alloc, "errorlevel", Kind::Int)
 }
 
 fn push_check_measures(alloc: Global, out: &mut Vec<Component>) -> Result<(), AllocError>

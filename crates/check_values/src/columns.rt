@@ -23,6 +23,16 @@ pub fn name(component: &Comp) -> &Txt
     }
 }
 
+/// A text that may be missing, shared.
+pub fn share_text(text: &Option<Txt>) -> Result<Option<Txt>, AllocError>
+    ensures { IfOk result (λ copy. copy ≡ text.now) }
+{
+    match text {
+        Some(text) => Ok(Some(text.share()?)),
+        None => Ok(None),
+    }
+}
+
 fn is_same_name(left: &Txt, right: &Txt) -> bool
     ensures { result ≡ same_name left.now right.now }
 {

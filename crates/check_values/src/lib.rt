@@ -14,7 +14,7 @@ mod operators;
 mod windows;
 
 pub use calls::{call, kinds_in};
-pub use columns::{column, name};
+pub use columns::{column, name, share_text};
 pub use groupings::{grouping, grouping_choice, grouping_names, grouping_of};
 pub use literals::{constant, kind_met, literal, literal_kind, literals_fit, met_beside, set};
 pub use operators::{binary_operator, function_operator, takes, unary_operator};
