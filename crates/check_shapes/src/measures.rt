@@ -6,6 +6,7 @@ ghost use Rattle.check_faults.specs.Answers.{Answers};
 ghost use Rattle.vtl_tree.specs.Measures.{any_unmet, int_var as int_measure, given_measure, given_measures, is_measure, is_miscounted, is_unmet, made, measures, namesake, paired};
 ghost use Rattle.check_shapes.specs.Measures.{measured_form};
 
+use crate::checks::bool_var;
 use crate::shaped;
 use check_faults::{Rule, TypeErr, broken};
 use std::alloc::{AllocError, Global};
