@@ -1,8 +1,8 @@
 // The components that checks show.
-ghost use Rattle.std.specs.Prelude.{◌≡◌, ◌++◌, ◌∷◌, [], IfOk, OnOk};
+ghost use Rattle.std.specs.Prelude.{◌≡◌, ◌++◌, ◌∷◌, [], IfOk, OnOk, chars};
 ghost use Rattle.vtl_tree.specs.Checks.{error_measures, output_parts, ruleid};
 ghost use Rattle.vtl_tree.specs.Columns.{measures_of};
-ghost use Rattle.vtl_tree.specs.Measures.{bool_var};
+ghost use Rattle.vtl_tree.specs.Measures.{bool_var, made};
 ghost use Rattle.vtl_tree.specs.Pairs.{imbalance};
 
 use check_shapes::{bool_var, errorcode, errorlevel, imbalance};
@@ -12,15 +12,22 @@ use vtl_syntax::CheckOut;
 use vtl_text::Txt;
 use vtl_tree::{Component, Role, Structure, push_measures};
 
+// A component without codes.
+fn made(alloc: Global, name: &str, role: Role, kind: Kind) -> Result<Component, AllocError>
+    ensures { IfOk result (λ x. x ≡ made (chars name.now) role kind) }
+{
+    Ok(Component {
+        name: Txt::new(alloc, name)?,
+        role,
+        kind,
+        codes: None,
+    })
+}
+
 fn ruleid(alloc: Global) -> Result<Component, AllocError>
     ensures { IfOk result (λ x. x ≡ ruleid) }
 {
-    Ok(Component {
-        name: Txt::new(alloc, "ruleid")?,
-        role: Role::Identifier,
-        kind: Kind::Text,
-        codes: None,
-    })
+    made(alloc, "ruleid", Role::Identifier, Kind::Text)
 }
 
 /// Adds the identifier of rules.

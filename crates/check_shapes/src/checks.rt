@@ -1,5 +1,5 @@
 // The measures that checks give.
-ghost use Rattle.std.specs.Prelude.{IfOk};
+ghost use Rattle.std.specs.Prelude.{◌≡◌, IfOk};
 ghost use Rattle.vtl_tree.specs.Measures.{bool_var as bool_measure};
 ghost use Rattle.vtl_tree.specs.Pairs.{errorcode as errorcode_measure, errorlevel as errorlevel_measure, imbalance as imbalance_measure};
 

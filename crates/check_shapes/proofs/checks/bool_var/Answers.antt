@@ -1,5 +1,5 @@
 use Rattle.std.specs.Str.{chars}
-use Rattle.check_shapes.proofs.measures.bool_var.Goals as goal
+use Rattle.check_shapes.proofs.checks.bool_var.Goals as goal
 
 pub returns : goal.returns
 unfolding chars

@@ -1,5 +1,5 @@
 use Rattle.std.specs.Str.{chars}
-use Rattle.check_shapes.proofs.pairs.errorlevel.Goals as goal
+use Rattle.check_shapes.proofs.checks.errorcode.Goals as goal
 
 pub returns : goal.returns
 unfolding chars

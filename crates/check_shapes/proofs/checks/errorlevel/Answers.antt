@@ -1,5 +1,5 @@
 use Rattle.std.specs.Str.{chars}
-use Rattle.check_shapes.proofs.pairs.errorcode.Goals as goal
+use Rattle.check_shapes.proofs.checks.errorlevel.Goals as goal
 
 pub returns : goal.returns
 unfolding chars
