@@ -255,38 +255,6 @@ function tell_earlier(path, number, first, second,    one, two) {
     }
 }
 
-# `error: unbuilt: PATH`: the first word of a form that the README's table says is not run.
-function unbuilt_line(    token, number) {
-    take_script()
-    read_unbuilt(top "/README.md")
-    for (number = 1; number <= statements; number++) {
-        for (token = first_token[number]; token <= last_token[number]; token++) {
-            if (!(symbol[token] in unbuilt)) continue
-            tell_statement(script, number)
-            tell("here", code(token_text[token]) " at " place_of_token(token) " is of a form that is not run yet")
-            tell_status("Unbuilt")
-            return
-        }
-    }
-    tell_status("Unbuilt")
-}
-
-# The first words of the forms whose last cell in the table is `no`.
-function read_unbuilt(path,    line, part, count, i, word) {
-    while ((getline line < path) > 0) {
-        if (line !~ /^[|].*[|] no [|]$/) continue
-        count = split(line, part, "`")
-        for (i = 2; i <= count; i += 2) {
-            word = part[i]
-            sub(/^\[/, "", word)
-            match(word, /^[a-z_]*/)
-            word = substr(word, 1, RLENGTH)
-            if (word in reserved) unbuilt[word]
-        }
-    }
-    close(path)
-}
-
 # A status that names a path, with what the launcher saw there.
 function path_line(status, path) {
     tell("where", shown(path, 200))

@@ -33,5 +33,4 @@ function explain(line,    word) {
     else if (line ~ /^error: read fault: /) path_line("ReadFault", substr(line, 20))
     else if (line ~ /^error: write fault: /) path_line("WriteFault", substr(line, 21))
     else if (line == "error: memory") tell_status("Memory")
-    else if (line ~ /^error: unbuilt: /) unbuilt_line()
 }

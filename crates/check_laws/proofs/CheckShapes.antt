@@ -1,6 +1,7 @@
 -- The structures of checks by rules, of `check` and of hierarchies.
-use Rattle.std.proofs.Common.{◌≡◌, true, false, not, List, [], ◌∷◌, ◌++◌, length, Option, Some, None, refl, sym, ap, ◌∙◌, subst, true≢false, append_assoc, arith}
+use Rattle.std.proofs.Common.{◌≡◌, ℕ, Bool, true, false, not, cond, List, [], ◌∷◌, ◌++◌, length, map, Option, Some, None, refl, sym, ap, ◌∙◌, subst, true≢false, append_assoc, arith}
 use Rattle.std.proofs.lemmas.Bool.{eqb-true, false≢true}
+use Rattle.std.proofs.lemmas.List.{map-append, map-id}
 use Rattle.std.specs.List.{AllByRecursion, list_all}
 use Rattle.std.specs.Option.{IfSome, option_to_list}
 use Rattle.std.specs.Prelude.{nat_eq}
@@ -15,7 +16,7 @@ use Rattle.vtl_cell.specs.declared.kind.Kind.TheVariants as k
 use Rattle.vtl_syntax.specs.declared.word_groups.CheckOut.{CheckOut}
 use Rattle.vtl_syntax.specs.declared.word_groups.CheckOut.TheVariants as out
 use Rattle.vtl_tree.specs.ClauseShapes.{first_kind}
-use Rattle.vtl_tree.specs.Checks.{error_measures, output_parts, ruled_measures, ruleid, sided_measures}
+use Rattle.vtl_tree.specs.Checks.{error_measures, output_parts, ruled_measures, ruleid, sided_measures, uncoded, without_codes}
 use Rattle.vtl_tree.specs.Choices.{is_identifier}
 use Rattle.vtl_tree.specs.Columns.{identifiers_of, measures_of, others_of, place_of}
 use Rattle.vtl_tree.specs.Measures.{bool_var, is_measure, measures}
@@ -23,7 +24,7 @@ use Rattle.vtl_tree.specs.Names.{component_of}
 use Rattle.vtl_tree.specs.Operands.{agree, agreed_identifiers, all_agree, all_meet, has_one_measure}
 use Rattle.vtl_tree.specs.Pairs.{check_measures, imbalance}
 use Rattle.vtl_tree.specs.RuleItems.{definitions, left_item}
-use Rattle.vtl_tree.specs.Structure.{columns_of, same_name}
+use Rattle.vtl_tree.specs.Structure.{columns_of, names_of, same_name}
 use Rattle.vtl_tree.specs.Structures.{is_null_kind, structure_of}
 use Rattle.vtl_tree.specs.Trees.{PointRuleTree}
 use Rattle.vtl_tree.specs.declared.operands.Compared.TheVariants as compared
@@ -45,12 +46,12 @@ use Rattle.vtl_rulings.specs.Shaped.{IsChecked, IsImbalance, IsPointChecked, IsP
 use Rattle.check_laws.specs.Gives.{ArePassed, Gives}
 use Rattle.vtl_meaning.proofs.FoundColumns.{at-place, found-filter}
 use Rattle.vtl_meaning.proofs.Lists as lists
-use Rattle.check_laws.proofs.Among.{own-identifiers, own-measures, same-identifiers}
+use Rattle.check_laws.proofs.Among.{among-mapped, mapped-among, own-identifiers, own-measures, same-identifiers}
 use Rattle.check_laws.proofs.Measured.{has-identifiers}
 use Rattle.check_laws.proofs.Shapes.{AreParts, identifier-roles, measure-roles, parts-columns, parts-identifiers, parts-measures, parts-others, shaped-gives}
 use Rattle.check_laws.proofs.Steps.{tested, tested-then, then}
 use Rattle.check_laws.proofs.Tests.{and-true, not-false, or-false}
-use Rattle.check_laws.proofs.Twins.{agreed-kinds, agreed-names, agreed-roles}
+use Rattle.check_laws.proofs.Twins.{agreed-kinds, agreed-names, agreed-roles, maps-same}
 
 -- ---- one measure alone
 pub record IsOnly (kind : Kind) (ms : List Component) : Type 0 where
@@ -105,16 +106,39 @@ record IsRuledShape (a : Structure) (ms : List Component) (s : Structure) : Type
   pub identifiers : HasIdentifiers s (identifiers_of a ++ ruleid ∷ [])
   pub others : component_kinds (others_of s) ≡ component_kinds ms
 
-ruled-shape : (a : Structure) (ms : List Component) → AreMeasures ms → IsRuledShape a ms (structure_of (identifiers_of a ++ ruleid ∷ ms))
-ruled-shape a ms h =
-    subst (λ l. IsRuledShape a ms (structure_of l)) (append_assoc (identifiers_of a) (ruleid ∷ []) ms)
-    (record { identifiers = has-identifiers ids ms ids are refl refl; others = ap component_kinds (parts-others ids ms are) })
-  where
-    ids : List Component
-    ids = identifiers_of a ++ ruleid ∷ []
+-- identifiers that keep their names, their kinds and their role
+module _ (a : Structure) (f : Component → Component) (name-stays : (x : Component) → (f x).name ≡ x.name) (kind-stays : (x : Component) → (f x).kind ≡ x.kind) (role-stays : (x : Component) → (f x).role ≡ x.role) where
+  abbrev kept-ids : List Component
+  kept-ids = map f (identifiers_of a)
 
-    are : AreParts ids ms
-    are = record { identifiers = lists.appended (λ x. x.role ≡ role.Identifier) (identifiers_of a) (ruleid ∷ []) (identifier-roles a.components) (refl, tt); measures = h }
+  kept-names : names_of kept-ids ≡ names_of (identifiers_of a)
+  kept-names = maps-same f (λ x. x.name) (identifiers_of a) name-stays
+
+  kept-kinds : map (λ x. x.kind) kept-ids ≡ map (λ x. x.kind) (identifiers_of a)
+  kept-kinds = maps-same f (λ x. x.kind) (identifiers_of a) kind-stays
+
+  kept-roles : AllByRecursion (λ x. x.role ≡ role.Identifier) kept-ids
+  kept-roles = lists.mapped (λ x. x.role ≡ role.Identifier) f (identifiers_of a) (lists.weaker (λ x. x.role ≡ role.Identifier) (λ x. (f x).role ≡ role.Identifier) (identifiers_of a) (λ x e. role-stays x ∙ e) (identifier-roles a.components))
+
+  kept-shape : (ms : List Component) → AreMeasures ms → IsRuledShape a ms (structure_of (kept-ids ++ ruleid ∷ ms))
+  kept-shape ms h =
+      subst (λ l. IsRuledShape a ms (structure_of l)) (append_assoc kept-ids (ruleid ∷ []) ms)
+      (record { identifiers = has-identifiers ids ms (identifiers_of a ++ ruleid ∷ []) are names kinds; others = ap component_kinds (parts-others ids ms are) })
+    where
+      ids : List Component
+      ids = kept-ids ++ ruleid ∷ []
+
+      are : AreParts ids ms
+      are = record { identifiers = lists.appended (λ x. x.role ≡ role.Identifier) kept-ids (ruleid ∷ []) kept-roles (refl, tt); measures = h }
+
+      names : names_of ids ≡ names_of (identifiers_of a ++ ruleid ∷ [])
+      names = map-append (λ x. x.name) kept-ids (ruleid ∷ []) ∙ ap (λ l. l ++ ruleid.name ∷ []) kept-names ∙ sym (map-append (λ x. x.name) (identifiers_of a) (ruleid ∷ []))
+
+      kinds : map (λ x. x.kind) ids ≡ map (λ x. x.kind) (identifiers_of a ++ ruleid ∷ [])
+      kinds = map-append (λ x. x.kind) kept-ids (ruleid ∷ []) ∙ ap (λ l. l ++ ruleid.kind ∷ []) kept-kinds ∙ sym (map-append (λ x. x.kind) (identifiers_of a) (ruleid ∷ []))
+
+ruled-shape : (a : Structure) (ms : List Component) → AreMeasures ms → IsRuledShape a ms (structure_of (identifiers_of a ++ ruleid ∷ ms))
+ruled-shape a ms h = subst (λ l. IsRuledShape a ms (structure_of (l ++ ruleid ∷ ms))) (map-id (identifiers_of a)) (kept-shape a (λ x. x) (λ x. refl) (λ x. refl) (λ x. refl) ms h)
 
 -- ---- `check_datapoint`
 pub point-fits : (p : Settings) (o : CheckOut) (rules : List PointRuleTree) (a : Structure) → AllByRecursion (IsPointRuleOver p (columns_of a)) rules → all_apart (λ x y. same_name x.0 y.0) (point_rules rules) ≡ true → Gives (λ s. IsShaped s × IsPointChecked p o rules a s) (point_checked o a)
@@ -126,6 +150,27 @@ point-fits p o rules a typed apart =
     fits = ruled-shape a (ruled_measures o a) (output-measures o a error_measures (refl, (refl, tt)))
 
 -- ---- hierarchies
+uncoded-name : (n : List ℕ) (x : Component) → (uncoded n x).name ≡ x.name
+uncoded-name n x = go (same_name x.name n)
+  where
+    go : (b : Bool) → (cond b (record x { codes = None }) x).name ≡ x.name
+    go true = refl
+    go false = refl
+
+uncoded-kind : (n : List ℕ) (x : Component) → (uncoded n x).kind ≡ x.kind
+uncoded-kind n x = go (same_name x.name n)
+  where
+    go : (b : Bool) → (cond b (record x { codes = None }) x).kind ≡ x.kind
+    go true = refl
+    go false = refl
+
+uncoded-role : (n : List ℕ) (x : Component) → (uncoded n x).role ≡ x.role
+uncoded-role n x = go (same_name x.name n)
+  where
+    go : (b : Bool) → (cond b (record x { codes = None }) x).role ≡ x.role
+    go true = refl
+    go false = refl
+
 text-kind : (kind : Kind) → same_kind kind k.Text ≡ true → kind ≡ k.Text
 text-kind k.Text e = refl
 text-kind kind e = absurd (false≢true e)
@@ -159,14 +204,17 @@ itemized-gives rules a ia = go (component_of rules.variable a.components) refl
 
 pub hierarchy-checked-fits : (o : CheckOut) (rules : HierRules) (a : Structure) → IsShaped a → all_apart (λ x y. same_name x.0 y.0) (sided_rules rules.rules) ≡ true → Gives (λ s. IsShaped s × IsHierarchyChecked o (ruled_by rules a) rules.rules a s) (hierarchy_checked o rules.variable a)
 hierarchy-checked-fits o rules a ia apart =
-    then (λ u. IsItemized (ruled_by rules a) a) Q (itemized rules.variable a) (λ u. shaped (identifiers_of a ++ ruleid ∷ sided_measures o a)) (itemized-gives rules a ia)
-    (λ u itemized. shaped-gives Q (identifiers_of a ++ ruleid ∷ sided_measures o a) (λ s. (s, record { well_formed = s.well_formed; identifiers = fits.identifiers; others = fits.others; itemized = itemized; apart = apart; shape = refl })))
+    then (λ u. IsItemized (ruled_by rules a) a) Q (itemized rules.variable a) (λ u. shaped (ids ++ ruleid ∷ sided_measures o a)) (itemized-gives rules a ia)
+    (λ u itemized. shaped-gives Q (ids ++ ruleid ∷ sided_measures o a) (λ s. (s, record { well_formed = s.well_formed; identifiers = fits.identifiers; others = fits.others; itemized = itemized; apart = apart; shape = refl })))
   where
     Q : Structure → Type 0
     Q s = IsShaped s × IsHierarchyChecked o (ruled_by rules a) rules.rules a s
 
-    fits : IsRuledShape a (sided_measures o a) (structure_of (identifiers_of a ++ ruleid ∷ sided_measures o a))
-    fits = ruled-shape a (sided_measures o a) (output-measures o a (imbalance ∷ error_measures) (refl, (refl, (refl, tt))))
+    ids : List Component
+    ids = without_codes rules.variable (identifiers_of a)
+
+    fits : IsRuledShape a (sided_measures o a) (structure_of (ids ++ ruleid ∷ sided_measures o a))
+    fits = kept-shape a (uncoded rules.variable) (uncoded-name rules.variable) (uncoded-kind rules.variable) (uncoded-role rules.variable) (sided_measures o a) (output-measures o a (imbalance ∷ error_measures) (refl, (refl, (refl, tt))))
 
 pub hierarchy-made-fits : (rules : HierRules) (a : Structure) → IsShaped a → all_apart (λ q r. same_name (left_item q) (left_item r)) (definitions rules.rules) ≡ true → Gives (λ s. IsShaped s × IsHierarchyMade (ruled_by rules a) rules.rules a s) (hierarchy_made rules.variable a)
 hierarchy-made-fits rules a ia apart =
@@ -175,8 +223,11 @@ hierarchy-made-fits rules a ia apart =
     Q : Structure → Type 0
     Q s = IsShaped s × IsHierarchyMade (ruled_by rules a) rules.rules a s
 
+    f : Component → Component
+    f = uncoded rules.variable
+
     ids : List Component
-    ids = identifiers_of a
+    ids = without_codes rules.variable (identifiers_of a)
 
     ms : List Component
     ms = measures_of a
@@ -185,17 +236,17 @@ hierarchy-made-fits rules a ia apart =
     result = structure_of (ids ++ ms)
 
     are : AreParts ids ms
-    are = record { identifiers = identifier-roles a.components; measures = measure-roles a.components }
+    are = record { identifiers = kept-roles a f (uncoded-name rules.variable) (uncoded-kind rules.variable) (uncoded-role rules.variable); measures = measure-roles a.components }
 
     fits : IsItemized (ruled_by rules a) a → IsShaped result → IsHierarchyMade (ruled_by rules a) rules.rules a result
     fits itemized s = record {
       well_formed = s.well_formed;
-      identifiers = has-identifiers ids ms ids are refl refl;
+      identifiers = has-identifiers ids ms (identifiers_of a) are (maps-same f (λ x. x.name) (identifiers_of a) (uncoded-name rules.variable)) (maps-same f (λ x. x.kind) (identifiers_of a) (uncoded-kind rules.variable));
       others = ap component_kinds (parts-others ids ms are) ∙ itemized.only;
       no_attributes = parts-columns ids ms are ∙ ap (λ l. l ++ ms) (sym (parts-identifiers ids ms are)) ∙ ap (λ l. identifiers_of result ++ l) (sym (parts-measures ids ms are));
       operand = record {
-        there = subst (AreAmong ids) (sym (parts-identifiers ids ms are)) (own-identifiers a ia);
-        back = subst (λ l. AreAmong l ids) (sym (parts-identifiers ids ms are)) (own-identifiers a ia);
+        there = subst (AreAmong (identifiers_of a)) (sym (parts-identifiers ids ms are)) (among-mapped f (uncoded-name rules.variable) (uncoded-kind rules.variable) (identifiers_of a) (identifiers_of a) (own-identifiers a ia));
+        back = subst (λ l. AreAmong l (identifiers_of a)) (sym (parts-identifiers ids ms are)) (mapped-among f (uncoded-name rules.variable) (uncoded-kind rules.variable) (identifiers_of a) (identifiers_of a) (own-identifiers a ia));
         measures = subst (λ l. AreAmong l (columns_of a)) (sym (parts-measures ids ms are)) (own-measures a ia);
       };
       itemized = itemized;

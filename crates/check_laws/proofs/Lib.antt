@@ -28,6 +28,7 @@ pub mod LiteralOperands
 pub mod Literals
 pub mod Measured
 pub mod Operators
+pub mod Ordered
 pub mod OtherForms
 pub mod Over
 pub mod Paired

@@ -58,7 +58,7 @@ mutual
   form_over p known other s (nodes.check a i spec) h m = (made_over p known other a (front known other (nodes_in a) (maybe_nodes i) h) m.0, maybe_over p known other i (back known other (nodes_in a) (maybe_nodes i) h) m.1, m.2)
   form_over p known other s (nodes.check_datapoint a rules out) h m = (made_over p known other a h m.0, m.1)
   form_over p known other s (nodes.check_hierarchy a rules mode out) h m = (made_over p known other a h m.0, m.1)
-  form_over p known other s (nodes.hierarchy a rules mode i out) h m = (made_over p known other a h m.0, m.1)
+  form_over p known other s (nodes.hierarchy a rules mode i out) h m = (made_over p known other a h m.0, m.1, m.2)
 
   all_over : (p : Settings) (known other : Named) (ns : NodeTrees) → AreKnownAlike known other (names_at (all_nodes ns)) → AreMade p known ns → AreMade p other ns
   all_over p known other nodes.no_nodes h m = tt

@@ -40,6 +40,7 @@ use Rattle.check_expressions.specs.Rulesets.{Definitions, HierDefinition, PointD
 use Rattle.vtl_meaning.specs.Shapes.{IsShaped}
 use Rattle.vtl_rulings.specs.HierarchyChecks.{ruled_by}
 use Rattle.vtl_rulings.specs.HierarchyShapes.{IsHierarchyChecked, IsHierarchyMade}
+use Rattle.vtl_rulings.specs.Ordered.{HasOrder}
 use Rattle.vtl_rulings.specs.Shaped.{IsPointChecked, IsPointRuleOver}
 use Rattle.vtl_scripts.specs.Made.{IsMade}
 use Rattle.check_laws.specs.Gives.{Gives}
@@ -49,8 +50,9 @@ use Rattle.check_laws.proofs.CheckShapes.{hierarchy-checked-fits, hierarchy-made
 use Rattle.check_laws.proofs.Conditions.{rules-over}
 use Rattle.check_laws.proofs.Inner.{made-shaped}
 use Rattle.check_laws.proofs.Operators.{IsMadeWith, made-gives}
+use Rattle.check_laws.proofs.Ordered.{placed-gives}
 use Rattle.check_laws.proofs.Sets.{dataset-gives}
-use Rattle.check_laws.proofs.Steps.{after, anything, given, passed, tested, tested-then, then, under, weaker}
+use Rattle.check_laws.proofs.Steps.{after, given, passed, tested, tested-then, then, under, weaker}
 use Rattle.check_laws.proofs.Tests.{not-false}
 
 -- ---- rules with identifiers
@@ -140,15 +142,18 @@ module _ (env : Env) (are : AreShaped env.known) (at : Place) (a : NodeTree) (is
   hierarchy-gives m i o rules variable =
       then (λ s. Apart → IsShaped s × IsHierarchyMade (ruled_by (hier_rules variable rules None) (structure_of a)) rules (structure_of a) s) (IsWellTyped env at) (hierarchy_made variable (structure_of a)) (λ s. hierarchy_order rules >>= λ order. made_of (nodes.hierarchy a (hier_rules variable rules (Some order)) m i o) s)
       (under Apart (λ s. IsShaped s × IsHierarchyMade (ruled_by (hier_rules variable rules None) (structure_of a)) rules (structure_of a) s) (hierarchy_made variable (structure_of a)) (hierarchy-made-fits (hier_rules variable rules None) (structure_of a) (made-shaped env.settings env.known a is)))
-      (λ s fits. then (λ order. Apart) (IsWellTyped env at) (hierarchy_order rules) (λ order. made_of (nodes.hierarchy a (hier_rules variable rules (Some order)) m i o) s) order-gives (λ order apart. ((fits apart).0, (is, (fits apart).1))))
+      (λ s fits. then Known (IsWellTyped env at) (hierarchy_order rules) (λ order. made_of (nodes.hierarchy a (hier_rules variable rules (Some order)) m i o) s) order-gives (λ order known. ((fits known.0).0, (is, (fits known.0).1, known.1))))
     where
       Apart : Type 0
       Apart = all_apart (λ q r. same_name (left_item q) (left_item r)) (definitions rules) ≡ true
 
-      order-gives : Gives (λ order. Apart) (hierarchy_order rules)
+      Known : List ℕ → Type 0
+      Known order = Apart × HasOrder rules (Some order)
+
+      order-gives : Gives Known (hierarchy_order rules)
       order-gives =
-          tested-then (λ order. Apart) ((rule.CircularHierarchy, not (all_apart same_name (computed_items rules))) ∷ []) (λ u. placed_or_circular (order_of rules))
-          (λ passed. weaker (λ order. Unit {0}) (λ order. Apart) (placed_or_circular (order_of rules)) (λ order u. sym (apart-mapped same_name left_item (definitions rules)) ∙ not-false (all_apart same_name (computed_items rules)) passed.0) (anything (placed_or_circular (order_of rules))))
+          tested-then Known ((rule.CircularHierarchy, not (all_apart same_name (computed_items rules))) ∷ []) (λ u. placed_or_circular (order_of rules))
+          (λ passed. weaker (λ order. HasOrder rules (Some order)) Known (placed_or_circular (order_of rules)) (λ order has. (sym (apart-mapped same_name left_item (definitions rules)) ∙ not-false (all_apart same_name (computed_items rules)) passed.0, has)) (placed-gives rules (order_of rules) refl))
 
 -- ---- all calls
 pub rulings-of : (p : Settings) (ds : Definitions) → AreAccepted p ds → AreSoundRulings p (rulings_of ds)

@@ -4,7 +4,7 @@ mod Counts
 mod Examples
 mod Finding
 mod Identifiers
-mod InOrder
+pub mod InOrder
 mod Lists
 mod Maps
 mod Runs

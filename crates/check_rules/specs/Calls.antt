@@ -4,7 +4,7 @@ use Rattle.vtl_lists.specs.Results.{◌>>=◌}
 use Rattle.vtl_cell.specs.Kinds.{same_kind}
 use Rattle.vtl_cell.specs.declared.kind.Kind.TheVariants as k
 use Rattle.vtl_syntax.specs.declared.word_groups.CheckOut.{CheckOut}
-use Rattle.vtl_tree.specs.Checks.{ruled_measures, ruleid, sided_measures}
+use Rattle.vtl_tree.specs.Checks.{ruled_measures, ruleid, sided_measures, without_codes}
 use Rattle.vtl_tree.specs.Choices.{is_identifier}
 use Rattle.vtl_tree.specs.Columns.{identifiers_of, measures_of}
 use Rattle.vtl_tree.specs.CompExp.{CompExp, CompExps, column, const, call, aggregate, no_comp_exps, comp_exp}
@@ -64,7 +64,7 @@ abbrev pub itemized : List ℕ → Structure → Result (Unit {0}) Rule
 itemized variable a = itemized_by (component_of variable a.components) a
 
 abbrev pub hierarchy_checked : CheckOut → List ℕ → Structure → Result Structure Rule
-hierarchy_checked o variable a = itemized variable a >>= λ u. shaped (identifiers_of a ++ (ruleid ∷ sided_measures o a))
+hierarchy_checked o variable a = itemized variable a >>= λ u. shaped (without_codes variable (identifiers_of a) ++ (ruleid ∷ sided_measures o a))
 
 abbrev pub hierarchy_made : List ℕ → Structure → Result Structure Rule
-hierarchy_made variable a = itemized variable a >>= λ u. shaped (identifiers_of a ++ measures_of a)
+hierarchy_made variable a = itemized variable a >>= λ u. shaped (without_codes variable (identifiers_of a) ++ measures_of a)

@@ -1,8 +1,9 @@
 // What calls of rulesets ask of their operand, and the structures that they give.
-ghost use Rattle.std.specs.Prelude.{◌≡◌, ◌++◌, ◌∷◌, [], OnOk, map};
-ghost use Rattle.vtl_tree.specs.Checks.{ruleid as ruleid_component};
+ghost use Rattle.std.specs.Prelude.{◌≡◌, ◌++◌, ◌∷◌, [], IfOk, OnOk, map};
+ghost use Rattle.vtl_tree.specs.Checks.{ruleid as ruleid_component, uncoded, without_codes};
 ghost use Rattle.vtl_tree.specs.Columns.{identifiers_of};
 ghost use Rattle.vtl_tree.specs.Names.{name_of};
+ghost use Rattle.vtl_tree.specs.Shown.{shown};
 ghost use Rattle.check_faults.specs.Answers.{Answers};
 ghost use Rattle.check_rules.specs.Calls.{hierarchy_checked, hierarchy_made, is_of_items, itemized, point_checked, variables_known};
 
@@ -16,7 +17,7 @@ use vtl_syntax::{CheckOut, Comp};
 use vtl_text::{List, Txt};
 use vtl_tree::{
     Component, Structure, Wanted, component_of, has_one_measure, is_identifier, push_identifiers,
-    push_measures,
+    push_measures, share_component,
 };
 
 /// The names of the variables of a datapoint ruleset, which are components of the operand: the first that is none
@@ -90,8 +91,50 @@ fn itemized(variable: &Txt, structure: &Structure) -> Result<(), TypeErr>
     )
 }
 
-/// The structure of `check_hierarchy`: the identifiers of the operand and of rules, then what the output shows, with the
-/// imbalance. It breaks `UnknownComponent` where the variable is no component of the operand, `WrongRole` where it is no
+// A component, without its codes where it has this name.
+fn uncoded(name: &Txt, component: &Component) -> Result<Component, AllocError>
+    ensures { IfOk result (λ x. x ≡ uncoded name.now component.now) }
+{
+    if component.name == *name {
+        return Ok(Component {
+            name: component.name.share()?,
+            role: component.role,
+            kind: component.kind,
+            codes: None,
+        });
+    }
+    share_component(component)
+}
+
+// Components, without codes where they have this name.
+fn without_codes(
+    alloc: Global,
+    name: &Txt,
+    components: &[&Component],
+) -> Result<Vec<Component>, AllocError>
+    ensures { IfOk result (λ v. v.items ≡ without_codes name.now (shown components.now)) }
+{
+    let mut same = Vec::with_capacity(alloc, components.len())?;
+    for component in components {
+        same.push(uncoded(name, component)?)?;
+    }
+    Ok(same)
+}
+
+// The identifiers of an operand, of which the one of items has no codes.
+fn items_uncoded(
+    alloc: Global,
+    variable: &Txt,
+    structure: &Structure,
+) -> Result<Vec<Component>, AllocError>
+    ensures { IfOk result (λ v. v.items ≡ without_codes variable.now (identifiers_of structure.now)) }
+{
+    let identifiers = structure.identifiers(alloc)?;
+    without_codes(alloc, variable, &identifiers)
+}
+
+/// The structure of `check_hierarchy`: the identifiers of the operand, of which that of items loses its codes, and of rules,
+/// then what the output shows, with the imbalance. It breaks `UnknownComponent` where the variable is no component of the operand, `WrongRole` where it is no
 /// identifier of texts, and `MeasuresDisagree` where the operand does not have exactly one measure that is a number.
 pub fn hierarchy_checked(
     alloc: Global,
@@ -102,15 +145,15 @@ pub fn hierarchy_checked(
     ensures { Answers (λ s. s) result (hierarchy_checked output variable.now structure.now) }
 {
     itemized(variable, structure)?;
-    let mut out = Vec::new(alloc);
-    push_checked(alloc, &mut out, structure)?;
+    let mut out = items_uncoded(alloc, variable, structure)?;
+    push_ruleid(alloc, &mut out)?;
     push_output(alloc, &mut out, output, structure)?;
     push_imbalance(alloc, &mut out)?;
     push_errors(alloc, &mut out)?;
     shaped(alloc, out)
 }
 
-/// The structure of `hierarchy`: the identifiers and the measure of the operand. It breaks the rules that
+/// The structure of `hierarchy`: the identifiers of the operand, of which that of items loses its codes, and its measure. It breaks the rules that
 /// `hierarchy_checked` breaks for its variable and its operand.
 pub fn hierarchy_made(
     alloc: Global,
@@ -120,8 +163,7 @@ pub fn hierarchy_made(
     ensures { Answers (λ s. s) result (hierarchy_made variable.now structure.now) }
 {
     itemized(variable, structure)?;
-    let mut out = Vec::new(alloc);
-    push_identifiers_of(&mut out, structure)?;
+    let mut out = items_uncoded(alloc, variable, structure)?;
     push_measures(&mut out, structure.components.as_slice())?;
     shaped(alloc, out)
 }

@@ -1,13 +1,18 @@
--- A select over a first source and operands that are joined with it.
-use Rattle.std.proofs.Common.{◌≡◌, ◌<◌, ◌^◌, ℕ, true, List, [], ◌∷◌, ◌++◌, length, map, None, Ok, refl, ap, sym, ◌∙◌, subst, arith, append-nil}
+-- A select over a first source and operands that are joined with it, with a condition on the rows.
+use Rattle.std.proofs.Common.{◌≡◌, ◌<◌, ◌^◌, ℕ, true, List, [], ◌∷◌, ◌++◌, length, map, Option, Some, None, refl, ap, sym, ◌∙◌, subst, arith, append-nil}
 use Rattle.std.specs.Prelude.{fold, is_some}
-use Rattle.std.specs.List.{AllByRecursion, flat_map}
+use Rattle.std.specs.List.{AllByRecursion, filter, flat_map}
+use Rattle.vtl_decimal.specs.declared.number.Fault.{Fault}
+use Rattle.vtl_cell.specs.Outcome.{after, fault_in, faults_by, unless}
+use Rattle.vtl_cell.specs.Outcomes.{is_true}
 use Rattle.vtl_cell.specs.Row.{Row}
 use Rattle.vtl_decimal.specs.Settings.{Settings}
+use Rattle.vtl_lists.proofs.Sorts.{AllByRecursion-filter}
 use Rattle.vtl_tree.specs.CompExp.{CompExp}
 use Rattle.vtl_tree.specs.DataSet.{is_point}
 use Rattle.vtl_tree.specs.Environment.{DataSet}
 use Rattle.vtl_tree.specs.Structure.{IsStructure, columns_of}
+use Rattle.vtl_tree.specs.Value.{value}
 use Rattle.vtl_tree.specs.declared.structure.Component.{Component}
 use Rattle.vtl_tree.specs.declared.structure.Structure.{Structure}
 use Rattle.std.proofs.lemmas.List.Folds.{flat_map-map}
@@ -17,25 +22,30 @@ use Rattle.vtl_meaning.specs.Made.{AreFor}
 use Rattle.vtl_meaning.specs.Points.{each_point}
 use Rattle.vtl_meaning.proofs.OwnColumns.{columns_apart}
 use Rattle.vtl_meaning.proofs.Places.{all_more}
-use Rattle.sql_tree.specs.Trees.{JoinTree, SelectTree, Text}
+use Rattle.sql_tree.specs.Trees.{Exp, JoinTree, SelectTree, Text}
 use Rattle.sql_tree.specs.declared.word_groups.JoinKind.{JoinKind}
 use Rattle.sql_check_laws.specs.Selects.{AreJoinsTyped}
 use Rattle.sql_check_parts.specs.Queries.{first_scope, joined_scope, scope_of}
-use Rattle.sql_check_parts.specs.Scopes.{add_source}
+use Rattle.sql_check_parts.specs.Scopes.{Scope, add_source}
 use Rattle.sql_meaning.specs.From.{kept_of, source_rows, with_join}
 use Rattle.sql_meaning.specs.Scripts.{Data, base_of, tables_in}
+use Rattle.sql_meaning.specs.Tables.{Base}
+use Rattle.sql_meaning.specs.Values.{at_rows, value as sql_value}
+use Rattle.expressions_to_sql.specs.Names.{AreNamesFormed, Names}
+use Rattle.expressions_to_sql.specs.ToSql.{Naming, to_sql}
 use Rattle.selects_to_sql.specs.Writable.{AllCanBeWritten, HaveNames}
-use Rattle.selects_to_sql.specs.Queries.{alias_of, source_as}
-use Rattle.joins_to_sql.specs.Joins.{chain_select, many_at, width_of}
-use Rattle.joins_to_sql.proofs.Chains.{AllTied, IsAt, IsGrown, IsOneSided, after_all, all_done, all_grown, all_pieces, chained, chained_printed, chained_scope, chained_typed, each_alone, extended_by, formed_at, found_in, grown_by, joined_of, joins, last_stage, names_at, state}
+use Rattle.selects_to_sql.specs.Queries.{alias_of, condition_for, source_as}
+use Rattle.joins_to_sql.specs.Joins.{chain_select, many_at, where_of, width_of}
+use Rattle.joins_to_sql.proofs.Chains.{AllTied, IsAt, IsGrown, IsOneSided, Stage, after_all, all_done, all_grown, all_pieces, chained, chained_printed, chained_scope, chained_typed, each_alone, extended_by, formed_at, found_in, grown_by, joined_of, joins, last_stage, names_at, state}
 use Rattle.selects_to_sql.proofs.Exact.{IsExactly}
 use Rattle.selects_to_sql.proofs.Expressions.{Translates}
 use Rattle.selects_to_sql.proofs.Givens.{AreGiven}
 use Rattle.joins_to_sql.proofs.HeldOperands.{AreHeld, IsHeld, rows_held}
 use Rattle.selects_to_sql.proofs.Loose.{all_loose, loose_formed, loose_names, loose_point}
 use Rattle.joins_to_sql.proofs.ManySources.{alias_is_name, all_columns, many_scope}
-use Rattle.selects_to_sql.proofs.SelectItems.{IsFrom}
-use Rattle.selects_to_sql.proofs.Selects.{IsPointOf, expressions_give}
+use Rattle.selects_to_sql.proofs.OneOperand.{same_functions}
+use Rattle.selects_to_sql.proofs.SelectItems.{AllRows, GivesRows, IsFrom}
+use Rattle.selects_to_sql.proofs.Selects.{IsPointOf, IsTest, expressions_give, maybe_fits, maybe_printed}
 use Rattle.selects_to_sql.proofs.Unions.{one_exactly}
 
 module _ (p : Settings) (law : Translates p) (before : Data) (r : DataSet) (w : IsStructure r.structure) (named : HaveNames (columns_of r.structure)) (leads : AllByRecursion (λ q. is_point (columns_of r.structure) q ≡ true) r.points) (x : Text) (here : IsHeld before x r) (f : Structure → List Component) (kind : JoinKind) (one : IsOneSided kind) (ds : List DataSet) (xs : List Text) (few : length (length (columns_of r.structure) ∷ map width_of (structures_of ds)) < 2 ^ 64) (held : AreHeld before xs ds) where
@@ -105,36 +115,77 @@ module _ (p : Settings) (law : Translates p) (before : Data) (r : DataSet) (w : 
         ap (λ yss. first ++ all_columns yss) (all_done p law before first f ws few kind one ds [])
         ∙ ap (λ l. first ++ l) (flat_map-map (λ ys. ys) (λ d. columns_of d.structure) ds)
 
-    module _ (es : List CompExp) (s : Structure) (i : AreFor p (all_loose chain_columns) es (columns_of s)) (written : AllCanBeWritten es) (given : AreGiven (columns_of s)) where
-      abbrev select : SelectTree
-      select = chain_select p kind first f ss es s x xs
+    module _ (es : List CompExp) (s : Structure) (i : AreFor p (all_loose chain_columns) es (columns_of s)) (written : AllCanBeWritten es) (given : AreGiven (columns_of s)) (condition : Option CompExp) (test : IsTest p (all_loose chain_columns) condition) where
+      abbrev naming : Naming
+      naming = many_at first ss
 
-      scope_is : scope_of (tables_in before) select ≡ many_scope 0 (first ∷ done)
+      abbrev scope : Scope
+      scope = many_scope 0 (first ∷ done)
+
+      abbrev test_of : Option Exp
+      test_of = condition_for p naming condition
+
+      abbrev select : SelectTree
+      select = chain_select p kind first f ss es s condition x xs
+
+      abbrev b : Base
+      b = base_of p before
+
+      scope_is : scope_of (tables_in before) select ≡ scope
       scope_is = ap (λ z. joined_scope (tables_in before) (add_source [] (alias_of 0) z) it) here.known ∙ chained_scope p law before first f ws few kind one ds xs 1 (length first) [] start tied held
 
-      rows_given : source_rows (base_of p before) select ≡ Ok chain_rows
+      last : Stage p law before first f ws few kind one done []
+      last = last_stage p law before first f ws few kind one ds 1 (length first) [] start tied
+
+      names : Names naming scope (all_loose columns)
+      names = loose_names naming scope columns (names_at p law before first f ws few kind one done [] last)
+
+      formed : AreNamesFormed naming (all_loose columns)
+      formed = loose_formed naming columns (formed_at p law before first f ws few kind one done [] last)
+
+      tested : IsTest p (all_loose columns) condition
+      tested = subst (λ ys. IsTest p (all_loose ys) condition) (sym columns_are) test
+
+      -- the rows that the condition leaves
+      left_is : (o : Option CompExp) → IsTest p (all_loose columns) o → kept_of b (condition_for p naming o) (state p law before first f ws few kind one done chain_rows) ≡ where_of p o chain_rows
+      left_is None k = refl
+      left_is (Some e) k =
+          ap (λ h. unless (faults_by (λ q. fault_in (h q)) chain_rows) (filter (λ q. is_true (h q)) chain_rows))
+          (same_functions (λ q. sql_value (at_rows b scope) (to_sql p naming e) q []) (value p e) (λ q. law.value_at b naming scope (all_loose columns) q [] refl names e k.0 k.2.constants))
+
+      rows_given : source_rows b select ≡ where_of p condition chain_rows
       rows_given =
-          ap (λ z. kept_of (base_of p before) None (fold (with_join (base_of p before)) (joined_of (add_source [] (alias_of 0) z) ((base_of p before).rows x) None) it)) here.known
-          ∙ ap (λ l. kept_of (base_of p before) None (fold (with_join (base_of p before)) (state p law before first f ws few kind one [] l) it)) (rows_held p before x r here)
-          ∙ ap (kept_of (base_of p before) None) joined_is
+          ap (λ z. kept_of b test_of (fold (with_join b) (joined_of (add_source [] (alias_of 0) z) (b.rows x) None) it)) here.known
+          ∙ ap (λ l. kept_of b test_of (fold (with_join b) (state p law before first f ws few kind one [] l) it)) (rows_held p before x r here)
+          ∙ ap (kept_of b test_of) joined_is
+          ∙ left_is condition tested
 
       joins_typed : AreJoinsTyped p (tables_in before) (first_scope (tables_in before) select) it
       joins_typed =
           subst (λ z. AreJoinsTyped p (tables_in before) (add_source [] (alias_of 0) z) it) (sym here.known)
           (chained_typed p law before first f ws few kind one ds xs 1 (length first) [] start tied held)
 
-      from_is : IsFrom p before (many_scope 0 (first ∷ done)) select
+      from_is : IsFrom p before scope select
       from_is = record {
         scope = scope_is;
         source = ((ap is_some here.known, refl), (here.word, alias_is_name 0 (omega arith)));
         joins = (joins_typed, chained_printed p law before first f ws few kind one ds xs 1 (length first) [] start tied held);
-        condition = (tt, tt);
+        condition = (maybe_fits p law naming (all_loose columns) formed scope names (tables_in before) condition tested, maybe_printed p law naming (all_loose columns) formed condition tested);
       }
 
-      pub chain_exactly : IsExactly p before (select ∷ []) s (each_point p es chain_rows)
-      chain_exactly =
-          let last = last_stage p law before first f ws few kind one ds 1 (length first) [] start tied in
-          let naming = many_at first ss in
-          one_exactly p before s given select (each_point p es chain_rows)
-          (expressions_give p law naming (all_loose columns) (loose_formed naming columns (formed_at p law before first f ws few kind one done [] last)) (many_scope 0 (first ∷ done)) (loose_names naming (many_scope 0 (first ∷ done)) columns (names_at p law before first f ws few kind one done [] last))
-          before es s (subst (λ ys. AreFor p (all_loose ys) es (columns_of s)) (sym columns_are) i) written given (source_as (alias_of 0) x) it None from_is (Ok chain_rows) rows_given all_typed)
+      left_typed : (o : Option CompExp) → AllRows (IsPointOf (all_loose columns)) (where_of p o chain_rows)
+      left_typed None = all_typed
+      left_typed (Some e) = go (faults_by (λ q. fault_in (value p e q)) chain_rows)
+        where
+          go : (o : Option Fault) → AllRows (IsPointOf (all_loose columns)) (unless o (filter (λ q. is_true (value p e q)) chain_rows))
+          go None = AllByRecursion-filter (IsPointOf (all_loose columns)) (λ q. is_true (value p e q)) chain_rows all_typed
+          go (Some z) = tt
+
+      -- the expressions at the rows that the condition leaves
+      pub chain_gives : GivesRows p before s select (after (where_of p condition chain_rows) (each_point p es))
+      chain_gives =
+          expressions_give p law naming (all_loose columns) formed scope names
+          before es s (subst (λ ys. AreFor p (all_loose ys) es (columns_of s)) (sym columns_are) i) written given (source_as (alias_of 0) x) it test_of from_is (where_of p condition chain_rows) rows_given (left_typed condition)
+
+      pub chain_exactly : IsExactly p before (select ∷ []) s (after (where_of p condition chain_rows) (each_point p es))
+      chain_exactly = one_exactly p before s given select (after (where_of p condition chain_rows) (each_point p es)) chain_gives

@@ -59,7 +59,7 @@ HaveSame ids ss = AllByRecursion (λ b. AreAmong (identifiers_of b) ids × AreAm
 abbrev tied_query : Settings → Structure → List Structure → Structure → List Text → Text → QueryTree
 tied_query p r ss s xs x =
     let t = key_structure r in
-    chain_select p joining.Left (columns_of t) (λ a. identifiers_of r) ss (joined_exps (placed_at 0 t ∷ []) (placed_from (width_of t) ss)) s x xs ∷ []
+    chain_select p joining.Left (columns_of t) (λ a. identifiers_of r) ss (joined_exps (placed_at 0 t ∷ []) (placed_from (width_of t) ss)) s None x xs ∷ []
 
 has_all : (r a : Structure) → AreAmong (identifiers_of r) (identifiers_of a) → common_identifiers a (key_structure r) ≡ identifiers_of r
 has_all r a back =
@@ -184,7 +184,7 @@ module _ (p : Settings) (law : Translates p) (before : Data) (r : Structure) (w 
   given_rows : IsExactly p before (tied_query p r ss s xs x) s (Ok (map (point_of p es) rows))
   given_rows =
       exactly_same p before (tied_query p r ss s xs x) s (each_point p es rows) (Ok (map (point_of p es) rows)) (each_plain p es rows (joined_plain p lead all))
-      (chain_exactly p law before (with_points t keys) well key_given.named typed x here f joining.Left tt ds xs few_sources held (all_tied ds sets named among) es s made (plain_written p es (joined_plain p lead all)) given)
+      (chain_exactly p law before (with_points t keys) well key_given.named typed x here f joining.Left tt ds xs few_sources held (all_tied ds sets named among) es s made (plain_written p es (joined_plain p lead all)) given None tt)
 
   -- ---- its rows
 

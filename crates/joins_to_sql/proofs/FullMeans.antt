@@ -48,7 +48,7 @@ use Rattle.selects_to_sql.proofs.Running.{columns_there, run_stops}
 
 -- ---- the order of operands' points
 
-keys_respect : (ids : List Component) (ds es : List DataSet) → SameOperands ds es → Perm (flat_map (keys_in ids) ds) (flat_map (keys_in ids) es)
+pub keys_respect : (ids : List Component) (ds es : List DataSet) → SameOperands ds es → Perm (flat_map (keys_in ids) ds) (flat_map (keys_in ids) es)
 keys_respect ids [] [] same = empty
 keys_respect ids [] (e ∷ es) same = absurd same
 keys_respect ids (d ∷ ds) [] same = absurd same
@@ -72,6 +72,17 @@ there_parts now (x ∷ xs) y (e ∷ ds) d one h i = let rest = there_parts now x
 one_end : (m : Result Data NamedFault) (d e : Data) → m ≡ Ok d → m ≡ Ok e → d ≡ e
 one_end m d e h i = cc
 
+-- others behind operands that are there
+pub beside_there : (p : Settings) (r : Text) → is_word r ≡ true → (before : Data) (n : ℕ) (a : Sources) (f : ℕ → Sources) (ds : List DataSet) (w : Outcome (List DataSet)) → AreEarlier r n before → SourcesGive p before r n a (Ok ds)
+    → ((more : Data) → AreThere (before ++ more) a.names ds → AreEarlier r a.next (before ++ more) → a.next ≡ n + length a.tables → SourcesGive p (before ++ more) r a.next (f a.next) w) → SourcesGive p before r n (and_then a f) (after w (λ es. Ok (ds ++ es)))
+beside_there p r word before n a f ds w apart g h =
+    let x = g.0 in
+    let now = before ++ x.more in
+    let counted = x.counted in
+    let given = h x.more g.1 (all_earlier p r word n a.next before x.more (omega (arith, counted)) apart x.new) x.counted in
+    beside_gives p r word before n a f (Ok ds) w g
+    (λ z. let same : now ≡ before ++ z.more = one_end (run p before a.tables) now (before ++ z.more) x.ran z.ran in subst (λ d. SourcesGive p d r a.next (f a.next) w) same given)
+
 -- ---- tuples of identifiers
 
 tuples_typed : (a : Structure) (ds : List DataSet) → AreSets ds → HaveThem (identifiers_of a) ds → AllByRecursion (λ k. is_point (identifiers_of a) k ≡ true) (flat_map (keys_in (identifiers_of a)) ds)
@@ -81,6 +92,33 @@ tuples_typed a (d ∷ ds) all them =
     all_append (λ k. is_point ids k ≡ true) (keys_in ids d) (flat_map (keys_in ids) ds)
     (all_map (values_in d.structure ids) (λ k. is_point ids k ≡ true) d.points (all_more (λ q. is_point (columns_of d.structure) q ≡ true) (λ q. is_point ids (values_in d.structure ids q) ≡ true) (λ q h. key_is ids d.structure q (are_identifiers a) them.0 h) d.points all.0.typed))
     (tuples_typed a ds all.1 them.1)
+
+-- ---- the tables of identifiers, whatever operands they are of
+
+pub once_means : (p : Settings) → Translates p → (t : Structure) → IsStructure t → AreGiven (columns_of t) → (keys : List Row) → AllByRecursion (λ q. is_point (columns_of t) q ≡ true) keys → (now : Data) (x : Text) → StandsAs now x t keys
+    → Means p now (once_query p t x) t (Ok (each_once same_row keys))
+once_means p law t w given keys typed now x st =
+    means_by p now (once_query p t x) t (Ok (each_once same_row st.rows)) (Ok (each_once same_row keys)) (once_respects same_row rows_apart st.same)
+    (once_exactly p law now x t st.rows st.table st.named w given (AllByRecursion-Perm (λ q. is_point (columns_of t) q ≡ true) (Perm-sym st.same) typed))
+
+module _ (p : Settings) (r : Text) (word : is_word r ≡ true) (a : Structure) (ss : List Structure) (keys : List Row) (ds : List DataSet) where
+  abbrev own : Structure
+  own = key_structure a
+
+  -- where the queries mean these rows, and each of them once
+  pub keys_stand : ((now : Data) (xs : List Text) → AreThere now xs ds → Means p now (keys_query p a ss xs) own (Ok keys)) → ((now : Data) (x : Text) → StandsAs now x own keys → Means p now (once_query p own x) own (Ok (each_once same_row keys)))
+      → (now : Data) (xs : List Text) (n : ℕ) → AreThere now xs ds → AreEarlier r n now → n + 2 < 2 ^ 64 → SourcesGive p now r n (keys_of p r a ss xs n) (Ok (with_points own (each_once same_row keys) ∷ []))
+  keys_stand all_mean once_mean now xs n there apart few =
+      let back : now ++ [] ≡ now = append-nil now in
+      let one = over (by_names xs n) (keys_query p a ss) in
+      let first : SourcesGive p now r n (by_names xs n) (Ok ds) = (no_tables p r word now n, subst (λ d. AreThere d xs ds) (sym back) there) in
+      let all : NodeGives p now r n one own (Ok keys) = over_gives p r word now n (by_names xs n) (keys_query p a ss) own (Ok ds) (λ l. Ok keys) first (λ later l e h. let same : ds ≡ l = cc in all_mean later xs (subst (AreThere later xs) (sym same) h)) in
+      let kept : SourcesGive p now r n (stored r one) (Ok (with_points own keys ∷ [])) = stored_gives p r word now n one own (Ok keys) apart (omega (arith, few)) all in
+      let two = over (stored r one) (with_one (once_query p own)) in
+      let once : NodeGives p now r n two own (Ok (each_once same_row keys)) =
+      one_gives p r word now n (stored r one) (once_query p own) own own (Ok keys) (λ d. Ok (each_once same_row d)) kept
+      (λ later x d e st. let same : keys ≡ d = cc in subst (λ l. Means p later (once_query p own x) own (Ok (each_once same_row l))) same (once_mean later x (subst (StandsAs later x own) (sym same) st))) in
+      stored_gives p r word now n two own (Ok (each_once same_row keys)) apart (omega (arith, few)) once
 
 module _ (p : Settings) (law : Translates p) (s : Structure) (given : AreGiven (columns_of s)) (a : Structure) (others : List Structure) (named : AllByRecursion (λ b. HaveNames (columns_of b)) (a ∷ others)) (few : 1 + length (a ∷ others) < 2 ^ 64) (i : IsJoined join.Full (a ∷ others) s) (ds : List DataSet) (sets : AreSets ds) (are : structures_of ds ≡ a ∷ others) where
   abbrev ss : List Structure
@@ -155,9 +193,7 @@ module _ (p : Settings) (law : Translates p) (s : Structure) (given : AreGiven (
   once_typed = once_hold (λ q. is_point (columns_of t) q ≡ true) same_row keys keys_typed
 
   pub once_mean : (now : Data) (x : Text) → StandsAs now x t keys → Means p now (once_query p t x) t (Ok (each_once same_row keys))
-  once_mean now x st =
-      means_by p now (once_query p t x) t (Ok (each_once same_row st.rows)) (Ok (each_once same_row keys)) (once_respects same_row rows_apart st.same)
-      (once_exactly p law now x t st.rows st.table st.named (key_is_structure a well) own_given (AllByRecursion-Perm (λ q. is_point (columns_of t) q ≡ true) (Perm-sym st.same) keys_typed))
+  once_mean now x st = once_means p law t (key_is_structure a well) own_given keys keys_typed now x st
 
   -- ---- the operands beside them
 
@@ -190,36 +226,21 @@ module _ (p : Settings) (law : Translates p) (s : Structure) (given : AreGiven (
   module _ (r : Text) (word : is_word r ≡ true) where
     -- of the identifiers
     keys_give : (now : Data) (xs : List Text) (n : ℕ) → AreThere now xs ds → AreEarlier r n now → n + 2 < 2 ^ 64 → SourcesGive p now r n (keys_of p r a ss xs n) (Ok (with_points t (each_once same_row keys) ∷ []))
-    keys_give now xs n there apart few =
-        let back : now ++ [] ≡ now = append-nil now in
-        let one = over (by_names xs n) (keys_query p a ss) in
-        let first : SourcesGive p now r n (by_names xs n) (Ok ds) = (no_tables p r word now n, subst (λ d. AreThere d xs ds) (sym back) there) in
-        let all : NodeGives p now r n one t (Ok keys) = over_gives p r word now n (by_names xs n) (keys_query p a ss) t (Ok ds) (λ l. Ok keys) first (λ later l e h. let same : ds ≡ l = cc in keys_mean later xs (subst (AreThere later xs) (sym same) h)) in
-        let kept : SourcesGive p now r n (stored r one) (Ok (with_points t keys ∷ [])) = stored_gives p r word now n one t (Ok keys) apart (omega (arith, few)) all in
-        let two = over (stored r one) (with_one (once_query p t)) in
-        let once : NodeGives p now r n two t (Ok (each_once same_row keys)) =
-        one_gives p r word now n (stored r one) (once_query p t) t t (Ok keys) (λ d. Ok (each_once same_row d)) kept
-        (λ later x d e st. let same : keys ≡ d = cc in subst (λ l. Means p later (once_query p t x) t (Ok (each_once same_row l))) same (once_mean later x (subst (StandsAs later x t) (sym same) st))) in
-        stored_gives p r word now n two t (Ok (each_once same_row keys)) apart (omega (arith, few)) once
+    keys_give = keys_stand p r word a ss keys ds keys_mean once_mean
 
     pub full_there : (before : Data) (n : ℕ) (os : Sources) → AreEarlier r n before → n + length (full_made p r ss s os).tables < 2 ^ 64 → SourcesGive p before r n os (Ok ds) → NodeGives p before r n (full_made p r ss s os) s (Ok (join_of join.Full ds))
     full_there before n os apart few g =
-        let x = g.0 in
-        let now = before ++ x.more in
         let next : ℕ → Sources = keys_of p r a ss os.names in
         let key : DataSet = with_points t (each_once same_row keys) in
         let size = length-append os.tables (next os.next).tables in
         let two : length (next os.next).tables ≡ 2 = refl in
-        let counted = x.counted in
-        let given_keys = keys_give now os.names os.next g.1 (all_earlier p r word n os.next before x.more (omega (arith, counted)) apart x.new) (omega (arith, few, counted, size, two)) in
         let both : SourcesGive p before r n (and_then os next) (Ok (ds ++ key ∷ [])) =
-        beside_gives p r word before n os next (Ok ds) (Ok (key ∷ [])) g
-        (λ z. let same : now ≡ before ++ z.more = one_end (run p before os.tables) now (before ++ z.more) x.ran z.ran in subst (λ d. SourcesGive p d r os.next (next os.next) (Ok (key ∷ []))) same given_keys) in
+        beside_there p r word before n os next ds (Ok (key ∷ [])) apart g (λ more there earlier counted. keys_give (before ++ more) os.names os.next there earlier (omega (arith, few, counted, size, two))) in
         over_gives p r word before n (and_then os next) (with_last (full_query p a ss s)) s (Ok (ds ++ key ∷ [])) (λ l. Ok (join_of join.Full ds)) both
         (λ later l e h.
         let same : ds ++ key ∷ [] ≡ l = cc in
         let y = numbered r (over (stored r (over (by_names os.names os.next) (keys_query p a ss))) (with_one (once_query p t))).next in
-        let parts = there_parts later os.names y ds key now g.1 (subst (AreThere later (os.names ++ y ∷ [])) (sym same) h) in
+        let parts = there_parts later os.names y ds key (before ++ g.0.more) g.1 (subst (AreThere later (os.names ++ y ∷ [])) (sym same) h) in
         subst (λ q. Means p later q s (Ok (join_of join.Full ds))) (sym (last_is (full_query p a ss s) os.names y)) (full_mean later os.names y parts.0 parts.1))
 
 -- ---- where an operand has a fault, too

@@ -28,7 +28,7 @@ use Rattle.joins_to_sql.proofs.ManySources.{of_first, of_later}
 
 -- ---- the components of a structure are among its columns
 
-abbrev IsWithin : List Component → Component → Type 0
+abbrev pub IsWithin : List Component → Component → Type 0
 IsWithin xs y = place_of y.name xs < length xs
 
 place_in : (name : Text) (front : List Component) (y : Component) (rest : List Component) → same_name y.name name ≡ true → place_of name (front ++ y ∷ rest) < length (front ++ y ∷ rest)
@@ -47,16 +47,16 @@ all_within front (y ∷ ys) back = (
 )
 
 -- some columns of each structure
-abbrev IsOwn : (Structure → List Component) → Type 0
+abbrev pub IsOwn : (Structure → List Component) → Type 0
 IsOwn f = (a : Structure) → AllByRecursion (IsWithin (columns_of a)) (f a)
 
 columns_split : (a : Structure) → identifiers_of a ++ (measures_of a ++ attributes_of a) ≡ columns_of a
 columns_split a = sym (append_assoc (identifiers_of a) (measures_of a) (attributes_of a))
 
-own_identifiers : IsOwn identifiers_of
+pub own_identifiers : IsOwn identifiers_of
 own_identifiers a = subst (λ l. AllByRecursion (IsWithin l) (identifiers_of a)) (columns_split a) (all_within [] (identifiers_of a) (measures_of a ++ attributes_of a))
 
-own_measures : IsOwn measures_of
+pub own_measures : IsOwn measures_of
 own_measures a = subst (λ l. AllByRecursion (IsWithin l) (measures_of a)) (columns_split a) (all_within (identifiers_of a) (measures_of a) (attributes_of a))
 
 own_attributes : IsOwn attributes_of

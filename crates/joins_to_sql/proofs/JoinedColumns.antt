@@ -118,7 +118,7 @@ abbrev pub structures_in : List Placed → List Structure
 structures_in os = map (λ o. o.structure) os
 
 module _ (p : Settings) (xs : List Component) where
-  column_kinds : (o : Placed) (ys : List Component) → IsStructure o.structure → IsPlaced xs o → AreAmong ys (columns_of o.structure) → OfKinds p (all_loose xs) (map (λ y. column_behind o.before (columns_of o.structure) y.name) ys) (component_kinds ys)
+  pub column_kinds : (o : Placed) (ys : List Component) → IsStructure o.structure → IsPlaced xs o → AreAmong ys (columns_of o.structure) → OfKinds p (all_loose xs) (map (λ y. column_behind o.before (columns_of o.structure) y.name) ys) (component_kinds ys)
   column_kinds o [] w i all = tt
   column_kinds o (y ∷ ys) w i all =
       let own = columns_of o.structure in

@@ -31,7 +31,7 @@ pub keep_all : (t : Component → Bool) (xs : List Component) → AllByRecursion
 keep_all t [] all = refl
 keep_all t (x ∷ xs) all = ap (λ b. cond b (x ∷ filter t xs) (filter t xs)) all.0 ∙ ap (λ l. x ∷ l) (keep_all t xs all.1)
 
-keep_none : (t : Component → Bool) (xs : List Component) → AllByRecursion (λ x. t x ≡ false) xs → filter t xs ≡ []
+pub keep_none : (t : Component → Bool) (xs : List Component) → AllByRecursion (λ x. t x ≡ false) xs → filter t xs ≡ []
 keep_none t [] all = refl
 keep_none t (x ∷ xs) all = ap (λ b. cond b (x ∷ filter t xs) (filter t xs)) all.0 ∙ keep_none t xs all.1
 
@@ -83,30 +83,39 @@ key_kinds : (ids : List Component) → AllByRecursion (λ y. is_null_kind y.kind
 key_kinds [] h = (refl, tt)
 key_kinds (x ∷ xs) h = h
 
-pub key_is_structure : (r : Structure) → IsStructure r → IsStructure (key_structure r)
-key_is_structure r w = record {
+-- identifiers with distinct names, of which there are not too many
+pub keys_are_structure : (r : Structure) → length (identifiers_of r) ≤ most_components → AreApart (identifiers_of r) → IsStructure (key_structure r)
+keys_are_structure r low apart = record {
   some = key_some (identifiers_of r);
-  few = key_few (identifiers_of r) (few_identifiers r w);
-  distinct = key_apart (identifiers_of r) (identifiers_apart r w);
+  few = key_few (identifiers_of r) low;
+  distinct = key_apart (identifiers_of r) apart;
 }
+
+pub key_is_structure : (r : Structure) → IsStructure r → IsStructure (key_structure r)
+key_is_structure r w = keys_are_structure r (few_identifiers r w) (identifiers_apart r w)
 
 identifiers_named : (r : Structure) → HaveNames (columns_of r) → HaveNames (identifiers_of r)
 identifiers_named r n = all_front (λ x. IsName x.name) (identifiers_of r) (others_of r) (subst HaveNames (columns_split r) n)
 
 -- its columns can be those of a table
+pub keys_given : (r : Structure) → length (identifiers_of r) ≤ most_components → AreApart (identifiers_of r) → HaveNames (identifiers_of r) → AllByRecursion (λ y. is_null_kind y.kind ≡ false) (identifiers_of r) → AreGiven (columns_of (key_structure r))
+keys_given r few apart named kinds =
+    let ids = identifiers_of r in
+    let low = key_few ids few in
+    subst AreGiven (sym (key_columns ids (are_identifiers r))) (record {
+      apart = key_apart ids apart;
+      kinds = key_kinds ids kinds;
+      few = omega (arith, low);
+      some = key_some ids;
+      named = key_named ids named;
+    })
+
 pub key_given : (r s : Structure) → IsStructure r → HaveNames (columns_of r) → HasIdentifiers s (identifiers_of r) → AreGiven (columns_of s) → AreGiven (columns_of (key_structure r))
 key_given r s w n i given =
     let ids = identifiers_of r in
     let theirs : AllByRecursion (λ y. is_null_kind y.kind ≡ false) (identifiers_of s) = all_front (λ y. is_null_kind y.kind ≡ false) (identifiers_of s) (others_of s) (subst (AllByRecursion (λ y. is_null_kind y.kind ≡ false)) (columns_split s) given.kinds) in
     let kinds : AllByRecursion (λ y. is_null_kind y.kind ≡ false) ids = all_of_map (λ y. y.kind) (λ q. is_null_kind q ≡ false) ids (subst (AllByRecursion (λ q. is_null_kind q ≡ false)) i.1 (all_map (λ y. y.kind) (λ q. is_null_kind q ≡ false) (identifiers_of s) theirs)) in
-    let low = key_few ids (few_identifiers r w) in
-    subst AreGiven (sym (key_columns ids (are_identifiers r))) (record {
-      apart = key_apart ids (identifiers_apart r w);
-      kinds = key_kinds ids kinds;
-      few = omega (arith, low);
-      some = key_some ids;
-      named = key_named ids (identifiers_named r n);
-    })
+    keys_given r (few_identifiers r w) (identifiers_apart r w) (identifiers_named r n) kinds
 
 -- ---- its rows
 

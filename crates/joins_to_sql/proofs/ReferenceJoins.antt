@@ -213,17 +213,17 @@ module _ (p : Settings) (law : Translates p) (before : Data) (ds : List DataSet)
     abbrev rows : List Row
     rows = chain_rows p law before r set.well_formed (one_of_all (λ d. HaveNames (columns_of d.structure)) i ds r there named) set.typed own.0 own.2 shared kind one others (without i xs) few_sources (held_without before i xs ds held)
 
-    query_is : reference_query p kind i ss s xs ≡ chain_select p kind first shared (structures_of others) es s own.0 (without i xs) ∷ []
+    query_is : reference_query p kind i ss s xs ≡ chain_select p kind first shared (structures_of others) es s None own.0 (without i xs) ∷ []
     query_is =
         ap (λ o. from_reference p kind i ss s xs o (slice_get xs i)) (slice_map (λ d. d.structure) i ds r there)
         ∙ ap (from_reference p kind i ss s xs (Some a)) own.1
-        ∙ ap (λ l. chain_select p kind first shared l es s own.0 (without i xs) ∷ []) (sym (without_map (λ d. d.structure) i ds))
+        ∙ ap (λ l. chain_select p kind first shared l es s None own.0 (without i xs) ∷ []) (sym (without_map (λ d. d.structure) i ds))
 
     given_rows : IsExactly p before (reference_query p kind i ss s xs) s (Ok (map (point_of p es) rows))
     given_rows =
         subst (λ q. IsExactly p before q s (Ok (map (point_of p es) rows))) (sym query_is)
-        (exactly_same p before (chain_select p kind first shared (structures_of others) es s own.0 (without i xs) ∷ []) s (each_point p es rows) (Ok (map (point_of p es) rows)) (each_plain p es rows (joined_plain p ids all))
-        (chain_exactly p law before r set.well_formed (one_of_all (λ d. HaveNames (columns_of d.structure)) i ds r there named) set.typed own.0 own.2 shared kind one others (without i xs) few_sources (held_without before i xs ds held) tied es s made (plain_written p es (joined_plain p ids all)) given))
+        (exactly_same p before (chain_select p kind first shared (structures_of others) es s None own.0 (without i xs) ∷ []) s (each_point p es rows) (Ok (map (point_of p es) rows)) (each_plain p es rows (joined_plain p ids all))
+        (chain_exactly p law before r set.well_formed (one_of_all (λ d. HaveNames (columns_of d.structure)) i ds r there named) set.typed own.0 own.2 shared kind one others (without i xs) few_sources (held_without before i xs ds held) tied es s made (plain_written p es (joined_plain p ids all)) given None tt))
 
     -- ---- its rows
 

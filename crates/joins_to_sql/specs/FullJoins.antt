@@ -53,4 +53,4 @@ once_query p t x = grouped_as (items_as (all_to_sql p of_one (own_columns t)) (c
 abbrev pub full_query : Settings → (r : Structure) → List Structure → Structure → (tables : List Text) → (keys : Text) → QueryTree
 full_query p r ss s xs x =
     let t = key_structure r in
-    chain_select p joining.Left (columns_of t) (λ a. common_identifiers a t) ss (joined_exps (placed_at 0 t ∷ []) (placed_from (width_of t) ss)) s x xs ∷ []
+    chain_select p joining.Left (columns_of t) (λ a. common_identifiers a t) ss (joined_exps (placed_at 0 t ∷ []) (placed_from (width_of t) ss)) s None x xs ∷ []

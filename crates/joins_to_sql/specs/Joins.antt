@@ -1,7 +1,10 @@
 -- The queries of joins: one select over all operands, each a source behind those before it.
-use Rattle.std.specs.Prelude.{ℕ, zero, suc, ◌+◌, ◌-◌, nat_lt, List, [], ◌∷◌, ◌++◌, map, length, slice_get, Option, Some, None, if◌then◌else◌}
+use Rattle.std.specs.Prelude.{ℕ, zero, suc, ◌+◌, ◌-◌, nat_lt, List, [], ◌∷◌, ◌++◌, map, length, slice_get, Option, Some, None, Ok, if◌then◌else◌}
 use Rattle.std.specs.List.{flat_map}
+use Rattle.vtl_cell.specs.Outcome.{Outcome}
+use Rattle.vtl_cell.specs.Row.{Row}
 use Rattle.vtl_decimal.specs.Settings.{Settings}
+use Rattle.vtl_tree.specs.Clauses.{filter_of}
 use Rattle.vtl_tree.specs.CompExp.{CompExp}
 use Rattle.vtl_tree.specs.Structure.{columns_of}
 use Rattle.vtl_tree.specs.declared.structure.Component.{Component}
@@ -11,7 +14,7 @@ use Rattle.vtl_meaning.specs.Made.{attributes_of}
 use Rattle.sql_tree.specs.Trees.{JoinTree, QueryTree, SelectTree, Text, cross, on}
 use Rattle.sql_tree.specs.declared.word_groups.JoinKind.{JoinKind}
 use Rattle.expressions_to_sql.specs.ToSql.{Naming, column_of, to_sql}
-use Rattle.selects_to_sql.specs.Queries.{conjunction, equal, select_of, source_as, alias_of}
+use Rattle.selects_to_sql.specs.Queries.{condition_for, conjunction, equal, select_of, source_as, alias_of}
 
 -- ---- many sources
 
@@ -79,18 +82,23 @@ joins_on p kind at first f i os xs = []
 abbrev pub many_at : (first : List Component) → List Structure → Naming
 many_at first ss = of_many 0 (length first ∷ map width_of ss)
 
--- a first source, and operands that are joined with it
-abbrev pub chain_select : Settings → JoinKind → (first : List Component) → (Structure → List Component) → List Structure → List CompExp → Structure → (table : Text) → (tables : List Text) → SelectTree
-chain_select p kind first f ss es s x xs =
+-- a first source, and operands that are joined with it, at the rows at which a condition holds, where there is one
+abbrev pub chain_select : Settings → JoinKind → (first : List Component) → (Structure → List Component) → List Structure → List CompExp → Structure → (condition : Option CompExp) → (table : Text) → (tables : List Text) → SelectTree
+chain_select p kind first f ss es s condition x xs =
     let at = many_at first ss in
-    select_of p at es s (source_as (alias_of 0) x) (joins_on p kind at first f 1 (placed_from (length first) ss) xs) None
+    select_of p at es s (source_as (alias_of 0) x) (joins_on p kind at first f 1 (placed_from (length first) ss) xs) (condition_for p at condition)
+
+-- the rows that such a condition leaves
+abbrev pub where_of : Settings → (condition : Option CompExp) → List Row → Outcome (List Row)
+where_of p None rows = Ok rows
+where_of p (Some e) rows = filter_of p e rows
 
 -- ---- `inner_join` and `left_join`: each other operand joined with the reference
 
 abbrev pub from_reference : Settings → JoinKind → (place : ℕ) → List Structure → Structure → List Text → Option Structure → Option Text → QueryTree
 from_reference p kind i ss s xs (Some r) (Some x) =
     let es = joined_exps (placed_at 0 r ∷ []) (placed_around i (width_of r) ss) in
-    chain_select p kind (columns_of r) (common_identifiers r) (without i ss) es s x (without i xs) ∷ []
+    chain_select p kind (columns_of r) (common_identifiers r) (without i ss) es s None x (without i xs) ∷ []
 from_reference p kind i ss s xs r x = []
 
 -- the reference is the operand at this place

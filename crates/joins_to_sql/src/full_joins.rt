@@ -75,7 +75,7 @@ fn key_components(alloc: Global, identifiers: &[&Component]) -> Result<Vec<Compo
 
 /// The structure of a table of the identifiers of a structure: where it has none, a column that is always true. It fails
 /// only if memory runs out.
-pub(crate) fn key_structure(alloc: Global, reference: &Structure) -> Result<Structure, AllocError>
+pub fn key_structure(alloc: Global, reference: &Structure) -> Result<Structure, AllocError>
     ensures { IfOk result (λ t. t ≡ key_structure reference.now) }
 {
     let identifiers = reference.identifiers(alloc)?;
@@ -144,7 +144,7 @@ fn identifiers_selects(
 
 /// The identifiers of a structure at the points of all operands, each of which has them. It fails only if memory runs
 /// out.
-pub(crate) fn keys_query(
+pub fn keys_query(
     alloc: Global,
     writer: &Writer,
     reference: &Structure,
@@ -157,7 +157,7 @@ pub(crate) fn keys_query(
 }
 
 /// Each row of a table of identifiers once. It fails only if memory runs out.
-pub(crate) fn once_query(
+pub fn once_query(
     alloc: Global,
     writer: &Writer,
     keys: &Structure,

@@ -127,7 +127,7 @@ fn tied_with(
 }
 
 /// Columns have the values that the columns of their names have in the first source. It fails only if memory runs out.
-pub(crate) fn all_tied(
+pub fn all_tied(
     alloc: Global,
     first: &Txt,
     alias: &Txt,

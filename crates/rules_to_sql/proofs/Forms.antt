@@ -37,13 +37,13 @@ use Rattle.rules_to_sql.specs.PointQueries.{datapoint_query, rule_errors, ruled_
 
 -- ---- errors
 
-errors_written : (p : Settings) (at : Naming) (code : Option (List ℕ)) (level : Option ℤ) → all_to_sql p at (error_exps code level) ≡ errors_as code level
+pub errors_written : (p : Settings) (at : Naming) (code : Option (List ℕ)) (level : Option ℤ) → all_to_sql p at (error_exps code level) ≡ errors_as code level
 errors_written p at None None = refl
 errors_written p at None (Some n) = refl
 errors_written p at (Some text) None = refl
 errors_written p at (Some text) (Some n) = refl
 
-errors_at_written : (p : Settings) (at : Naming) (truth : CompExp) (code : Option (List ℕ)) (level : Option ℤ) → all_to_sql p at (error_exps_at truth code level) ≡ errors_as_at (to_sql p at truth) code level
+pub errors_at_written : (p : Settings) (at : Naming) (truth : CompExp) (code : Option (List ℕ)) (level : Option ℤ) → all_to_sql p at (error_exps_at truth code level) ≡ errors_as_at (to_sql p at truth) code level
 errors_at_written p at truth None None = refl
 errors_at_written p at truth None (Some n) = refl
 errors_at_written p at truth (Some text) None = refl

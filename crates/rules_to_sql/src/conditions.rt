@@ -18,7 +18,7 @@ use vtl_cell::{Kind, ScalarOp};
 use vtl_tree::{CompExpr, DatapointRule, kind};
 
 /// One value where a condition is true, and another one elsewhere. It fails only if memory runs out.
-pub(crate) fn choice(
+pub fn choice(
     alloc: Global,
     condition: SqlExpr,
     value: SqlExpr,
@@ -33,7 +33,7 @@ pub(crate) fn choice(
 }
 
 /// A condition does not hold. It fails only if memory runs out.
-pub(crate) fn denied(alloc: Global, condition: SqlExpr) -> Result<SqlExpr, AllocError>
+pub fn denied(alloc: Global, condition: SqlExpr) -> Result<SqlExpr, AllocError>
     ensures { IfOk result (λ e. expr_tree e ≡ denied (expr_tree condition)) }
 {
     Ok(SqlExpr::Unary {

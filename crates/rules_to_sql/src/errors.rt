@@ -20,21 +20,21 @@ pub(crate) fn null_like(alloc: Global, value: SqlExpr) -> Result<SqlExpr, AllocE
 }
 
 /// A text. It fails only if memory runs out.
-pub(crate) fn text_as(text: &Txt) -> Result<SqlExpr, AllocError>
+pub fn text_as(text: &Txt) -> Result<SqlExpr, AllocError>
     ensures { IfOk result (λ e. expr_tree e ≡ text_as text.now) }
 {
     Ok(SqlExpr::Constant(Constant::Text(text.share()?)))
 }
 
 /// A level. It fails only if memory runs out.
-pub(crate) fn level_as(alloc: Global, writer: &Writer, level: i64) -> Result<SqlExpr, AllocError>
+pub fn level_as(alloc: Global, writer: &Writer, level: i64) -> Result<SqlExpr, AllocError>
     ensures { IfOk result (λ e. expr_tree e ≡ level_as level) }
 {
     writer.constant(alloc, &Cell::Int(level))
 }
 
 /// No text. It fails only if memory runs out.
-pub(crate) fn no_code(alloc: Global) -> Result<SqlExpr, AllocError>
+pub fn no_code(alloc: Global) -> Result<SqlExpr, AllocError>
     ensures { IfOk result (λ e. expr_tree e ≡ null_like (text_as [])) }
 {
     let empty = Txt::new(alloc, "")?;
@@ -43,7 +43,7 @@ pub(crate) fn no_code(alloc: Global) -> Result<SqlExpr, AllocError>
 }
 
 /// No level. It fails only if memory runs out.
-pub(crate) fn no_level(alloc: Global, writer: &Writer) -> Result<SqlExpr, AllocError>
+pub fn no_level(alloc: Global, writer: &Writer) -> Result<SqlExpr, AllocError>
     ensures { IfOk result (λ e. expr_tree e ≡ null_like (level_as (pos 0))) }
 {
     let zero = level_as(alloc, writer, 0)?;
@@ -51,7 +51,7 @@ pub(crate) fn no_level(alloc: Global, writer: &Writer) -> Result<SqlExpr, AllocE
 }
 
 /// The text of an error. It fails only if memory runs out.
-pub(crate) fn code(alloc: Global, code: &Option<Txt>) -> Result<SqlExpr, AllocError>
+pub fn code(alloc: Global, code: &Option<Txt>) -> Result<SqlExpr, AllocError>
     ensures { IfOk result (λ e. expr_tree e ≡ written_as text_as [] code.now) }
 {
     match code {
@@ -61,11 +61,7 @@ pub(crate) fn code(alloc: Global, code: &Option<Txt>) -> Result<SqlExpr, AllocEr
 }
 
 /// The level of an error. It fails only if memory runs out.
-pub(crate) fn level(
-    alloc: Global,
-    writer: &Writer,
-    level: Option<i64>,
-) -> Result<SqlExpr, AllocError>
+pub fn level(alloc: Global, writer: &Writer, level: Option<i64>) -> Result<SqlExpr, AllocError>
     ensures { IfOk result (λ e. expr_tree e ≡ written_as level_as (pos 0) level) }
 {
     match level {

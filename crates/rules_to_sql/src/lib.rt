@@ -15,4 +15,6 @@ mod errors;
 mod point_queries;
 
 pub use check_queries::{check_query, imbalance_query};
+pub use conditions::{choice, denied};
+pub use errors::{code, level, level_as, no_code, no_level, text_as};
 pub use point_queries::datapoint_query;

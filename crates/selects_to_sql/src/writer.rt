@@ -51,6 +51,13 @@ impl Writer {
         })
     }
 
+    /// The settings.
+    pub fn profile(&self) -> &Profile
+        ensures { result.now ≡ self.now }
+    {
+        &self.profile
+    }
+
     /// The alias of the source of a number, where there are many.
     pub fn alias(&self, alloc: Global, number: usize) -> Result<Txt, AllocError>
         ensures { IfOk result (λ t. t ≡ alias_of number) }

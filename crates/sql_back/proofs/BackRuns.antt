@@ -1,7 +1,5 @@
 -- What a run of a script's text tells is what the script means.
-use Rattle.std.proofs.Common.{◌≡◌, ℕ, true, ◌&&◌, List, [], ◌∷◌, map, Result, Ok, Err, refl, sym, ap, ◌∙◌, subst}
-use Rattle.std.specs.List.{list_all}
-use Rattle.std.proofs.lemmas.Bool.{and_parts}
+use Rattle.std.proofs.Common.{◌≡◌, ℕ, List, [], ◌∷◌, map, Result, Ok, Err, refl, sym, ap, ◌∙◌, subst}
 use Rattle.vtl_decimal.specs.declared.number.Fault.TheVariants.{DivZero, Range}
 use Rattle.vtl_decimal.specs.declared.number.Fault.{Fault}
 use Rattle.vtl_lists.specs.Perm.{Perm, chain}
@@ -12,20 +10,18 @@ use Rattle.vtl_rows.specs.Tables.{Listed}
 use Rattle.vtl_tree.specs.Environment.{DataSet, known_in}
 use Rattle.vtl_tree.specs.Structure.{columns_of}
 use Rattle.vtl_tree.specs.declared.structure.Component.{Component}
-use Rattle.vtl_tree.specs.Trees.{NodeTree}
 use Rattle.sql_tree.specs.Texts.{IsScript as IsSpelled}
 use Rattle.sql_engine.specs.Exported.{entry_column}
 use Rattle.sql_engine.specs.InputTables.{rows_given}
 use Rattle.sql_meaning.specs.Scripts.{script_value}
-use Rattle.vtl_check.specs.Checked.{TypedScript, nodes_of, tree_of}
+use Rattle.vtl_check.specs.Checked.{TypedScript}
 use Rattle.vtl_backend.specs.Inputs.{AreInRange, AreInputs, environment_of, inputs_of}
 use Rattle.vtl_scripts.specs.Made.{AreMadeStatements}
-use Rattle.vtl_scripts.specs.Meaning.{AreDataSets, Outputs, is_built}
+use Rattle.vtl_scripts.specs.Meaning.{AreDataSets, Outputs}
 use Rattle.vtl_backend.specs.Runs.{Runs, ShowAll, ShowMeaning, Tells, script_meaning}
-use Rattle.vtl_backend.specs.Statements.{is_script_built, statements_of, with_nodes}
+use Rattle.vtl_backend.specs.Statements.{statements_of}
 use Rattle.vtl_sets.specs.TableOf.{column_for}
 use Rattle.vtl_backend.specs.Tables.{Shows}
-use Rattle.vtl_check.specs.Transformations.{Transformation, transformations}
 use Rattle.vtl_scalar.specs.declared.run_error.RunErr.{RunErr}
 use Rattle.vtl_scalar.specs.declared.run_error.RunErr.TheVariants as err
 use Rattle.vtl_to_sql.specs.Conditions.{IsScript}
@@ -86,16 +82,9 @@ module _ (meant : Result Outputs (Fault × List ℕ)) (sets : (os : Outputs) →
   tells_so before now (Err (err.Range name)) h = (same_fault meant (Range, name) h.0, h.1)
   tells_so before now (Err err.OutOfMemory) h = h
 
--- ---- the statements of a script that is evaluated
+-- ---- the statements of a script
 
-all_built : (ts : List Transformation) (ns : List NodeTree) → list_all is_built ns ≡ true → list_all (λ s. is_built s.node) (with_nodes ts ns) ≡ true
-all_built [] ns h = refl
-all_built (t ∷ ts) [] h = refl
-all_built (t ∷ ts) (n ∷ ns) h =
-    let parts = and_parts (is_built n) (list_all is_built ns) h in
-    ap (λ b. b && list_all (λ s. is_built s.node) (with_nodes ts ns)) parts.0 ∙ all_built ts ns parts.1
-
-module _ (t : TypedScript) (tables : NamedTables) (built : is_script_built t ≡ true) (script : IsScript t.settings (inputs_of t) (statements_of t)) (there : AreInputs t tables) (ranged : AreInRange t tables) where
+module _ (t : TypedScript) (tables : NamedTables) (script : IsScript t.settings (inputs_of t) (statements_of t)) (there : AreInputs t tables) (ranged : AreInRange t tables) where
   known : known_in (environment_of t tables) ≡ inputs_of t
   known = sets_known tables (inputs_of t)
 
@@ -106,7 +95,7 @@ module _ (t : TypedScript) (tables : NamedTables) (built : is_script_built t ≡
   made = subst (λ k. AreMadeStatements t.settings k (statements_of t)) (sym known) (all_made t.settings (inputs_of t) (statements_of t) script.translated)
 
   outputs_are_sets : (os : Outputs) → script_meaning t tables ≡ Ok os → AreDataSets os
-  outputs_are_sets os e = meaning_kept t.settings (statements_of t) (environment_of t tables) os (all_built (transformations (tree_of t)) (nodes_of t) built) made sets e
+  outputs_are_sets os e = meaning_kept t.settings (statements_of t) (environment_of t tables) os made sets e
 
   value_is : script_value (script_for t.settings (inputs_of t) (statements_of t)) (rows_given tables) ≡ exported_as (script_meaning t tables)
   value_is = script_means t.settings (inputs_of t) (statements_of t) script (environment_of t tables) known sets ranged (rows_given tables) (are_read tables (inputs_of t))

@@ -13,7 +13,7 @@ use vtl_rows::{Inputs, Outputs, SortKey, Table};
 use vtl_scalar::RunErr;
 use vtl_status::Status;
 use vtl_text::Txt;
-use vtl_top::{Chosen, Source, read_built, read_inputs};
+use vtl_top::{Chosen, Source, read_inputs, read_typed};
 
 const FALLING: SortKey = SortKey {
     column: 0,
@@ -87,7 +87,7 @@ fn given_by<B: Backend>(alloc: Global, back: &mut B, lines: &str) -> Result<Outp
         structures: "structures.csv",
         chosen: Chosen::new(None, None).unwrap(),
     };
-    let checked = read_built(alloc, &mut files, &source)?;
+    let checked = read_typed(alloc, &mut files, &source)?;
     let inputs = read_inputs(alloc, &mut files, "in", &checked)?;
     let mut given = Outputs::new(alloc);
     match back.run(alloc, &checked, &inputs, &mut given) {

@@ -1,11 +1,9 @@
--- The statements of a typed script, and what is evaluated of them so far.
+-- The statements of a typed script.
 use Rattle.std.specs.Prelude.{Bool, true, false, List, [], ◌∷◌}
-use Rattle.std.specs.List.{list_all}
 use Rattle.vtl_syntax.specs.declared.word_groups.AssignKind.{AssignKind}
 use Rattle.vtl_syntax.specs.declared.word_groups.AssignKind.TheVariants as kind
-use Rattle.vtl_tree.specs.Trees as nodes
-use Rattle.vtl_tree.specs.Trees.{FormTree, NodeTree}
-use Rattle.vtl_scripts.specs.Meaning.{Statement, is_built}
+use Rattle.vtl_tree.specs.Trees.{NodeTree}
+use Rattle.vtl_scripts.specs.Meaning.{Statement}
 use Rattle.vtl_check.specs.Checked.{TypedScript, nodes_of, tree_of}
 use Rattle.vtl_check.specs.Transformations.{Transformation, transformations}
 
@@ -21,15 +19,3 @@ with_nodes ts ns = []
 
 abbrev pub statements_of : TypedScript → List Statement
 statements_of t = with_nodes (transformations (tree_of t)) (nodes_of t)
-
-abbrev pub is_script_built : TypedScript → Bool
-is_script_built t = list_all is_built (nodes_of t)
-
--- whether a node's own form is evaluated so far, whatever its operands
-abbrev pub is_evaluated_form : FormTree → Bool
-is_evaluated_form (nodes.check_hierarchy a rules m out) = false
-is_evaluated_form (nodes.hierarchy a rules m i out) = false
-is_evaluated_form form = true
-
-abbrev pub is_evaluated : NodeTree → Bool
-is_evaluated (nodes.node s form) = is_evaluated_form form

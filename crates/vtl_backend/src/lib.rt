@@ -2,15 +2,12 @@
 //!
 //! It speaks of the checked script, of tables that stand for data sets, and of the meaning alone, so that a back
 //! end which runs SQL can meet it word for word. Two that do give the same answers up to the order of rows
-//! (`answers_agree`). Which scripts can be run so far is decided here (`is_built`).
-//! It knows no way of evaluating and no file.
+//! (`answers_agree`). It knows no way of evaluating and no file.
 //! Begin with specs/Runs.antt, then src/backend.rt.
 #![tactic(auto)]
 
 mod backend;
-mod built;
 mod laws;
 
 pub use backend::Backend;
-pub use built::is_built;
 pub use laws::answers_agree;

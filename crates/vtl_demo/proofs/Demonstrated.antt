@@ -1,9 +1,9 @@
 -- What is asked of the script and its inputs, and what it means, of any script that is the demonstration's.
-use Rattle.std.proofs.Common.{◌≡◌, ◌≤◌, ◌∙◌, ℕ, true, Result, Ok, Err, List, map, ap, ap₂, refl, subst, sym}
-use Rattle.std.specs.List.{AllByRecursion, list_all}
+use Rattle.std.proofs.Common.{◌≡◌, ◌≤◌, ◌∙◌, ℕ, Result, Ok, Err, List, map, ap, ap₂, refl, subst, sym}
+use Rattle.std.specs.List.{AllByRecursion}
 use Rattle.vtl_decimal.specs.declared.number.Fault.{Fault}
 use Rattle.vtl_decimal.specs.declared.number.Fault.TheVariants.{DivZero, Range}
-use Rattle.vtl_scripts.specs.Meaning.{Outputs, is_built, meaning}
+use Rattle.vtl_scripts.specs.Meaning.{Outputs, meaning}
 use Rattle.vtl_meaning.specs.Profiles.{AllAreOfProfile}
 use Rattle.vtl_check.specs.Checked.{TypedScript, known_of, nodes_of, tree_of}
 use Rattle.vtl_check.specs.Transformations.{transformations}
@@ -11,7 +11,7 @@ use Rattle.vtl_check.specs.Uses.{reads, results_behind}
 use Rattle.vtl_rows.specs.Named.{NamedTables, table_of}
 use Rattle.vtl_backend.specs.Inputs.{AreInRange, AreInputs, Holds, environment_of, input_of, inputs_of}
 use Rattle.vtl_backend.specs.Runs.{ShowMeaning, Tells, script_meaning}
-use Rattle.vtl_backend.specs.Statements.{is_script_built, statements_of, with_nodes}
+use Rattle.vtl_backend.specs.Statements.{statements_of, with_nodes}
 use Rattle.vtl_scalar.specs.declared.run_error.RunErr.{RunErr}
 use Rattle.vtl_scalar.specs.declared.run_error.RunErr.TheVariants as err
 use Rattle.vtl_demo.specs.DataSets.{declared, environment, tables}
@@ -36,9 +36,6 @@ module _ (t : TypedScript) (is : IsDemonstration t) where
   known_are =
       ap (λ s. results_behind (reads s (nodes_of t)) (transformations (tree_of t)) (nodes_of t)) is.over
       ∙ ap₂ (λ s ns. results_behind (reads declared ns) (transformations s) ns) is.spells is.gives
-
-  pub built : is_script_built t ≡ true
-  built = ap (list_all is_built) is.gives
 
   pub inputs_are : (n : ℕ) → AreInputs t (tables n)
   inputs_are n =

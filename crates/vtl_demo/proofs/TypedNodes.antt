@@ -1,10 +1,8 @@
 -- The script is typed, each of its forms is evaluated, and it reads the two data sets.
-use Rattle.std.proofs.Common.{◌≡◌, Ok, true, refl}
-use Rattle.std.specs.List.{list_all}
+use Rattle.std.proofs.Common.{◌≡◌, Ok, refl}
 use Rattle.vtl_check.specs.Checked.{env_over}
 use Rattle.vtl_check.specs.Script.{assigned, script_typed}
 use Rattle.vtl_check.specs.Uses.{reads}
-use Rattle.vtl_scripts.specs.Meaning.{is_built}
 use Rattle.check_clauses.specs.Clauses.{keeping_form, name_known}
 use Rattle.check_clauses.specs.JoinOperands.{joined_node, last_naming, with_part}
 use Rattle.check_clauses.specs.Targets.{calc_clause}
@@ -18,9 +16,6 @@ use Rattle.vtl_demo.specs.Script.{settings, tree}
 pub typed : script_typed (env_over settings declared) tree ≡ Ok typed_nodes
 unfolding assigned keeping_form name_known joined_node last_naming with_part calc_clause aggregate_node operator_form is_shared joined_name
 typed = refl
-
-pub built : list_all is_built typed_nodes ≡ true
-built = refl
 
 pub reads_both : reads declared typed_nodes ≡ declared
 reads_both = refl

@@ -1,22 +1,19 @@
 // Laws of the demonstration.
-ghost use Rattle.std.specs.List.{list_all, sum_by};
-ghost use Rattle.std.specs.Prelude.{◌≡◌, ◌≤◌, ◌<◌, ◌^◌, ℕ, List, Ok, length, true};
+ghost use Rattle.std.specs.List.{sum_by};
+ghost use Rattle.std.specs.Prelude.{◌≡◌, ◌≤◌, ◌<◌, ◌^◌, ℕ, List, Ok, length};
 ghost use Rattle.vtl_check.specs.Checked.{env_over};
 ghost use Rattle.vtl_check.specs.Script.{script_typed};
 ghost use Rattle.vtl_check.specs.Uses.{reads};
-ghost use Rattle.vtl_scripts.specs.Meaning.{is_built};
 ghost use Rattle.vtl_parser.specs.Parsed.{IsScript};
 ghost use Rattle.vtl_tree.specs.DataSet.{AreOfProfile, IsDataSet};
 ghost use Rattle.vtl_demo.specs.DataSets.{declared, left_points, left_structure, most_points, right_points, right_structure};
 ghost use Rattle.vtl_demo.specs.Nodes.{HasResults, product_at, typed_nodes};
 ghost use Rattle.vtl_demo.specs.Script.{settings, text, tree};
 
-/// The text spells the tree, which is typed over the structures; each of its forms is evaluated, and it reads the two
-/// data sets in their order.
+/// The text spells the tree, which is typed over the structures, and it reads the two data sets in their order.
 pub fn script_is_accepted()
     ensures spelled { IsScript text tree }
     ensures typed { script_typed (env_over settings declared) tree ≡ Ok typed_nodes }
-    ensures built { list_all is_built typed_nodes ≡ true }
     ensures reads { reads declared typed_nodes ≡ declared }
 {}
 

@@ -31,11 +31,15 @@ use Rattle.vtl_tree.specs.declared.nodes.NodeForm.{NodeForm}
 use Rattle.vtl_tree.specs.declared.nodes.NodeForm.TheVariants as form
 use Rattle.vtl_tree.specs.declared.nodes.NodeForm as forms
 use Rattle.vtl_tree.specs.declared.rules.DatapointRules.{DatapointRules}
+use Rattle.vtl_tree.specs.declared.rules.HierRules.{HierRules}
 use Rattle.vtl_tree.specs.declared.specifications.AggSpec.{AggSpec}
 use Rattle.vtl_tree.specs.declared.specifications.AnalyticSpec.{AnalyticSpec}
 use Rattle.vtl_tree.specs.declared.specifications.CheckSpec.{CheckSpec}
 use Rattle.vtl_tree.specs.declared.specifications.JoinSpec.{JoinSpec}
 use Rattle.vtl_syntax.specs.declared.word_groups.CheckOut.{CheckOut}
+use Rattle.vtl_syntax.specs.declared.word_groups.HierInput.{HierInput}
+use Rattle.vtl_syntax.specs.declared.word_groups.HierOut.{HierOut}
+use Rattle.vtl_syntax.specs.declared.word_groups.Mode.{Mode}
 use Rattle.vtl_syntax.specs.declared.word_groups.Retain.{Retain}
 use Rattle.vtl_meaning.specs.AggregateShapes.{IsAggregated}
 use Rattle.vtl_sets.specs.DataSets.{data_set, with_structure}
@@ -123,6 +127,12 @@ form_tree-Check a (Some b) spec = search (rules, forms.the_lemmas)
 
 pub form_tree-CheckDatapoint : (a : Box Node Global) (rs : DatapointRules) (out : CheckOut) → form_tree (form.CheckDatapoint a rs out) ≡ nodes.check_datapoint (node_tree a.value) (point_rules_tree rs) out
 form_tree-CheckDatapoint a rs out = search (rules, forms.the_lemmas)
+
+pub form_tree-CheckHierarchy : (a : Box Node Global) (rs : HierRules) (m : Mode) (out : CheckOut) → form_tree (form.CheckHierarchy a rs m out) ≡ nodes.check_hierarchy (node_tree a.value) rs m out
+form_tree-CheckHierarchy a rs m out = search (rules, forms.the_lemmas)
+
+pub form_tree-Hierarchy : (a : Box Node Global) (rs : HierRules) (m : Mode) (i : HierInput) (out : HierOut) → form_tree (form.Hierarchy a rs m i out) ≡ nodes.hierarchy (node_tree a.value) rs m i out
+form_tree-Hierarchy a rs m i out = search (rules, forms.the_lemmas)
 
 -- the tree of a node of this form
 tree_with : (n : Node) (f : NodeForm) (t : FormTree) → n.form ≡ f → form_tree f ≡ t → node_tree n ≡ nodes.node n.structure t

@@ -26,7 +26,7 @@ use Rattle.vtl_meaning.specs.Orders.{SameData}
 use Rattle.vtl_scripts.specs.Orders.{SameMeaning}
 use Rattle.vtl_meaning.specs.Profiles.{AllAreOfProfile}
 use Rattle.vtl_backend.specs.Runs.{Runs, ShowAll, ShowMeaning, Tells, script_meaning}
-use Rattle.vtl_backend.specs.Statements.{is_script_built, statements_of}
+use Rattle.vtl_backend.specs.Statements.{statements_of}
 use Rattle.vtl_sets.specs.TableOf.{IsTableOf}
 use Rattle.vtl_backend.specs.Tables.{Shows}
 use Rattle.vtl_scalar.specs.declared.run_error.RunErr.{RunErr}
@@ -121,10 +121,10 @@ tells_same m n before now (Err err.OutOfMemory) same h = h
 
 -- ---- a run over the one is a run over the other
 
-pub runs_reordered : (tables others : NamedTables) (t : TypedScript) → IsTyped t → AreStructures t.declared → is_script_built t ≡ true → AreInputs t tables → AreReordered tables others
+pub runs_reordered : (tables others : NamedTables) (t : TypedScript) → IsTyped t → AreStructures t.declared → AreInputs t tables → AreReordered tables others
     → (before now : NamedTables) (r : Result (Unit {0}) RunErr) → Runs t others before now r → Runs t tables before now r
-runs_reordered tables others t typed declared built there same before now r h =
+runs_reordered tables others t typed declared there same before now r h =
     let env = environment_of t tables in
-    let ready = ready_at_start t tables env typed built (statements_made t declared typed) refl in
+    let ready = ready_at_start t tables env typed (statements_made t declared typed) refl in
     tells_same (script_meaning t tables) (script_meaning t others) before now r
-    (meaning_respects t.settings (statements_of t) env (environment_of t others) ready.built ready.made (sets_held (inputs_of t) tables there) (same_data tables others same (inputs_of t))) h
+    (meaning_respects t.settings (statements_of t) env (environment_of t others) ready.made (sets_held (inputs_of t) tables there) (same_data tables others same (inputs_of t))) h

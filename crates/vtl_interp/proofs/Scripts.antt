@@ -1,8 +1,7 @@
 -- What typing says of the statements that are run.
-use Rattle.std.proofs.Common.{◌≡◌, ℕ, suc, ◌+◌, Bool, true, false, ◌||◌, ◌&&◌, List, [], ◌∷◌, ◌++◌, length, Result, Ok, Err, refl, subst}
-use Rattle.std.specs.List.{AllByRecursion, list_all, list_any}
+use Rattle.std.proofs.Common.{◌≡◌, ℕ, suc, ◌+◌, Bool, true, false, ◌||◌, List, [], ◌∷◌, ◌++◌, length, Result, Ok, Err, refl, subst}
+use Rattle.std.specs.List.{AllByRecursion, list_any}
 use Rattle.std.specs.Map.{keys_of}
-use Rattle.std.proofs.lemmas.Bool.{and_parts}
 use Rattle.std.proofs.lemmas.List.{map-append}
 use Rattle.vtl_syntax.specs.Trees as tree
 use Rattle.vtl_syntax.specs.Trees.{Exp, ScriptTree}
@@ -19,26 +18,12 @@ use Rattle.vtl_check.specs.Count.{count}
 use Rattle.vtl_check.specs.Names.{names_in, names_of}
 use Rattle.vtl_check.specs.Script.{Standing, assigned, at, is_too_much, statements_typed, value_typed, with_result, with_ruleset}
 use Rattle.vtl_check.specs.Transformations.{Transformation, transformations_from}
-use Rattle.vtl_scripts.specs.Meaning.{Statement, is_built}
+use Rattle.vtl_scripts.specs.Meaning.{Statement}
 use Rattle.vtl_backend.specs.Statements.{statements_of, with_nodes}
 use Rattle.vtl_interp.specs.Results.{AreNew}
 use Rattle.vtl_interp.proofs.NamesRead.{all_back, all_both, all_front, names_read}
 
 -- ---- the nodes of statements are nodes of the script
-abbrev pub are_built : List Statement → Bool
-are_built ss = list_all (λ s. is_built s.node) ss
-
-pub built_statements : (ts : List Transformation) (ns : List NodeTree) → list_all is_built ns ≡ true → are_built (with_nodes ts ns) ≡ true
-built_statements [] ns h = refl
-built_statements (t ∷ ts) [] h = refl
-built_statements (t ∷ ts) (n ∷ ns) h =
-    let parts = and_parts (is_built n) (list_all is_built ns) h in
-    both (is_built n) (are_built (with_nodes ts ns)) parts.0 (built_statements ts ns parts.1)
-  where
-    both : (a b : Bool) → a ≡ true → b ≡ true → (a && b) ≡ true
-    both true b e d = d
-    both false b e d = cc
-
 pub names_statements : (P : List ℕ → Type 0) (ts : List Transformation) (ns : List NodeTree) → AllByRecursion P (names_of ns) → AllByRecursion P (names_read (with_nodes ts ns))
 names_statements P [] ns h = tt
 names_statements P (t ∷ ts) [] h = tt

@@ -4,7 +4,6 @@ use Rattle.std.specs.Prelude.{MatchBool}
 use Rattle.std.specs.List.{list_any}
 use Rattle.std.specs.Map.{keys_of, lookup}
 use Rattle.std.specs.Option.{option_map}
-use Rattle.std.proofs.lemmas.Bool.{and_parts}
 use Rattle.std.proofs.lemmas.List.{append-nil, map-append}
 use Rattle.vtl_decimal.specs.Settings.{Settings}
 use Rattle.vtl_decimal.specs.declared.number.Fault.{Fault}
@@ -16,7 +15,7 @@ use Rattle.vtl_tree.specs.Environment.{DataSet, Environment, data_of, known_in}
 use Rattle.vtl_tree.specs.Structure.{same_name}
 use Rattle.vtl_tree.specs.declared.structure.Structure.{Structure}
 use Rattle.vtl_tree.specs.Trees.{structure_of}
-use Rattle.vtl_scripts.specs.Meaning.{Outputs, Statement, data_set_of, is_built, kept_output, meaning, node_value, stated, with_output}
+use Rattle.vtl_scripts.specs.Meaning.{Outputs, Statement, data_set_of, kept_output, meaning, node_value, stated, with_output}
 use Rattle.check_laws.specs.Scripts.{AreKnownAlike}
 use Rattle.vtl_backend.specs.Runs.{ShowAll, ShowMeaning}
 use Rattle.vtl_backend.specs.Tables.{Shows}
@@ -25,7 +24,7 @@ use Rattle.vtl_interp.specs.Results.{AreNew, AreReady, Remain, behind}
 use Rattle.vtl_interp.specs.Written.{IsBehind, IsWritten}
 use Rattle.vtl_interp.proofs.Environments.{data_looked, known_looked}
 use Rattle.vtl_interp.proofs.NamesRead.{SameData, all_so, meaning_same, names_read, statements_made_same}
-use Rattle.vtl_interp.proofs.Scripts.{are_built, new_among_fewer, none_of_each}
+use Rattle.vtl_interp.proofs.Scripts.{new_among_fewer, none_of_each}
 
 -- what a statement leaves of the data sets: those that the statements behind it read
 pub record IsStep (p : Settings) (before now : Environment) (tables more : NamedTables) (s : Statement) (rest : List Statement) : Type 0 where
@@ -111,12 +110,10 @@ meaning_ends whole rest tables none r =
 -- ---- what is needed
 pub ready_step : (p : Settings) (before now : Environment) (tables more : NamedTables) (s : Statement) (rest : List Statement) → IsStep p before now tables more s rest → AreReady p before (keys_of tables) (s ∷ rest) → AreReady p now (keys_of more) rest
 ready_step p before now tables more s rest step ready =
-    let built = and_parts (is_built s.node) (are_built rest) ready.built in
     let same : AreKnownAlike ((s.result, structure_of s.node) ∷ known_in before) (known_in now) (names_read rest) =
     subst (λ (u : Structure). AreKnownAlike ((s.result, u) ∷ known_in before) (known_in now) (names_read rest)) step.gives.structure
     (known_same ((s.result, step.made) ∷ before) now (names_read rest) step.kept) in
     record {
       made = statements_made_same p rest ((s.result, structure_of s.node) ∷ known_in before) (known_in now) same ready.made.1;
-      built = built.1;
       new_names = still_new s step.made tables more rest step.written ready.new_names.1;
     }

@@ -36,6 +36,8 @@ GivesOne p env (nodes.unpivot a id m) d = Gives p env a d
 GivesOne p env (nodes.aggregate a spec) d = Gives p env a d
 GivesOne p env (nodes.analytic_of a spec) d = Gives p env a d
 GivesOne p env (nodes.check_datapoint a rules out) d = Gives p env a d
+GivesOne p env (nodes.check_hierarchy a rules m out) d = Gives p env a d
+GivesOne p env (nodes.hierarchy a rules m i out) d = Gives p env a d
 GivesOne p env other d = ⊥
 
 abbrev pub GivesTwo : Settings → Environment → FormTree → (d e : DataSet) → Type 0

@@ -1,6 +1,6 @@
 -- The results of statements, over the data sets that are held.
-use Rattle.std.specs.Prelude.{◌≡◌, ℕ, false, true, List, [], ◌∷◌, ◌++◌, Result, Ok, Err}
-use Rattle.std.specs.List.{list_all, list_any}
+use Rattle.std.specs.Prelude.{◌≡◌, ℕ, false, List, [], ◌∷◌, ◌++◌, Result, Ok, Err}
+use Rattle.std.specs.List.{list_any}
 use Rattle.vtl_decimal.specs.Settings.{Settings}
 use Rattle.vtl_decimal.specs.declared.number.Fault.TheVariants.{DivZero, Range}
 use Rattle.vtl_decimal.specs.declared.number.Fault.{Fault}
@@ -11,7 +11,7 @@ use Rattle.vtl_tree.specs.Environment.{DataSet, Environment, known_in}
 use Rattle.vtl_tree.specs.Structure.{same_name}
 use Rattle.vtl_tree.specs.Trees.{NodeTree}
 use Rattle.vtl_scripts.specs.Made.{AreMadeStatements}
-use Rattle.vtl_scripts.specs.Meaning.{Outputs, Statement, is_built, node_value}
+use Rattle.vtl_scripts.specs.Meaning.{Outputs, Statement, node_value}
 use Rattle.vtl_rows.specs.Named.{NamedTables}
 use Rattle.vtl_backend.specs.Runs.{ShowAll, ShowMeaning}
 use Rattle.vtl_backend.specs.Statements.{is_written}
@@ -33,7 +33,6 @@ AreNew names (s ∷ rest) = (list_any (same_name s.result) names ≡ false) × A
 -- the statements can be evaluated one after the other from these data sets on, and none gives a result one of these names
 pub record AreReady (p : Settings) (env : Environment) (names : List (List ℕ)) (ss : List Statement) : Type 0 where
   pub made : AreMadeStatements p (known_in env) ss
-  pub built : list_all (λ s. is_built s.node) ss ≡ true
   pub new_names : AreNew names ss
 
 -- the statement's data set is held with those before it, and its table stands behind those before it where it is written

@@ -15,7 +15,7 @@ use vtl_combine::{exists_in, pivot, setdiff, symdiff, unpivot};
 use vtl_decimal::Profile;
 use vtl_expr::{keep_columns, map_measures, pair_measures};
 use vtl_group::aggregate;
-use vtl_rules::check_datapoint;
+use vtl_rules::{check_datapoint, check_hierarchy, hierarchy};
 use vtl_scalar::ScalarErr;
 use vtl_sets::DataSet;
 use vtl_tree::{Node, NodeForm};
@@ -50,6 +50,19 @@ fn made_of_one(alloc: Global, node: &Node, a: DataSet, p: &Profile) -> Result<Da
         NodeForm::CheckDatapoint { rules, out, .. } => {
             check_datapoint(alloc, &a, rules, *out, p, made)
         }
+        NodeForm::CheckHierarchy {
+            rules,
+            mode,
+            out,
+            ..
+        } => check_hierarchy(alloc, &a, rules, *mode, *out, p, made),
+        NodeForm::Hierarchy {
+            rules,
+            mode,
+            input,
+            out,
+            ..
+        } => hierarchy(alloc, &a, rules, *mode, *input, *out, p, made),
         _ => unreachable!(),
     }
 }

@@ -1,10 +1,10 @@
 // The evaluation of expressions on data sets.
-ghost use Rattle.std.specs.Prelude.{◌≡◌, map, true};
+ghost use Rattle.std.specs.Prelude.{map};
 ghost use Rattle.vtl_tree.specs.Trees.{nodes_of, operands_of};
 ghost use Rattle.vtl_tree.specs.NodeView.{node_tree, operand_tree};
 ghost use Rattle.vtl_scalar.specs.Answers.{AnswersBy};
 ghost use Rattle.vtl_scripts.specs.Made.{AreMade, AreMadeOperands, IsMade, IsMadeMaybe};
-ghost use Rattle.vtl_scripts.specs.Meaning.{are_nodes_built, are_operands_built, is_built, is_maybe_built, maybe_value, nodes_value, operands_value};
+ghost use Rattle.vtl_scripts.specs.Meaning.{maybe_value, nodes_value, operands_value};
 ghost use Rattle.vtl_tree.specs.Environment.{known_in};
 ghost use Rattle.vtl_interp.specs.Evaluated.{Evaluates};
 ghost use Rattle.vtl_interp.specs.Values.{imbalance_tree, maybe_view, value_view, values_view};
@@ -29,7 +29,6 @@ pub fn evaluate<'a>(
     p: &Profile,
 ) -> Result<Value<'a>, ScalarErr>
     requires made { IsMade p.now (known_in known.now.entries) (node_tree node.now) }
-    requires built { is_built (node_tree node.now) ≡ true }
     ensures { Evaluates value_view p.now known.now.entries (node_tree node.now) result }
 {
     match &node.form {
@@ -49,7 +48,9 @@ pub fn evaluate<'a>(
         | NodeForm::Unpivot { a, .. }
         | NodeForm::Aggregate { a, .. }
         | NodeForm::Analytic { a, .. }
-        | NodeForm::CheckDatapoint { a, .. } => {
+        | NodeForm::CheckDatapoint { a, .. }
+        | NodeForm::CheckHierarchy { a, .. }
+        | NodeForm::Hierarchy { a, .. } => {
             apply_to_one(alloc, node, evaluate(alloc, known, a, p)?, p)
         }
         NodeForm::Pair { a, b, .. }
@@ -83,7 +84,6 @@ pub fn evaluate<'a>(
             let other = evaluate_imbalance(alloc, known, imbalance, p)?;
             check(alloc, tested, other, spec, p, &node.structure)
         }
-        _ => unreachable!(),
     }
 }
 
@@ -96,7 +96,6 @@ fn evaluate_all<'a>(
     p: &Profile,
 ) -> Result<Vec<Value<'a>>, ScalarErr>
     requires made { AreMade p.now (known_in known.now.entries) (nodes_of (map node_tree nodes.now)) }
-    requires built { are_nodes_built (nodes_of (map node_tree nodes.now)) ≡ true }
     ensures { AnswersBy values_view result (nodes_value p.now known.now.entries (nodes_of (map node_tree nodes.now))) }
 {
     let mut sets = Vec::new(alloc);
@@ -115,7 +114,6 @@ fn evaluate_operands<'a>(
     p: &Profile,
 ) -> Result<Vec<Value<'a>>, ScalarErr>
     requires made { AreMadeOperands p.now (known_in known.now.entries) (operands_of (map operand_tree operands.now)) }
-    requires built { are_operands_built (operands_of (map operand_tree operands.now)) ≡ true }
     ensures { AnswersBy values_view result (operands_value p.now known.now.entries (operands_of (map operand_tree operands.now))) }
 {
     let mut sets = Vec::new(alloc);
@@ -134,7 +132,6 @@ fn evaluate_imbalance<'a>(
     p: &Profile,
 ) -> Result<Option<Value<'a>>, ScalarErr>
     requires made { IsMadeMaybe p.now (known_in known.now.entries) (imbalance_tree imbalance.now) }
-    requires built { is_maybe_built (imbalance_tree imbalance.now) ≡ true }
     ensures { AnswersBy maybe_view result (maybe_value p.now known.now.entries (imbalance_tree imbalance.now)) }
 {
     match imbalance {

@@ -1,8 +1,6 @@
 // The interpreter.
-ghost use Rattle.std.specs.Prelude.{◌≡◌, true};
 ghost use Rattle.vtl_backend.specs.Inputs.{AreInputs};
 ghost use Rattle.vtl_backend.specs.Runs.{script_meaning};
-ghost use Rattle.vtl_backend.specs.Statements.{is_script_built};
 ghost use Rattle.vtl_interp.specs.Results.{ShownBy};
 
 use crate::inputs::load;
@@ -20,7 +18,6 @@ pub struct Interp;
 // The outputs of a script.
 fn script_outputs(alloc: Global, script: &Checked, inputs: &Inputs) -> Result<Outputs, RunErr>
     requires inputs { AreInputs script.now inputs.now }
-    requires built { is_script_built script.now ≡ true }
     ensures { ShownBy (script_meaning script.now inputs.now) result }
 {
     let known = load(alloc, script, inputs)?;

@@ -1,11 +1,10 @@
 // Scripts over tables that are let go then, and tables with their rows in the order of their identifiers.
-ghost use Rattle.std.specs.Prelude.{◌≡◌, ◌≢◌, ◌<◌, ◌≤◌, ◌+◌, length, true, All, Err, IfOk, OnOk};
+ghost use Rattle.std.specs.Prelude.{◌≢◌, ◌<◌, ◌≤◌, ◌+◌, length, All, Err, IfOk, OnOk};
 ghost use Rattle.vtl_check.specs.Checked.{tree_of};
 ghost use Rattle.vtl_check.specs.Transformations.{transformations};
 ghost use Rattle.vtl_rows.specs.Tables.{listed};
 ghost use Rattle.vtl_backend.specs.Inputs.{AreInRange, AreInputs};
 ghost use Rattle.vtl_backend.specs.Runs.{Runs};
-ghost use Rattle.vtl_backend.specs.Statements.{is_script_built};
 ghost use Rattle.vtl_interp.specs.Reordered.{AreReordered, IsPut, IsReordered};
 
 use crate::windows::have_window;
@@ -34,7 +33,6 @@ pub fn run_over<B: Backend>(
 ) -> Result<(), RunErr>
     requires inputs { AreInputs script.now inputs }
     requires ranges { AreInRange script.now inputs }
-    requires built { is_script_built script.now ≡ true }
     ensures run { Runs script.now inputs out.old out.new result }
     ensures told { result ≢ Err RunErr.OutOfMemory → B.told back.new script.now }
     ensures work { B.work back.old ≤ B.work back.new }

@@ -2,11 +2,11 @@
 //
 // The table of a written result is put as soon as its statement is evaluated, shared with later statements; a data
 // set is let go after the last statement that reads it, which is found in one pass beforehand.
-ghost use Rattle.std.specs.Prelude.{◌≡◌, ◌∷◌, [], None, true, length, map, OnOk};
+ghost use Rattle.std.specs.Prelude.{◌≡◌, ◌∷◌, [], None, length, map, OnOk};
 ghost use Rattle.vtl_syntax.specs.View.{statement_tree};
 ghost use Rattle.vtl_tree.specs.NodeView.{node_tree};
 ghost use Rattle.vtl_scripts.specs.Made.{IsMade};
-ghost use Rattle.vtl_scripts.specs.Meaning.{is_built, meaning};
+ghost use Rattle.vtl_scripts.specs.Meaning.{meaning};
 ghost use Rattle.vtl_tree.specs.Environment.{known_in};
 ghost use Rattle.vtl_check.specs.Transformations.{transformations};
 ghost use Rattle.vtl_rows.specs.Named.{table_of};
@@ -32,7 +32,6 @@ use vtl_tree::Node;
 // The data set of an expression, owned.
 fn result_of(alloc: Global, known: &Known, node: &Node, p: &Profile) -> Result<DataSet, ScalarErr>
     requires made { IsMade p.now (known_in known.now.entries) (node_tree node.now) }
-    requires built { is_built (node_tree node.now) ≡ true }
     ensures { Evaluates (λ d. d) p.now known.now.entries (node_tree node.now) result }
 {
     let value = evaluate(alloc, known, node, p)?;
@@ -84,7 +83,6 @@ fn add_result(
     p: &Profile,
 ) -> Result<(), RunErr>
     requires made { IsMade p.now (known_in held.old.known.entries) (node_tree node.now) }
-    requires built { is_built (node_tree node.now) ≡ true }
     requires new_name { table_of name.now held.old.outputs ≡ None }
     ensures { Adds p.now held.old held.new (result_named name.now kind (node_tree node.now)) result }
 {

@@ -1,2 +1,5 @@
+pub mod ComputedItems
 pub mod Imbalances
+pub mod Itemized
 pub mod Rulings
+pub mod SideValues

@@ -75,7 +75,7 @@ impl Wanted {
 }
 
 // The value, or null in the place of a fault, which is noted.
-fn noted(seen: &mut Seen, value: Result<Cell, ScalarErr>) -> Result<Cell, ScalarErr>
+pub(crate) fn noted(seen: &mut Seen, value: Result<Cell, ScalarErr>) -> Result<Cell, ScalarErr>
     ensures value { (m : Outcome Cell) → Answers value m → IfOk result (λ v. v ≡ cell_or_null m) }
     ensures seen { (m : Outcome Cell) → Answers value m → OnOk result (seen_of seen.new ≡ join (seen_of seen.old) (fault_in m)) }
     ensures err { IfErr result (λ e. e ≡ ScalarErr.OutOfMemory) }

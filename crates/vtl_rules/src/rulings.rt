@@ -48,7 +48,7 @@ fn number_text(alloc: Global, number: usize) -> Result<Txt, AllocError>
 }
 
 // The identifier of the rule of a number: its name, where it has one.
-fn rule_id(alloc: Global, number: usize, name: &Option<Txt>) -> Result<Txt, AllocError>
+pub(crate) fn rule_id(alloc: Global, number: usize, name: &Option<Txt>) -> Result<Txt, AllocError>
     ensures { IfOk result (λ t. t ≡ rule_id number name.now) }
 {
     match name {

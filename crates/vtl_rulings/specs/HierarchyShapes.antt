@@ -10,7 +10,7 @@ use Rattle.vtl_tree.specs.Structure.{IsStructure, columns_of, same_name}
 use Rattle.vtl_tree.specs.declared.structure.Structure.{Structure}
 use Rattle.vtl_meaning.specs.Made.{HasIdentifiers, IsAlternative, IsColumnAt, component_kinds}
 use Rattle.vtl_rulings.specs.HierarchyChecks.{Ruled, sided_rules}
-use Rattle.vtl_tree.specs.Checks.{ruleid, sided_measures}
+use Rattle.vtl_tree.specs.Checks.{ruleid, sided_measures, without_codes}
 use Rattle.vtl_tree.specs.RuleItems.{definitions, left_item}
 
 -- of integers or of numbers
@@ -33,7 +33,7 @@ pub record IsHierarchyChecked (o : CheckOut) (h : Ruled) (rules : List HierRule)
   pub itemized : IsItemized h a
   -- no two rules have one identifier
   pub apart : all_apart (λ x y. same_name x.0 y.0) (sided_rules rules) ≡ true
-  pub shape : s.components ≡ identifiers_of a ++ ruleid ∷ sided_measures o a
+  pub shape : s.components ≡ without_codes h.id (identifiers_of a) ++ ruleid ∷ sided_measures o a
 
 -- `hierarchy`: the operand's identifiers and its measure
 pub record IsHierarchyMade (h : Ruled) (rules : List HierRule) (a s : Structure) : Type 0 where
@@ -45,4 +45,4 @@ pub record IsHierarchyMade (h : Ruled) (rules : List HierRule) (a s : Structure)
   pub itemized : IsItemized h a
   -- no two rules define one item
   pub apart : all_apart (λ q r. same_name (left_item q) (left_item r)) (definitions rules) ≡ true
-  pub shape : s.components ≡ identifiers_of a ++ measures_of a
+  pub shape : s.components ≡ without_codes h.id (identifiers_of a) ++ measures_of a

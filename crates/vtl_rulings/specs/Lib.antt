@@ -2,6 +2,7 @@ pub mod Hierarchies
 pub mod HierarchyShapes
 pub mod HierarchyChecks
 pub mod Modes
+pub mod Ordered
 pub mod Outputs
 pub mod PointChecks
 pub mod Running

@@ -1,10 +1,8 @@
 -- Expressions and scripts keep data sets.
-use Rattle.std.proofs.Common.{◌≡◌, ℕ, Bool, true, false, cond, ◌&&◌, List, [], ◌∷◌, Option, None, Some, Ok, Err, Result, refl, sym, ap, subst, true≢false}
+use Rattle.std.proofs.Common.{◌≡◌, ℕ, Bool, true, false, cond, List, [], ◌∷◌, Option, None, Some, Ok, Err, Result, refl, sym, ap, subst, true≢false}
 use Rattle.std.specs.Prelude.{IfOk, IfSome, option_map}
-use Rattle.std.specs.List.{list_all}
 use Rattle.std.specs.Map.{lookup}
 use Rattle.std.specs.Option.{option_map_or}
-use Rattle.std.proofs.lemmas.Bool.{and_parts}
 use Rattle.vtl_decimal.specs.Settings.{Settings}
 use Rattle.vtl_decimal.specs.declared.number.Fault.{Fault}
 use Rattle.vtl_cell.specs.Outcome.{Outcome, after}
@@ -24,7 +22,7 @@ use Rattle.vtl_meaning.proofs.GroupPoints.{result_is}
 use Rattle.vtl_meaning.specs.Joined.{join_of, structures_of}
 use Rattle.vtl_meaning.specs.Made.{AreCombined, IsJoined, IsLeft}
 use Rattle.vtl_scripts.specs.Made.{AreMade, AreMadeOperands, AreMadeStatements, IsMade, IsMadeForm, IsMadeMaybe, maybe_structure, node_structures, operands_in}
-use Rattle.vtl_scripts.specs.Meaning.{AreDataSets, Outputs, Statement, are_nodes_built, are_operands_built, form_value, is_built, is_built_form, is_maybe_built, maybe_value, meaning, node_value, nodes_value, operands_value, stated, with_first, with_operand, with_output}
+use Rattle.vtl_scripts.specs.Meaning.{AreDataSets, Outputs, Statement, form_value, maybe_value, meaning, node_value, nodes_value, operands_value, stated, with_first, with_operand, with_output}
 use Rattle.vtl_meaning.specs.Operators.{calculated_of, choice_of, left_of, measured_of, pair_of, sub_of}
 use Rattle.vtl_meaning.specs.Points.{with_points}
 use Rattle.vtl_meaning.specs.Sets.{difference_of, existence_of, intersection_of, symmetric_difference_of, union_of}
@@ -61,9 +59,6 @@ named_kept name s (d ∷ env) e h = go (same_name name d.0) (same_name d.0 name)
     go true false q f ih = absurd (true≢false q)
     go false true q f ih = absurd (true≢false (sym q))
 
-both_built : (x y : Bool) → (x && y) ≡ true → (x ≡ true) × (y ≡ true)
-both_built x y e = and_parts x y e
-
 left_given : (a : NodeTree) (s : Structure) (m : Outcome (List Row)) (out : List Row) → IsLeft (structure_of a) s → ((points : List Row) → m ≡ Ok points → IsDataSet (structure_of a) points) → with_operand a m (λ d. Ok (left_of d s)) ≡ Ok out → IsDataSet s out
 left_given a s m out i h e =
     let x = operand_ok a m (λ d. Ok (left_of d s)) out e in
@@ -96,23 +91,20 @@ IsGiven s given = (option_map (λ d. d.structure) given ≡ s) × IfSome given (
 
 mutual
   -- of an expression over an environment of data sets
-  pub node_kept : (p : Settings) (env : Environment) (n : NodeTree) (out : List Row) → is_built n ≡ true → IsMade p (known_in env) n → AreDataSets env → node_value p env n ≡ Ok out → IsDataSet (structure_of n) out
-  node_kept p env (nodes.node s form) out b i h e = form_kept p env s form out b i.1 h e
+  pub node_kept : (p : Settings) (env : Environment) (n : NodeTree) (out : List Row) → IsMade p (known_in env) n → AreDataSets env → node_value p env n ≡ Ok out → IsDataSet (structure_of n) out
+  node_kept p env (nodes.node s form) out i h e = form_kept p env s form out i.1 h e
 
-  form_kept : (p : Settings) (env : Environment) (s : Structure) (form : FormTree) (out : List Row) → is_built_form form ≡ true → IsMadeForm p (known_in env) s form → AreDataSets env → form_value p env s form ≡ Ok out → IsDataSet s out
-  form_kept p env s (nodes.named name) out b i h e = subst (λ l. IsDataSet s l) (ok_is (points_named name env) out e) (named_kept name s env i h)
-  form_kept p env s (nodes.measures m a) out b i h e =
+  form_kept : (p : Settings) (env : Environment) (s : Structure) (form : FormTree) (out : List Row) → IsMadeForm p (known_in env) s form → AreDataSets env → form_value p env s form ≡ Ok out → IsDataSet s out
+  form_kept p env s (nodes.named name) out i h e = subst (λ l. IsDataSet s l) (ok_is (points_named name env) out e) (named_kept name s env i h)
+  form_kept p env s (nodes.measures m a) out i h e =
       let x = operand_ok a (node_value p env a) (λ d. measured_of p m d s) out e in
-      measured_kept p m (with_points (structure_of a) x.0) s out i.1 (node_kept p env a x.0 b i.0 h x.1) x.2
-  form_kept p env s (nodes.pair o a c) out b i h e =
-      let built = both_built (is_built a) (is_built c) b in
+      measured_kept p m (with_points (structure_of a) x.0) s out i.1 (node_kept p env a x.0 i.0 h x.1) x.2
+  form_kept p env s (nodes.pair o a c) out i h e =
       let x = operand_ok a (node_value p env a) (λ d. with_operand c (node_value p env c) (λ q. pair_of p o d q s)) out e in
       let d = with_points (structure_of a) x.0 in
       let y = operand_ok c (node_value p env c) (λ q. pair_of p o d q s) out x.2 in
-      pair_kept p o d (with_points (structure_of c) y.0) s out i.2 (node_kept p env a x.0 built.0 i.0 h x.1) (node_kept p env c y.0 built.1 i.1 h y.1) y.2
-  form_kept p env s (nodes.choose t a c) out b i h e =
-      let built = both_built (is_built t) (is_built a && is_built c) b in
-      let others = both_built (is_built a) (is_built c) built.1 in
+      pair_kept p o d (with_points (structure_of c) y.0) s out i.2 (node_kept p env a x.0 i.0 h x.1) (node_kept p env c y.0 i.1 h y.1) y.2
+  form_kept p env s (nodes.choose t a c) out i h e =
       let w = operand_ok t (node_value p env t) (λ tests. with_operand a (node_value p env a) (λ d. with_operand c (node_value p env c) (λ q. Ok (choice_of tests d q s)))) out e in
       let tests = with_points (structure_of t) w.0 in
       let x = operand_ok a (node_value p env a) (λ d. with_operand c (node_value p env c) (λ q. Ok (choice_of tests d q s))) out w.2 in
@@ -120,104 +112,96 @@ mutual
       let y = operand_ok c (node_value p env c) (λ q. Ok (choice_of tests d q s)) out x.2 in
       let q = with_points (structure_of c) y.0 in
       subst (λ l. IsDataSet s l) (ok_is (choice_of tests d q s) out y.2)
-      (choice_kept tests d q s i.3 (node_kept p env t w.0 built.0 i.0 h w.1) (node_kept p env a x.0 others.0 i.1 h x.1) (node_kept p env c y.0 others.1 i.2 h y.1))
-  form_kept p env s (nodes.member a m) out b i h e = left_given a s (node_value p env a) out i.1 (λ points is. node_kept p env a points b i.0 h is) e
-  form_kept p env s (nodes.filter a q) out b i h e =
+      (choice_kept tests d q s i.3 (node_kept p env t w.0 i.0 h w.1) (node_kept p env a x.0 i.1 h x.1) (node_kept p env c y.0 i.2 h y.1))
+  form_kept p env s (nodes.member a m) out i h e = left_given a s (node_value p env a) out i.1 (λ points is. node_kept p env a points i.0 h is) e
+  form_kept p env s (nodes.filter a q) out i h e =
       let x = after_ok (node_value p env a) (filter_of p q) out e in
-      filtered_kept p q (structure_of a) s x.0 out i.1 (node_kept p env a x.0 b i.0 h x.1) x.2
-  form_kept p env s (nodes.calc a items) out b i h e =
+      filtered_kept p q (structure_of a) s x.0 out i.1 (node_kept p env a x.0 i.0 h x.1) x.2
+  form_kept p env s (nodes.calc a items) out i h e =
       let x = operand_ok a (node_value p env a) (λ d. calculated_of p items d s) out e in
-      calculated_kept p items (with_points (structure_of a) x.0) s out i.1 (node_kept p env a x.0 b i.0 h x.1) x.2
-  form_kept p env s (nodes.keep a names) out b i h e = left_given a s (node_value p env a) out i.1 (λ points is. node_kept p env a points b i.0 h is) e
-  form_kept p env s (nodes.drop_named a names) out b i h e = left_given a s (node_value p env a) out i.1 (λ points is. node_kept p env a points b i.0 h is) e
-  form_kept p env s (nodes.rename a pairs) out b i h e = renamed_kept (structure_of a) s out i.1 (node_kept p env a out b i.0 h e)
-  form_kept p env s (nodes.sub a items) out b i h e =
+      calculated_kept p items (with_points (structure_of a) x.0) s out i.1 (node_kept p env a x.0 i.0 h x.1) x.2
+  form_kept p env s (nodes.keep a names) out i h e = left_given a s (node_value p env a) out i.1 (λ points is. node_kept p env a points i.0 h is) e
+  form_kept p env s (nodes.drop_named a names) out i h e = left_given a s (node_value p env a) out i.1 (λ points is. node_kept p env a points i.0 h is) e
+  form_kept p env s (nodes.rename a pairs) out i h e = renamed_kept (structure_of a) s out i.1 (node_kept p env a out i.0 h e)
+  form_kept p env s (nodes.sub a items) out i h e =
       let x = operand_ok a (node_value p env a) (λ d. Ok (sub_of items d s)) out e in
       let d = with_points (structure_of a) x.0 in
-      subst (λ l. IsDataSet s l) (ok_is (sub_of items d s) out x.2) (sub_kept items d s i.1 (node_kept p env a x.0 b i.0 h x.1))
-  form_kept p env s (nodes.pivot a id m) out b i h e =
+      subst (λ l. IsDataSet s l) (ok_is (sub_of items d s) out x.2) (sub_kept items d s i.1 (node_kept p env a x.0 i.0 h x.1))
+  form_kept p env s (nodes.pivot a id m) out i h e =
       let x = operand_ok a (node_value p env a) (λ d. Ok (pivot_of d id m)) out e in
       let d = with_points (structure_of a) x.0 in
-      subst (λ l. IsDataSet s l) (ok_is (pivot_of d id m) out x.2) (pivot_kept id m d s i.1 (node_kept p env a x.0 b i.0 h x.1))
-  form_kept p env s (nodes.unpivot a id m) out b i h e =
+      subst (λ l. IsDataSet s l) (ok_is (pivot_of d id m) out x.2) (pivot_kept id m d s i.1 (node_kept p env a x.0 i.0 h x.1))
+  form_kept p env s (nodes.unpivot a id m) out i h e =
       let x = operand_ok a (node_value p env a) (λ d. Ok (unpivot_of d)) out e in
       let d = with_points (structure_of a) x.0 in
-      subst (λ l. IsDataSet s l) (ok_is (unpivot_of d) out x.2) (unpivot_kept id m d s i.1 (node_kept p env a x.0 b i.0 h x.1))
-  form_kept p env s (nodes.aggregate a spec) out b i h e =
+      subst (λ l. IsDataSet s l) (ok_is (unpivot_of d) out x.2) (unpivot_kept id m d s i.1 (node_kept p env a x.0 i.0 h x.1))
+  form_kept p env s (nodes.aggregate a spec) out i h e =
       let x = operand_ok a (node_value p env a) (λ d. aggregate_of p spec d s) out e in
       let d = with_points (structure_of a) x.0 in
-      subst (λ m. IfOk m (IsDataSet s)) x.2 (result_is p spec d s i.1.aggregated (node_kept p env a x.0 b i.0 h x.1))
-  form_kept p env s (nodes.analytic_of a spec) out b i h e =
+      subst (λ m. IfOk m (IsDataSet s)) x.2 (result_is p spec d s i.1.aggregated (node_kept p env a x.0 i.0 h x.1))
+  form_kept p env s (nodes.analytic_of a spec) out i h e =
       let x = operand_ok a (node_value p env a) (λ d. analytic_of p spec d s) out e in
       let d = with_points (structure_of a) x.0 in
-      subst (λ m. IfOk m (IsDataSet s)) x.2 (analytic_is p spec d s i.1.analyzed (node_kept p env a x.0 b i.0 h x.1))
-  form_kept p env s (nodes.join os spec) out b i h e =
+      subst (λ m. IfOk m (IsDataSet s)) x.2 (analytic_is p spec d s i.1.analyzed (node_kept p env a x.0 i.0 h x.1))
+  form_kept p env s (nodes.join os spec) out i h e =
       let x = after_ok (operands_value p env os) (λ ds. Ok (join_of spec.kind ds)) out e in
-      let sets = operands_kept p env os x.0 b i.0 h x.1 in
+      let sets = operands_kept p env os x.0 i.0 h x.1 in
       subst (λ l. IsDataSet s l) (ok_is (join_of spec.kind x.0) out x.2) (join_kept spec.kind x.0 s (subst (λ ss. IsJoined spec.kind ss s) (sym sets.0) i.1) sets.1)
-  form_kept p env s (nodes.union ns) out b i h e =
+  form_kept p env s (nodes.union ns) out i h e =
       let x = after_ok (nodes_value p env ns) (λ ds. Ok (union_of ds s)) out e in
-      let sets = nodes_kept p env ns x.0 b i.0 h x.1 in
+      let sets = nodes_kept p env ns x.0 i.0 h x.1 in
       subst (λ l. IsDataSet s l) (ok_is (union_of x.0 s) out x.2) (union_kept x.0 s (subst (λ ss. AreCombined ss s) (sym sets.0) i.1) sets.1)
-  form_kept p env s (nodes.intersect ns) out b i h e =
+  form_kept p env s (nodes.intersect ns) out i h e =
       let x = after_ok (nodes_value p env ns) (λ ds. Ok (intersection_of ds s)) out e in
-      let sets = nodes_kept p env ns x.0 b i.0 h x.1 in
+      let sets = nodes_kept p env ns x.0 i.0 h x.1 in
       subst (λ l. IsDataSet s l) (ok_is (intersection_of x.0 s) out x.2) (intersection_kept x.0 s (subst (λ ss. AreCombined ss s) (sym sets.0) i.1) sets.1)
-  form_kept p env s (nodes.set_diff a c) out b i h e =
-      let built = both_built (is_built a) (is_built c) b in
+  form_kept p env s (nodes.set_diff a c) out i h e =
       let x = two_ok a c (node_value p env a) (node_value p env c) (λ d q. difference_of d q s) out e in
-      subst (λ l. IsDataSet s l) x.4 (difference_kept (with_points (structure_of a) x.0) (with_points (structure_of c) x.1) s i.2 (node_kept p env a x.0 built.0 i.0 h x.2) (node_kept p env c x.1 built.1 i.1 h x.3))
-  form_kept p env s (nodes.sym_diff a c) out b i h e =
-      let built = both_built (is_built a) (is_built c) b in
+      subst (λ l. IsDataSet s l) x.4 (difference_kept (with_points (structure_of a) x.0) (with_points (structure_of c) x.1) s i.2 (node_kept p env a x.0 i.0 h x.2) (node_kept p env c x.1 i.1 h x.3))
+  form_kept p env s (nodes.sym_diff a c) out i h e =
       let x = two_ok a c (node_value p env a) (node_value p env c) (λ d q. symmetric_difference_of d q s) out e in
-      subst (λ l. IsDataSet s l) x.4 (symmetric_difference_kept (with_points (structure_of a) x.0) (with_points (structure_of c) x.1) s i.2 (node_kept p env a x.0 built.0 i.0 h x.2) (node_kept p env c x.1 built.1 i.1 h x.3))
-  form_kept p env s (nodes.exists_in a c r) out b i h e =
-      let built = both_built (is_built a) (is_built c) b in
+      subst (λ l. IsDataSet s l) x.4 (symmetric_difference_kept (with_points (structure_of a) x.0) (with_points (structure_of c) x.1) s i.2 (node_kept p env a x.0 i.0 h x.2) (node_kept p env c x.1 i.1 h x.3))
+  form_kept p env s (nodes.exists_in a c r) out i h e =
       let x = two_ok a c (node_value p env a) (node_value p env c) (λ d q. existence_of d q r) out e in
-      subst (λ l. IsDataSet s l) x.4 (existence_kept (with_points (structure_of a) x.0) (with_points (structure_of c) x.1) r s i.2 (node_kept p env a x.0 built.0 i.0 h x.2))
-  form_kept p env s (nodes.check a m spec) out b i h e =
-      let built = both_built (is_built a) (is_maybe_built m) b in
+      subst (λ l. IsDataSet s l) x.4 (existence_kept (with_points (structure_of a) x.0) (with_points (structure_of c) x.1) r s i.2 (node_kept p env a x.0 i.0 h x.2))
+  form_kept p env s (nodes.check a m spec) out i h e =
       let x = operand_ok a (node_value p env a) (λ d. after (maybe_value p env m) (λ q. Ok (check_of p spec d q))) out e in
       let d = with_points (structure_of a) x.0 in
       let y = after_ok (maybe_value p env m) (λ q. Ok (check_of p spec d q)) out x.2 in
-      let imbalance = maybe_kept p env m y.0 built.1 i.1 h y.1 in
+      let imbalance = maybe_kept p env m y.0 i.1 h y.1 in
       subst (λ l. IsDataSet s l) (ok_is (check_of p spec d y.0) out y.2)
-      (check_kept p spec (structure_of a) s y.0 x.0 (subst (λ q. IsChecked p spec q (structure_of a) s) (sym imbalance.0) i.2) (node_kept p env a x.0 built.0 i.0 h x.1) imbalance.1)
-  form_kept p env s (nodes.check_datapoint a rules o) out b i h e =
+      (check_kept p spec (structure_of a) s y.0 x.0 (subst (λ q. IsChecked p spec q (structure_of a) s) (sym imbalance.0) i.2) (node_kept p env a x.0 i.0 h x.1) imbalance.1)
+  form_kept p env s (nodes.check_datapoint a rules o) out i h e =
       let x = operand_ok a (node_value p env a) (λ d. datapoint_of p o rules.rules d) out e in
-      datapoint_kept p o rules.rules (structure_of a) s x.0 i.1 (node_kept p env a x.0 b i.0 h x.1) out x.2
-  form_kept p env s (nodes.check_hierarchy a rules m o) out b i h e =
-      let built : is_built a ≡ true = cc in
+      datapoint_kept p o rules.rules (structure_of a) s x.0 i.1 (node_kept p env a x.0 i.0 h x.1) out x.2
+  form_kept p env s (nodes.check_hierarchy a rules m o) out i h e =
       let ruled = ruled_by rules (structure_of a) in
       let x = operand_ok a (node_value p env a) (λ d. check_hierarchy_of p o ruled m d rules.rules) out e in
-      check_hierarchy_kept p o ruled m rules.rules (structure_of a) s x.0 i.1 (node_kept p env a x.0 built i.0 h x.1) out x.2
-  form_kept p env s (nodes.hierarchy a rules m input o) out b i h e =
-      let built : is_built a ≡ true = cc in
+      check_hierarchy_kept p o ruled m rules.rules (structure_of a) s x.0 i.1 (node_kept p env a x.0 i.0 h x.1) out x.2
+  form_kept p env s (nodes.hierarchy a rules m input o) out i h e =
       let ruled = ruled_by rules (structure_of a) in
       let x = operand_ok a (node_value p env a) (λ d. hierarchy_of p ruled m input rules.rules d o s) out e in
-      hierarchy_kept p ruled m input rules.rules (structure_of a) s x.0 i.1 (node_kept p env a x.0 built i.0 h x.1) o out x.2
+      hierarchy_kept p ruled m input rules.rules (structure_of a) s x.0 i.1 (node_kept p env a x.0 i.0 h x.1) o out x.2
 
   -- an operand that may be left out
-  maybe_kept : (p : Settings) (env : Environment) (m : MaybeNode) (given : Option DataSet) → is_maybe_built m ≡ true → IsMadeMaybe p (known_in env) m → AreDataSets env → maybe_value p env m ≡ Ok given → IsGiven (maybe_structure m) given
-  maybe_kept p env nodes.no_node given b i h e = subst (IsGiven None) (ok_is None given e) (refl, tt)
-  maybe_kept p env (nodes.some_node n) given b i h e =
+  maybe_kept : (p : Settings) (env : Environment) (m : MaybeNode) (given : Option DataSet) → IsMadeMaybe p (known_in env) m → AreDataSets env → maybe_value p env m ≡ Ok given → IsGiven (maybe_structure m) given
+  maybe_kept p env nodes.no_node given i h e = subst (IsGiven None) (ok_is None given e) (refl, tt)
+  maybe_kept p env (nodes.some_node n) given i h e =
       let x = after_ok (node_value p env n) (λ points. Ok (Some (with_points (structure_of n) points))) given e in
-      subst (IsGiven (Some (structure_of n))) (ok_is (Some (with_points (structure_of n) x.0)) given x.2) (refl, node_kept p env n x.0 b i h x.1)
+      subst (IsGiven (Some (structure_of n))) (ok_is (Some (with_points (structure_of n) x.0)) given x.2) (refl, node_kept p env n x.0 i h x.1)
 
   -- the operands have the structures of their expressions, and are data sets
-  pub nodes_kept : (p : Settings) (env : Environment) (ns : NodeTrees) (ds : List DataSet) → are_nodes_built ns ≡ true → AreMade p (known_in env) ns → AreDataSets env → nodes_value p env ns ≡ Ok ds → (structures_of ds ≡ node_structures ns) × AreSets ds
-  nodes_kept p env nodes.no_nodes ds b i h e = no_operand ds (ok_is [] ds e)
-  nodes_kept p env (nodes.and_node n ns) ds b i h e =
-      let built = both_built (is_built n) (are_nodes_built ns) b in
+  pub nodes_kept : (p : Settings) (env : Environment) (ns : NodeTrees) (ds : List DataSet) → AreMade p (known_in env) ns → AreDataSets env → nodes_value p env ns ≡ Ok ds → (structures_of ds ≡ node_structures ns) × AreSets ds
+  nodes_kept p env nodes.no_nodes ds i h e = no_operand ds (ok_is [] ds e)
+  nodes_kept p env (nodes.and_node n ns) ds i h e =
       let x = first_ok n (node_value p env n) (nodes_value p env ns) ds e in
-      more_operands n x.0 x.1 ds (node_structures ns) x.4 (node_kept p env n x.0 built.0 i.0 h x.2) (nodes_kept p env ns x.1 built.1 i.1 h x.3)
+      more_operands n x.0 x.1 ds (node_structures ns) x.4 (node_kept p env n x.0 i.0 h x.2) (nodes_kept p env ns x.1 i.1 h x.3)
 
-  pub operands_kept : (p : Settings) (env : Environment) (os : OperandTrees) (ds : List DataSet) → are_operands_built os ≡ true → AreMadeOperands p (known_in env) os → AreDataSets env → operands_value p env os ≡ Ok ds → (structures_of ds ≡ joins.structures_of (operands_in os)) × AreSets ds
-  operands_kept p env nodes.no_operands ds b i h e = no_operand ds (ok_is [] ds e)
-  operands_kept p env (nodes.operand n alias os) ds b i h e =
-      let built = both_built (is_built n) (are_operands_built os) b in
+  pub operands_kept : (p : Settings) (env : Environment) (os : OperandTrees) (ds : List DataSet) → AreMadeOperands p (known_in env) os → AreDataSets env → operands_value p env os ≡ Ok ds → (structures_of ds ≡ joins.structures_of (operands_in os)) × AreSets ds
+  operands_kept p env nodes.no_operands ds i h e = no_operand ds (ok_is [] ds e)
+  operands_kept p env (nodes.operand n alias os) ds i h e =
       let x = first_ok n (node_value p env n) (operands_value p env os) ds e in
-      more_operands n x.0 x.1 ds (joins.structures_of (operands_in os)) x.4 (node_kept p env n x.0 built.0 i.0 h x.2) (operands_kept p env os x.1 built.1 i.1 h x.3)
+      more_operands n x.0 x.1 ds (joins.structures_of (operands_in os)) x.4 (node_kept p env n x.0 i.0 h x.2) (operands_kept p env os x.1 i.1 h x.3)
 
 -- ---- statements
 -- each output is a data set
@@ -225,14 +209,11 @@ with_kept : (name : List ℕ) (d : DataSet) (m : Result Outputs (Fault × List �
 with_kept name d (Ok ds) out h i e = let same : ((name, d) ∷ ds) ≡ out = cc in subst AreDataSets same (h, i ds refl)
 with_kept name d (Err f) out h i e = cc
 
-pub meaning_kept : (p : Settings) (ss : List Statement) (env : Environment) (out : Outputs) → list_all (λ s. is_built s.node) ss ≡ true → AreMadeStatements p (known_in env) ss → AreDataSets env → meaning p ss env ≡ Ok out → AreDataSets out
-meaning_kept p [] env out b i h e = let same : [] ≡ out = cc in subst AreDataSets same tt
-meaning_kept p (s ∷ rest) env out b i h e =
-    go (node_value p env s.node) refl e (λ d w is. meaning_kept p rest ((s.result, with_points (structure_of s.node) d) ∷ env) is built.1 i.1 (w, h))
+pub meaning_kept : (p : Settings) (ss : List Statement) (env : Environment) (out : Outputs) → AreMadeStatements p (known_in env) ss → AreDataSets env → meaning p ss env ≡ Ok out → AreDataSets out
+meaning_kept p [] env out i h e = let same : [] ≡ out = cc in subst AreDataSets same tt
+meaning_kept p (s ∷ rest) env out i h e =
+    go (node_value p env s.node) refl e (λ d w is. meaning_kept p rest ((s.result, with_points (structure_of s.node) d) ∷ env) is i.1 (w, h))
   where
-    built : (is_built s.node ≡ true) × (list_all (λ z. is_built z.node) rest ≡ true)
-    built = and_parts (is_built s.node) (list_all (λ z. is_built z.node) rest) b
-
     Rest : DataSet → Result Outputs (Fault × List ℕ)
     Rest d = meaning p rest ((s.result, d) ∷ env)
 
@@ -243,6 +224,6 @@ meaning_kept p (s ∷ rest) env out b i h e =
     go : (m : Outcome (List Row)) → node_value p env s.node ≡ m → stated s (after m (λ d. Ok (with_points (structure_of s.node) d))) Rest ≡ Ok out
         → ((d : List Row) → IsDataSet (structure_of s.node) d → (is : Outputs) → Rest (with_points (structure_of s.node) d) ≡ Ok is → AreDataSets is) → AreDataSets out
     go (Ok d) f q ih =
-        let w = node_kept p env s.node d built.0 i.0 h f in
+        let w = node_kept p env s.node d i.0 h f in
         one (with_points (structure_of s.node) d) s.persistent w (ih d w) q
     go (Err f) g q ih = cc

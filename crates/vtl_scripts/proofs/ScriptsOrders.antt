@@ -1,8 +1,6 @@
 -- The meaning of a script does not depend on the order of points.
-use Rattle.std.proofs.Common.{◌≡◌, ℕ, Bool, true, false, cond, ◌&&◌, List, [], ◌∷◌, Option, None, Some, Result, Ok, Err, refl, sym, ap, subst, true≢false}
-use Rattle.std.specs.List.{list_all}
+use Rattle.std.proofs.Common.{◌≡◌, ℕ, Bool, true, false, cond, List, [], ◌∷◌, Option, None, Some, Result, Ok, Err, refl, sym, ap, subst, true≢false}
 use Rattle.std.specs.Option.{option_map_or}
-use Rattle.std.proofs.lemmas.Bool.{and_parts}
 use Rattle.vtl_decimal.specs.Settings.{Settings}
 use Rattle.vtl_lists.specs.Perm.{Perm, empty}
 use Rattle.vtl_decimal.specs.declared.number.Fault.{Fault}
@@ -22,7 +20,7 @@ use Rattle.vtl_meaning.proofs.GroupOrders.{aggregates_respect}
 use Rattle.vtl_meaning.specs.Joined.{join_of}
 use Rattle.vtl_meaning.specs.Made.{AreCombined, IsJoined}
 use Rattle.vtl_scripts.specs.Made.{AreMade, AreMadeOperands, AreMadeStatements, IsMade, IsMadeForm}
-use Rattle.vtl_scripts.specs.Meaning.{AreDataSets, Outputs, Statement, are_nodes_built, are_operands_built, form_value, is_built, is_built_form, maybe_value, meaning, node_value, nodes_value, operands_value, stated, with_first, with_operand, with_output}
+use Rattle.vtl_scripts.specs.Meaning.{AreDataSets, Outputs, Statement, form_value, maybe_value, meaning, node_value, nodes_value, operands_value, stated, with_first, with_operand, with_output}
 use Rattle.vtl_meaning.specs.Operators.{calculated_exps, calculated_of, choice_of, left_of, measured_exps, measured_of, pair_of, sub_of}
 use Rattle.vtl_meaning.specs.Orders.{SameData, SameOperands}
 use Rattle.vtl_scripts.specs.Orders.{SameMeaning}
@@ -105,111 +103,99 @@ named_respects name (d ∷ ds) (e ∷ es) s = go (same_name d.0 name) (same_name
 
 module _ (p : Settings) (env other : Environment) (h : AreDataSets env) (same : SameData env other) where
   mutual
-    pub node_respects : (n : NodeTree) → is_built n ≡ true → IsMade p (known_in env) n → Same (node_value p env n) (node_value p other n)
-    node_respects (nodes.node s form) b i = form_respects s form b i.1
+    pub node_respects : (n : NodeTree) → IsMade p (known_in env) n → Same (node_value p env n) (node_value p other n)
+    node_respects (nodes.node s form) i = form_respects s form i.1
 
-    form_respects : (s : Structure) (form : FormTree) → is_built_form form ≡ true → IsMadeForm p (known_in env) s form → Same (form_value p env s form) (form_value p other s form)
-    form_respects s (nodes.named name) b i = named_respects name env other same
-    form_respects s (nodes.measures m a) b i =
-        same_operand a (node_value p env a) (node_value p other a) (λ d. measured_of p m d s) (λ d. measured_of p m d s) (node_respects a b i.0)
+    form_respects : (s : Structure) (form : FormTree) → IsMadeForm p (known_in env) s form → Same (form_value p env s form) (form_value p other s form)
+    form_respects s (nodes.named name) i = named_respects name env other same
+    form_respects s (nodes.measures m a) i =
+        same_operand a (node_value p env a) (node_value p other a) (λ d. measured_of p m d s) (λ d. measured_of p m d s) (node_respects a i.0)
         (λ d e is q. each_respects p (measured_exps m (structure_of a) s) d e q)
-    form_respects s (nodes.pair o a c) b i =
-        let built = and_parts (is_built a) (is_built c) b in
+    form_respects s (nodes.pair o a c) i =
         let F : Environment → DataSet → Outcome (List Row) = λ en d. with_operand c (node_value p en c) (λ q. pair_of p o d q s) in
-        same_operand a (node_value p env a) (node_value p other a) (F env) (F other) (node_respects a built.0 i.0)
-        (λ d t is q. same_operand c (node_value p env c) (node_value p other c) (λ x. pair_of p o (with_points (structure_of a) d) x s) (λ x. pair_of p o (with_points (structure_of a) t) x s) (node_respects c built.1 i.1)
-        (λ e f is_too u. pair_respects p o (structure_of a) (structure_of c) s d t e f q u (node_kept p env a d built.0 i.0 h is).distinct (node_kept p env c e built.1 i.1 h is_too).distinct))
-    form_respects s (nodes.choose t a c) b i =
-        let built = and_parts (is_built t) (is_built a && is_built c) b in
-        let others = and_parts (is_built a) (is_built c) built.1 in
+        same_operand a (node_value p env a) (node_value p other a) (F env) (F other) (node_respects a i.0)
+        (λ d t is q. same_operand c (node_value p env c) (node_value p other c) (λ x. pair_of p o (with_points (structure_of a) d) x s) (λ x. pair_of p o (with_points (structure_of a) t) x s) (node_respects c i.1)
+        (λ e f is_too u. pair_respects p o (structure_of a) (structure_of c) s d t e f q u (node_kept p env a d i.0 h is).distinct (node_kept p env c e i.1 h is_too).distinct))
+    form_respects s (nodes.choose t a c) i =
         let Last : DataSet → DataSet → DataSet → Outcome (List Row) = λ tests d e. Ok (choice_of tests d e s) in
         let Second : Environment → DataSet → DataSet → Outcome (List Row) = λ en tests d. with_operand c (node_value p en c) (Last tests d) in
         let First : Environment → DataSet → Outcome (List Row) = λ en tests. with_operand a (node_value p en a) (Second en tests) in
-        same_operand t (node_value p env t) (node_value p other t) (First env) (First other) (node_respects t built.0 i.0)
-        (λ tests tests_too is q. same_operand a (node_value p env a) (node_value p other a) (Second env (with_points (structure_of t) tests)) (Second other (with_points (structure_of t) tests_too)) (node_respects a others.0 i.1)
-        (λ d e is_first u. same_operand c (node_value p env c) (node_value p other c) (Last (with_points (structure_of t) tests) (with_points (structure_of a) d)) (Last (with_points (structure_of t) tests_too) (with_points (structure_of a) e)) (node_respects c others.1 i.2)
-        (λ f g is_second v. choice_respects (structure_of t) (structure_of a) (structure_of c) s tests tests_too d e f g q u v (node_kept p env a d others.0 i.1 h is_first).distinct (node_kept p env c f others.1 i.2 h is_second).distinct)))
-    form_respects s (nodes.member a m) b i = left_same a s (node_value p env a) (node_value p other a) (node_respects a b i.0)
-    form_respects s (nodes.filter a e) b i =
-        same_after (node_value p env a) (node_value p other a) (filter_of p e) (filter_of p e) (node_respects a b i.0)
+        same_operand t (node_value p env t) (node_value p other t) (First env) (First other) (node_respects t i.0)
+        (λ tests tests_too is q. same_operand a (node_value p env a) (node_value p other a) (Second env (with_points (structure_of t) tests)) (Second other (with_points (structure_of t) tests_too)) (node_respects a i.1)
+        (λ d e is_first u. same_operand c (node_value p env c) (node_value p other c) (Last (with_points (structure_of t) tests) (with_points (structure_of a) d)) (Last (with_points (structure_of t) tests_too) (with_points (structure_of a) e)) (node_respects c i.2)
+        (λ f g is_second v. choice_respects (structure_of t) (structure_of a) (structure_of c) s tests tests_too d e f g q u v (node_kept p env a d i.1 h is_first).distinct (node_kept p env c f i.2 h is_second).distinct)))
+    form_respects s (nodes.member a m) i = left_same a s (node_value p env a) (node_value p other a) (node_respects a i.0)
+    form_respects s (nodes.filter a e) i =
+        same_after (node_value p env a) (node_value p other a) (filter_of p e) (filter_of p e) (node_respects a i.0)
         (λ d f is q. filtered_respects p e d f q)
-    form_respects s (nodes.calc a items) b i =
-        same_operand a (node_value p env a) (node_value p other a) (λ d. calculated_of p items d s) (λ d. calculated_of p items d s) (node_respects a b i.0)
+    form_respects s (nodes.calc a items) i =
+        same_operand a (node_value p env a) (node_value p other a) (λ d. calculated_of p items d s) (λ d. calculated_of p items d s) (node_respects a i.0)
         (λ d e is q. each_respects p (calculated_exps items (structure_of a) s) d e q)
-    form_respects s (nodes.keep a names) b i = left_same a s (node_value p env a) (node_value p other a) (node_respects a b i.0)
-    form_respects s (nodes.drop_named a names) b i = left_same a s (node_value p env a) (node_value p other a) (node_respects a b i.0)
-    form_respects s (nodes.rename a pairs) b i = node_respects a b i.0
-    form_respects s (nodes.sub a items) b i =
-        same_operand a (node_value p env a) (node_value p other a) (λ d. Ok (sub_of items d s)) (λ d. Ok (sub_of items d s)) (node_respects a b i.0)
+    form_respects s (nodes.keep a names) i = left_same a s (node_value p env a) (node_value p other a) (node_respects a i.0)
+    form_respects s (nodes.drop_named a names) i = left_same a s (node_value p env a) (node_value p other a) (node_respects a i.0)
+    form_respects s (nodes.rename a pairs) i = node_respects a i.0
+    form_respects s (nodes.sub a items) i =
+        same_operand a (node_value p env a) (node_value p other a) (λ d. Ok (sub_of items d s)) (λ d. Ok (sub_of items d s)) (node_respects a i.0)
         (λ d e is q. sub_respects items (structure_of a) s d e q)
-    form_respects s (nodes.aggregate a spec) b i =
-        same_operand a (node_value p env a) (node_value p other a) (λ d. aggregate_of p spec d s) (λ d. aggregate_of p spec d s) (node_respects a b i.0)
+    form_respects s (nodes.aggregate a spec) i =
+        same_operand a (node_value p env a) (node_value p other a) (λ d. aggregate_of p spec d s) (λ d. aggregate_of p spec d s) (node_respects a i.0)
         (λ d e is q. aggregates_respect p spec (with_points (structure_of a) d) (with_points (structure_of a) e) s refl q)
-    form_respects s (nodes.analytic_of a spec) b i =
-        same_operand a (node_value p env a) (node_value p other a) (λ d. analytic_of p spec d s) (λ d. analytic_of p spec d s) (node_respects a b i.0)
+    form_respects s (nodes.analytic_of a spec) i =
+        same_operand a (node_value p env a) (node_value p other a) (λ d. analytic_of p spec d s) (λ d. analytic_of p spec d s) (node_respects a i.0)
         (λ d e is q. analytics_respect p spec (with_points (structure_of a) d) (with_points (structure_of a) e) s refl q)
-    form_respects s (nodes.pivot a id m) b i =
-        same_operand a (node_value p env a) (node_value p other a) (λ d. Ok (pivot_of d id m)) (λ d. Ok (pivot_of d id m)) (node_respects a b i.0)
-        (λ d e is q. pivot_order (structure_of a) id d (node_kept p env a d b i.0 h is) e q m)
-    form_respects s (nodes.unpivot a id m) b i =
-        same_operand a (node_value p env a) (node_value p other a) (λ d. Ok (unpivot_of d)) (λ d. Ok (unpivot_of d)) (node_respects a b i.0)
+    form_respects s (nodes.pivot a id m) i =
+        same_operand a (node_value p env a) (node_value p other a) (λ d. Ok (pivot_of d id m)) (λ d. Ok (pivot_of d id m)) (node_respects a i.0)
+        (λ d e is q. pivot_order (structure_of a) id d (node_kept p env a d i.0 h is) e q m)
+    form_respects s (nodes.unpivot a id m) i =
+        same_operand a (node_value p env a) (node_value p other a) (λ d. Ok (unpivot_of d)) (λ d. Ok (unpivot_of d)) (node_respects a i.0)
         (λ d e is q. unpivot_order (structure_of a) d e q)
-    form_respects s (nodes.join os spec) b i =
-        same_operands (operands_value p env os) (operands_value p other os) (join_of spec.kind) (operands_respect os b i.0)
-        (λ ds es is same. let sets = operands_kept p env os ds b i.0 h is in join_order spec.kind ds es same sets.1 s (subst (λ ss. IsJoined spec.kind ss s) (sym sets.0) i.1))
-    form_respects s (nodes.union ns) b i =
-        same_operands (nodes_value p env ns) (nodes_value p other ns) (λ ds. union_of ds s) (nodes_respect ns b i.0)
-        (λ ds es is same. let sets = nodes_kept p env ns ds b i.0 h is in union_order ds es same sets.1 s (subst (λ ss. AreCombined ss s) (sym sets.0) i.1))
-    form_respects s (nodes.intersect ns) b i =
-        same_operands (nodes_value p env ns) (nodes_value p other ns) (λ ds. intersection_of ds s) (nodes_respect ns b i.0)
-        (λ ds es is same. let sets = nodes_kept p env ns ds b i.0 h is in intersection_order ds es same sets.1 s (subst (λ ss. AreCombined ss s) (sym sets.0) i.1))
-    form_respects s (nodes.set_diff a c) b i =
-        let built = and_parts (is_built a) (is_built c) b in
-        same_two a c (node_value p env a) (node_value p other a) (node_value p env c) (node_value p other c) (λ d e. difference_of d e s) (node_respects a built.0 i.0) (node_respects c built.1 i.1)
-        (λ d t e f is is_too q u. difference_order (structure_of a) (structure_of c) s d t e f q u i.2 (node_kept p env a d built.0 i.0 h is) (node_kept p env c e built.1 i.1 h is_too))
-    form_respects s (nodes.sym_diff a c) b i =
-        let built = and_parts (is_built a) (is_built c) b in
-        same_two a c (node_value p env a) (node_value p other a) (node_value p env c) (node_value p other c) (λ d e. symmetric_difference_of d e s) (node_respects a built.0 i.0) (node_respects c built.1 i.1)
-        (λ d t e f is is_too q u. symmetric_difference_order (structure_of a) (structure_of c) s d t e f q u i.2 (node_kept p env a d built.0 i.0 h is) (node_kept p env c e built.1 i.1 h is_too))
-    form_respects s (nodes.exists_in a c r) b i =
-        let built = and_parts (is_built a) (is_built c) b in
-        same_two a c (node_value p env a) (node_value p other a) (node_value p env c) (node_value p other c) (λ d e. existence_of d e r) (node_respects a built.0 i.0) (node_respects c built.1 i.1)
+    form_respects s (nodes.join os spec) i =
+        same_operands (operands_value p env os) (operands_value p other os) (join_of spec.kind) (operands_respect os i.0)
+        (λ ds es is same. let sets = operands_kept p env os ds i.0 h is in join_order spec.kind ds es same sets.1 s (subst (λ ss. IsJoined spec.kind ss s) (sym sets.0) i.1))
+    form_respects s (nodes.union ns) i =
+        same_operands (nodes_value p env ns) (nodes_value p other ns) (λ ds. union_of ds s) (nodes_respect ns i.0)
+        (λ ds es is same. let sets = nodes_kept p env ns ds i.0 h is in union_order ds es same sets.1 s (subst (λ ss. AreCombined ss s) (sym sets.0) i.1))
+    form_respects s (nodes.intersect ns) i =
+        same_operands (nodes_value p env ns) (nodes_value p other ns) (λ ds. intersection_of ds s) (nodes_respect ns i.0)
+        (λ ds es is same. let sets = nodes_kept p env ns ds i.0 h is in intersection_order ds es same sets.1 s (subst (λ ss. AreCombined ss s) (sym sets.0) i.1))
+    form_respects s (nodes.set_diff a c) i =
+        same_two a c (node_value p env a) (node_value p other a) (node_value p env c) (node_value p other c) (λ d e. difference_of d e s) (node_respects a i.0) (node_respects c i.1)
+        (λ d t e f is is_too q u. difference_order (structure_of a) (structure_of c) s d t e f q u i.2 (node_kept p env a d i.0 h is) (node_kept p env c e i.1 h is_too))
+    form_respects s (nodes.sym_diff a c) i =
+        same_two a c (node_value p env a) (node_value p other a) (node_value p env c) (node_value p other c) (λ d e. symmetric_difference_of d e s) (node_respects a i.0) (node_respects c i.1)
+        (λ d t e f is is_too q u. symmetric_difference_order (structure_of a) (structure_of c) s d t e f q u i.2 (node_kept p env a d i.0 h is) (node_kept p env c e i.1 h is_too))
+    form_respects s (nodes.exists_in a c r) i =
+        same_two a c (node_value p env a) (node_value p other a) (node_value p env c) (node_value p other c) (λ d e. existence_of d e r) (node_respects a i.0) (node_respects c i.1)
         (λ d t e f is is_too q u. existence_order (structure_of a) (structure_of c) d t e f r q u)
-    form_respects s (nodes.check a nodes.no_node spec) b i =
-        let built = and_parts (is_built a) true b in
-        same_operand a (node_value p env a) (node_value p other a) (λ d. Ok (check_of p spec d None)) (λ d. Ok (check_of p spec d None)) (node_respects a built.0 i.0)
+    form_respects s (nodes.check a nodes.no_node spec) i =
+        same_operand a (node_value p env a) (node_value p other a) (λ d. Ok (check_of p spec d None)) (λ d. Ok (check_of p spec d None)) (node_respects a i.0)
         (λ d e is q. check_respects p spec (structure_of a) d e q)
-    form_respects s (nodes.check a (nodes.some_node c) spec) b i =
-        let built = and_parts (is_built a) (is_built c) b in
+    form_respects s (nodes.check a (nodes.some_node c) spec) i =
         let F : Environment → DataSet → Outcome (List Row) = λ en d. after (maybe_value p en (nodes.some_node c)) (λ q. Ok (check_of p spec d q)) in
-        same_operand a (node_value p env a) (node_value p other a) (F env) (F other) (node_respects a built.0 i.0)
-        (λ d t is q. same_given c (node_value p env c) (node_value p other c) (check_of p spec (with_points (structure_of a) d)) (check_of p spec (with_points (structure_of a) t)) (node_respects c built.1 i.1)
-        (λ e f is_too u. imbalanced_respects p spec (structure_of a) (structure_of c) s e f i.2 (node_kept p env c e built.1 i.1 h is_too) u d t q))
-    form_respects s (nodes.check_datapoint a rules o) b i =
-        same_operand a (node_value p env a) (node_value p other a) (λ d. datapoint_of p o rules.rules d) (λ d. datapoint_of p o rules.rules d) (node_respects a b i.0)
+        same_operand a (node_value p env a) (node_value p other a) (F env) (F other) (node_respects a i.0)
+        (λ d t is q. same_given c (node_value p env c) (node_value p other c) (check_of p spec (with_points (structure_of a) d)) (check_of p spec (with_points (structure_of a) t)) (node_respects c i.1)
+        (λ e f is_too u. imbalanced_respects p spec (structure_of a) (structure_of c) s e f i.2 (node_kept p env c e i.1 h is_too) u d t q))
+    form_respects s (nodes.check_datapoint a rules o) i =
+        same_operand a (node_value p env a) (node_value p other a) (λ d. datapoint_of p o rules.rules d) (λ d. datapoint_of p o rules.rules d) (node_respects a i.0)
         (λ d e is q. datapoint_respects p o rules.rules (structure_of a) d e q)
-    form_respects s (nodes.check_hierarchy a rules m o) b i =
-        let built : is_built a ≡ true = cc in
+    form_respects s (nodes.check_hierarchy a rules m o) i =
         let ruled = ruled_by rules (structure_of a) in
-        same_operand a (node_value p env a) (node_value p other a) (λ d. check_hierarchy_of p o ruled m d rules.rules) (λ d. check_hierarchy_of p o ruled m d rules.rules) (node_respects a built i.0)
-        (λ d e is q. sides_respect ruled (structure_of a) d e (node_kept p env a d built i.0 h is) q p m o rules.rules)
-    form_respects s (nodes.hierarchy a rules m input o) b i =
-        let built : is_built a ≡ true = cc in
+        same_operand a (node_value p env a) (node_value p other a) (λ d. check_hierarchy_of p o ruled m d rules.rules) (λ d. check_hierarchy_of p o ruled m d rules.rules) (node_respects a i.0)
+        (λ d e is q. sides_respect ruled (structure_of a) d e (node_kept p env a d i.0 h is) q p m o rules.rules)
+    form_respects s (nodes.hierarchy a rules m input o) i =
         let ruled = ruled_by rules (structure_of a) in
-        same_operand a (node_value p env a) (node_value p other a) (λ d. hierarchy_of p ruled m input rules.rules d o s) (λ d. hierarchy_of p ruled m input rules.rules d o s) (node_respects a built i.0)
-        (λ d e is q. output_respects ruled (structure_of a) d e (node_kept p env a d built i.0 h is) q p m input rules.rules o s i.1)
+        same_operand a (node_value p env a) (node_value p other a) (λ d. hierarchy_of p ruled m input rules.rules d o s) (λ d. hierarchy_of p ruled m input rules.rules d o s) (node_respects a i.0)
+        (λ d e is q. output_respects ruled (structure_of a) d e (node_kept p env a d i.0 h is) q p m input rules.rules o s i.1)
 
-    nodes_respect : (ns : NodeTrees) → are_nodes_built ns ≡ true → AreMade p (known_in env) ns → SameGiven (nodes_value p env ns) (nodes_value p other ns)
-    nodes_respect nodes.no_nodes b i = tt
-    nodes_respect (nodes.and_node n ns) b i =
-        let built = and_parts (is_built n) (are_nodes_built ns) b in
-        same_first n (node_value p env n) (node_value p other n) (nodes_value p env ns) (nodes_value p other ns) (node_respects n built.0 i.0) (nodes_respect ns built.1 i.1)
+    nodes_respect : (ns : NodeTrees) → AreMade p (known_in env) ns → SameGiven (nodes_value p env ns) (nodes_value p other ns)
+    nodes_respect nodes.no_nodes i = tt
+    nodes_respect (nodes.and_node n ns) i =
+        same_first n (node_value p env n) (node_value p other n) (nodes_value p env ns) (nodes_value p other ns) (node_respects n i.0) (nodes_respect ns i.1)
 
-    operands_respect : (os : OperandTrees) → are_operands_built os ≡ true → AreMadeOperands p (known_in env) os → SameGiven (operands_value p env os) (operands_value p other os)
-    operands_respect nodes.no_operands b i = tt
-    operands_respect (nodes.operand n alias os) b i =
-        let built = and_parts (is_built n) (are_operands_built os) b in
-        same_first n (node_value p env n) (node_value p other n) (operands_value p env os) (operands_value p other os) (node_respects n built.0 i.0) (operands_respect os built.1 i.1)
+    operands_respect : (os : OperandTrees) → AreMadeOperands p (known_in env) os → SameGiven (operands_value p env os) (operands_value p other os)
+    operands_respect nodes.no_operands i = tt
+    operands_respect (nodes.operand n alias os) i =
+        same_first n (node_value p env n) (node_value p other n) (operands_value p env os) (operands_value p other os) (node_respects n i.0) (operands_respect os i.1)
 
 -- ---- statements
 with_same : (name : List ℕ) (s : Structure) (d e : List Row) (m n : Result Outputs (Fault × List ℕ)) → Perm d e → SameMeaning m n → SameMeaning (with_output name (with_points s d) m) (with_output name (with_points s e) n)
@@ -232,9 +218,8 @@ module _ (s : Statement) (F G : DataSet → Result Outputs (Fault × List ℕ)) 
   stated_same (Ok d) (Err g) q h = absurd q
   stated_same (Err f) (Ok e) q h = absurd q
 
-pub meaning_respects : (p : Settings) (ss : List Statement) (env other : Environment) → list_all (λ s. is_built s.node) ss ≡ true → AreMadeStatements p (known_in env) ss → AreDataSets env → SameData env other → SameMeaning (meaning p ss env) (meaning p ss other)
-meaning_respects p [] env other b i h same = tt
-meaning_respects p (s ∷ rest) env other b i h same =
-    let built = and_parts (is_built s.node) (list_all (λ z. is_built z.node) rest) b in
-    stated_same s (λ d. meaning p rest ((s.result, d) ∷ env)) (λ d. meaning p rest ((s.result, d) ∷ other)) (node_value p env s.node) (node_value p other s.node) (node_respects p env other h same s.node built.0 i.0)
-    (λ d e is q. meaning_respects p rest ((s.result, with_points (structure_of s.node) d) ∷ env) ((s.result, with_points (structure_of s.node) e) ∷ other) built.1 i.1 (node_kept p env s.node d built.0 i.0 h is, h) (refl, refl, q, same))
+pub meaning_respects : (p : Settings) (ss : List Statement) (env other : Environment) → AreMadeStatements p (known_in env) ss → AreDataSets env → SameData env other → SameMeaning (meaning p ss env) (meaning p ss other)
+meaning_respects p [] env other i h same = tt
+meaning_respects p (s ∷ rest) env other i h same =
+    stated_same s (λ d. meaning p rest ((s.result, d) ∷ env)) (λ d. meaning p rest ((s.result, d) ∷ other)) (node_value p env s.node) (node_value p other s.node) (node_respects p env other h same s.node i.0)
+    (λ d e is q. meaning_respects p rest ((s.result, with_points (structure_of s.node) d) ∷ env) ((s.result, with_points (structure_of s.node) e) ∷ other) i.1 (node_kept p env s.node d i.0 h is, h) (refl, refl, q, same))

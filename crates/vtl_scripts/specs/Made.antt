@@ -16,6 +16,7 @@ use Rattle.vtl_meaning.specs.Reaches.{AreNear}
 use Rattle.vtl_meaning.specs.Shapes.{IsChosen, IsJoinedFrom, IsRenamedBy, IsShaped}
 use Rattle.vtl_rulings.specs.HierarchyChecks.{ruled_by}
 use Rattle.vtl_rulings.specs.HierarchyShapes.{IsHierarchyChecked, IsHierarchyMade}
+use Rattle.vtl_rulings.specs.Ordered.{HasOrder}
 use Rattle.vtl_rulings.specs.Shaped.{IsChecked, IsPointChecked}
 use Rattle.vtl_scripts.specs.Meaning.{Statement}
 
@@ -34,7 +35,7 @@ maybe_structure (nodes.some_node n) = Some (structure_of n)
 
 -- ---- nodes
 -- Each node has a structure whose components have kinds and which fits its operands, and each name is known with its structure.
--- Of analytic calls it is told too how far they reach.
+-- Of analytic calls it is told too how far they reach, and of hierarchies in which order their rules are run.
 abbrev mutual
   pub IsMade : Settings → Named → NodeTree → Type 0
   IsMade p known (nodes.node s form) = IsShaped s × IsMadeForm p known s form
@@ -64,7 +65,7 @@ abbrev mutual
   IsMadeForm p known s (nodes.check a i spec) = IsMade p known a × IsMadeMaybe p known i × IsChecked p spec (maybe_structure i) (structure_of a) s
   IsMadeForm p known s (nodes.check_datapoint a rules out) = IsMade p known a × IsPointChecked p out rules.rules (structure_of a) s
   IsMadeForm p known s (nodes.check_hierarchy a rules m out) = IsMade p known a × IsHierarchyChecked out (ruled_by rules (structure_of a)) rules.rules (structure_of a) s
-  IsMadeForm p known s (nodes.hierarchy a rules m i out) = IsMade p known a × IsHierarchyMade (ruled_by rules (structure_of a)) rules.rules (structure_of a) s
+  IsMadeForm p known s (nodes.hierarchy a rules m i out) = IsMade p known a × IsHierarchyMade (ruled_by rules (structure_of a)) rules.rules (structure_of a) s × HasOrder rules.rules rules.order
 
   pub AreMade : Settings → Named → NodeTrees → Type 0
   AreMade p known nodes.no_nodes = Unit {0}

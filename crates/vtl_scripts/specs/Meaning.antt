@@ -1,5 +1,5 @@
 -- The meaning of typed expressions and of statements over an environment of data sets.
-use Rattle.std.specs.Prelude.{ℕ, Bool, true, false, ◌&&◌, cond, List, [], ◌∷◌, Option, None, Some, Result, Ok, Err}
+use Rattle.std.specs.Prelude.{ℕ, Bool, cond, List, [], ◌∷◌, Option, None, Some, Result, Ok, Err}
 use Rattle.std.specs.List.{AllByRecursion}
 use Rattle.vtl_decimal.specs.Settings.{Settings}
 use Rattle.vtl_cell.specs.Row.{Row}
@@ -112,47 +112,3 @@ stated s (Err f) rest = Err (f, s.result)
 abbrev pub meaning : Settings → List Statement → Environment → Result Outputs (Fault × List ℕ)
 meaning p [] env = Ok []
 meaning p (s ∷ rest) env = stated s (data_set_of p env s.node) (λ d. meaning p rest ((s.result, d) ∷ env))
-
--- ---- what is evaluated so far
-abbrev mutual
-  pub is_built : NodeTree → Bool
-  is_built (nodes.node s form) = is_built_form form
-
-  pub is_built_form : FormTree → Bool
-  is_built_form (nodes.named name) = true
-  is_built_form (nodes.measures m a) = is_built a
-  is_built_form (nodes.pair o a b) = is_built a && is_built b
-  is_built_form (nodes.choose t a b) = is_built t && (is_built a && is_built b)
-  is_built_form (nodes.member a m) = is_built a
-  is_built_form (nodes.filter a e) = is_built a
-  is_built_form (nodes.calc a items) = is_built a
-  is_built_form (nodes.keep a names) = is_built a
-  is_built_form (nodes.drop_named a names) = is_built a
-  is_built_form (nodes.rename a pairs) = is_built a
-  is_built_form (nodes.sub a items) = is_built a
-  is_built_form (nodes.pivot a id m) = is_built a
-  is_built_form (nodes.unpivot a id m) = is_built a
-  is_built_form (nodes.join os spec) = are_operands_built os
-  is_built_form (nodes.union ns) = are_nodes_built ns
-  is_built_form (nodes.intersect ns) = are_nodes_built ns
-  is_built_form (nodes.set_diff a b) = is_built a && is_built b
-  is_built_form (nodes.sym_diff a b) = is_built a && is_built b
-  is_built_form (nodes.exists_in a b r) = is_built a && is_built b
-  is_built_form (nodes.aggregate a spec) = is_built a
-  is_built_form (nodes.analytic_of a spec) = is_built a
-  is_built_form (nodes.check a i spec) = is_built a && is_maybe_built i
-  is_built_form (nodes.check_datapoint a rules out) = is_built a
-  is_built_form (nodes.check_hierarchy a rules m out) = false
-  is_built_form (nodes.hierarchy a rules m i out) = false
-
-  pub are_nodes_built : NodeTrees → Bool
-  are_nodes_built nodes.no_nodes = true
-  are_nodes_built (nodes.and_node n ns) = is_built n && are_nodes_built ns
-
-  pub is_maybe_built : MaybeNode → Bool
-  is_maybe_built nodes.no_node = true
-  is_maybe_built (nodes.some_node n) = is_built n
-
-  pub are_operands_built : OperandTrees → Bool
-  are_operands_built nodes.no_operands = true
-  are_operands_built (nodes.operand n alias os) = is_built n && are_operands_built os

@@ -22,7 +22,6 @@ code_of (st.Range result) = 5
 code_of (st.ReadFault path) = 6
 code_of (st.WriteFault path) = 6
 code_of st.Memory = 7
-code_of (st.Unbuilt path) = 8
 
 -- what is wrong with an input, by its name
 abbrev pub name_of_kind : InputKind → List ℕ
@@ -70,7 +69,6 @@ parts_of (st.TooLong path) = at (codes "error: too long: ") path
 parts_of (st.ReadFault path) = at (codes "error: read fault: ") path
 parts_of (st.WriteFault path) = at (codes "error: write fault: ") path
 parts_of st.Memory = text (codes "error: memory") ∷ end ∷ []
-parts_of (st.Unbuilt path) = at (codes "error: unbuilt: ") path
 
 -- the line of a status: of Done there is none
 abbrev pub line_of : Status → List ℕ

@@ -82,13 +82,11 @@ pub enum Status {
     WriteFault(Txt),
     /// There was not enough memory.
     Memory,
-    /// The file at the path has a form that is not built yet.
-    Unbuilt(Txt),
 }
 
 impl Status {
     /// The exit code: 0 done, 1 usage, 2 no script, no structures or no text, 3 not typed or no SQL script, 4 no file, too
-    /// long or no data set, 5 a fault of evaluation, 6 a fault of reading or writing, 7 memory, 8 not built.
+    /// long or no data set, 5 a fault of evaluation, 6 a fault of reading or writing, 7 memory.
     pub fn code(&self) -> u8
         ensures { result ≡ code_of self.now }
     {
@@ -101,7 +99,6 @@ impl Status {
             Status::DivZero(_) | Status::Range(_) => 5,
             Status::ReadFault(_) | Status::WriteFault(_) => 6,
             Status::Memory => 7,
-            Status::Unbuilt(_) => 8,
         }
     }
 
@@ -171,7 +168,6 @@ impl Status {
             Status::ReadFault(path) => naming("error: read fault: ", path),
             Status::WriteFault(path) => naming("error: write fault: ", path),
             Status::Memory => padded([Part::Text("error: memory"), END, NOTHING, NOTHING, NOTHING]),
-            Status::Unbuilt(path) => naming("error: unbuilt: ", path),
         }
     }
 }

@@ -1,6 +1,5 @@
--- An accepted script whose forms are translated so far can be translated.
-use Rattle.std.proofs.Common.{inl, inr, ◌≡◌, ◌≤◌, ℕ, Bool, true, false, cond, ◌&&◌, ◌||◌, List, [], ◌∷◌, ◌++◌, Some, sym, ap, subst, true≢false, ◌∙◌}
-use Rattle.std.proofs.lemmas.Bool.{and_parts, false≢true}
+-- An accepted script can be translated.
+use Rattle.std.proofs.Common.{inl, inr, ◌≡◌, ◌≤◌, ℕ, Bool, true, false, cond, ◌||◌, List, [], ◌∷◌, ◌++◌, Some, sym, ap, subst, true≢false}
 use Rattle.std.specs.List.{AllByRecursion}
 use Rattle.std.specs.Map.{lookup}
 use Rattle.vtl_decimal.specs.Settings.{Settings}
@@ -10,7 +9,6 @@ use Rattle.vtl_syntax.specs.Written.{AreWritten}
 use Rattle.vtl_tree.specs.Structure.{same_name}
 use Rattle.vtl_tree.specs.Structures.{AreStructures, Named, has_name}
 use Rattle.vtl_tree.specs.declared.structure.Structure.{Structure}
-use Rattle.vtl_scripts.specs.Meaning.{are_nodes_built, are_operands_built, is_built, is_built_form, is_maybe_built}
 use Rattle.vtl_tree.specs.Nodes.{all_nodes, maybe_nodes, nodes_in, operand_nodes}
 use Rattle.vtl_tree.specs.Trees as nodes
 use Rattle.vtl_tree.specs.Trees.{FormTree, MaybeNode, NodeTree, NodeTrees, OperandTrees, structure_of}
@@ -27,11 +25,10 @@ use Rattle.check_laws.proofs.DepthScripts.{written-depth}
 use Rattle.vtl_meaning.proofs.Lists as lists
 use Rattle.check_laws.proofs.Over.{made_over}
 use Rattle.check_laws.proofs.Scripts.{script-made}
-use Rattle.vtl_to_sql.specs.Accepted.{AreFew, AreHeld, HoldsParts, are_translated, is_translated}
+use Rattle.vtl_to_sql.specs.Accepted.{AreFew, AreHeld, HoldsParts}
 use Rattle.vtl_to_sql.specs.Conditions.{AreTranslated, IsScript}
 use Rattle.vtl_to_sql.proofs.AcceptedComponents.{AreKnownNamed, declared_named}
 use Rattle.vtl_to_sql.proofs.AcceptedNames.{components_named}
-use Rattle.vtl_to_sql.proofs.AcceptedForms.{evaluated}
 use Rattle.vtl_to_sql.proofs.AcceptedNodes.{node_translated}
 use Rattle.vtl_to_sql.proofs.AcceptedReads.{IsWord, reads_alike, reads_fewer, reads_readable}
 use Rattle.vtl_to_sql.proofs.AcceptedScripts.{results_named, script_worded}
@@ -43,51 +40,50 @@ module _ (p : Settings) where
   two_words xs ys h k = subst (AllByRecursion IsWord) (sym (names_append xs ys)) (lists.appended IsWord (names_at xs) (names_at ys) h k)
 
   mutual
-    names_words : (b : Bool) (n : NodeTree) → is_built n ≡ true → HasWords p b n → AllByRecursion IsWord (names_in n)
-    names_words b (nodes.node s form) t w = form_words b s form t w
+    names_words : (b : Bool) (n : NodeTree) → HasWords p b n → AllByRecursion IsWord (names_in n)
+    names_words b (nodes.node s form) w = form_words b s form w
 
-    form_words : (b : Bool) (s : Structure) (form : FormTree) → is_built_form form ≡ true → FormHasWords p b form → AllByRecursion IsWord (names_in (nodes.node s form))
-    form_words b s (nodes.named name) t w = (name_word name w, tt)
-    form_words b s (nodes.measures m a) t w = names_words false a t w
-    form_words b s (nodes.pair o a c) t w = let both = and_parts (is_built a) (is_built c) t in two_words (nodes_in a) (nodes_in c) (names_words false a both.0 w.0) (names_words false c both.1 w.1)
-    form_words b s (nodes.choose q a c) t w =
-        let first = and_parts (is_built q) (is_built a && is_built c) t in
-        let both = and_parts (is_built a) (is_built c) first.1 in
-        two_words (nodes_in q) (nodes_in a ++ nodes_in c) (names_words false q first.0 w.0) (two_words (nodes_in a) (nodes_in c) (names_words false a both.0 w.1) (names_words false c both.1 w.2))
-    form_words b s (nodes.member a m) t w = names_words false a t w
-    form_words b s (nodes.filter a e) t w = names_words b a t w
-    form_words b s (nodes.calc a items) t w = names_words b a t w.0
-    form_words b s (nodes.keep a names) t w = names_words b a t w
-    form_words b s (nodes.drop_named a names) t w = names_words b a t w
-    form_words b s (nodes.rename a pairs) t (inl w) = names_words b a t w.0
-    form_words b s (nodes.rename a pairs) t (inr w) = names_words true a t w.0
-    form_words true s (nodes.join os spec) t w = operand_words os t w
-    form_words false s (nodes.join os spec) t w = absurd w
-    form_words b s (nodes.sub a items) t w = names_words false a t w.0
-    form_words b s (nodes.pivot a id m) t w = names_words false a t w.0
-    form_words b s (nodes.unpivot a id m) t w = names_words false a t w.0
-    form_words b s (nodes.aggregate a spec) t w = names_words b a t w.0
-    form_words b s (nodes.analytic_of a spec) t w = names_words b a t w.0
-    form_words b s (nodes.union ns) t w = all_words ns t w
-    form_words b s (nodes.intersect ns) t w = all_words ns t w
-    form_words b s (nodes.set_diff a c) t w = let both = and_parts (is_built a) (is_built c) t in two_words (nodes_in a) (nodes_in c) (names_words false a both.0 w.0) (names_words false c both.1 w.1)
-    form_words b s (nodes.sym_diff a c) t w = let both = and_parts (is_built a) (is_built c) t in two_words (nodes_in a) (nodes_in c) (names_words false a both.0 w.0) (names_words false c both.1 w.1)
-    form_words b s (nodes.exists_in a c r) t w = let both = and_parts (is_built a) (is_built c) t in two_words (nodes_in a) (nodes_in c) (names_words false a both.0 w.0) (names_words false c both.1 w.1)
-    form_words b s (nodes.check a i spec) t w = let both = and_parts (is_built a) (is_maybe_built i) t in two_words (nodes_in a) (maybe_nodes i) (names_words false a both.0 w.0) (maybe_words i both.1 w.1)
-    form_words b s (nodes.check_datapoint a rules out) t w = names_words false a t w.0
-    form_words b s other t w = absurd (false≢true t)
+    form_words : (b : Bool) (s : Structure) (form : FormTree) → FormHasWords p b form → AllByRecursion IsWord (names_in (nodes.node s form))
+    form_words b s (nodes.named name) w = (name_word name w, tt)
+    form_words b s (nodes.measures m a) w = names_words false a w
+    form_words b s (nodes.pair o a c) w = two_words (nodes_in a) (nodes_in c) (names_words false a w.0) (names_words false c w.1)
+    form_words b s (nodes.choose q a c) w =
+        two_words (nodes_in q) (nodes_in a ++ nodes_in c) (names_words false q w.0) (two_words (nodes_in a) (nodes_in c) (names_words false a w.1) (names_words false c w.2))
+    form_words b s (nodes.member a m) w = names_words false a w
+    form_words b s (nodes.filter a e) w = names_words b a w
+    form_words b s (nodes.calc a items) w = names_words b a w.0
+    form_words b s (nodes.keep a names) w = names_words b a w
+    form_words b s (nodes.drop_named a names) w = names_words b a w
+    form_words b s (nodes.rename a pairs) (inl w) = names_words b a w.0
+    form_words b s (nodes.rename a pairs) (inr w) = names_words true a w.0
+    form_words true s (nodes.join os spec) w = operand_words os w
+    form_words false s (nodes.join os spec) w = absurd w
+    form_words b s (nodes.sub a items) w = names_words false a w.0
+    form_words b s (nodes.pivot a id m) w = names_words false a w.0
+    form_words b s (nodes.unpivot a id m) w = names_words false a w.0
+    form_words b s (nodes.aggregate a spec) w = names_words b a w.0
+    form_words b s (nodes.analytic_of a spec) w = names_words b a w.0
+    form_words b s (nodes.union ns) w = all_words ns w
+    form_words b s (nodes.intersect ns) w = all_words ns w
+    form_words b s (nodes.set_diff a c) w = two_words (nodes_in a) (nodes_in c) (names_words false a w.0) (names_words false c w.1)
+    form_words b s (nodes.sym_diff a c) w = two_words (nodes_in a) (nodes_in c) (names_words false a w.0) (names_words false c w.1)
+    form_words b s (nodes.exists_in a c r) w = two_words (nodes_in a) (nodes_in c) (names_words false a w.0) (names_words false c w.1)
+    form_words b s (nodes.check a i spec) w = two_words (nodes_in a) (maybe_nodes i) (names_words false a w.0) (maybe_words i w.1)
+    form_words b s (nodes.check_datapoint a rules out) w = names_words false a w.0
+    form_words b s (nodes.check_hierarchy a rules m out) w = names_words false a w.0
+    form_words b s (nodes.hierarchy a rules m i out) w = names_words false a w.0
 
-    all_words : (ns : NodeTrees) → are_nodes_built ns ≡ true → HaveWords p ns → AllByRecursion IsWord (names_at (all_nodes ns))
-    all_words nodes.no_nodes t w = tt
-    all_words (nodes.and_node n ns) t w = let both = and_parts (is_built n) (are_nodes_built ns) t in two_words (nodes_in n) (all_nodes ns) (names_words false n both.0 w.0) (all_words ns both.1 w.1)
+    all_words : (ns : NodeTrees) → HaveWords p ns → AllByRecursion IsWord (names_at (all_nodes ns))
+    all_words nodes.no_nodes w = tt
+    all_words (nodes.and_node n ns) w = two_words (nodes_in n) (all_nodes ns) (names_words false n w.0) (all_words ns w.1)
 
-    maybe_words : (i : MaybeNode) → is_maybe_built i ≡ true → MaybeHasWords p i → AllByRecursion IsWord (names_at (maybe_nodes i))
-    maybe_words nodes.no_node t w = tt
-    maybe_words (nodes.some_node n) t w = names_words false n t w
+    maybe_words : (i : MaybeNode) → MaybeHasWords p i → AllByRecursion IsWord (names_at (maybe_nodes i))
+    maybe_words nodes.no_node w = tt
+    maybe_words (nodes.some_node n) w = names_words false n w
 
-    operand_words : (os : OperandTrees) → are_operands_built os ≡ true → OperandsHaveWords p os → AllByRecursion IsWord (names_at (operand_nodes os))
-    operand_words nodes.no_operands t w = tt
-    operand_words (nodes.operand n alias os) t w = let both = and_parts (is_built n) (are_operands_built os) t in two_words (nodes_in n) (operand_nodes os) (names_words false n both.0 w.0) (operand_words os both.1 w.2)
+    operand_words : (os : OperandTrees) → OperandsHaveWords p os → AllByRecursion IsWord (names_at (operand_nodes os))
+    operand_words nodes.no_operands w = tt
+    operand_words (nodes.operand n alias os) w = two_words (nodes_in n) (operand_nodes os) (names_words false n w.0) (operand_words os w.2)
 
 -- ---- statements
 -- what holds of a node of an accepted script
@@ -95,14 +91,13 @@ record IsReady (p : Settings) (n : NodeTree) : Type 0 where
   words : IsWorded p n
   shallow : node_depth n ≤ depth_limit
   held : HoldsParts n
-  translated : is_translated n ≡ true
 
 abbrev AreReady : Settings → List NodeTree → Type 0
 AreReady p ns = AllByRecursion (IsReady p) ns
 
 words_of : (p : Settings) (ns : List NodeTree) → AreReady p ns → AllByRecursion IsWord (names_of ns)
 words_of p [] h = tt
-words_of p (n ∷ ns) h = lists.appended IsWord (names_in n) (names_of ns) (let built = sym (evaluated n) ∙ h.0.translated in names_words p false n built (h.0.words built)) (words_of p ns h.1)
+words_of p (n ∷ ns) h = lists.appended IsWord (names_in n) (names_of ns) (names_words p false n h.0.words) (words_of p ns h.1)
 
 abbrev AreFewer : Named → Named → Type 0
 AreFewer known other = (name : List ℕ) → has_name name known ≡ false → has_name name other ≡ false
@@ -119,32 +114,30 @@ statements_translated p known other [] ns alike fewer named words ready made few
 statements_translated p known other (t ∷ ts) [] alike fewer named words ready made few = tt
 statements_translated p known other (t ∷ ts) (n ∷ ns) alike fewer named words ready made few =
     let here = ready.0 in
-    let built = sym (evaluated n) ∙ here.translated in
-    let own = here.words built in
     let rest = lists.back (λ name. lookup (same_name name) known ≡ lookup (same_name name) other) (names_in n) (names_of ns) alike in (
       record {
         word = name_word t.name words.0;
         new = fewer t.name made.0;
         made = made_over p known other n (lists.front (λ name. lookup (same_name name) known ≡ lookup (same_name name) other) (names_in n) (names_of ns) alike) made.1;
-        translated = node_translated p known named false n made.1 here.translated own here.held (node-below depth_limit n here.shallow);
+        translated = node_translated p known named false n made.1 here.words here.held (node-below depth_limit n here.shallow);
         few = few.0;
       },
       statements_translated p ((t.name, structure_of n) ∷ known) ((t.name, structure_of n) ∷ other) ts ns
           (lists.weaker (λ name. lookup (same_name name) known ≡ lookup (same_name name) other) (λ name. lookup (same_name name) ((t.name, structure_of n) ∷ known) ≡ lookup (same_name name) ((t.name, structure_of n) ∷ other)) (names_of ns) (λ name e. ap (cond (same_name name t.name) (Some (structure_of n))) e) rest)
           (fewer_still known other (t.name, structure_of n) fewer)
-          ((components_named p known named false n made.1 built own).0, named)
+          ((components_named p known named false n made.1 here.words).0, named)
           words.1 ready.1 made.2 few.1,
     )
 
 -- ---- scripts
-all_ready : (p : Settings) (ns : List NodeTree) → AllByRecursion (IsWorded p) ns → AllByRecursion (λ n. node_depth n ≤ depth_limit) ns → AreHeld ns → AllByRecursion (λ n. is_translated n ≡ true) ns → AreReady p ns
-all_ready p [] words shallow held translated = tt
-all_ready p (n ∷ ns) words shallow held translated = (record { words = words.0; shallow = shallow.0; held = held.0; translated = translated.0 }, all_ready p ns words.1 shallow.1 held.1 translated.1)
+all_ready : (p : Settings) (ns : List NodeTree) → AllByRecursion (IsWorded p) ns → AllByRecursion (λ n. node_depth n ≤ depth_limit) ns → AreHeld ns → AreReady p ns
+all_ready p [] words shallow held = tt
+all_ready p (n ∷ ns) words shallow held = (record { words = words.0; shallow = shallow.0; held = held.0 }, all_ready p ns words.1 shallow.1 held.1)
 
-pub script_accepted : (t : TypedScript) → t.settings.scale ≤ 9 → AreStructures t.declared → IsTyped t → AreWritten (tree_of t) → are_translated (nodes_of t) ≡ true → AreHeld (nodes_of t) → AreFew t.settings (statements_of t) → IsScript t.settings (reads t.declared (nodes_of t)) (statements_of t)
-script_accepted t low are typed written translated held few =
+pub script_accepted : (t : TypedScript) → t.settings.scale ≤ 9 → AreStructures t.declared → IsTyped t → AreWritten (tree_of t) → AreHeld (nodes_of t) → AreFew t.settings (statements_of t) → IsScript t.settings (reads t.declared (nodes_of t)) (statements_of t)
+script_accepted t low are typed written held few =
     let ns = nodes_of t in
-    let ready = all_ready t.settings ns (script_worded t typed written) (written-depth t typed written) held (lists.all_pass is_translated ns translated) in
+    let ready = all_ready t.settings ns (script_worded t typed written) (written-depth t typed written) held in
     let words = words_of t.settings ns ready in
     record {
       low = low;

@@ -32,9 +32,10 @@ use Rattle.vtl_syntax.specs.declared.parts.Literal.{Literal}
 use Rattle.vtl_syntax.specs.declared.parts.RenamePart.{RenamePart}
 use Rattle.vtl_syntax.specs.declared.parts.SubPart.{SubPart}
 use Rattle.vtl_syntax.specs.declared.word_groups.WrittenRole.{WrittenRole}
-use Rattle.vtl_scripts.specs.Meaning.{is_built_form}
 use Rattle.vtl_tree.specs.Trees as nodes
 use Rattle.vtl_tree.specs.Trees.{FormTree, ItemTree, NodeTree, structure_of}
+use Rattle.vtl_tree.specs.Choices.{chosen}
+use Rattle.vtl_tree.specs.declared.choices.Choice.TheVariants as choice
 use Rattle.vtl_tree.specs.declared.clauses.SubItem.{SubItem}
 use Rattle.vtl_syntax.specs.Trees as tree
 use Rattle.vtl_syntax.specs.Written.{AreMoreCalcs, AreWrittenCalcs, AreWrittenTargets}
@@ -47,6 +48,7 @@ use Rattle.check_clauses.specs.declared.targets.Made.{Made}
 use Rattle.check_faults.specs.InTurn.{in_turn}
 use Rattle.check_faults.specs.declared.rules.Rule.{Rule}
 use Rattle.check_shapes.specs.Clauses.{calc_form}
+use Rattle.check_shapes.specs.Shape.{shaped}
 use Rattle.vtl_tree.specs.Names.{component_of, is_among, name_of}
 use Rattle.check_shapes.specs.Names.{known, known_as, name_tests}
 use Rattle.vtl_tree.specs.declared.names.Wanted.TheVariants as wanted
@@ -68,19 +70,19 @@ use Rattle.vtl_to_sql.proofs.AcceptedWords.{AreValues, FormHasWords, IsAt, IsCol
 
 module _ (p : Settings) (b : Bool) (rs : List Renaming) where
   -- a form over an operand
-  pub clause_at : (form : FormTree) (r : Result Structure Rule) → (is_built_form form ≡ true → FormHasWords p b form × (b ≡ true → form_renamings form ≡ rs)) → Gives (IsAt p b rs) (r >>= clauses.made_of form)
+  pub clause_at : (form : FormTree) (r : Result Structure Rule) → (FormHasWords p b form × (b ≡ true → form_renamings form ≡ rs)) → Gives (IsAt p b rs) (r >>= clauses.made_of form)
   clause_at form (Ok s) h = h
   clause_at form (Err broken) h = tt
 
   pub filter_at : (n : NodeTree) (x : TypedTree) → IsAt p b rs n → Gives (IsAt p b rs) (filter_form n x)
   unfolding filter_form
-  filter_at n x h = after (IsAt p b rs) (condition_in x) (λ e. clauses.made_of (nodes.filter n e) (structure_of n)) (λ e t. h t)
+  filter_at n x h = after (IsAt p b rs) (condition_in x) (λ e. clauses.made_of (nodes.filter n e) (structure_of n)) (λ e. h)
 
   pub keeping_at : (j : Option Joined) (n : NodeTree) (x : Keeping) → IsAt p b rs n → Gives (IsAt p b rs) (keeping_form j n x)
   unfolding keeping_form
   keeping_at j n x h = after (IsAt p b rs) (names_typed j wanted.Value (components_in n) (references_in x)) (kept_of x n) (λ names. clause_at (keeping_tree x n names) _ (made x names))
     where
-      made : (x : Keeping) (names : List (List ℕ)) → is_built_form (keeping_tree x n names) ≡ true → FormHasWords p b (keeping_tree x n names) × (b ≡ true → form_renamings (keeping_tree x n names) ≡ rs)
+      made : (x : Keeping) (names : List (List ℕ)) → FormHasWords p b (keeping_tree x n names) × (b ≡ true → form_renamings (keeping_tree x n names) ≡ rs)
       made (keeping.Keep rs) names = h
       made (keeping.Drop rs) names = h
 
@@ -96,7 +98,7 @@ module _ (p : Settings) (b : Bool) (rs : List Renaming) where
   renaming_at j n parts are h =
       then (AllByRecursion IsNewName) (IsAt p b rs) (renamings_typed j (components_in n) parts) (renamed_of n)
       (all-in-turn written.IsRenaming IsNewName (λ done. renaming_known j (components_in n) (old_names done)) (λ done. renaming_named j (components_in n) (old_names done)) [] parts tt are)
-      (λ done named. clause_at (nodes.rename n done) _ (λ t. (inl ((h t).0, named), (h t).1)))
+      (λ done named. clause_at (nodes.rename n done) _ (inl (h.0, named), h.1))
 
   -- ---- `calc`
   abbrev pub IsTarget : ItemTree → Type 0
@@ -110,8 +112,8 @@ module _ (p : Settings) (b : Bool) (rs : List Renaming) where
       r = calc_form (map (target_of (components_in n)) items) (components_in n)
 
       go : (q : Bool) → Gives (IsAt p b rs) (r >>= clauses.made_of (cond q (nodes.analytic_of n (nodes.of_items items)) (nodes.calc n items)))
-      go true = clause_at (nodes.analytic_of n (nodes.of_items items)) r (λ t. (((h t).0, named), (h t).1))
-      go false = clause_at (nodes.calc n items) r (λ t. (((h t).0, named), (h t).1))
+      go true = clause_at (nodes.analytic_of n (nodes.of_items items)) r ((h.0, named), h.1)
+      go false = clause_at (nodes.calc n items) r ((h.0, named), h.1)
 
   -- each target has a name; of its value nothing is asked
   targets_named : (env : Sight) (at : Place) (n : NodeTree) (done : List ItemTree) (cs : Calcs) → AllByRecursion IsTarget done → AreMoreCalcs cs → Gives (AllByRecursion IsTarget) (calcs_typed env at n done cs)
@@ -146,7 +148,7 @@ module _ (p : Settings) (b : Bool) (rs : List Renaming) where
 
   aggr_clause_at : (g : Option GroupPart) (n : NodeTree) (made : List Made) (having : Option CompExp) → IsAt p b rs n → AllByRecursion IsNamed made → Gives (IsAt p b rs) (aggr_clause g n made having)
   unfolding aggr_clause
-  aggr_clause_at g n made having h named = clause_at (nodes.aggregate n (aggr_tree g n made having)) _ (λ t. (((h t).0, lists.mapped (λ t. IsColumnName t.target) (λ m. m.target) made named), (h t).1))
+  aggr_clause_at g n made having h named = clause_at (nodes.aggregate n (aggr_tree g n made having)) _ ((h.0, lists.mapped (λ t. IsColumnName t.target) (λ m. m.target) made named), h.1)
 
   pub targets_at : (env : Sight) (j : Option Joined) (n : NodeTree) (m : TargetsTree) → AreWrittenTargets m → IsAt p b rs n → Gives (IsAt p b rs) (targets_typed env j n m)
   targets_at env j n (tree.calc cs) w h =
@@ -209,4 +211,4 @@ module _ (p : Settings) where
   unfolding sub_form
   sub_worded n ss h =
       then (AreValues p) (IsWorded p) (subs_typed p (components_in n) ss) (sub_of n) (items_valued (components_in n) [] ss (record { filled = tt; apart = refl }))
-      (λ items are. from_outside p _ (clause_at p false [] (nodes.sub n items) _ (λ t. ((h t, are), λ e. absurd (false≢true e)))))
+      (λ items are. from_outside p (sub_of n items) (clause_at p false [] (nodes.sub n items) (shaped (chosen choice.Drop (sub_names items) (components_in n))) ((h, are), λ e. absurd (false≢true e))))

@@ -33,7 +33,7 @@ use Rattle.vtl_tree.specs.ClauseShapes.{calculated, code_measure, is_new, new_na
 use Rattle.vtl_tree.specs.ClauseShapes as clauses
 use Rattle.vtl_tree.specs.Measures.{Gives, bool_var, given_measure, given_measures, int_var, is_measure, measures}
 use Rattle.vtl_tree.specs.Operands.{agreed, agreed_identifiers, is_coded_alike}
-use Rattle.vtl_tree.specs.Checks.{error_measures, ruled_measures, ruleid}
+use Rattle.vtl_tree.specs.Checks.{error_measures, output_parts, ruled_measures, ruleid, sided_measures, uncoded, without_codes}
 use Rattle.vtl_tree.specs.Pairs.{check_measures, contains, errorcode, errorlevel, imbalance, pair_identifiers}
 use Rattle.vtl_tree.specs.declared.choices.Choice.{Choice}
 use Rattle.vtl_tree.specs.declared.choices.Choice.TheVariants as choice
@@ -222,16 +222,34 @@ errors_named = (errorcode_named, (errorlevel_named, tt))
 pub check_named : (others : List Structure) (xs : List Component) → ArePlain [] xs → ArePlain [] (agreed_identifiers others xs ++ check_measures)
 check_named others xs h = lists.appended (IsPlain []) (agreed_identifiers others xs) check_measures (agreed_named [] others xs h) (bool_var_named, (imbalance_named, errors_named))
 
-pub ruled_named : (o : CheckOut) (a : Structure) → ArePlain [] a.components → ArePlain [] (identifiers_of a ++ ruleid ∷ ruled_measures o a)
-ruled_named o a h = lists.appended (IsPlain []) (identifiers_of a) (ruleid ∷ ruled_measures o a) (role_named [] role.Identifier a h) (ruleid_named, go o)
+-- identifiers, that of rules, and what an output shows behind them
+shown_named : (o : CheckOut) (ids : List Component) (a : Structure) (rest : List Component) → ArePlain [] ids → ArePlain [] a.components → ArePlain [] rest → ArePlain [] (ids ++ ruleid ∷ output_parts o (measures_of a) bool_var rest)
+shown_named o ids a rest i h r = lists.appended (IsPlain []) ids (ruleid ∷ output_parts o (measures_of a) bool_var rest) i (ruleid_named, go o)
   where
     measured : ArePlain [] (measures_of a)
     measured = role_named [] role.Measure a h
 
-    go : (o : CheckOut) → ArePlain [] (ruled_measures o a)
-    go out.Invalid = lists.appended (IsPlain []) (measures_of a) error_measures measured errors_named
-    go out.All = (bool_var_named, errors_named)
-    go out.AllMeasures = lists.appended (IsPlain []) (measures_of a) (bool_var ∷ error_measures) measured (bool_var_named, errors_named)
+    go : (o : CheckOut) → ArePlain [] (output_parts o (measures_of a) bool_var rest)
+    go out.Invalid = lists.appended (IsPlain []) (measures_of a) rest measured r
+    go out.All = (bool_var_named, r)
+    go out.AllMeasures = lists.appended (IsPlain []) (measures_of a) (bool_var ∷ rest) measured (bool_var_named, r)
+
+pub ruled_named : (o : CheckOut) (a : Structure) → ArePlain [] a.components → ArePlain [] (identifiers_of a ++ ruleid ∷ ruled_measures o a)
+ruled_named o a h = shown_named o (identifiers_of a) a error_measures (role_named [] role.Identifier a h) h errors_named
+
+-- the identifier of items is without codes
+pub uncoded_named : (id : List ℕ) (a : Structure) → ArePlain [] a.components → ArePlain [] (without_codes id (identifiers_of a))
+uncoded_named id a h = lists.mapped (IsPlain []) (uncoded id) (identifiers_of a) (lists.weaker (IsPlain []) (λ x. IsPlain [] (uncoded id x)) (identifiers_of a) one (role_named [] role.Identifier a h))
+  where
+    one : (x : Component) → IsPlain [] x → IsPlain [] (uncoded id x)
+    one x k = go (same_name x.name id)
+      where
+        go : (b : Bool) → IsPlain [] (cond b (record x { codes = None }) x)
+        go true = (k.0, k.1, tt)
+        go false = k
+
+pub sided_named : (o : CheckOut) (id : List ℕ) (a : Structure) → ArePlain [] a.components → ArePlain [] (without_codes id (identifiers_of a) ++ ruleid ∷ sided_measures o a)
+sided_named o id a h = shown_named o (without_codes id (identifiers_of a)) a (imbalance ∷ error_measures) (uncoded_named id a h) h (imbalance_named, errors_named)
 
 -- ---- `pivot`: codes are texts
 pub codes_are_texts : (id : List ℕ) (a : Structure) → ArePlain [] a.components → HasCodes id a → kind_named id (identifiers_of a) ≡ k.Text

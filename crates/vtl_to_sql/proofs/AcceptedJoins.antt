@@ -1,7 +1,7 @@
 -- The words of joins: those of their operands, whose aliases are names, and those of their bodies. At its end a body gives back the
 -- names of its operands.
 use Rattle.std.proofs.Common.{◌≡◌, ℕ, inr, true, false, List, [], ◌∷◌, ◌++◌, map, Option, Some, None, Result, Ok, refl, sym, ap}
-use Rattle.std.proofs.lemmas.Bool.{and_parts, false≢true}
+use Rattle.std.proofs.lemmas.Bool.{false≢true}
 use Rattle.std.specs.List.{AllByRecursion, filter}
 use Rattle.std.specs.Option.{IfSome}
 use Rattle.vtl_lists.specs.Results.{◌>>=◌}
@@ -16,7 +16,6 @@ use Rattle.vtl_syntax.specs.declared.parts.Keeping.{Keeping}
 use Rattle.vtl_syntax.specs.declared.parts.RenamePart.{RenamePart}
 use Rattle.vtl_syntax.specs.declared.word_groups.JoinKind.{JoinKind}
 use Rattle.vtl_scripts.specs.Made as made
-use Rattle.vtl_scripts.specs.Meaning.{are_operands_built, is_built}
 use Rattle.vtl_tree.specs.Trees as nodes
 use Rattle.vtl_tree.specs.Trees.{NodeTree, OperandTree, operands_of}
 use Rattle.vtl_tree.specs.Joins.{held_names, last_renamings}
@@ -25,7 +24,8 @@ use Rattle.check_faults.specs.declared.rules.Rule.{Rule}
 use Rattle.check_faults.specs.declared.rules.Rule.TheVariants as rule
 use Rattle.vtl_tree.specs.Names.{is_among}
 use Rattle.vtl_tree.specs.declared.renaming.Renaming.{Renaming}
-use Rattle.check_clauses.specs.Clauses.{filter_form}
+use Rattle.check_shapes.specs.Clauses.{rename_form}
+use Rattle.check_clauses.specs.Clauses.{filter_form, renamed_of}
 use Rattle.check_clauses.specs.JoinOperands.{PartTyped, alias_of, aliases_in, is_left, joined_node, joined_of, last_naming, left_names, new_alias, operand_in, operands_in, own_alias, shape_of, using_names, with_part}
 use Rattle.check_operators.specs.Places.{at_points}
 use Rattle.check_operators.specs.Typed.{TypedTree, components_in, dataset_in}
@@ -73,9 +73,9 @@ operands_worded p (x ∷ xs) h =
     then (IsOperand p) (AllByRecursion (IsOperand p)) (operand_in x) (λ o. operands_in xs >>= λ os. Ok (o ∷ os)) (operand_worded p x h.0)
     (λ o k. then (AllByRecursion (IsOperand p)) (AllByRecursion (IsOperand p)) (operands_in xs) (λ os. Ok (o ∷ os)) (operands_worded p xs h.1) (λ os all. (k, all)))
 
-all_words : (p : Settings) (os : List OperandTree) → AllByRecursion (IsOperand p) os → are_operands_built (operands_of os) ≡ true → OperandsHaveWords p (operands_of os)
-all_words p [] h t = tt
-all_words p (o ∷ os) h t = let both = and_parts (is_built o.node) (are_operands_built (operands_of os)) t in (h.0.0 both.0, h.0.1, all_words p os h.1 both.1)
+all_words : (p : Settings) (os : List OperandTree) → AllByRecursion (IsOperand p) os → OperandsHaveWords p (operands_of os)
+all_words p [] h = tt
+all_words p (o ∷ os) h = (h.0.0, h.0.1, all_words p os h.1)
 
 same_operands : (os : List OperandTree) → made.operands_in (operands_of os) ≡ map shape_of os
 same_operands [] = refl
@@ -90,11 +90,11 @@ joined_worded : (p : Settings) (kind : JoinKind) (u : Option (List Comp)) (os : 
 unfolding joined_node
 joined_worded p kind u os h =
     clause_at p true (given_back (joined_of kind os)) (nodes.join (operands_of os) (record { kind = kind; using = using_names u })) _
-    (λ t. (all_words p os h t, λ e. ap (λ ds. last_renamings kind (held_names kind ds) ds) (same_operands os)))
+    (all_words p os h, λ e. ap (λ ds. last_renamings kind (held_names kind ds) ds) (same_operands os))
 
 last_worded : (p : Settings) (j : Joined) (n : NodeTree) → IsAt p true (given_back j) n → Gives (IsWorded p) (last_naming j n)
 unfolding last_naming
-last_worded p j n h = from_outside p _ (clause_at p false [] (nodes.rename n (left_names j (components_in n))) _ (λ t. (inr ((h t).0, ap (filter (is_left (components_in n))) (sym ((h t).1 refl))), λ e. absurd (false≢true e))))
+last_worded p j n h = from_outside p (renamed_of n (left_names j (components_in n))) (clause_at p false [] (nodes.rename n (left_names j (components_in n))) (rename_form (left_names j (components_in n)) (components_in n)) (inr (h.0, ap (filter (is_left (components_in n))) (sym (h.1 refl))), λ e. absurd (false≢true e)))
 
 end_worded : (p : Settings) (j : Joined) (k : Option Keeping) (rs : Option (List RenamePart)) (n : NodeTree) → IfSome rs (written.SomeAll written.IsRenaming) → IsAt p true (given_back j) n → Gives (IsTreeWorded p) (body_end (Some j) k rs n)
 end_worded p j k rs n w h =

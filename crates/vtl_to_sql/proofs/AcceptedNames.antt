@@ -1,6 +1,5 @@
 -- The components of an expression that is made over data sets with names have names, where its words are names.
-use Rattle.std.proofs.Common.{◌≡◌, inl, inr, Bool, true, false, cond, ◌&&◌, List, [], ◌∷◌, map, Some, None, refl, sym, ap, ◌∙◌, subst}
-use Rattle.std.proofs.lemmas.Bool.{and_parts, false≢true}
+use Rattle.std.proofs.Common.{◌≡◌, inl, inr, Bool, true, false, cond, List, [], ◌∷◌, map, Some, None, refl, sym, ap, ◌∙◌, subst}
 use Rattle.std.specs.List.{AllByRecursion, filter}
 use Rattle.std.specs.Option.{option_to_list}
 use Rattle.vtl_decimal.specs.Settings.{Settings}
@@ -10,13 +9,13 @@ use Rattle.vtl_tree.specs.declared.structure.Component.{Component}
 use Rattle.vtl_tree.specs.declared.structure.Role.TheVariants as role
 use Rattle.vtl_tree.specs.declared.structure.Structure.{Structure}
 use Rattle.vtl_meaning.specs.AggregateShapes.{made_components}
-use Rattle.vtl_tree.specs.Columns.{kind_named, measures_of}
+use Rattle.vtl_tree.specs.Checks.{without_codes}
+use Rattle.vtl_tree.specs.Columns.{identifiers_of, kind_named, measures_of}
 use Rattle.vtl_meaning.specs.Made.{AreCombined, IsCombined}
 use Rattle.vtl_scripts.specs.Made.{AreMade, AreMadeOperands, IsMade, IsMadeForm, maybe_structure, node_structures, operands_in}
 use Rattle.vtl_meaning.specs.Shapes.{given_between, given_of_two, outcome_of, target_of}
 use Rattle.vtl_tree.specs.Trees as nodes
 use Rattle.vtl_tree.specs.Trees.{FormTree, NodeTree, NodeTrees, OperandTrees, structure_of}
-use Rattle.vtl_scripts.specs.Meaning.{are_nodes_built, are_operands_built, is_built, is_built_form, is_maybe_built}
 use Rattle.vtl_tree.specs.Joins.{held_names}
 use Rattle.vtl_tree.specs.Choices.{chosen}
 use Rattle.vtl_tree.specs.ClauseShapes.{first_kind, names_column, renamed}
@@ -26,7 +25,7 @@ use Rattle.vtl_tree.specs.Pairs.{pair_identifiers}
 use Rattle.vtl_tree.specs.declared.choices.Choice.TheVariants as choice
 use Rattle.vtl_tree.specs.declared.renaming.Renaming.{Renaming}
 use Rattle.vtl_meaning.proofs.Lists as lists
-use Rattle.vtl_to_sql.proofs.AcceptedComponents.{AreKnownNamed, ArePlain, Fits, IsPlain, agreed_named, all_weaker, analyzed_named, bool_var_named, calculated_named, check_named, chosen_named, found_named, given_named, made_named, pair_named, pivot_named, plain, renamed_named, role_named, ruled_named}
+use Rattle.vtl_to_sql.proofs.AcceptedComponents.{AreKnownNamed, ArePlain, Fits, IsPlain, agreed_named, all_weaker, analyzed_named, bool_var_named, calculated_named, check_named, chosen_named, found_named, given_named, made_named, pair_named, pivot_named, plain, renamed_named, role_named, ruled_named, sided_named, uncoded_named}
 use Rattle.vtl_to_sql.proofs.AcceptedMarks.{IsOperandPlain, given_back_named, joined_named, last_named}
 use Rattle.vtl_to_sql.proofs.AcceptedWords.{AreRenamings, FormHasWords, HasWords, HaveWords, IsColumnName, OperandsHaveWords, form_renamings, renamings_below}
 
@@ -55,82 +54,82 @@ module _ (p : Settings) (known : Named) (all : AreKnownNamed known) where
   first_named b a bs s h is = outside b s _ is.shape (lists.appended (IsPlain []) (agreed_identifiers bs a.components) (measures_of a) (agreed_named [] bs a.components h) (role_named [] role.Measure a h))
 
   mutual
-    pub components_named : (b : Bool) (n : NodeTree) → IsMade p known n → is_built n ≡ true → HasWords p b n → Fits (cond b (renamings_below n) []) (structure_of n).components
-    components_named b (nodes.node s form) m t w = form_named b s form m.1 t w
+    pub components_named : (b : Bool) (n : NodeTree) → IsMade p known n → HasWords p b n → Fits (cond b (renamings_below n) []) (structure_of n).components
+    components_named b (nodes.node s form) m w = form_named b s form m.1 w
 
-    pub form_named : (b : Bool) (s : Structure) (form : FormTree) → IsMadeForm p known s form → is_built_form form ≡ true → FormHasWords p b form → Fits (marks b form) s.components
-    form_named b s (nodes.named name) m t w = (all_weaker (cond b [] []) s.components (found_named (same_name name) known s all m), nothing b)
-    form_named b s (nodes.measures o a) m t w =
+    pub form_named : (b : Bool) (s : Structure) (form : FormTree) → IsMadeForm p known s form → FormHasWords p b form → Fits (marks b form) s.components
+    form_named b s (nodes.named name) m w = (all_weaker (cond b [] []) s.components (found_named (same_name name) known s all m), nothing b)
+    form_named b s (nodes.measures o a) m w =
         let xs = (structure_of a).components in
-        let h = (components_named false a m.0 t w).0 in
+        let h = (components_named false a m.0 w).0 in
         outside b s _ m.1.shape
         (lists.appended (IsPlain []) (filter (λ x. same_role x.role role.Identifier) xs) (given_measures (outcome_of o.op) (given_between o) None xs) (role_named [] role.Identifier (structure_of a) h) (given_named [] (outcome_of o.op) (given_between o) None xs h))
-    form_named b s (nodes.pair o a c) m t w =
-        let both = and_parts (is_built a) (is_built c) t in
-        let ha = (components_named false a m.0 both.0 w.0).0 in
-        let hc = (components_named false c m.1 both.1 w.1).0 in
+    form_named b s (nodes.pair o a c) m w =
+        let ha = (components_named false a m.0 w.0).0 in
+        let hc = (components_named false c m.1 w.1).0 in
         outside b s _ m.2.shape
         (lists.appended (IsPlain []) (pair_identifiers (structure_of a) (structure_of c)) (given_measures (outcome_of o) (given_of_two o) (Some (structure_of c).components) (structure_of a).components) (pair_named (structure_of a) (structure_of c) ha hc)
         (given_named [] (outcome_of o) (given_of_two o) (Some (structure_of c).components) (structure_of a).components ha))
-    form_named b s (nodes.choose q a c) m t w =
-        let first = and_parts (is_built q) (is_built a && is_built c) t in
-        let both = and_parts (is_built a) (is_built c) first.1 in
+    form_named b s (nodes.choose q a c) m w =
         outside b s _ m.3.shape
-        (lists.appended (IsPlain []) (agreed_identifiers (structure_of a ∷ structure_of c ∷ []) (structure_of q).components) (of_role role.Measure (structure_of a)) (agreed_named [] (structure_of a ∷ structure_of c ∷ []) (structure_of q).components (components_named false q m.0 first.0 w.0).0)
-        (role_named [] role.Measure (structure_of a) (components_named false a m.1 both.0 w.1).0))
-    form_named b s (nodes.member a x) m t w = outside b s _ m.2.shape (chosen_named [] choice.Keep (x ∷ []) (structure_of a).components (components_named false a m.0 t w).0)
-    form_named b s (nodes.filter a e) m t w = subst (λ (z : Structure). Fits (marks b (nodes.filter a e)) z.components) (sym m.1.same) (components_named b a m.0 t w)
-    form_named b s (nodes.calc a items) m t w =
-        let h = components_named b a m.0 t w.0 in
+        (lists.appended (IsPlain []) (agreed_identifiers (structure_of a ∷ structure_of c ∷ []) (structure_of q).components) (of_role role.Measure (structure_of a)) (agreed_named [] (structure_of a ∷ structure_of c ∷ []) (structure_of q).components (components_named false q m.0 w.0).0)
+        (role_named [] role.Measure (structure_of a) (components_named false a m.1 w.1).0))
+    form_named b s (nodes.member a x) m w = outside b s _ m.2.shape (chosen_named [] choice.Keep (x ∷ []) (structure_of a).components (components_named false a m.0 w).0)
+    form_named b s (nodes.filter a e) m w = subst (λ (z : Structure). Fits (marks b (nodes.filter a e)) z.components) (sym m.1.same) (components_named b a m.0 w)
+    form_named b s (nodes.calc a items) m w =
+        let h = components_named b a m.0 w.0 in
         (by_shape (marks b (nodes.calc a items)) s _ m.1.shape (calculated_named (marks b (nodes.calc a items)) (map (target_of (structure_of a).components) items) (structure_of a).components (lists.mapped (λ t. IsColumnName t.name) (target_of (structure_of a).components) items w.1) h.0), h.1)
-    form_named b s (nodes.keep a names) m t w =
-        let h = components_named b a m.0 t w in
+    form_named b s (nodes.keep a names) m w =
+        let h = components_named b a m.0 w in
         (by_shape (marks b (nodes.keep a names)) s _ m.2.shape (chosen_named (marks b (nodes.keep a names)) choice.Keep names (structure_of a).components h.0), h.1)
-    form_named b s (nodes.drop_named a names) m t w =
-        let h = components_named b a m.0 t w in
+    form_named b s (nodes.drop_named a names) m w =
+        let h = components_named b a m.0 w in
         (by_shape (marks b (nodes.drop_named a names)) s _ m.2.shape (chosen_named (marks b (nodes.drop_named a names)) choice.Drop names (structure_of a).components h.0), h.1)
-    form_named b s (nodes.rename a pairs) m t (inl w) =
-        let h = components_named b a m.0 t w.0 in
+    form_named b s (nodes.rename a pairs) m (inl w) =
+        let h = components_named b a m.0 w.0 in
         (by_shape (marks b (nodes.rename a pairs)) s _ m.2 (renamed_named (marks b (nodes.rename a pairs)) pairs (structure_of a).components w.1 h.0), h.1)
-    form_named b s (nodes.rename a pairs) m t (inr w) =
-        let h = components_named true a m.0 t w.0 in
+    form_named b s (nodes.rename a pairs) m (inr w) =
+        let h = components_named true a m.0 w.0 in
         (all_weaker (marks b (nodes.rename a pairs)) s.components (by_shape [] s _ (m.2 ∙ ap (λ l. map (renamed l) (structure_of a).components) w.1) (last_named (renamings_below a) (structure_of a).components h.0 h.1)), either b (renamings_below a) h.1)
-    form_named b s (nodes.sub a items) m t w = outside b s _ m.1.shape (chosen_named [] choice.Drop (map (λ i. i.id) items) (structure_of a).components (components_named false a m.0 t w.0).0)
-    form_named b s (nodes.pivot a id x) m t w = outside b s _ m.1.shape (pivot_named id (kind_named x (columns_of (structure_of a))) (structure_of a) (components_named false a m.0 t w.0).0 w.1)
-    form_named b s (nodes.unpivot a id x) m t w =
+    form_named b s (nodes.sub a items) m w = outside b s _ m.1.shape (chosen_named [] choice.Drop (map (λ i. i.id) items) (structure_of a).components (components_named false a m.0 w.0).0)
+    form_named b s (nodes.pivot a id x) m w = outside b s _ m.1.shape (pivot_named id (kind_named x (columns_of (structure_of a))) (structure_of a) (components_named false a m.0 w.0).0 w.1)
+    form_named b s (nodes.unpivot a id x) m w =
         outside b s _ m.1.shape
-        (lists.appended (IsPlain []) (chosen choice.Except [] (structure_of a).components) (names_column id (measures_of (structure_of a)) ∷ made x role.Measure (first_kind (measures_of (structure_of a))) ∷ []) (chosen_named [] choice.Except [] (structure_of a).components (components_named false a m.0 t w.0).0)
+        (lists.appended (IsPlain []) (chosen choice.Except [] (structure_of a).components) (names_column id (measures_of (structure_of a)) ∷ made x role.Measure (first_kind (measures_of (structure_of a))) ∷ []) (chosen_named [] choice.Except [] (structure_of a).components (components_named false a m.0 w.0).0)
         (plain [] (names_column id (measures_of (structure_of a))) w.1 refl, (plain [] (made x role.Measure (first_kind (measures_of (structure_of a)))) w.2 tt, tt)))
-    form_named b s (nodes.aggregate a spec) m t w =
+    form_named b s (nodes.aggregate a spec) m w =
         let rs = marks b (nodes.aggregate a spec) in
-        let h = components_named b a m.0 t w.0 in
+        let h = components_named b a m.0 w.0 in
         (by_shape rs s _ m.1.aggregated.shape (lists.appended (IsPlain rs) (chosen choice.By spec.grouping (structure_of a).components) (made_components spec.items (structure_of a).components) (chosen_named rs choice.By spec.grouping (structure_of a).components h.0) (made_named rs spec.items (structure_of a).components w.1 h.0)), h.1)
-    form_named b s (nodes.analytic_of a spec) m t w =
+    form_named b s (nodes.analytic_of a spec) m w =
         let rs = marks b (nodes.analytic_of a spec) in
-        let h = components_named b a m.0 t w.0 in
+        let h = components_named b a m.0 w.0 in
         (by_shape rs s _ m.1.analyzed.shape (analyzed_named rs spec (structure_of a).components w.1 h.0), h.1)
-    form_named true s (nodes.join os spec) m t w =
-        let h = operands_named os m.0 t w in
+    form_named true s (nodes.join os spec) m w =
+        let h = operands_named os m.0 w in
         (by_shape (form_renamings (nodes.join os spec)) s _ m.2 (joined_named spec.kind (operands_in os) h), given_back_named spec.kind (held_names spec.kind (operands_in os)) (operands_in os) h)
-    form_named false s (nodes.join os spec) m t w = absurd w
-    form_named b s (nodes.union ns) m t w = combined_named b ns s m.0 t w m.1
-    form_named b s (nodes.intersect ns) m t w = combined_named b ns s m.0 t w m.1
-    form_named b s (nodes.set_diff a c) m t w = first_named b (structure_of a) (structure_of c ∷ []) s (components_named false a m.0 (and_parts (is_built a) (is_built c) t).0 w.0).0 m.2
-    form_named b s (nodes.sym_diff a c) m t w = first_named b (structure_of a) (structure_of c ∷ []) s (components_named false a m.0 (and_parts (is_built a) (is_built c) t).0 w.0).0 m.2
-    form_named b s (nodes.exists_in a c r) m t w =
+    form_named false s (nodes.join os spec) m w = absurd w
+    form_named b s (nodes.union ns) m w = combined_named b ns s m.0 w m.1
+    form_named b s (nodes.intersect ns) m w = combined_named b ns s m.0 w m.1
+    form_named b s (nodes.set_diff a c) m w = first_named b (structure_of a) (structure_of c ∷ []) s (components_named false a m.0 w.0).0 m.2
+    form_named b s (nodes.sym_diff a c) m w = first_named b (structure_of a) (structure_of c ∷ []) s (components_named false a m.0 w.0).0 m.2
+    form_named b s (nodes.exists_in a c r) m w =
         outside b s _ m.2.shape
-        (lists.appended (IsPlain []) (agreed_identifiers (structure_of c ∷ []) (structure_of a).components) (bool_var ∷ []) (agreed_named [] (structure_of c ∷ []) (structure_of a).components (components_named false a m.0 (and_parts (is_built a) (is_built c) t).0 w.0).0) (bool_var_named, tt))
-    form_named b s (nodes.check a i spec) m t w = outside b s _ m.2.shape (check_named (option_to_list (maybe_structure i)) (structure_of a).components (components_named false a m.0 (and_parts (is_built a) (is_maybe_built i) t).0 w.0).0)
-    form_named b s (nodes.check_datapoint a rules out) m t w = outside b s _ m.1.shape (ruled_named out (structure_of a) (components_named false a m.0 t w.0).0)
-    form_named b s other m t w = absurd (false≢true t)
+        (lists.appended (IsPlain []) (agreed_identifiers (structure_of c ∷ []) (structure_of a).components) (bool_var ∷ []) (agreed_named [] (structure_of c ∷ []) (structure_of a).components (components_named false a m.0 w.0).0) (bool_var_named, tt))
+    form_named b s (nodes.check a i spec) m w = outside b s _ m.2.shape (check_named (option_to_list (maybe_structure i)) (structure_of a).components (components_named false a m.0 w.0).0)
+    form_named b s (nodes.check_datapoint a rules out) m w = outside b s _ m.1.shape (ruled_named out (structure_of a) (components_named false a m.0 w.0).0)
+    form_named b s (nodes.check_hierarchy a rules q out) m w = outside b s _ m.1.shape (sided_named out rules.variable (structure_of a) (components_named false a m.0 w.0).0)
+    form_named b s (nodes.hierarchy a rules q i out) m w =
+        let h = (components_named false a m.0 w.0).0 in
+        outside b s _ m.1.shape
+        (lists.appended (IsPlain []) (without_codes rules.variable (identifiers_of (structure_of a))) (measures_of (structure_of a)) (uncoded_named rules.variable (structure_of a) h) (role_named [] role.Measure (structure_of a) h))
 
     -- the components of the first operand
-    combined_named : (b : Bool) (ns : NodeTrees) (s : Structure) → AreMade p known ns → are_nodes_built ns ≡ true → HaveWords p ns → AreCombined (node_structures ns) s → Fits (cond b [] []) s.components
-    combined_named b nodes.no_nodes s m t w is = absurd is
-    combined_named b (nodes.and_node n ns) s m t w is = first_named b (structure_of n) (node_structures ns) s (components_named false n m.0 (and_parts (is_built n) (are_nodes_built ns) t).0 w.0).0 is
+    combined_named : (b : Bool) (ns : NodeTrees) (s : Structure) → AreMade p known ns → HaveWords p ns → AreCombined (node_structures ns) s → Fits (cond b [] []) s.components
+    combined_named b nodes.no_nodes s m w is = absurd is
+    combined_named b (nodes.and_node n ns) s m w is = first_named b (structure_of n) (node_structures ns) s (components_named false n m.0 w.0).0 is
 
-    operands_named : (os : OperandTrees) → AreMadeOperands p known os → are_operands_built os ≡ true → OperandsHaveWords p os → AllByRecursion IsOperandPlain (operands_in os)
-    operands_named nodes.no_operands m t w = tt
-    operands_named (nodes.operand n alias os) m t w =
-        let both = and_parts (is_built n) (are_operands_built os) t in
-        (((components_named false n m.0 both.0 w.0).0, w.1), operands_named os m.1 both.1 w.2)
+    operands_named : (os : OperandTrees) → AreMadeOperands p known os → OperandsHaveWords p os → AllByRecursion IsOperandPlain (operands_in os)
+    operands_named nodes.no_operands m w = tt
+    operands_named (nodes.operand n alias os) m w =
+        (((components_named false n m.0 w.0).0, w.1), operands_named os m.1 w.2)

@@ -1,7 +1,7 @@
 -- An expression on data sets that is made over data sets with names is translated, where its words are names, its constants are held
 -- and it is not too deep.
-use Rattle.std.proofs.Common.{inl, inr, ◌≡◌, ◌≤◌, ℕ, zero, suc, Bool, true, false, cond, ◌&&◌, ◌||◌, not, List, [], ◌∷◌, ◌++◌, map, length, Option, Some, None, refl, sym, ap, ◌∙◌, arith}
-use Rattle.std.proofs.lemmas.Bool.{and_parts, false≢true}
+use Rattle.std.proofs.Common.{inl, inr, ◌≡◌, ◌≤◌, ℕ, zero, suc, Bool, true, false, cond, ◌||◌, not, List, [], ◌∷◌, ◌++◌, map, length, Option, Some, None, refl, sym, ap, ◌∙◌, arith}
+use Rattle.std.proofs.lemmas.Bool.{false≢true}
 use Rattle.std.proofs.lemmas.List.{length-map}
 use Rattle.std.proofs.lemmas.List.Filters.{length-filter_both}
 use Rattle.std.specs.List.{AllByRecursion, filter, flat_map, list_any}
@@ -13,7 +13,9 @@ use Rattle.vtl_decimal.specs.Settings.{Settings}
 use Rattle.vtl_cell.specs.declared.kind.Kind.{Kind}
 use Rattle.vtl_lists.proofs.Aparts.{apart_parts}
 use Rattle.vtl_syntax.specs.Depth.{depth_limit}
+use Rattle.vtl_syntax.specs.declared.statements.HierRule.{HierRule}
 use Rattle.vtl_tree.specs.CompExp.{CompExp}
+use Rattle.vtl_tree.specs.RuleItems.{items_of}
 use Rattle.vtl_tree.specs.Structure.{most_components, names_of, same_name, same_role}
 use Rattle.vtl_tree.specs.Structures.{Named}
 use Rattle.vtl_tree.specs.declared.structure.Component.{Component}
@@ -34,15 +36,16 @@ use Rattle.check_laws.proofs.DepthBounds.{AreNodesUpTo, AreUpTo, IsUpTo}
 use Rattle.check_laws.proofs.Inner.{made-shaped}
 use Rattle.vtl_meaning.proofs.Lists as lists
 use Rattle.expressions_to_sql.specs.Held.{HoldsValues}
-use Rattle.vtl_to_sql.specs.Accepted.{AllHoldValues, AnalyticHoldsValues, FormHoldsParts, HoldsParts, MadeHoldsValues, MaybeHoldsParts, NodesHoldParts, OperandsHoldParts, RuleHoldsValues, are_nodes_translated, are_operands_translated, is_form_translated, is_maybe_translated, is_translated}
+use Rattle.vtl_to_sql.specs.Accepted.{AllHoldValues, AnalyticHoldsValues, FormHoldsParts, HoldsParts, MadeHoldsValues, MaybeHoldsParts, NodesHoldParts, OperandsHoldParts, RuleHoldsValues, RulesHoldTexts, SidesHoldTexts}
 use Rattle.selects_to_sql.specs.Writable.{AllCanBeWritten, CanBeWritten, HasValue}
-use Rattle.vtl_to_sql.specs.Conditions.{AreNodesTranslated, AreOperandsTranslated, IsFormTranslated, IsMaybeTranslated, IsTranslated}
+use Rattle.vtl_to_sql.specs.Conditions.{AreNodesTranslated, AreOperandsTranslated, CanSidesBeWritten, IsFormTranslated, IsMaybeTranslated, IsTranslated}
 use Rattle.groups_to_sql.specs.Writable.{CallsCanBeWritten, ValueCanBeWritten}
 use Rattle.rules_to_sql.specs.Writable.{CanBeCondition, CanRuleBeWritten}
+use Rattle.hierarchies_to_sql.specs.Writable.{CanBeSided, most_items}
 use Rattle.vtl_to_sql.proofs.AcceptedComponents.{AreKnownNamed, codes_are_texts, columns_named}
-use Rattle.vtl_to_sql.proofs.AcceptedForms.{evaluated, form_evaluated}
 use Rattle.vtl_to_sql.proofs.AcceptedNames.{components_named, form_named, marks}
-use Rattle.vtl_to_sql.proofs.AcceptedWords.{AreValues, FormHasWords, HasWords, HaveWords, IsFilled, MaybeHasWords, OperandsHaveWords}
+use Rattle.vtl_to_sql.proofs.AcceptedWords.{AreSided, AreValues, FormHasWords, HasWords, HaveWords, IsFilled, MaybeHasWords, OperandsHaveWords}
+use Rattle.vtl_to_sql.proofs.HeldLevels.{level_held}
 
 -- ---- expressions
 written : (e : CompExp) → HoldsValues e → IsUpTo depth_limit e → CanBeWritten e
@@ -89,6 +92,14 @@ rules_written rules others h d = go rules h (lists.front (IsUpTo depth_limit) (f
     go : (rs : List PointRuleTree) → AllByRecursion RuleHoldsValues rs → AreUpTo depth_limit (flat_map rule_exps rs) → AllByRecursion CanRuleBeWritten rs
     go [] h d = tt
     go (r ∷ rs) h d = (rule_written r h.0 (lists.front (IsUpTo depth_limit) (rule_exps r) (flat_map rule_exps rs) d), go rs h.1 (lists.back (IsUpTo depth_limit) (rule_exps r) (flat_map rule_exps rs) d))
+
+sides_written : (p : Settings) (rules : List HierRule) → RulesHoldTexts rules → AreSided rules → CanSidesBeWritten p rules
+sides_written p rules h w = record {
+  written = lists.joined SidesHoldTexts (λ r. length (items_of r) ≤ most_items) (CanBeSided p) rules
+      (λ r held few. record { name = held.name; items = held.items; errors = record { code = held.code; level = level_held p r.error.level }; few = few }) h.texts w.few;
+  some = w.some;
+  few = h.few;
+}
 
 -- ---- no more texts that are apart than there are texts that they are among
 IsAmong : List (List ℕ) → List ℕ → Type 0
@@ -159,64 +170,56 @@ module _ (p : Settings) (known : Named) (all : AreKnownNamed known) where
   made_shallow s form d = lists.back (IsUpTo depth_limit) (held_exps form) (made_exps s form) d
 
   mutual
-    pub node_translated : (b : Bool) (n : NodeTree) → IsMade p known n → is_translated n ≡ true → HasWords p b n → HoldsParts n → AreNodesUpTo depth_limit (nodes_in n) → IsTranslated p n
-    node_translated b (nodes.node s form) m t w h d = (columns_named (marks b form) s (form_named p known all b s form m.1 (sym (form_evaluated form) ∙ t) w).0, form_translated b s form m.1 t w h d.0 d.1)
+    pub node_translated : (b : Bool) (n : NodeTree) → IsMade p known n → HasWords p b n → HoldsParts n → AreNodesUpTo depth_limit (nodes_in n) → IsTranslated p n
+    node_translated b (nodes.node s form) m w h d = (columns_named (marks b form) s (form_named p known all b s form m.1 w).0, form_translated b s form m.1 w h d.0 d.1)
 
-    form_translated : (b : Bool) (s : Structure) (form : FormTree) → IsMadeForm p known s form → is_form_translated form ≡ true → FormHasWords p b form → FormHoldsParts s form → AreUpTo depth_limit (exps_in (nodes.node s form)) → AreNodesUpTo depth_limit (form_nodes form) → IsFormTranslated p s form
-    form_translated b s (nodes.named x) m t w h own d = tt
-    form_translated b s (nodes.measures o a) m t w h own d = (node_translated false a m.0 t w h.0 d, all_written (measured_exps o (structure_of a) s) h.1 (made_shallow s (nodes.measures o a) own))
-    form_translated b s (nodes.pair o a c) m t w h own d =
-        let both = and_parts (is_translated a) (is_translated c) t in
-        (node_translated false a m.0 both.0 w.0 h.0 (left (nodes_in a) (nodes_in c) d), node_translated false c m.1 both.1 w.1 h.1 (right (nodes_in a) (nodes_in c) d), all_written (pair_exps o (structure_of a) (structure_of c) s) h.2 (made_shallow s (nodes.pair o a c) own))
-    form_translated b s (nodes.choose q a c) m t w h own d =
-        let first = and_parts (is_translated q) (is_translated a && is_translated c) t in
-        let both = and_parts (is_translated a) (is_translated c) first.1 in
+    form_translated : (b : Bool) (s : Structure) (form : FormTree) → IsMadeForm p known s form → FormHasWords p b form → FormHoldsParts s form → AreUpTo depth_limit (exps_in (nodes.node s form)) → AreNodesUpTo depth_limit (form_nodes form) → IsFormTranslated p s form
+    form_translated b s (nodes.named x) m w h own d = tt
+    form_translated b s (nodes.measures o a) m w h own d = (node_translated false a m.0 w h.0 d, all_written (measured_exps o (structure_of a) s) h.1 (made_shallow s (nodes.measures o a) own))
+    form_translated b s (nodes.pair o a c) m w h own d =
+        (node_translated false a m.0 w.0 h.0 (left (nodes_in a) (nodes_in c) d), node_translated false c m.1 w.1 h.1 (right (nodes_in a) (nodes_in c) d), all_written (pair_exps o (structure_of a) (structure_of c) s) h.2 (made_shallow s (nodes.pair o a c) own))
+    form_translated b s (nodes.choose q a c) m w h own d =
         let more = right (nodes_in q) (nodes_in a ++ nodes_in c) d in
-        (node_translated false q m.0 first.0 w.0 h.0 (left (nodes_in q) (nodes_in a ++ nodes_in c) d), node_translated false a m.1 both.0 w.1 h.1 (left (nodes_in a) (nodes_in c) more), node_translated false c m.2 both.1 w.2 h.2 (right (nodes_in a) (nodes_in c) more))
-    form_translated b s (nodes.member a x) m t w h own d = node_translated false a m.0 t w h d
-    form_translated b s (nodes.filter a e) m t w h own d = (node_translated b a m.0 t w h.0 d, written e h.1 own.0)
-    form_translated b s (nodes.calc a items) m t w h own d = (node_translated b a m.0 t w.0 h.0 d, all_written (calculated_exps items (structure_of a) s) h.1 (made_shallow s (nodes.calc a items) own))
-    form_translated b s (nodes.keep a names) m t w h own d = node_translated b a m.0 t w h d
-    form_translated b s (nodes.drop_named a names) m t w h own d = node_translated b a m.0 t w h d
-    form_translated b s (nodes.rename a pairs) m t (inl w) h own d = node_translated b a m.0 t w.0 h d
-    form_translated b s (nodes.rename a pairs) m t (inr w) h own d = node_translated true a m.0 t w.0 h d
-    form_translated b s (nodes.sub a items) m t w h own d = (node_translated false a m.0 t w.0 h.0 d, all_values p items h.1 w.1, few_items p items (structure_of a) s (made-shaped p known a m.0) m.1 w.1)
-    form_translated b s (nodes.pivot a id x) m t w h own d = (node_translated false a m.0 t w.0 h d, codes_are_texts id (structure_of a) (components_named p known all false a m.0 (sym (evaluated a) ∙ t) w.0).0 w.1)
-    form_translated b s (nodes.unpivot a id x) m t w h own d = node_translated false a m.0 t w.0 h d
-    form_translated b s (nodes.aggregate a spec) m t w h own d = (node_translated b a m.0 t w.0 h.0 d, maybe_written spec.having (made_exps s (nodes.aggregate a spec)) h.1 own)
-    form_translated b s (nodes.analytic_of a spec) m t w h own d = (node_translated b a m.0 t w.0 h.0 d, calls_written spec (made_exps s (nodes.analytic_of a spec)) h.1 own)
-    form_translated b s (nodes.union ns) m t w h own d = nodes_translated ns m.0 t w h d
-    form_translated b s (nodes.intersect ns) m t w h own d = nodes_translated ns m.0 t w h d
-    form_translated b s (nodes.set_diff a c) m t w h own d =
-        let both = and_parts (is_translated a) (is_translated c) t in
-        (node_translated false a m.0 both.0 w.0 h.0 (left (nodes_in a) (nodes_in c) d), node_translated false c m.1 both.1 w.1 h.1 (right (nodes_in a) (nodes_in c) d))
-    form_translated b s (nodes.sym_diff a c) m t w h own d =
-        let both = and_parts (is_translated a) (is_translated c) t in
-        (node_translated false a m.0 both.0 w.0 h.0 (left (nodes_in a) (nodes_in c) d), node_translated false c m.1 both.1 w.1 h.1 (right (nodes_in a) (nodes_in c) d))
-    form_translated b s (nodes.exists_in a c r) m t w h own d =
-        let both = and_parts (is_translated a) (is_translated c) t in
-        (node_translated false a m.0 both.0 w.0 h.0 (left (nodes_in a) (nodes_in c) d), node_translated false c m.1 both.1 w.1 h.1 (right (nodes_in a) (nodes_in c) d))
-    form_translated true s (nodes.join os spec) m t w h own d = (operands_translated os m.0 t w h.0 d, h.1)
-    form_translated false s (nodes.join os spec) m t w h own d = absurd w
-    form_translated b s (nodes.check a i spec) m t w h own d =
-        let both = and_parts (is_translated a) (is_maybe_translated i) t in
-        (node_translated false a m.0 both.0 w.0 h.0 (left (nodes_in a) (maybe_nodes i) d), maybe_translated i m.1 both.1 w.1 h.1 (right (nodes_in a) (maybe_nodes i) d), h.2)
-    form_translated b s (nodes.check_datapoint a rules out) m t w h own d =
-        (node_translated false a m.0 t w.0 h.0 d, record { written = rules_written rules.rules (made_exps s (nodes.check_datapoint a rules out)) h.1 own; some = w.1; few = h.2 })
-    form_translated b s other m t w h own d = absurd (false≢true t)
+        (node_translated false q m.0 w.0 h.0 (left (nodes_in q) (nodes_in a ++ nodes_in c) d), node_translated false a m.1 w.1 h.1 (left (nodes_in a) (nodes_in c) more), node_translated false c m.2 w.2 h.2 (right (nodes_in a) (nodes_in c) more))
+    form_translated b s (nodes.member a x) m w h own d = node_translated false a m.0 w h d
+    form_translated b s (nodes.filter a e) m w h own d = (node_translated b a m.0 w h.0 d, written e h.1 own.0)
+    form_translated b s (nodes.calc a items) m w h own d = (node_translated b a m.0 w.0 h.0 d, all_written (calculated_exps items (structure_of a) s) h.1 (made_shallow s (nodes.calc a items) own))
+    form_translated b s (nodes.keep a names) m w h own d = node_translated b a m.0 w h d
+    form_translated b s (nodes.drop_named a names) m w h own d = node_translated b a m.0 w h d
+    form_translated b s (nodes.rename a pairs) m (inl w) h own d = node_translated b a m.0 w.0 h d
+    form_translated b s (nodes.rename a pairs) m (inr w) h own d = node_translated true a m.0 w.0 h d
+    form_translated b s (nodes.sub a items) m w h own d = (node_translated false a m.0 w.0 h.0 d, all_values p items h.1 w.1, few_items p items (structure_of a) s (made-shaped p known a m.0) m.1 w.1)
+    form_translated b s (nodes.pivot a id x) m w h own d = (node_translated false a m.0 w.0 h d, codes_are_texts id (structure_of a) (components_named p known all false a m.0 w.0).0 w.1)
+    form_translated b s (nodes.unpivot a id x) m w h own d = node_translated false a m.0 w.0 h d
+    form_translated b s (nodes.aggregate a spec) m w h own d = (node_translated b a m.0 w.0 h.0 d, maybe_written spec.having (made_exps s (nodes.aggregate a spec)) h.1 own)
+    form_translated b s (nodes.analytic_of a spec) m w h own d = (node_translated b a m.0 w.0 h.0 d, calls_written spec (made_exps s (nodes.analytic_of a spec)) h.1 own)
+    form_translated b s (nodes.union ns) m w h own d = nodes_translated ns m.0 w h d
+    form_translated b s (nodes.intersect ns) m w h own d = nodes_translated ns m.0 w h d
+    form_translated b s (nodes.set_diff a c) m w h own d =
+        (node_translated false a m.0 w.0 h.0 (left (nodes_in a) (nodes_in c) d), node_translated false c m.1 w.1 h.1 (right (nodes_in a) (nodes_in c) d))
+    form_translated b s (nodes.sym_diff a c) m w h own d =
+        (node_translated false a m.0 w.0 h.0 (left (nodes_in a) (nodes_in c) d), node_translated false c m.1 w.1 h.1 (right (nodes_in a) (nodes_in c) d))
+    form_translated b s (nodes.exists_in a c r) m w h own d =
+        (node_translated false a m.0 w.0 h.0 (left (nodes_in a) (nodes_in c) d), node_translated false c m.1 w.1 h.1 (right (nodes_in a) (nodes_in c) d))
+    form_translated true s (nodes.join os spec) m w h own d = (operands_translated os m.0 w h.0 d, h.1)
+    form_translated false s (nodes.join os spec) m w h own d = absurd w
+    form_translated b s (nodes.check a i spec) m w h own d =
+        (node_translated false a m.0 w.0 h.0 (left (nodes_in a) (maybe_nodes i) d), maybe_translated i m.1 w.1 h.1 (right (nodes_in a) (maybe_nodes i) d), h.2)
+    form_translated b s (nodes.check_datapoint a rules out) m w h own d =
+        (node_translated false a m.0 w.0 h.0 d, record { written = rules_written rules.rules (made_exps s (nodes.check_datapoint a rules out)) h.1 own; some = w.1; few = h.2 })
+    form_translated b s (nodes.check_hierarchy a rules q out) m w h own d = (node_translated false a m.0 w.0 h.0 d, sides_written p rules.rules h.1 w.1)
+    form_translated b s (nodes.hierarchy a rules q i out) m w h own d = (node_translated false a m.0 w.0 h.0 d, sides_written p rules.rules h.1 w.1)
 
-    nodes_translated : (ns : NodeTrees) → AreMade p known ns → are_nodes_translated ns ≡ true → HaveWords p ns → NodesHoldParts ns → AreNodesUpTo depth_limit (all_nodes ns) → AreNodesTranslated p ns
-    nodes_translated nodes.no_nodes m t w h d = tt
-    nodes_translated (nodes.and_node n ns) m t w h d =
-        let both = and_parts (is_translated n) (are_nodes_translated ns) t in
-        (node_translated false n m.0 both.0 w.0 h.0 (left (nodes_in n) (all_nodes ns) d), nodes_translated ns m.1 both.1 w.1 h.1 (right (nodes_in n) (all_nodes ns) d))
+    nodes_translated : (ns : NodeTrees) → AreMade p known ns → HaveWords p ns → NodesHoldParts ns → AreNodesUpTo depth_limit (all_nodes ns) → AreNodesTranslated p ns
+    nodes_translated nodes.no_nodes m w h d = tt
+    nodes_translated (nodes.and_node n ns) m w h d =
+        (node_translated false n m.0 w.0 h.0 (left (nodes_in n) (all_nodes ns) d), nodes_translated ns m.1 w.1 h.1 (right (nodes_in n) (all_nodes ns) d))
 
-    maybe_translated : (i : MaybeNode) → IsMadeMaybe p known i → is_maybe_translated i ≡ true → MaybeHasWords p i → MaybeHoldsParts i → AreNodesUpTo depth_limit (maybe_nodes i) → IsMaybeTranslated p i
-    maybe_translated nodes.no_node m t w h d = tt
-    maybe_translated (nodes.some_node n) m t w h d = node_translated false n m t w h d
+    maybe_translated : (i : MaybeNode) → IsMadeMaybe p known i → MaybeHasWords p i → MaybeHoldsParts i → AreNodesUpTo depth_limit (maybe_nodes i) → IsMaybeTranslated p i
+    maybe_translated nodes.no_node m w h d = tt
+    maybe_translated (nodes.some_node n) m w h d = node_translated false n m w h d
 
-    operands_translated : (os : OperandTrees) → AreMadeOperands p known os → are_operands_translated os ≡ true → OperandsHaveWords p os → OperandsHoldParts os → AreNodesUpTo depth_limit (operand_nodes os) → AreOperandsTranslated p os
-    operands_translated nodes.no_operands m t w h d = tt
-    operands_translated (nodes.operand n alias os) m t w h d =
-        let both = and_parts (is_translated n) (are_operands_translated os) t in
-        (node_translated false n m.0 both.0 w.0 h.0 (left (nodes_in n) (operand_nodes os) d), operands_translated os m.1 both.1 w.2 h.1 (right (nodes_in n) (operand_nodes os) d))
+    operands_translated : (os : OperandTrees) → AreMadeOperands p known os → OperandsHaveWords p os → OperandsHoldParts os → AreNodesUpTo depth_limit (operand_nodes os) → AreOperandsTranslated p os
+    operands_translated nodes.no_operands m w h d = tt
+    operands_translated (nodes.operand n alias os) m w h d =
+        (node_translated false n m.0 w.0 h.0 (left (nodes_in n) (operand_nodes os) d), operands_translated os m.1 w.2 h.1 (right (nodes_in n) (operand_nodes os) d))

@@ -1,9 +1,8 @@
 -- The words of what operators give: those of their operands. Analytic calls on data sets are not evaluated yet.
-use Rattle.std.proofs.Common.{ℕ, Bool, true, false, cond, ◌&&◌, not, List, [], ◌∷◌, map, Option, Some, None, option_map, Result, Ok, Err}
+use Rattle.std.proofs.Common.{ℕ, Bool, true, false, cond, ◌&&◌, not, List, [], ◌∷◌, length, map, Option, Some, None, option_map, Result, Ok, Err}
 use Rattle.std.specs.List.{AllByRecursion}
 use Rattle.std.specs.Map.{lookup}
 use Rattle.std.specs.Option.{IfSome, is_some}
-use Rattle.std.proofs.lemmas.Bool.{and_parts}
 use Rattle.vtl_lists.specs.Results.{◌>>=◌}
 use Rattle.vtl_cell.specs.ScalarArithmetic.{number}
 use Rattle.vtl_decimal.specs.Settings.{Settings}
@@ -19,7 +18,6 @@ use Rattle.vtl_syntax.specs.declared.parts.Comp.TheVariants as comp
 use Rattle.vtl_syntax.specs.declared.parts.GroupPart.{GroupPart}
 use Rattle.vtl_syntax.specs.declared.parts.Literal.{Literal}
 use Rattle.vtl_syntax.specs.declared.word_groups.AggregateName.{AggregateName}
-use Rattle.vtl_scripts.specs.Meaning.{is_built}
 use Rattle.vtl_tree.specs.Trees as nodes
 use Rattle.vtl_tree.specs.Trees.{FormTree, NodeTree}
 use Rattle.vtl_tree.specs.declared.calls.Window.{Window}
@@ -27,17 +25,19 @@ use Rattle.check_faults.specs.Rules.{ruled}
 use Rattle.check_faults.specs.declared.rules.Rule.{Rule}
 use Rattle.check_faults.specs.declared.rules.Rule.TheVariants as rule
 use Rattle.vtl_tree.specs.Names.{is_among, name_of}
+use Rattle.check_values.specs.Calls.{call_form}
 use Rattle.check_values.specs.Columns.{column_typed}
 use Rattle.check_values.specs.Groupings.{grouping_typed}
+use Rattle.check_values.specs.Literals.{set_typed}
 use Rattle.vtl_tree.specs.Kinds.{exp_kind}
 use Rattle.check_groups.specs.Aggregates.{aggregate_kind, aggregate_node, aggregate_tree, aggregate_value, count_call, count_kind, group_call, group_call_by, is_misused, operand_name}
-use Rattle.check_operators.specs.Operators.{Operands, if_placed, on_choice, on_datasets, on_measures, on_operands, on_pair, operator_form, no_operands, parted, set_form, membership, with_operand, with_value}
-use Rattle.check_operators.specs.Places.{Env, Written, alone, at_groups, component_typed, known_by, member_inside, member_written, name_typed, written_typed}
+use Rattle.check_operators.specs.Operators.{Operands, first_fits, if_placed, is_binary, is_choice, on_choice, on_datasets, on_measures, on_operands, on_pair, operator_form, no_operands, parted, set_form, membership, takes_dataset, with_operand, with_value}
+use Rattle.check_operators.specs.Places.{Env, Written, alone, at_groups, component_typed, known_by, member_inside, member_written, name_typed, name_written, written_typed}
 use Rattle.check_operators.specs.Sets.{member_of}
 use Rattle.check_operators.specs.Typed as typed
-use Rattle.check_operators.specs.Typed.{TypedTree, value, dataset, components_in, dataset_in, of_value}
+use Rattle.check_operators.specs.Typed.{TypedTree, value, dataset, beside_kinds, components_in, dataset_in, of_value}
 use Rattle.check_expressions.specs.Typing.{Having, as_dataset, behind, grouped_of, or_component, own_groups}
-use Rattle.check_groups.specs.Windowed.{given_structure, or_count, over_dataset, over_form, over_node, over_typed}
+use Rattle.check_groups.specs.Windowed.{given_structure, or_count, over_dataset, over_form, over_node, over_parts, over_typed}
 use Rattle.check_groups.specs.declared.calls.Call.{Call}
 use Rattle.check_operators.specs.declared.places.Inside.{Inside}
 use Rattle.check_operators.specs.declared.places.Place.{Place}
@@ -81,13 +81,13 @@ module _ (p : Settings) where
     where
       go : (o : Option Structure) → Gives (IsTreeWorded p) (known_by name o)
       go None = tt
-      go (Some s) = λ t. h
+      go (Some s) = h
   names_worded env place.Outside (comp.Quoted name) h = tt
   names_worded env (place.Inside i) x h = component_worded i (name_of x)
 
   written_worded : (i : Inside) (w : Written) → Gives (IsTreeWorded p) (written_typed i w)
   unfolding written_typed
-  written_worded i w = after (IsTreeWorded p) _ _ (λ name. component_worded i name)
+  written_worded i w = after (IsTreeWorded p) (name_written i.joined w) (component_typed i) (λ name. component_worded i name)
 
   pub or_component_worded : (at : Place) (e : Exp) (x : Comp) (rest : Result TypedTree Rule) → Gives (IsTreeWorded p) rest → Gives (IsTreeWorded p) (or_component (member_inside at e x) rest)
   or_component_worded place.Outside e x rest h = h
@@ -108,15 +108,11 @@ module _ (p : Settings) where
 
   pair_worded : (o : ScalarOp) (a b : NodeTree) → IsWorded p a → IsWorded p b → Gives (IsTreeWorded p) (on_pair o a b)
   unfolding on_pair
-  pair_worded o a b ha hb = dataset_worded (nodes.pair o a b) _ (λ t. let both = and_parts (is_built a) (is_built b) t in (ha both.0, hb both.1))
+  pair_worded o a b ha hb = dataset_worded (nodes.pair o a b) _ (ha, hb)
 
   choice_worded : (t a b : NodeTree) → IsWorded p t → IsWorded p a → IsWorded p b → Gives (IsTreeWorded p) (on_choice t a b)
   unfolding on_choice
-  choice_worded t a b ht ha hb =
-      dataset_worded (nodes.choose t a b) _
-      (λ all. let first = and_parts (is_built t) (is_built a && is_built b) all in
-      let both = and_parts (is_built a) (is_built b) first.1 in
-      (ht first.0, ha both.0, hb both.1))
+  choice_worded t a b ht ha hb = dataset_worded (nodes.choose t a b) _ (ht, ha, hb)
 
   placed : (fits literals : Bool) (form : Result TypedTree Rule) → Gives (IsTreeWorded p) form → Gives (IsTreeWorded p) (if_placed fits literals form)
   placed true literals form h = h
@@ -124,11 +120,11 @@ module _ (p : Settings) where
 
   datasets_worded : (o : ScalarOp) (literals : Bool) (before : List CompExp) (ns : List NodeTree) (after' : List CompExp) → AllByRecursion (IsWorded p) ns → Gives (IsTreeWorded p) (on_datasets o literals before ns after')
   datasets_worded o literals before [] after' h = tt
-  datasets_worded o literals before (a ∷ []) after' h = placed _ _ _ (measures_worded o literals before after' a h.0)
-  datasets_worded o literals [] (a ∷ b ∷ []) [] h = placed _ _ _ (pair_worded o a b h.0 h.1.0)
+  datasets_worded o literals before (a ∷ []) after' h = placed (takes_dataset o (length before)) literals (on_measures o literals before a after') (measures_worded o literals before after' a h.0)
+  datasets_worded o literals [] (a ∷ b ∷ []) [] h = placed (is_binary o) literals (on_pair o a b) (pair_worded o a b h.0 h.1.0)
   datasets_worded o literals [] (a ∷ b ∷ []) (y ∷ ys) h = tt
   datasets_worded o literals (x ∷ xs) (a ∷ b ∷ []) after' h = tt
-  datasets_worded o literals [] (t ∷ a ∷ b ∷ []) [] h = placed _ _ _ (choice_worded t a b h.0 h.1.0 h.1.1.0)
+  datasets_worded o literals [] (t ∷ a ∷ b ∷ []) [] h = placed (is_choice o) literals (on_choice t a b) (choice_worded t a b h.0 h.1.0 h.1.1.0)
   datasets_worded o literals [] (t ∷ a ∷ b ∷ []) (y ∷ ys) h = tt
   datasets_worded o literals (x ∷ xs) (t ∷ a ∷ b ∷ []) after' h = tt
   datasets_worded o literals [] (t ∷ a ∷ b ∷ n ∷ ns) [] h = tt
@@ -136,10 +132,10 @@ module _ (p : Settings) where
   datasets_worded o literals (x ∷ xs) (t ∷ a ∷ b ∷ n ∷ ns) after' h = tt
 
   operands_worded : (at : Place) (o : ScalarOp) (number literals : Bool) (before : List CompExp) (ns : List NodeTree) (after' : List CompExp) → AllByRecursion (IsWorded p) ns → Gives (IsTreeWorded p) (on_operands at o number literals before ns after')
-  operands_worded place.Outside o number literals before [] after' h = value_worded _
-  operands_worded (place.Inside i) o number literals before [] after' h = value_worded _
+  operands_worded place.Outside o number literals before [] after' h = value_worded (call_form o literals before)
+  operands_worded (place.Inside i) o number literals before [] after' h = value_worded (call_form o literals before)
   operands_worded (place.Inside i) o number literals before (n ∷ ns) after' h = tt
-  operands_worded place.Outside o number literals before (n ∷ ns) after' h = after (IsTreeWorded p) _ _ (λ u. datasets_worded o literals before (n ∷ ns) after' h)
+  operands_worded place.Outside o number literals before (n ∷ ns) after' h = after (IsTreeWorded p) (ruled ((rule.WrongKind, not number) ∷ []) (tt {0})) (λ u. on_datasets o literals before (n ∷ ns) after') (λ u. datasets_worded o literals before (n ∷ ns) after' h)
 
   with_value_worded : (e : CompExp) (before : List CompExp) (ns : List NodeTree) (after' : List CompExp) → AllByRecursion (IsWorded p) ns → AllByRecursion (IsWorded p) (with_value e before ns after').datasets
   with_value_worded e before [] after' h = h
@@ -153,7 +149,7 @@ module _ (p : Settings) where
   operator_worded : (at : Place) (o : ScalarOp) (number literals : Bool) (xs : List TypedTree) → AllByRecursion (IsTreeWorded p) xs → Gives (IsTreeWorded p) (operator_form at o number literals xs)
   unfolding operator_form
   operator_worded at o number literals xs h =
-      operands_worded at o _ literals (parted no_operands xs).before (parted no_operands xs).datasets (parted no_operands xs).after (parted_worded no_operands xs tt h)
+      operands_worded at o (number && first_fits o (parted no_operands xs).before (parted no_operands xs).datasets) literals (parted no_operands xs).before (parted no_operands xs).datasets (parted no_operands xs).after (parted_worded no_operands xs tt h)
 
   pub operator_step : (at : Place) (o : ScalarOp) (number literals : Bool) (r : Result (List TypedTree) Rule) → Gives (AllByRecursion (IsTreeWorded p)) r → Gives (IsTreeWorded p) (r >>= operator_form at o number literals)
   operator_step at o number literals r h = then (AllByRecursion (IsTreeWorded p)) (IsTreeWorded p) r (operator_form at o number literals) h (λ xs k. operator_worded at o number literals xs k)
@@ -171,7 +167,7 @@ module _ (p : Settings) where
   pub set_step : (q : Settings) (at : Place) (negated : Bool) (ls : List Literal) (r : Result TypedTree Rule) → Gives (IsTreeWorded p) r → Gives (IsTreeWorded p) (r >>= set_form q at negated ls)
   unfolding set_form
   set_step q at negated ls r h = then (IsTreeWorded p) (IsTreeWorded p) r (set_form q at negated ls) h
-      (λ x k. after (IsTreeWorded p) _ (λ cells. operator_form at (membership negated) true true (x ∷ map (λ v. value (const v)) cells))
+      (λ x k. after (IsTreeWorded p) (set_typed q (beside_kinds x) ls) (λ cells. operator_form at (membership negated) true true (x ∷ map (λ v. value (const v)) cells))
       (λ cells. operator_worded at (membership negated) true true (x ∷ map (λ v. value (const v)) cells) (k, lists.mapped (IsTreeWorded p) (λ v. value (const v)) cells (lists.every (λ v. Unit {0}) cells (λ v. tt)))))
 
   -- ---- aggregates, and analytic calls, which on data sets are not translated yet
@@ -193,7 +189,7 @@ module _ (p : Settings) where
 
   aggregate_worded : (f : AggregateName) (g : Option GroupPart) (a : NodeTree) (having : Option CompExp) → IsWorded p a → Gives (IsTreeWorded p) (aggregate_node f g a having)
   unfolding aggregate_node
-  aggregate_worded f g a having h = dataset_worded (nodes.aggregate a (aggregate_tree f g a having)) _ (λ t. (h t, tt))
+  aggregate_worded f g a having h = dataset_worded (nodes.aggregate a (aggregate_tree f g a having)) _ (h, tt)
 
   pub grouped_worded : (at : Place) (f : AggregateName) (e : MaybeExp) (g : Option GroupPart) (grouped : Bool) (having : Having) (x : Option TypedTree) → IfSome x (IsTreeWorded p) → Gives (IsTreeWorded p) (grouped_of at f e g grouped having x)
   grouped_worded at f e g grouped having (Some (dataset n)) h =
@@ -204,7 +200,7 @@ module _ (p : Settings) where
 
   over_node_worded : (e : Exp) (call : Call) (w : Window) (a : NodeTree) → IsWorded p a → Gives (IsTreeWorded p) (over_node e call w a)
   unfolding over_node
-  over_node_worded e call w a h = dataset_worded (nodes.analytic_of a (nodes.of_measures (or_count call.op) w)) _ (λ t. (h t, tt))
+  over_node_worded e call w a h = dataset_worded (nodes.analytic_of a (nodes.of_measures (or_count call.op) w)) _ (h, tt)
 
   over_dataset_worded : (at : Place) (e : Exp) (n : NodeTree) (call : Call) (w : Window) → IsWorded p n → Gives (IsTreeWorded p) (over_dataset at e n call w)
   over_dataset_worded place.Outside e n call w h = over_node_worded e call w n h
@@ -212,7 +208,7 @@ module _ (p : Settings) where
 
   pub over_worded : (q : Settings) (at : Place) (e : Exp) (x : Option TypedTree) → IfSome x (IsTreeWorded p) → Gives (IsTreeWorded p) (over_typed q at e x)
   unfolding over_typed
-  over_worded q at e x h = after (IsTreeWorded p) _ _ (λ parts. go x h parts.0 parts.1)
+  over_worded q at e x h = after (IsTreeWorded p) (over_parts q at e x) (λ parts. over_form at e x parts.0 parts.1) (λ parts. go x h parts.0 parts.1)
     where
       go : (x : Option TypedTree) → IfSome x (IsTreeWorded p) → (call : Call) (w : Window) → Gives (IsTreeWorded p) (over_form at e x call w)
       go (Some (dataset n)) h call w = over_dataset_worded at e n call w h

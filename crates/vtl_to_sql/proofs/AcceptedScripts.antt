@@ -5,7 +5,7 @@ use Rattle.vtl_lists.specs.Results.{◌>>=◌}
 use Rattle.vtl_text.specs.Words.{is_name}
 use Rattle.vtl_syntax.specs.Trees as tree
 use Rattle.vtl_syntax.specs.Trees.{Exp, ScriptTree, StatementTree}
-use Rattle.vtl_syntax.specs.Written.{AreWritten, HasWrittenParts, IsWrittenExp}
+use Rattle.vtl_syntax.specs.Written.{AreWritten, IsWritten, IsWrittenExp}
 use Rattle.vtl_tree.specs.Trees.{NodeTree}
 use Rattle.check_faults.specs.Rules.{ruled}
 use Rattle.check_faults.specs.declared.rules.Rule.TheVariants as rule
@@ -34,8 +34,8 @@ assigned_worded s before name e d w =
     (λ n h. tested (IsWorded s.settings) ((rule.TooManyNodes, is_too_much before (count n)) ∷ []) n (λ passed. h)))
 
 -- behind one more definition
-one_more : (name : List ℕ) (definition : StatementTree) (definitions : Definitions) → AreDefinitionsWritten definitions → HasWrittenParts definition → AreDefinitionsWritten (definitions ++ (name, definition) ∷ [])
-one_more name definition definitions d w = lists.appended (λ e. HasWrittenParts e.1) definitions ((name, definition) ∷ []) d (w, tt)
+one_more : (name : List ℕ) (definition : StatementTree) (definitions : Definitions) → AreDefinitionsWritten definitions → IsWritten definition → AreDefinitionsWritten (definitions ++ (name, definition) ∷ [])
+one_more name definition definitions d w = lists.appended (λ e. IsWritten e.1) definitions ((name, definition) ∷ []) d (w, tt)
 
 statements_worded : (s : Standing) (i before : ℕ) (done : List NodeTree) (ss : ScriptTree) → AreDefinitionsWritten s.definitions → AreWritten ss → AllByRecursion (IsWorded s.settings) done → Gives (AllByRecursion (IsWorded s.settings)) (statements_typed s i before done ss)
 statements_worded s i before done [] d w h = h
@@ -46,12 +46,12 @@ statements_worded s i before done (tree.datapoint n vs rs b ∷ ss) d w h =
     let fits = defined s before n (length rs) (datapoint_defined s.settings vs rs) in
     let behind = with_ruleset s n (tree.datapoint n vs rs b) in
     at-then (λ u. Unit {0}) (AllByRecursion (IsWorded s.settings)) i fits (λ u. statements_typed behind (suc i) (before + length rs) done ss) (anything fits)
-    (λ u k. statements_worded behind (suc i) (before + length rs) done ss (one_more n (tree.datapoint n vs rs b) s.definitions d w.0.parts) w.1 h)
+    (λ u k. statements_worded behind (suc i) (before + length rs) done ss (one_more n (tree.datapoint n vs rs b) s.definitions d w.0) w.1 h)
 statements_worded s i before done (tree.hierarchical n v rs b ∷ ss) d w h =
     let fits = defined s before n (length rs) (hierarchical_defined s.settings rs) in
     let behind = with_ruleset s n (tree.hierarchical n v rs b) in
     at-then (λ u. Unit {0}) (AllByRecursion (IsWorded s.settings)) i fits (λ u. statements_typed behind (suc i) (before + length rs) done ss) (anything fits)
-    (λ u k. statements_worded behind (suc i) (before + length rs) done ss (one_more n (tree.hierarchical n v rs b) s.definitions d w.0.parts) w.1 h)
+    (λ u k. statements_worded behind (suc i) (before + length rs) done ss (one_more n (tree.hierarchical n v rs b) s.definitions d w.0) w.1 h)
 
 pub script_worded : (t : TypedScript) → IsTyped t → AreWritten (tree_of t) → AllByRecursion (IsWorded t.settings) (nodes_of t)
 script_worded t is written = subst (Gives (AllByRecursion (IsWorded t.settings))) is (statements_worded (env_over t.settings t.declared) 1 0 [] (tree_of t) tt written tt)

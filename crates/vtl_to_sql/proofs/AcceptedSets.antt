@@ -1,6 +1,5 @@
 -- The words of set operators, `pivot`, `unpivot` and `check`: those of their operands, and their own.
-use Rattle.std.proofs.Common.{◌≡◌, true, List, [], ◌∷◌, Option, Some, None, Result, Ok, Err, refl}
-use Rattle.std.proofs.lemmas.Bool.{and_parts}
+use Rattle.std.proofs.Common.{◌≡◌, List, [], ◌∷◌, Option, Some, None, Result, Ok, Err, refl}
 use Rattle.std.specs.Option.{IfSome}
 use Rattle.std.specs.List.{AllByRecursion, list_all}
 use Rattle.std.specs.Prelude.{ℕ, option_to_list, unwrap_or}
@@ -19,7 +18,6 @@ use Rattle.vtl_syntax.specs.declared.word_groups.SetOpName.{SetOpName}
 use Rattle.vtl_syntax.specs.declared.word_groups.SetOpName.TheVariants as set
 use Rattle.vtl_tree.specs.declared.structure.Component.{Component}
 use Rattle.vtl_tree.specs.declared.structure.Structure.{Structure}
-use Rattle.vtl_scripts.specs.Meaning.{are_nodes_built, is_built}
 use Rattle.vtl_tree.specs.Trees as nodes
 use Rattle.vtl_tree.specs.Trees.{NodeTree, maybe_node, nodes_of, structure_of}
 use Rattle.vtl_tree.specs.declared.specifications.CheckSpec.{CheckSpec}
@@ -49,9 +47,9 @@ use Rattle.vtl_to_sql.proofs.AcceptedOperators.{dataset_in_worded, dataset_worde
 
 module _ (p : Settings) where
   -- ---- set operators
-  all_words : (ns : List NodeTree) → AllByRecursion (IsWorded p) ns → are_nodes_built (nodes_of ns) ≡ true → HaveWords p (nodes_of ns)
-  all_words [] h t = tt
-  all_words (n ∷ ns) h t = let both = and_parts (is_built n) (are_nodes_built (nodes_of ns)) t in (h.0 both.0, all_words ns h.1 both.1)
+  all_words : (ns : List NodeTree) → AllByRecursion (IsWorded p) ns → HaveWords p (nodes_of ns)
+  all_words [] h = tt
+  all_words (n ∷ ns) h = (h.0, all_words ns h.1)
 
   pub sets_worded : (f : SetOpName) (xs : List TypedTree) → AllByRecursion (IsTreeWorded p) xs → Gives (IsTreeWorded p) (sets_form f xs)
   unfolding sets_form
@@ -62,7 +60,7 @@ module _ (p : Settings) where
       made set.Intersect ns all = all_words ns all
 
   two : (a b : NodeTree) → IsWorded p a → IsWorded p b → FormIsWorded p (nodes.set_diff a b)
-  two a b ha hb t = let both = and_parts (is_built a) (is_built b) t in (ha both.0, hb both.1)
+  two a b ha hb = (ha, hb)
 
   pub difference_worded : (f : DifferenceName) (x y : TypedTree) → IsTreeWorded p x → IsTreeWorded p y → Gives (IsTreeWorded p) (difference_form f x y)
   unfolding difference_form
@@ -106,11 +104,11 @@ module _ (p : Settings) where
   unfolding pivot_of
   pivot_worded id m n h =
       after (IsWorded p) (pivot_names (name_of id) (name_of m) (components_in n)) (λ u. pivot_form (name_of id) (name_of m) (components_in n) >>= clauses.made_of (nodes.pivot n (name_of id) (name_of m)))
-      (λ u. then (λ s. HasCodes (name_of id) (structure_of n)) (IsWorded p) (pivot_form (name_of id) (name_of m) (components_in n)) (clauses.made_of (nodes.pivot n (name_of id) (name_of m))) (codes_named (name_of id) (name_of m) (structure_of n)) (λ s coded t. (h t, coded)))
+      (λ u. then (λ s. HasCodes (name_of id) (structure_of n)) (IsWorded p) (pivot_form (name_of id) (name_of m) (components_in n)) (clauses.made_of (nodes.pivot n (name_of id) (name_of m))) (codes_named (name_of id) (name_of m) (structure_of n)) (λ s coded. (h, coded)))
 
   pub unpivot_worded : (id m : Comp) (n : NodeTree) → written.IsComponent id → written.IsComponent m → IsWorded p n → Gives (IsWorded p) (unpivot_of id m n)
   unfolding unpivot_of
-  unpivot_worded id m n wi wm h = after (IsWorded p) (unpivot_form (name_of id) (name_of m) (components_in n)) (clauses.made_of (nodes.unpivot n (name_of id) (name_of m))) (λ s t. (h t, component_named id wi, component_named m wm))
+  unpivot_worded id m n wi wm h = after (IsWorded p) (unpivot_form (name_of id) (name_of m) (components_in n)) (clauses.made_of (nodes.unpivot n (name_of id) (name_of m))) (λ s. (h, component_named id wi, component_named m wm))
 
 -- ---- `check`
 module _ (p : Settings) where
@@ -119,8 +117,8 @@ module _ (p : Settings) where
   imbalance_worded (Some x) h = then (IsWorded p) (λ b. IfSome b (IsWorded p)) (dataset_in x) (λ n. Ok (Some n)) (dataset_in_worded p x h) (λ n k. k)
 
   checked : (a : NodeTree) (b : Option NodeTree) (spec : CheckSpec) → IsWorded p a → IfSome b (IsWorded p) → FormIsWorded p (nodes.check a (maybe_node b) spec)
-  checked a None spec ha hb t = (ha (and_parts (is_built a) true t).0, tt)
-  checked a (Some n) spec ha hb t = let both = and_parts (is_built a) (is_built n) t in (ha both.0, hb both.1)
+  checked a None spec ha hb = (ha, tt)
+  checked a (Some n) spec ha hb = (ha, hb)
 
   check_form_worded : (spec : CheckSpec) (x : TypedTree) (i : Option TypedTree) → IsTreeWorded p x → IfSome i (IsTreeWorded p) → Gives (IsTreeWorded p) (check_form spec x i)
   unfolding check_form

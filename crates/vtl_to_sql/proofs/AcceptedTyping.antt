@@ -88,8 +88,8 @@ module _ (env : Sight) (calls : AreCallsWorded env.settings env.called) where
         then (IsTreeWorded env.settings) (IsTreeWorded env.settings) (typed env place.Outside e) (λ x. check_spec env.settings err o >>= λ s. maybe_typed env place.Outside i >>= check_form s x) (worded place.Outside e w.0)
         (λ x h. check_worded env.settings env.settings err o x (maybe_typed env place.Outside i) h (maybe_worded place.Outside i w.1))
     worded at (tree.check_datapoint e n o) w = then (IsTreeWorded env.settings) (IsTreeWorded env.settings) (typed env place.Outside e) (env.called.datapoint (names_in env) n o) (worded place.Outside e w.0) (λ x h. calls.datapoint (names_in env) n o x h)
-    worded at (tree.check_hierarchy e n r m f o) w = after (IsTreeWorded env.settings) (typed env place.Outside e) (env.called.check_hierarchy n r m o) (λ x. calls.check_hierarchy n r m o x)
-    worded at (tree.hierarchy e n r m i o) w = after (IsTreeWorded env.settings) (typed env place.Outside e) (env.called.hierarchy n r m i o) (λ x. calls.hierarchy n r m i o x)
+    worded at (tree.check_hierarchy e n r m f o) w = then (IsTreeWorded env.settings) (IsTreeWorded env.settings) (typed env place.Outside e) (env.called.check_hierarchy n r m o) (worded place.Outside e w.0) (λ x h. calls.check_hierarchy n r m o x h)
+    worded at (tree.hierarchy e n r m i o) w = then (IsTreeWorded env.settings) (IsTreeWorded env.settings) (typed env place.Outside e) (env.called.hierarchy n r m i o) (worded place.Outside e w.0) (λ x h. calls.hierarchy n r m i o x h)
     worded at (tree.join kind ps u f m k rs) w = joins_worded env kind (parts_typed env [] ps) u f m k rs (parts_worded [] ps tt (more_parts ps w.0)) w.3 w.5
 
     maybe_worded : (at : Place) (e : MaybeExp) → IsWrittenMaybe e → Gives (λ x. IfSome x (IsTreeWorded env.settings)) (maybe_typed env at e)

@@ -16,8 +16,8 @@ use Rattle.vtl_tree.specs.declared.structure.Structure.{Structure}
 use Rattle.vtl_syntax.specs.Written as written
 use Rattle.vtl_syntax.specs.declared.parts.Comp.{Comp}
 use Rattle.vtl_syntax.specs.declared.parts.Comp.TheVariants as comp
+use Rattle.vtl_syntax.specs.declared.statements.HierRule.{HierRule}
 use Rattle.vtl_scripts.specs.Made.{operands_in}
-use Rattle.vtl_scripts.specs.Meaning.{is_built, is_built_form}
 use Rattle.vtl_tree.specs.Trees as nodes
 use Rattle.vtl_tree.specs.Trees.{AnalyticTree, FormTree, MaybeNode, NodeTree, NodeTrees, OperandTrees, structure_of}
 use Rattle.vtl_tree.specs.declared.clauses.SubItem.{SubItem}
@@ -28,12 +28,14 @@ use Rattle.vtl_tree.specs.Joins.{held_names, last_renamings}
 use Rattle.vtl_tree.specs.declared.names.Wanted.TheVariants as wanted
 use Rattle.vtl_tree.specs.declared.renaming.Renaming.{Renaming}
 use Rattle.vtl_tree.specs.Names.{name_of}
+use Rattle.vtl_tree.specs.RuleItems.{items_of}
 use Rattle.check_clauses.specs.Clauses.{sub_names}
 use Rattle.check_clauses.specs.JoinOperands.{is_left}
 use Rattle.check_operators.specs.Typed.{TypedTree, value, dataset, components_in}
 use Rattle.check_laws.specs.Gives.{Gives}
 use Rattle.check_laws.proofs.Left.{IsNamed}
 use Rattle.selects_to_sql.proofs.Names.{all_pass, word_characters}
+use Rattle.hierarchies_to_sql.specs.Writable.{most_items}
 
 -- ---- names
 -- a name of a component
@@ -114,6 +116,11 @@ CallsHaveNames (nodes.of_items items) = AllByRecursion (λ i. IsColumnName i.tar
 abbrev pub AreLast : NodeTree → List Renaming → Type 0
 AreLast a pairs = pairs ≡ filter (is_left (components_in a)) (renamings_below a)
 
+-- there is a rule, and none has too many items
+pub record AreSided (rules : List HierRule) : Type 0 where
+  pub some : 1 ≤ length rules
+  pub few : AllByRecursion (λ r. length (items_of r) ≤ most_items) rules
+
 -- inside the body of a join, or outside
 abbrev mutual
   pub HasWords : Settings → (inside : Bool) → NodeTree → Type 0
@@ -145,7 +152,8 @@ abbrev mutual
   FormHasWords p b (nodes.check a i spec) = HasWords p false a × MaybeHasWords p i
   -- there is a rule
   FormHasWords p b (nodes.check_datapoint a rules out) = HasWords p false a × (1 ≤ length rules.rules)
-  FormHasWords p b other = Unit {0}
+  FormHasWords p b (nodes.check_hierarchy a rules m out) = HasWords p false a × AreSided rules.rules
+  FormHasWords p b (nodes.hierarchy a rules m i out) = HasWords p false a × AreSided rules.rules
 
   pub HaveWords : Settings → NodeTrees → Type 0
   HaveWords p nodes.no_nodes = Unit {0}
@@ -159,12 +167,12 @@ abbrev mutual
   OperandsHaveWords p nodes.no_operands = Unit {0}
   OperandsHaveWords p (nodes.operand n alias os) = HasWords p false n × (is_name alias ≡ true) × OperandsHaveWords p os
 
--- as far as it is evaluated
+-- outside of joins
 abbrev pub IsWorded : Settings → NodeTree → Type 0
-IsWorded p n = is_built n ≡ true → HasWords p false n
+IsWorded p n = HasWords p false n
 
 abbrev pub FormIsWorded : Settings → FormTree → Type 0
-FormIsWorded p form = is_built_form form ≡ true → FormHasWords p false form
+FormIsWorded p form = FormHasWords p false form
 
 abbrev pub IsTreeWorded : Settings → TypedTree → Type 0
 IsTreeWorded p (value e) = Unit {0}
@@ -172,11 +180,11 @@ IsTreeWorded p (dataset n) = IsWorded p n
 
 -- the same inside the body of a join that gives back these names, or outside
 abbrev pub IsAt : Settings → (inside : Bool) → List Renaming → NodeTree → Type 0
-IsAt p b rs n = is_built n ≡ true → HasWords p b n × (b ≡ true → renamings_below n ≡ rs)
+IsAt p b rs n = HasWords p b n × (b ≡ true → renamings_below n ≡ rs)
 
 pub at_outside : (p : Settings) (n : NodeTree) → IsWorded p n → IsAt p false [] n
-at_outside p n h t = (h t, λ e. absurd (false≢true e))
+at_outside p n h = (h, λ e. absurd (false≢true e))
 
 pub from_outside : (p : Settings) (r : Result NodeTree Rule) → Gives (IsAt p false []) r → Gives (IsWorded p) r
-from_outside p (Ok n) h = λ t. (h t).0
+from_outside p (Ok n) h = h.0
 from_outside p (Err broken) h = tt

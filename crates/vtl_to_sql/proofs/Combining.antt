@@ -2,7 +2,6 @@
 use Rattle.std.proofs.Common.{◌≡◌, ℕ, ◌+◌, ◌-◌, ◌<◌, ◌≤◌, length, take, drop, get_or, arith, true, false, Option, None, Some, subst, List, [], ◌∷◌, ◌++◌, map, append_assoc, append-nil, refl, rules, sym, ap, ◌∙◌}
 use Rattle.std.specs.Prelude.{Vec}
 use Rattle.std.specs.declared.alloc.Global.{Global}
-use Rattle.std.proofs.lemmas.Bool.{and_parts}
 use Rattle.std.proofs.lemmas.List.{drop_all, drop_more, length-drop, map-append, take_all, take_more}
 use Rattle.vtl_decimal.specs.Settings.{Settings}
 use Rattle.vtl_tree.specs.declared.structure.Structure.{Structure}
@@ -20,7 +19,6 @@ use Rattle.vtl_to_sql.specs.Sets.{is_matched, matched_select, shown_query, shown
 use Rattle.selects_to_sql.specs.Queries.{left_query}
 use Rattle.selects_to_sql.specs.Tables.{create_for, Made, Sources, Table, and_then, by_name, numbered, over, stored, table_of, with_one, with_two}
 use Rattle.vtl_to_sql.specs.Tables.{made_of_form, sources_of}
-use Rattle.vtl_to_sql.specs.Accepted.{are_nodes_translated, is_translated}
 use Rattle.vtl_to_sql.specs.declared.set_operators.SetOperator.{SetOperator}
 use Rattle.vtl_to_sql.specs.declared.set_operators.SetOperator.TheVariants as operator
 use Rattle.vtl_to_sql.proofs.SetForms.{shown_written}
@@ -201,9 +199,6 @@ begun o p r s all left a x n m old new parts names made next =
     let whole = combined_made o p r s (a ∷ left) n in
     subst (λ (k : List NodeTree). GivesAll (combined_made o p r s k n) old new (rest_made o p r s left s (by_name x m))) (sym parts)
     (of_result o p r s left (structure_of a) (by_name x m) whole old new (first_made o p r s a left x n m old new names made next))
-
-pub left_ready : (all left : List NodeTree) (a : NodeTree) → all ≡ a ∷ left → are_nodes_translated (nodes_of all) ≡ true → are_nodes_translated (nodes_of left) ≡ true
-left_ready all left a parts h = (and_parts (is_translated a) (are_nodes_translated (nodes_of left)) (subst (λ (k : List NodeTree). are_nodes_translated (nodes_of k) ≡ true) parts h)).1
 
 pub one_more : (l : List Node) (i : ℕ) (b : Node) (z : NodeTree) → i < length l → b ≡ get_or l i b → map node_tree (drop i l) ++ z ∷ [] ≡ node_tree b ∷ (map node_tree (drop (i + 1) l) ++ z ∷ [])
 one_more l i b z h is = ap (λ (k : List Node). map node_tree k ++ z ∷ []) (drop_more l i b h ∙ ap (λ (y : Node). y ∷ drop (i + 1) l) (sym is))

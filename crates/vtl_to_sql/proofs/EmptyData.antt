@@ -1,12 +1,17 @@
 -- Over data sets without points no expression has a fault.
 use Rattle.vtl_cell.specs.Row.{Row, same_key}
 use Rattle.std.proofs.Common.{◌≡◌, ℕ, Bool, true, false, cond, List, [], ◌∷◌, map, Option, Some, None, Ok, refl, ap, ◌∙◌}
-use Rattle.std.specs.List.{AllByRecursion, flat_map}
+use Rattle.std.specs.List.{AllByRecursion, filter_map, flat_map}
 use Rattle.std.specs.Option.{option_map_or}
 use Rattle.vtl_cell.specs.Outcome.{Outcome, after, faults_by, unless}
 use Rattle.vtl_lists.specs.Perm.{empty}
 use Rattle.vtl_decimal.specs.Settings.{Settings}
+use Rattle.vtl_syntax.specs.declared.statements.HierRule.{HierRule}
 use Rattle.vtl_syntax.specs.declared.word_groups.CheckOut.{CheckOut}
+use Rattle.vtl_syntax.specs.declared.word_groups.HierInput.{HierInput}
+use Rattle.vtl_syntax.specs.declared.word_groups.HierOut.{HierOut}
+use Rattle.vtl_syntax.specs.declared.word_groups.HierOut.TheVariants as out
+use Rattle.vtl_syntax.specs.declared.word_groups.Mode.{Mode}
 use Rattle.vtl_tree.specs.Clauses.{filter_of}
 use Rattle.vtl_tree.specs.CompExp.{CompExp}
 use Rattle.vtl_tree.specs.Environment.{DataSet, Environment, data_of, known_in, points_named}
@@ -22,10 +27,13 @@ use Rattle.vtl_scripts.specs.Meaning.{AreDataSets, operands_value, Outputs, Stat
 use Rattle.vtl_meaning.specs.Operators.{calculated_of, choice_of, left_of, measured_of, pair_exps, pair_of, sub_of}
 use Rattle.vtl_meaning.specs.Points.{each_point, with_points}
 use Rattle.vtl_meaning.specs.Profiles.{AllAreOfProfile}
-use Rattle.vtl_meaning.specs.Sets.{all_left_of, difference_of, intersection_of, symmetric_difference_of, union_of, existence_of}
+use Rattle.vtl_meaning.specs.Sets.{all_left_of, difference_of, intersection_of, symmetric_difference_of, union_of, united, existence_of}
 use Rattle.vtl_meaning.specs.Turned.{pivot_of, unpivot_of}
 use Rattle.vtl_tree.specs.Trees as nodes
 use Rattle.vtl_tree.specs.Trees.{FormTree, MaybeNode, NodeTree, NodeTrees, OperandTrees, structure_of}
+use Rattle.vtl_tree.specs.RuleItems.{definitions}
+use Rattle.vtl_rulings.specs.Hierarchies.{hierarchy_of, made_fault, made_point, shown_points}
+use Rattle.vtl_rulings.specs.HierarchyChecks.{Ruled, SidedRule, check_fault, check_hierarchy_of, check_point, combinations, items_at, ruled_by, sided_rules}
 use Rattle.vtl_rulings.specs.PointChecks.{PointRule, check_of, datapoint_of, point_rules, rule_fault, rule_points}
 use Rattle.vtl_to_sql.specs.Conditions.{AreNodesTranslated, AreOperandsTranslated, IsFormTranslated, IsMaybeTranslated, IsTranslated}
 use Rattle.vtl_to_sql.specs.Exports.{AreRead}
@@ -100,6 +108,30 @@ none_ruled : (p : Settings) (o : CheckOut) (a : Structure) (rules : List PointRu
 none_ruled p o a [] = refl
 none_ruled p o a (rule ∷ rules) = none_ruled p o a rules
 
+-- hierarchical rules without points
+none_sided : (p : Settings) (o : CheckOut) (h : Ruled) (m : Mode) (a : Structure) (rules : List SidedRule)
+    → unless (faults_by (λ rule. faults_by (λ k. check_fault p m h.kind (items_at h (with_points a []) k) rule.1) (combinations h.id (with_points a []))) rules) (flat_map (λ rule. filter_map (check_point p o h m (with_points a []) rule) (combinations h.id (with_points a []))) rules) ≡ no_outcome
+none_sided p o h m a [] = refl
+none_sided p o h m a (rule ∷ rules) = none_sided p o h m a rules
+
+none_made : (p : Settings) (h : Ruled) (m : Mode) (i : HierInput) (rules : List HierRule) (a : Structure) (o : HierOut) (s : Structure) → hierarchy_of p h m i rules (with_points a []) o s ≡ no_outcome
+none_made p h m i rules a o s = ap (λ f. unless f (shown_points p h m i rules A o s)) (no_fault (definitions rules)) ∙ ap Ok (none_shown o)
+  where
+    A : DataSet
+    A = with_points a []
+
+    no_fault : (qs : List HierRule) → faults_by (λ r. faults_by (made_fault p h m i rules A r) (combinations h.id A)) qs ≡ None
+    no_fault [] = refl
+    no_fault (q ∷ qs) = no_fault qs
+
+    none_of : (qs : List HierRule) → flat_map (λ r. filter_map (made_point p h m i rules A r) (combinations h.id A)) qs ≡ no_rows
+    none_of [] = refl
+    none_of (q ∷ qs) = none_of qs
+
+    none_shown : (o : HierOut) → shown_points p h m i rules A o s ≡ []
+    none_shown out.Computed = none_of (definitions rules)
+    none_shown out.All = ap (λ l. united (key_width s) (l ∷ left_of A s ∷ [])) (none_of (definitions rules))
+
 module _ (p : Settings) (env : Environment) (h : AreEmpty env) where
   mutual
     pub node_empty : (n : NodeTree) → IsTranslated p n → node_value p env n ≡ Ok []
@@ -143,7 +175,12 @@ module _ (p : Settings) (env : Environment) (h : AreEmpty env) where
         ap (λ v. with_operand a v (λ d. after (maybe_value p env i) (λ e. Ok (check_of p spec d e)))) (node_empty a c.0)
         ∙ ap (λ o. after o (λ e. Ok (check_of p spec (with_points (structure_of a) []) e))) (maybe_empty i c.1)
     form_empty s (nodes.check_datapoint a rules out) c = ap (λ v. with_operand a v (λ d. datapoint_of p out rules.rules d)) (node_empty a c.0) ∙ none_ruled p out (structure_of a) (point_rules rules.rules)
-    form_empty s other c = absurd c
+    form_empty s (nodes.check_hierarchy a rules m o) c =
+        let ruled = ruled_by rules (structure_of a) in
+        ap (λ v. with_operand a v (λ d. check_hierarchy_of p o ruled m d rules.rules)) (node_empty a c.0) ∙ none_sided p o ruled m (structure_of a) (sided_rules rules.rules)
+    form_empty s (nodes.hierarchy a rules m i o) c =
+        let ruled = ruled_by rules (structure_of a) in
+        ap (λ v. with_operand a v (λ d. hierarchy_of p ruled m i rules.rules d o s)) (node_empty a c.0) ∙ none_made p ruled m i rules.rules (structure_of a) o s
 
     nodes_empty : (ns : NodeTrees) → AreNodesTranslated p ns → nodes_value p env ns ≡ Ok (empty_operands ns)
     nodes_empty nodes.no_nodes c = refl

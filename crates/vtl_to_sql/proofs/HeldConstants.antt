@@ -7,7 +7,13 @@ use Rattle.std.specs.Option.{IfSome, option_map_or}
 use Rattle.std.proofs.lemmas.List.{length-map}
 use Rattle.vtl_cell.specs.declared.kind.Kind.{Kind}
 use Rattle.vtl_cell.specs.declared.operator.ScalarOp.{ScalarOp}
+use Rattle.vtl_cell.specs.Held.{IsHeld}
+use Rattle.vtl_cell.specs.declared.cell.Cell.TheVariants as c
+use Rattle.vtl_syntax.specs.declared.statements.HierRule.{HierRule}
 use Rattle.vtl_syntax.specs.declared.word_groups.CheckOut.{CheckOut}
+use Rattle.vtl_syntax.specs.declared.word_groups.HierInput.{HierInput}
+use Rattle.vtl_syntax.specs.declared.word_groups.HierOut.{HierOut}
+use Rattle.vtl_syntax.specs.declared.word_groups.Mode.{Mode}
 use Rattle.vtl_tree.specs.CompExp.{CompExp, aggregate, call, column, const}
 use Rattle.vtl_tree.specs.Structure.{columns_of}
 use Rattle.vtl_tree.specs.View.{comp_exp_of, comp_exps_of}
@@ -18,7 +24,10 @@ use Rattle.vtl_tree.specs.Trees as nodes
 use Rattle.vtl_tree.specs.NodeView.{form_tree, item_tree, measure_tree, node_tree, operand_tree, point_rule_tree, point_rules_tree, value_tree}
 use Rattle.vtl_tree.specs.declared.clauses.CalcItem.{CalcItem}
 use Rattle.vtl_scripts.specs.Made.{operands_in}
+use Rattle.vtl_tree.specs.Names.{name_of}
+use Rattle.vtl_tree.specs.RuleItems.{items_of, signed_item}
 use Rattle.vtl_tree.specs.declared.rules.DatapointRules.{DatapointRules}
+use Rattle.vtl_tree.specs.declared.rules.HierRules.{HierRules}
 use Rattle.vtl_tree.specs.declared.specifications.CheckSpec.{CheckSpec}
 use Rattle.vtl_tree.specs.declared.specifications.JoinSpec.{JoinSpec}
 use Rattle.vtl_tree.specs.declared.nodes.JoinOperand as operand
@@ -37,7 +46,7 @@ use Rattle.vtl_meaning.specs.Operators.{calculated_exp, calculated_exps, for_mea
 use Rattle.vtl_tree.specs.Trees.{FormTree, ItemTree, MeasureTree, NodeTree, OperandTree, nodes_of, operands_of, structure_of}
 use Rattle.expressions_to_sql.specs.Held.{AllHold, HoldsValues, IsMemberHeld, OperandsHold, asks_a_set}
 use Rattle.rules_to_sql.specs.Writable.{AreErrorsHeld}
-use Rattle.vtl_to_sql.specs.Accepted.{AllHoldValues, FormHoldsParts, HoldsParts, NodesHoldParts, OperandsHoldParts, RuleHoldsValues}
+use Rattle.vtl_to_sql.specs.Accepted.{AllHoldValues, FormHoldsParts, HoldsParts, NodesHoldParts, OperandsHoldParts, RuleHoldsValues, RulesHoldTexts}
 
 -- ---- lists
 
@@ -188,3 +197,17 @@ pub datapoint_node_held : (n : Node) (a : Box Node Global) (ruled : DatapointRul
 datapoint_node_held n a ruled out e h held few =
     let tree : form_tree (form.CheckDatapoint a ruled out) ≡ nodes.check_datapoint (node_tree a.value) (point_rules_tree ruled) out = search (rules, forms.the_lemmas) in
     form_held n (form.CheckDatapoint a ruled out) (nodes.check_datapoint (node_tree a.value) (point_rules_tree ruled) out) e tree (h, of_mapped RuleHoldsValues point_rule_tree ruled.rules held, omega (arith, few, length-map ruled.rules point_rule_tree))
+
+-- the texts of a rule's items
+pub items_held : (r : HierRule) → IsHeld (c.Text (name_of r.item)) → IsHeld (c.Text (name_of r.first)) → AllByRecursion (λ x. IsHeld (c.Text (signed_item x))) r.others → AllByRecursion (λ item. IsHeld (c.Text item)) (items_of r)
+items_held r left first others = (left, first, of_mapped (λ item. IsHeld (c.Text item)) signed_item r.others others)
+
+pub checked_node_held : (n : Node) (a : Box Node Global) (ruled : HierRules) (m : Mode) (o : CheckOut) → n.form ≡ form.CheckHierarchy a ruled m o → HoldsParts (node_tree a.value) → RulesHoldTexts ruled.rules → HoldsParts (node_tree n)
+checked_node_held n a ruled m o e h held =
+    let tree : form_tree (form.CheckHierarchy a ruled m o) ≡ nodes.check_hierarchy (node_tree a.value) ruled m o = search (rules, forms.the_lemmas) in
+    form_held n (form.CheckHierarchy a ruled m o) (nodes.check_hierarchy (node_tree a.value) ruled m o) e tree (h, held)
+
+pub computed_node_held : (n : Node) (a : Box Node Global) (ruled : HierRules) (m : Mode) (i : HierInput) (o : HierOut) → n.form ≡ form.Hierarchy a ruled m i o → HoldsParts (node_tree a.value) → RulesHoldTexts ruled.rules → HoldsParts (node_tree n)
+computed_node_held n a ruled m i o e h held =
+    let tree : form_tree (form.Hierarchy a ruled m i o) ≡ nodes.hierarchy (node_tree a.value) ruled m i o = search (rules, forms.the_lemmas) in
+    form_held n (form.Hierarchy a ruled m i o) (nodes.hierarchy (node_tree a.value) ruled m i o) e tree (h, held)

@@ -27,7 +27,7 @@ pub mod AcceptedComponents
 pub mod AcceptedMarks
 pub mod AcceptedNames
 pub mod AcceptedTables
-pub mod AcceptedForms
+pub mod HeldLevels
 pub mod AcceptedNodes
 pub mod AcceptedReads
 pub mod Accepted
@@ -36,4 +36,6 @@ pub mod HeldConstants
 pub mod Examples
 pub mod Combining
 pub mod JoinNodes
+pub mod RuledNodes
 pub mod SetForms
+pub mod Hierarchies

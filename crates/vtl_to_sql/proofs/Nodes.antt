@@ -1,49 +1,42 @@
 -- The tables of an expression on data sets mean it.
 use Rattle.vtl_to_sql.proofs.Existences.{existence_means}
 use Rattle.vtl_meaning.proofs.SetsOrders.{existence_order}
-use Rattle.sql_tree.specs.Formed.{IsName}
-use Rattle.std.proofs.Common.{◌≡◌, ◌+◌, ◌<◌, ◌^◌, ℕ, true, ◌&&◌, List, [], ◌∷◌, ◌++◌, length, map, Option, Some, Ok, Err, refl, sym, subst, arith, append-nil, length-append, ap, ◌≤◌, ◌∙◌}
+use Rattle.std.proofs.Common.{◌≡◌, ◌+◌, ◌<◌, ◌^◌, ℕ, true, List, [], ◌∷◌, ◌++◌, length, map, Option, Some, Ok, Err, refl, sym, subst, arith, append-nil, length-append, ap, ◌≤◌, ◌∙◌}
 use Rattle.std.specs.Prelude.{IfOk, fold}
 use Rattle.std.specs.List.{AllByRecursion}
-use Rattle.std.proofs.lemmas.Bool.{and_from}
 use Rattle.std.proofs.lemmas.List.{length-map}
 use Rattle.vtl_cell.specs.Outcome.{Outcome, after}
 use Rattle.vtl_cell.specs.Row.{Row}
 use Rattle.vtl_decimal.specs.Settings.{Settings}
+use Rattle.vtl_syntax.specs.declared.statements.HierRule.{HierRule}
 use Rattle.vtl_text.specs.Words.{is_word}
-use Rattle.vtl_rows.specs.Tables.{cells_at}
 use Rattle.vtl_tree.specs.Clauses.{filter_of}
-use Rattle.vtl_tree.specs.DataSet.{AreOfProfile, IsDataSet, is_point}
+use Rattle.vtl_tree.specs.DataSet.{AreOfProfile, IsDataSet}
 use Rattle.vtl_tree.specs.Environment.{DataSet, Environment, known_in, points_named}
 use Rattle.vtl_tree.specs.Structure.{columns_of, IsStructure, key_width}
 use Rattle.vtl_tree.specs.declared.structure.Component.{Component}
 use Rattle.vtl_tree.specs.declared.structure.Structure.{Structure}
 use Rattle.vtl_tree.specs.ClauseShapes.{renamed}
-use Rattle.vtl_tree.specs.Columns.{identifiers_of, measures_of, others_of, places_in}
 use Rattle.vtl_tree.specs.Joins as joins
 use Rattle.vtl_meaning.specs.Made.{IsAlternative, IsLeft}
 use Rattle.vtl_scripts.specs.Made.{AreMade, AreMadeOperands, IsMade, IsMadeForm, node_structures, operands_in}
-use Rattle.vtl_scripts.specs.Meaning.{AreDataSets, are_nodes_built, are_operands_built, operands_value, form_value, is_built, is_built_form, is_maybe_built, node_value, nodes_value, with_first}
+use Rattle.vtl_scripts.specs.Meaning.{AreDataSets, operands_value, form_value, node_value, nodes_value, with_first}
 use Rattle.vtl_meaning.specs.Operators.{calculated_exps, calculated_of, choice_of, left_of, measured_exps, measured_of, pair_of, sub_of}
 use Rattle.vtl_meaning.specs.Points.{with_points}
 use Rattle.vtl_meaning.specs.Profiles.{AllAreOfProfile}
 use Rattle.vtl_meaning.specs.Sets.{all_left_of, either_only, intersected, intersection_of, reduced, union_of, united, existence_of}
 use Rattle.vtl_meaning.specs.Shapes.{IsRenamedBy, IsShaped}
 use Rattle.vtl_tree.specs.Trees as nodes
-use Rattle.vtl_tree.specs.Trees.{FormTree, MaybeNode, NodeTree, NodeTrees, OperandTrees, PointRuleTree, structure_of}
+use Rattle.vtl_tree.specs.Trees.{FormTree, NodeTree, NodeTrees, OperandTrees, PointRuleTree, structure_of}
 use Rattle.vtl_meaning.specs.Aggregates.{aggregate_of}
 use Rattle.vtl_meaning.specs.Analytics.{analytic_of}
 use Rattle.vtl_meaning.specs.Turned.{pivot_of, unpivot_of}
 use Rattle.vtl_meaning.proofs.Orders.{choice_respects, each_respects, filtered_respects, pair_respects, shown_respects, sub_respects}
-use Rattle.vtl_meaning.proofs.OwnColumns.{own_identifiers, own_measures}
-use Rattle.vtl_meaning.proofs.Places.{all_front, all_more, columns_split}
 use Rattle.vtl_scripts.proofs.ScriptsKept.{node_kept, operands_kept}
 use Rattle.vtl_scripts.proofs.ScriptsProfiles as profiles
-use Rattle.vtl_meaning.proofs.SetsFolds.{each_own, own_cells}
-use Rattle.vtl_meaning.proofs.SetsKept.{shown_kept}
 use Rattle.sql_tree.specs.Trees.{QueryTree, Text}
 use Rattle.sql_meaning.specs.Scripts.{Data}
-use Rattle.vtl_to_sql.specs.Conditions.{AreNodesTranslated, AreOperandsTranslated, IsFormTranslated, IsMaybeTranslated, IsTranslated}
+use Rattle.vtl_to_sql.specs.Conditions.{AreNodesTranslated, AreOperandsTranslated, IsFormTranslated, IsTranslated}
 use Rattle.selects_to_sql.specs.Writable.{HaveNames}
 use Rattle.selects_to_sql.specs.Means.{AreEarlier, Means, NodeGives, SourcesGive, Stands, StandsAs, Extends}
 use Rattle.selects_to_sql.specs.Queries.{calc_query, choose_query, copy_query, filter_query, left_query, measures_query, pair_query, rename_query, sub_query}
@@ -63,7 +56,7 @@ use Rattle.selects_to_sql.proofs.Exact.{means_by, means_turned, set_turned}
 use Rattle.selects_to_sql.proofs.Expressions.{Translates}
 use Rattle.selects_to_sql.proofs.OneOperand.{calc_means, copy_means, filter_means, left_means, measures_mean, rename_means, same_functions}
 use Rattle.vtl_to_sql.proofs.SetQueries.{IsShown, shown_means}
-use Rattle.vtl_to_sql.proofs.SetSteps.{IsStep, difference_step, intersection_step, intersections_fold, symmetric_difference_step, union_step, unions_fold}
+use Rattle.vtl_to_sql.proofs.SetSteps.{IsStep, difference_step, identifiers_named, intersection_step, intersections_fold, shown_own, shown_self, shown_set_of, symmetric_difference_step, union_step, unions_fold}
 use Rattle.selects_to_sql.proofs.Givens.{AreGiven, columns_given}
 use Rattle.joins_to_sql.proofs.Joins.{join_gives, operands_first}
 use Rattle.groups_to_sql.proofs.Pivots.{pivot_means}
@@ -77,6 +70,13 @@ use Rattle.rules_to_sql.specs.CheckQueries.{imbalance_query}
 use Rattle.rules_to_sql.specs.PointQueries.{datapoint_query}
 use Rattle.rules_to_sql.specs.Writable.{CanRuleBeWritten}
 use Rattle.rules_to_sql.proofs.Composed.{check_gives, datapoint_gives, imbalance_gives}
+use Rattle.vtl_rulings.specs.HierarchyChecks.{check_hierarchy_of, ruled_by}
+use Rattle.vtl_rulings.specs.HierarchyShapes.{IsHierarchyChecked}
+use Rattle.vtl_rulings.specs.Ordered.{places_or_none}
+use Rattle.hierarchies_to_sql.specs.CheckTables.{check_hierarchy_made}
+use Rattle.hierarchies_to_sql.specs.Writable.{CanBeSided}
+use Rattle.hierarchies_to_sql.proofs.CheckTables.{check_hierarchy_gives}
+use Rattle.vtl_to_sql.proofs.Hierarchies.{checked_first, computed_first, hierarchy_gives, order_given}
 
 -- ---- a naming that renames nothing
 
@@ -90,52 +90,10 @@ none_renamed (x ∷ xs) = ap (λ l. x ∷ l) (none_renamed xs)
 same_structure : (a s : Structure) → IsRenamedBy [] a s → s ≡ a
 same_structure a s e = ap of_components (e ∙ none_renamed a.components)
 
--- ---- what is translated is evaluated, and its columns have names
+-- ---- the columns of what is translated have names
 
 pub names_in : (p : Settings) (n : NodeTree) → IsTranslated p n → HaveNames (columns_of (structure_of n))
 names_in p (nodes.node s form) c = c.0
-
-mutual
-  pub translated_built : (p : Settings) (n : NodeTree) → IsTranslated p n → is_built n ≡ true
-  translated_built p (nodes.node s form) c = form_built p s form c.1
-
-  form_built : (p : Settings) (s : Structure) (form : FormTree) → IsFormTranslated p s form → is_built_form form ≡ true
-  form_built p s (nodes.named x) c = refl
-  form_built p s (nodes.measures m a) c = translated_built p a c.0
-  form_built p s (nodes.pair o a b) c = and_from (is_built a) (is_built b) (translated_built p a c.0) (translated_built p b c.1)
-  form_built p s (nodes.choose t a b) c = and_from (is_built t) (is_built a && is_built b) (translated_built p t c.0) (and_from (is_built a) (is_built b) (translated_built p a c.1) (translated_built p b c.2))
-  form_built p s (nodes.member a m) c = translated_built p a c
-  form_built p s (nodes.filter a e) c = translated_built p a c.0
-  form_built p s (nodes.calc a items) c = translated_built p a c.0
-  form_built p s (nodes.keep a ns) c = translated_built p a c
-  form_built p s (nodes.drop_named a ns) c = translated_built p a c
-  form_built p s (nodes.rename a pairs) c = translated_built p a c
-  form_built p s (nodes.sub a items) c = translated_built p a c.0
-  form_built p s (nodes.join os spec) c = operands_built p os c.0
-  form_built p s (nodes.union ns) c = nodes_built p ns c
-  form_built p s (nodes.intersect ns) c = nodes_built p ns c
-  form_built p s (nodes.set_diff a b) c = and_from (is_built a) (is_built b) (translated_built p a c.0) (translated_built p b c.1)
-  form_built p s (nodes.sym_diff a b) c = and_from (is_built a) (is_built b) (translated_built p a c.0) (translated_built p b c.1)
-  form_built p s (nodes.exists_in a b kept) c = and_from (is_built a) (is_built b) (translated_built p a c.0) (translated_built p b c.1)
-  form_built p s (nodes.pivot a id q) c = translated_built p a c.0
-  form_built p s (nodes.unpivot a id q) c = translated_built p a c
-  form_built p s (nodes.aggregate a spec) c = translated_built p a c.0
-  form_built p s (nodes.analytic_of a spec) c = translated_built p a c.0
-  form_built p s (nodes.check a i spec) c = and_from (is_built a) (is_maybe_built i) (translated_built p a c.0) (maybe_built p i c.1)
-  form_built p s (nodes.check_datapoint a rules out) c = translated_built p a c.0
-  form_built p s other c = absurd c
-
-  nodes_built : (p : Settings) (ns : NodeTrees) → AreNodesTranslated p ns → are_nodes_built ns ≡ true
-  nodes_built p nodes.no_nodes c = refl
-  nodes_built p (nodes.and_node n ns) c = and_from (is_built n) (are_nodes_built ns) (translated_built p n c.0) (nodes_built p ns c.1)
-
-  maybe_built : (p : Settings) (i : MaybeNode) → IsMaybeTranslated p i → is_maybe_built i ≡ true
-  maybe_built p nodes.no_node c = refl
-  maybe_built p (nodes.some_node n) c = translated_built p n c
-
-  operands_built : (p : Settings) (os : OperandTrees) → AreOperandsTranslated p os → are_operands_built os ≡ true
-  operands_built p nodes.no_operands c = refl
-  operands_built p (nodes.operand n alias os) c = and_from (is_built n) (are_operands_built os) (translated_built p n c.0) (operands_built p os c.1)
 
 -- the columns of each operand have names
 operands_named : (p : Settings) (os : OperandTrees) → AreOperandsTranslated p os → AllByRecursion (λ a. HaveNames (columns_of a)) (joins.structures_of (operands_in os))
@@ -147,7 +105,7 @@ after_ok_is (Ok d) = refl
 after_ok_is (Err f) = refl
 
 -- a ruleset has a rule
-some_rules : (P : List PointRuleTree → Type 0) → ((rule : PointRuleTree) (rules : List PointRuleTree) → P (rule ∷ rules)) → (rules : List PointRuleTree) → 1 ≤ length rules → P rules
+some_rules : {A : Type 0} (P : List A → Type 0) → ((rule : A) (rules : List A) → P (rule ∷ rules)) → (rules : List A) → 1 ≤ length rules → P rules
 some_rules P h [] some = absurd (omega (arith, some))
 some_rules P h (rule ∷ rules) some = h rule rules
 
@@ -183,20 +141,6 @@ module _ (s : Structure) (rows : List Row → List Row → List Row) where
   both_sets a b (Ok d) (Err f) kept u h = cc
   both_sets a b (Err f) w kept u h = cc
 
-identifiers_named : (s : Structure) → HaveNames (columns_of s) → HaveNames (identifiers_of s)
-identifiers_named s n = all_front (λ x. IsName x.name) (identifiers_of s) (others_of s) (subst HaveNames (columns_split s) n)
-
--- an operand in the columns of the result is a data set
-shown_set_of : (s a : Structure) (d : List Row) → IsStructure s → IsShown a s → IsDataSet a d → IsDataSet s (left_of (with_points a d) s)
-shown_set_of s a d w i h = shown_kept (with_points a d) s (w, i.plain) i.alternative h
-
--- a structure of identifiers and measures has its own columns
-shown_self : (s : Structure) → IsStructure s → columns_of s ≡ identifiers_of s ++ measures_of s → IsShown s s
-shown_self s w plain = record { alternative = record { there = own_identifiers s w; back = own_identifiers s w; measures = own_measures s w }; plain = plain }
-
-shown_own : (s : Structure) (d : List Row) → IsDataSet s d → left_of (with_points s d) s ≡ d
-shown_own s d h = each_own (cells_at (places_in (columns_of s) (columns_of s))) d (all_more (λ r. is_point (columns_of s) r ≡ true) (λ r. cells_at (places_in (columns_of s) (columns_of s)) r ≡ r) (λ r i. own_cells s r h.well_formed i) d h.typed)
-
 -- the tables of operands stand before those that are made of them
 front_stays : (p : Settings) (r : Text) (q : Structure → Structure → Text → Text → QueryTree) (s : Structure) (ns : NodeTrees) (a : Structure) (os : Sources) → length os.tables ≤ length (combined_of p r q s ns a os).tables
 front_stays p r q s nodes.no_nodes a os = omega arith
@@ -223,11 +167,11 @@ module _ (p : Settings) (law : Translates p) (r : Text) (word : is_word r ≡ tr
 
   -- the rows of an operand's table are those of a data set
   set_of : (a : NodeTree) (now : Data) (x : Text) (d : List Row) → IsTranslated p a → IsMade p (known_in env) a → node_value p env a ≡ Ok d → (st : StandsAs now x (structure_of a) d) → IsDataSet (structure_of a) st.rows
-  set_of a now x d c i is st = set_turned (structure_of a) d st.rows st.same (node_kept p env a d (translated_built p a c) i sets is)
+  set_of a now x d c i is st = set_turned (structure_of a) d st.rows st.same (node_kept p env a d i sets is)
 
   -- the data sets that an operand gives
   given_sets : (a : NodeTree) → IsTranslated p a → IsMade p (known_in env) a → (d : List Row) → node_value p env a ≡ Ok d → IsDataSet (structure_of a) d
-  given_sets a c i d is = node_kept p env a d (translated_built p a c) i sets is
+  given_sets a c i d is = node_kept p env a d i sets is
 
   given_ranged : (a : NodeTree) → IsMade p (known_in env) a → (d : List Row) → node_value p env a ≡ Ok d → AreOfProfile p d
   given_ranged a i d is = subst (λ v. IfOk v (AreOfProfile p)) is (profiles.node_gives p env ranged a i)
@@ -266,7 +210,7 @@ module _ (p : Settings) (law : Translates p) (r : Text) (word : is_word r ≡ tr
     form_gives s (nodes.named x) m before stands apart w i n c few =
         let back : before ≡ before ++ [] = sym (append-nil before) in
         let st = stands x s i in
-        let set = set_turned s (points_named x env) st.rows st.same (node_kept p env (nodes.node s (nodes.named x)) (points_named x env) refl (w, i) sets refl) in
+        let set = set_turned s (points_named x env) st.rows st.same (node_kept p env (nodes.node s (nodes.named x)) (points_named x env) (w, i) sets refl) in
         (no_tables p r word before m, subst (λ now. Means p now (copy_query p s x) s (Ok (points_named x env))) back (means_by p before (copy_query p s x) s (Ok st.rows) (Ok (points_named x env)) st.same (copy_means p law before x s st.rows st.table st.named n set (columns_given s w n))))
     form_gives s (nodes.filter a e) m before stands apart w i n c few =
         one_gives p r word before m (sources_of p r a m) (filter_query p e s) (structure_of a) s (node_value p env a) (filter_of p e) (operand_gives a m before stands apart i.0 c.0 few)
@@ -335,7 +279,7 @@ module _ (p : Settings) (law : Translates p) (r : Text) (word : is_word r ≡ tr
         let step = union_step p law s given w.well_formed (identifiers_named s n) in
         let os = sources_of p r a m in
         let v = node_value p env a in
-        let set : (u : List Row) → v ≡ Ok u → IsDataSet (structure_of a) u = λ u is. node_kept p env a u (translated_built p a c.0) i.0.0 sets is in
+        let set : (u : List Row) → v ≡ Ok u → IsDataSet (structure_of a) u = λ u is. node_kept p env a u i.0.0 sets is in
         subst (NodeGives p before r m (combined_of p r q s ns (structure_of a) os) s) (with_first_is s rows (λ ds. union_of ds s) a v (nodes_value p env ns) (λ u ds is. unions_fold (with_points (structure_of a) u) ds s (shown_set_of s (structure_of a) u w.well_formed shown (set u is)).distinct))
         (combined_gives ns q rows s step given n (structure_of a) os v m before stands apart shown (names_in p a c.0) set
         (operand_gives a m before stands apart i.0.0 c.0 (omega (arith, few, front_stays p r q s ns (structure_of a) os))) i.0.1 c.1 i.1.operands.1 w.well_formed few)
@@ -348,7 +292,7 @@ module _ (p : Settings) (law : Translates p) (r : Text) (word : is_word r ≡ tr
         let step = intersection_step p law s given w.well_formed (identifiers_named s n) in
         let os = sources_of p r a m in
         let v = node_value p env a in
-        let set : (u : List Row) → v ≡ Ok u → IsDataSet (structure_of a) u = λ u is. node_kept p env a u (translated_built p a c.0) i.0.0 sets is in
+        let set : (u : List Row) → v ≡ Ok u → IsDataSet (structure_of a) u = λ u is. node_kept p env a u i.0.0 sets is in
         subst (NodeGives p before r m (combined_of p r q s ns (structure_of a) os) s) (with_first_is s rows (λ ds. intersection_of ds s) a v (nodes_value p env ns) (λ u ds is. intersections_fold (with_points (structure_of a) u) ds s))
         (combined_gives ns q rows s step given n (structure_of a) os v m before stands apart shown (names_in p a c.0) set
         (operand_gives a m before stands apart i.0.0 c.0 (omega (arith, few, front_stays p r q s ns (structure_of a) os))) i.0.1 c.1 i.1.operands.1 w.well_formed few)
@@ -359,7 +303,7 @@ module _ (p : Settings) (law : Translates p) (r : Text) (word : is_word r ≡ tr
         let step = difference_step p law s given w.well_formed (identifiers_named s n) in
         let first = sources_of p r a m in
         let second = sources_of p r k first.next in
-        pair_gives (λ b z. difference_query p b z s) (reduced (key_width s)) s step w.well_formed (structure_of a) first (node_value p env a) k m before shown other (names_in p a c.0) (λ u is. node_kept p env a u (translated_built p a c.0) i.0 sets is)
+        pair_gives (λ b z. difference_query p b z s) (reduced (key_width s)) s step w.well_formed (structure_of a) first (node_value p env a) k m before shown other (names_in p a c.0) (λ u is. node_kept p env a u i.0 sets is)
         (operand_gives a m before stands apart i.0 c.0 (omega (arith, few, length-append first.tables second.tables)))
         (λ x. operand_gives k first.next (before ++ x.more) (all_stand_still before x.more env stands) (all_earlier p r word m first.next before x.more (omega (arith, x.counted)) apart x.new) i.1 c.1 (omega (arith, few, x.counted, length-append first.tables second.tables))) i.1 c.1
     form_gives s (nodes.sym_diff a k) m before stands apart w i n c few =
@@ -369,7 +313,7 @@ module _ (p : Settings) (law : Translates p) (r : Text) (word : is_word r ≡ tr
         let step = symmetric_difference_step p law s given w.well_formed (identifiers_named s n) in
         let first = sources_of p r a m in
         let second = sources_of p r k first.next in
-        pair_gives (λ b z. symmetric_difference_query p b z s) (either_only (key_width s)) s step w.well_formed (structure_of a) first (node_value p env a) k m before shown other (names_in p a c.0) (λ u is. node_kept p env a u (translated_built p a c.0) i.0 sets is)
+        pair_gives (λ b z. symmetric_difference_query p b z s) (either_only (key_width s)) s step w.well_formed (structure_of a) first (node_value p env a) k m before shown other (names_in p a c.0) (λ u is. node_kept p env a u i.0 sets is)
         (operand_gives a m before stands apart i.0 c.0 (omega (arith, few, length-append first.tables second.tables)))
         (λ x. operand_gives k first.next (before ++ x.more) (all_stand_still before x.more env stands) (all_earlier p r word m first.next before x.more (omega (arith, x.counted)) apart x.new) i.1 c.1 (omega (arith, few, x.counted, length-append first.tables second.tables))) i.1 c.1
     form_gives s (nodes.exists_in a k kept) m before stands apart w i n c few =
@@ -408,7 +352,7 @@ module _ (p : Settings) (law : Translates p) (r : Text) (word : is_word r ≡ tr
         let sources = operands_of p r os m in
         let size = length-map (operands_in os) (λ o. o.structure) in
         let many = c.1 in
-        join_gives p law r word s (columns_given s w n) ss (operands_named p os c.0) (omega (arith, many, size)) spec.kind i.1 before m sources (operands_value p env os) (λ ds is. operands_kept p env os ds (operands_built p os c.0) i.0 sets is) apart few
+        join_gives p law r word s (columns_given s w n) ss (operands_named p os c.0) (omega (arith, many, size)) spec.kind i.1 before m sources (operands_value p env os) (λ ds is. operands_kept p env os ds i.0 sets is) apart few
         (operands_give os m before stands apart i.0 c.0 (omega (arith, few, operands_first p r spec.kind ss s sources)))
     form_gives s (nodes.check a nodes.no_node spec) m before stands apart w i n c few =
         check_gives p law r word before m (sources_of p r a m) (structure_of a) s (node_value p env a) (names_in p a c.0) (columns_given s w n) (given_sets a c.0 i.0) spec i.2 c.2 (operand_gives a m before stands apart i.0 c.0 few)
@@ -423,11 +367,25 @@ module _ (p : Settings) (law : Translates p) (r : Text) (word : is_word r ≡ tr
         (beside_gives p r word before m first (sources_of p r k) (alone p r word (structure_of a) (node_value p env a)) (alone p r word (structure_of k) (node_value p env k)) (operand_gives a m before stands apart i.0 c.0 (omega (arith, few, length-append first.tables second.tables)))
         (λ x. operand_gives k first.next (before ++ x.more) (all_stand_still before x.more env stands) (all_earlier p r word m first.next before x.more (omega (arith, x.counted)) apart x.new) i.1 c.1 (omega (arith, few, x.counted, length-append first.tables second.tables)))))
     form_gives s (nodes.check_datapoint a rules out) m before stands apart w i n c few =
-        some_rules (λ all. IsPointChecked p out all (structure_of a) s → AllByRecursion CanRuleBeWritten all → length all < 2 ^ 64 → NodeGives p before r m (over (sources_of p r a m) (with_one (datapoint_query p all out (structure_of a) s))) s (after (node_value p env a) (λ d. datapoint_of p out all (with_points (structure_of a) d))))
+        some_rules (λ (all : List PointRuleTree). IsPointChecked p out all (structure_of a) s → AllByRecursion CanRuleBeWritten all → length all < 2 ^ 64 → NodeGives p before r m (over (sources_of p r a m) (with_one (datapoint_query p all out (structure_of a) s))) s (after (node_value p env a) (λ d. datapoint_of p out all (with_points (structure_of a) d))))
         (λ rule others checked written numbered.
         datapoint_gives p law r word before m (sources_of p r a m) (structure_of a) s (node_value p env a) (names_in p a c.0) (columns_given s w n) (given_sets a c.0 i.0) out rule others checked written numbered (operand_gives a m before stands apart i.0 c.0 few))
         rules.rules c.1.some i.1 c.1.written c.1.few
-    form_gives s other m before stands apart w i n c few = absurd c
+    form_gives s (nodes.check_hierarchy a rules q out) m before stands apart w i n c few =
+        let h = ruled_by rules (structure_of a) in
+        let os = sources_of p r a m in
+        let made = λ (all : List HierRule). check_hierarchy_made p r h q out all (structure_of a) s os in
+        some_rules (λ (all : List HierRule). IsHierarchyChecked out h all (structure_of a) s → AllByRecursion (CanBeSided p) all → length all < 2 ^ 64 → m + length (made all).tables < 2 ^ 64 → NodeGives p before r m (made all) s (after (node_value p env a) (λ d. check_hierarchy_of p out h q (with_points (structure_of a) d) all)))
+        (λ rule others checked written numbered tables.
+        check_hierarchy_gives p law r word before m os h q out rule others (structure_of a) s (node_value p env a) (names_in p a c.0) (columns_given s w n) (given_sets a c.0 i.0) checked refl written numbered apart tables
+        (operand_gives a m before stands apart i.0 c.0 (omega (arith, tables, checked_first p r h q out (rule ∷ others) (structure_of a) s os))))
+        rules.rules c.1.some i.1 c.1.written c.1.few few
+    form_gives s (nodes.hierarchy a rules q k out) m before stands apart w i n c few =
+        let h = ruled_by rules (structure_of a) in
+        let os = sources_of p r a m in
+        let order = places_or_none rules.order in
+        hierarchy_gives p law r word before m os h q k out rules.rules order (structure_of a) s (node_value p env a) (names_in p a c.0) n (columns_given s w n) w.well_formed (given_sets a c.0 i.0) i.1 refl (order_given rules.rules rules.order i.2) c.1.written apart few
+        (operand_gives a m before stands apart i.0 c.0 (omega (arith, few, computed_first p r h q k out rules.rules order (structure_of a) s os)))
 
     -- the operands of a join
     operands_give : (os : OperandTrees) (m : ℕ) (before : Data) → Stands before env → AreEarlier r m before → AreMadeOperands p (known_in env) os → AreOperandsTranslated p os → m + length (operands_of p r os m).tables < 2 ^ 64 → SourcesGive p before r m (operands_of p r os m) (operands_value p env os)
@@ -464,6 +422,6 @@ module _ (p : Settings) (law : Translates p) (r : Text) (word : is_word r ≡ tr
         let all = length-append os.tables (sources_of p r b os.next).tables in
         let inner = pair_gives q rows s step w a os v b m before ia ib na set g (λ x. operand_gives b os.next (before ++ x.more) (all_stand_still before x.more env stands) (all_earlier p r word m os.next before x.more (omega (arith, x.counted)) apart x.new) i.0 c.0 (omega (arith, few, size, stays, all, x.counted))) i.0 c.0 in
         let kept : (u e : List Row) → v ≡ Ok u → next ≡ Ok e → IsDataSet s (rows (left_of (with_points a u) s) (left_of (with_points (structure_of b) e) s)) =
-        λ u e is is_too. step.kept (left_of (with_points a u) s) (left_of (with_points (structure_of b) e) s) (shown_set_of s a u w ia (set u is)) (shown_set_of s (structure_of b) e w ib (node_kept p env b e (translated_built p b c.0) i.0 sets is_too)) in
+        λ u e is is_too. step.kept (left_of (with_points a u) s) (left_of (with_points (structure_of b) e) s) (shown_set_of s a u w ia (set u is)) (shown_set_of s (structure_of b) e w ib (node_kept p env b e i.0 sets is_too)) in
         subst (NodeGives p before r m (combined_of p r q s (nodes.and_node b (nodes.and_node k ns)) a os) s) (two_first s rows a (structure_of b) v next (nodes_value p env (nodes.and_node k ns)) (λ u e is is_too. shown_own s (rows (left_of (with_points a u) s) (left_of (with_points (structure_of b) e) s)) (kept u e is is_too)))
         (combined_gives (nodes.and_node k ns) q rows s step given n s (stored r both) so_far m before stands apart (shown_self s w ia.plain) n (both_sets s rows a (structure_of b) v next kept) (stored_gives p r word before m both s so_far apart (omega (arith, few, stays)) inner) i.1 c.1 alike.1 w few)

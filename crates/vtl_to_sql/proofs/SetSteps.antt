@@ -1,12 +1,13 @@
 -- Set operators on rows in the columns of the result: what their queries mean, and operands taken one after the other.
-use Rattle.std.proofs.Common.{◌≡◌, ℕ, Bool, true, false, not, ◌&&◌, List, [], ◌∷◌, ◌++◌, take, None, Ok, refl, ap, sym, ◌∙◌, append-nil}
+use Rattle.std.proofs.Common.{◌≡◌, ℕ, Bool, true, false, not, ◌&&◌, List, [], ◌∷◌, ◌++◌, take, None, Ok, refl, ap, sym, subst, ◌∙◌, append-nil}
 use Rattle.std.specs.Prelude.{fold, is_some}
 use Rattle.std.specs.List.{filter, list_all, list_any}
 use Rattle.vtl_lists.specs.Perm.{Perm, chain}
 use Rattle.vtl_cell.specs.Row.{Row, same_key}
 use Rattle.vtl_decimal.specs.Settings.{Settings}
 use Rattle.vtl_lists.proofs.Perms.{Perm-append, Perm-filter, Perm-same, Perm-sym}
-use Rattle.vtl_tree.specs.DataSet.{Distinct, IsDataSet}
+use Rattle.vtl_rows.specs.Tables.{cells_at}
+use Rattle.vtl_tree.specs.DataSet.{Distinct, IsDataSet, is_point}
 use Rattle.vtl_tree.specs.Environment.{DataSet}
 use Rattle.vtl_tree.specs.Structure.{IsStructure, columns_of, key_width}
 use Rattle.vtl_tree.specs.declared.structure.Structure.{Structure}
@@ -14,11 +15,13 @@ use Rattle.vtl_tree.proofs.LookUps.{look_respects}
 use Rattle.vtl_tuples.specs.Keys.{each_once}
 use Rattle.vtl_tuples.proofs.Lists.{filter_each}
 use Rattle.vtl_tuples.proofs.Onces.{once_already, once_more}
-use Rattle.vtl_tree.specs.Columns.{identifiers_of}
+use Rattle.vtl_tree.specs.Columns.{identifiers_of, measures_of, others_of, places_in}
 use Rattle.vtl_meaning.specs.Operators.{left_of}
 use Rattle.vtl_meaning.specs.Points.{with_points}
 use Rattle.vtl_meaning.specs.Sets.{all_left_of, either_only, has_point, intersected, intersection_of, reduced, union_of, united}
-use Rattle.vtl_meaning.proofs.SetsFolds.{intersected_fold, united_fold}
+use Rattle.vtl_meaning.proofs.OwnColumns.{own_identifiers, own_measures}
+use Rattle.vtl_meaning.proofs.Places.{all_front, all_more, columns_split}
+use Rattle.vtl_meaning.proofs.SetsFolds.{each_own, intersected_fold, own_cells, united_fold}
 use Rattle.vtl_meaning.proofs.SetsKept.{either_only_kept, has_any, reduced_kept, shown_kept, some_kept, united_kept}
 use Rattle.sql_tree.specs.Trees.{QueryTree, Text}
 use Rattle.sql_tree.specs.Formed.{IsName}
@@ -32,6 +35,22 @@ use Rattle.selects_to_sql.proofs.Givens.{AreGiven}
 use Rattle.selects_to_sql.proofs.SelectItems.{GivesRows}
 use Rattle.vtl_to_sql.proofs.SetQueries.{IsShown, ids_there, matched_gives, shown_gives}
 use Rattle.selects_to_sql.proofs.Unions.{one_exactly, union_there}
+
+-- ---- the columns of a result
+
+pub identifiers_named : (s : Structure) → HaveNames (columns_of s) → HaveNames (identifiers_of s)
+identifiers_named s n = all_front (λ x. IsName x.name) (identifiers_of s) (others_of s) (subst HaveNames (columns_split s) n)
+
+-- an operand in the columns of the result is a data set
+pub shown_set_of : (s a : Structure) (d : List Row) → IsStructure s → IsShown a s → IsDataSet a d → IsDataSet s (left_of (with_points a d) s)
+shown_set_of s a d w i h = shown_kept (with_points a d) s (w, i.plain) i.alternative h
+
+-- a structure of identifiers and measures has its own columns
+pub shown_self : (s : Structure) → IsStructure s → columns_of s ≡ identifiers_of s ++ measures_of s → IsShown s s
+shown_self s w plain = record { alternative = record { there = own_identifiers s w; back = own_identifiers s w; measures = own_measures s w }; plain = plain }
+
+pub shown_own : (s : Structure) (d : List Row) → IsDataSet s d → left_of (with_points s d) s ≡ d
+shown_own s d h = each_own (cells_at (places_in (columns_of s) (columns_of s))) d (all_more (λ r. is_point (columns_of s) r ≡ true) (λ r. cells_at (places_in (columns_of s) (columns_of s)) r ≡ r) (λ r i. own_cells s r h.well_formed i) d h.typed)
 
 -- ---- lists
 

@@ -34,7 +34,7 @@ use Rattle.vtl_to_sql.specs.Tables.{made_of, script_tables, statement_tables}
 use Rattle.selects_to_sql.proofs.Composition.{stands_still}
 use Rattle.selects_to_sql.proofs.Expressions.{Translates}
 use Rattle.selects_to_sql.proofs.Names.{not_numbered, numbered_name, other_statement, plain_name, word_is_name}
-use Rattle.vtl_to_sql.proofs.Nodes.{node_gives, translated_built}
+use Rattle.vtl_to_sql.proofs.Nodes.{node_gives}
 use Rattle.selects_to_sql.proofs.Running.{lawful_on, name_free, run_on, run_one, run_stops, same_ok, there_last}
 
 -- tables of one more statement
@@ -141,5 +141,5 @@ script_gives p law (s ∷ ss) env before sets ranged stands given typed written 
     go (Ok d) e g ih =
         let now = before ++ added p s env before stands given.0 given.1 d g.0 g.1 in
         stores p s env before stands given.0 given.1 d g.0 g.1 (script_tables p ss) s.persistent (meaning p ss ((s.result, with_points (structure_of s.node) d) ∷ env))
-        (ih d now (node_kept p env s.node d (translated_built p s.node written.0) typed.0 sets e, sets) (subst (λ v. IfOk v (AreOfProfile p)) e (profiles.node_gives p env ranged s.node typed.0), ranged) (now_stands p s env before stands given.0 given.1 d g.0 g.1)
+        (ih d now (node_kept p env s.node d typed.0 sets e, sets) (subst (λ v. IfOk v (AreOfProfile p)) e (profiles.node_gives p env ranged s.node typed.0), ranged) (now_stands p s env before stands given.0 given.1 d g.0 g.1)
         (named_still p before (added p s env before stands given.0 given.1 d g.0 g.1) s.result ss (of_statement p s env before stands given.0 given.1 d g.0 g.1) given.2 given.4))

@@ -1,12 +1,14 @@
--- What is asked of an accepted script so that it is translated: the forms of its nodes are translated so far, their constants are
--- values that a program holds, and their tables can be numbered.
-use Rattle.std.specs.Prelude.{◌+◌, ◌<◌, ◌^◌, Bool, true, false, ◌&&◌, List, length}
-use Rattle.std.specs.List.{AllByRecursion, list_all}
+-- What is asked of an accepted script so that it is translated: its constants are values that a program holds, and its tables can be
+-- numbered.
+use Rattle.std.specs.Prelude.{◌+◌, ◌<◌, ◌^◌, List, length}
+use Rattle.std.specs.List.{AllByRecursion}
 use Rattle.std.specs.Option.{IfSome}
 use Rattle.vtl_cell.specs.Held.{IsHeld}
 use Rattle.vtl_cell.specs.declared.cell.Cell.TheVariants as c
 use Rattle.vtl_decimal.specs.Settings.{Settings}
+use Rattle.vtl_syntax.specs.declared.statements.HierRule.{HierRule}
 use Rattle.vtl_tree.specs.CompExp.{CompExp}
+use Rattle.vtl_tree.specs.RuleItems.{items_of}
 use Rattle.vtl_tree.specs.declared.structure.Structure.{Structure}
 use Rattle.vtl_scripts.specs.Made.{operands_in}
 use Rattle.vtl_scripts.specs.Meaning.{Statement}
@@ -18,53 +20,6 @@ use Rattle.vtl_meaning.specs.AnalyticShapes.{default_in}
 use Rattle.expressions_to_sql.specs.Held.{HoldsValues}
 use Rattle.rules_to_sql.specs.Writable.{AreErrorsHeld}
 use Rattle.vtl_to_sql.specs.Conditions.{HasFewTables}
-
--- ---- which forms are translated so far. Each form has its line, so that no new one is passed over.
-abbrev mutual
-  pub is_translated : NodeTree → Bool
-  is_translated (nodes.node s form) = is_form_translated form
-
-  pub is_form_translated : FormTree → Bool
-  is_form_translated (nodes.named name) = true
-  is_form_translated (nodes.measures m a) = is_translated a
-  is_form_translated (nodes.pair o a b) = is_translated a && is_translated b
-  is_form_translated (nodes.choose t a b) = is_translated t && (is_translated a && is_translated b)
-  is_form_translated (nodes.member a m) = is_translated a
-  is_form_translated (nodes.filter a e) = is_translated a
-  is_form_translated (nodes.calc a items) = is_translated a
-  is_form_translated (nodes.keep a names) = is_translated a
-  is_form_translated (nodes.drop_named a names) = is_translated a
-  is_form_translated (nodes.rename a pairs) = is_translated a
-  is_form_translated (nodes.sub a items) = is_translated a
-  is_form_translated (nodes.pivot a id m) = is_translated a
-  is_form_translated (nodes.unpivot a id m) = is_translated a
-  is_form_translated (nodes.join os spec) = are_operands_translated os
-  is_form_translated (nodes.union ns) = are_nodes_translated ns
-  is_form_translated (nodes.intersect ns) = are_nodes_translated ns
-  is_form_translated (nodes.set_diff a b) = is_translated a && is_translated b
-  is_form_translated (nodes.sym_diff a b) = is_translated a && is_translated b
-  is_form_translated (nodes.exists_in a b r) = is_translated a && is_translated b
-  is_form_translated (nodes.aggregate a spec) = is_translated a
-  is_form_translated (nodes.analytic_of a spec) = is_translated a
-  is_form_translated (nodes.check a i spec) = is_translated a && is_maybe_translated i
-  is_form_translated (nodes.check_datapoint a rules out) = is_translated a
-  is_form_translated (nodes.check_hierarchy a rules m out) = false
-  is_form_translated (nodes.hierarchy a rules m i out) = false
-
-  pub are_nodes_translated : NodeTrees → Bool
-  are_nodes_translated nodes.no_nodes = true
-  are_nodes_translated (nodes.and_node n ns) = is_translated n && are_nodes_translated ns
-
-  pub is_maybe_translated : MaybeNode → Bool
-  is_maybe_translated nodes.no_node = true
-  is_maybe_translated (nodes.some_node n) = is_translated n
-
-  pub are_operands_translated : OperandTrees → Bool
-  are_operands_translated nodes.no_operands = true
-  are_operands_translated (nodes.operand n alias os) = is_translated n && are_operands_translated os
-
-abbrev pub are_translated : List NodeTree → Bool
-are_translated ns = list_all is_translated ns
 
 -- ---- what a program holds: constants in the expressions that queries take, values of `sub`, texts of rules, and joins and rulesets
 -- whose operands and rules can be numbered
@@ -89,6 +44,17 @@ pub record RuleHoldsValues (r : PointRuleTree) : Type 0 where
   pub antecedent : IfSome r.antecedent HoldsValues
   pub condition : HoldsValues r.condition
   pub errors : AreErrorsHeld r.errorcode r.errorlevel
+
+-- the texts of a hierarchical rule
+pub record SidesHoldTexts (r : HierRule) : Type 0 where
+  pub name : IfSome r.name (λ text. IsHeld (c.Text text))
+  pub items : AllByRecursion (λ item. IsHeld (c.Text item)) (items_of r)
+  pub code : IfSome r.error.code (λ text. IsHeld (c.Text text))
+
+-- those of all rules of a hierarchical ruleset
+pub record RulesHoldTexts (rules : List HierRule) : Type 0 where
+  pub texts : AllByRecursion SidesHoldTexts rules
+  pub few : length rules < 2 ^ 64
 
 abbrev mutual
   pub HoldsParts : NodeTree → Type 0
@@ -118,8 +84,8 @@ abbrev mutual
   FormHoldsParts s (nodes.exists_in a b r) = HoldsParts a × HoldsParts b
   FormHoldsParts s (nodes.check a i spec) = HoldsParts a × MaybeHoldsParts i × AreErrorsHeld spec.errorcode spec.errorlevel
   FormHoldsParts s (nodes.check_datapoint a rules out) = HoldsParts a × AllByRecursion RuleHoldsValues rules.rules × (length rules.rules < 2 ^ 64)
-  -- the other forms are not translated yet
-  FormHoldsParts s other = Unit {0}
+  FormHoldsParts s (nodes.check_hierarchy a rules m out) = HoldsParts a × RulesHoldTexts rules.rules
+  FormHoldsParts s (nodes.hierarchy a rules m i out) = HoldsParts a × RulesHoldTexts rules.rules
 
   pub NodesHoldParts : NodeTrees → Type 0
   NodesHoldParts nodes.no_nodes = Unit {0}

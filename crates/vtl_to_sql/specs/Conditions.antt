@@ -5,6 +5,7 @@ use Rattle.std.specs.List.{AllByRecursion}
 use Rattle.std.specs.Option.{IfSome}
 use Rattle.vtl_decimal.specs.Settings.{Settings}
 use Rattle.vtl_text.specs.Words.{is_word}
+use Rattle.vtl_syntax.specs.declared.statements.HierRule.{HierRule}
 use Rattle.vtl_cell.specs.declared.kind.Kind.TheVariants as k
 use Rattle.vtl_tree.specs.Structure.{columns_of, most_components}
 use Rattle.vtl_tree.specs.Structures.{AreStructures, Named, has_name}
@@ -20,12 +21,18 @@ use Rattle.vtl_to_sql.specs.Tables.{made_of}
 use Rattle.selects_to_sql.specs.Writable.{CanBeWritten, AllCanBeWritten, HaveNames, HasValue}
 use Rattle.groups_to_sql.specs.Writable.{CallsCanBeWritten}
 use Rattle.rules_to_sql.specs.Writable.{AreErrorsHeld, CanRuleBeWritten}
+use Rattle.hierarchies_to_sql.specs.Writable.{CanBeSided}
 
 -- ---- expressions on data sets
 
 -- there is a rule, and rules can be numbered
 pub record CanRulesBeWritten (rules : List PointRuleTree) : Type 0 where
   pub written : AllByRecursion CanRuleBeWritten rules
+  pub some : 1 ≤ length rules
+  pub few : length rules < 2 ^ 64
+
+pub record CanSidesBeWritten (p : Settings) (rules : List HierRule) : Type 0 where
+  pub written : AllByRecursion (CanBeSided p) rules
   pub some : 1 ≤ length rules
   pub few : length rules < 2 ^ 64
 
@@ -59,8 +66,8 @@ abbrev mutual
   IsFormTranslated p s (nodes.analytic_of a spec) = IsTranslated p a × CallsCanBeWritten spec
   IsFormTranslated p s (nodes.check a i spec) = IsTranslated p a × IsMaybeTranslated p i × AreErrorsHeld spec.errorcode spec.errorlevel
   IsFormTranslated p s (nodes.check_datapoint a rules out) = IsTranslated p a × CanRulesBeWritten rules.rules
-  -- the other forms are not evaluated yet
-  IsFormTranslated p s other = ⊥
+  IsFormTranslated p s (nodes.check_hierarchy a rules m out) = IsTranslated p a × CanSidesBeWritten p rules.rules
+  IsFormTranslated p s (nodes.hierarchy a rules m i out) = IsTranslated p a × CanSidesBeWritten p rules.rules
 
   pub AreNodesTranslated : Settings → NodeTrees → Type 0
   AreNodesTranslated p nodes.no_nodes = Unit {0}

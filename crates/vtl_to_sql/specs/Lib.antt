@@ -8,5 +8,6 @@ pub mod Exports
 pub mod Accepted
 pub mod Combined
 pub mod Existences
+pub mod Hierarchies
 pub mod Inputs
 pub mod Sets

@@ -5,6 +5,8 @@ use Rattle.std.specs.List.{flat_map}
 use Rattle.vtl_decimal.specs.Settings.{Settings}
 use Rattle.vtl_tree.specs.declared.structure.Structure.{Structure}
 use Rattle.vtl_tree.specs.Joins as joins
+use Rattle.vtl_rulings.specs.HierarchyChecks.{ruled_by}
+use Rattle.vtl_rulings.specs.Ordered.{places_or_none}
 use Rattle.vtl_scripts.specs.Made.{operands_in}
 use Rattle.vtl_scripts.specs.Meaning.{Statement}
 use Rattle.vtl_tree.specs.Trees as nodes
@@ -18,6 +20,8 @@ use Rattle.groups_to_sql.specs.Windowed.{analytic_query}
 use Rattle.joins_to_sql.specs.JoinTables.{join_made}
 use Rattle.rules_to_sql.specs.CheckQueries.{check_query, imbalance_query}
 use Rattle.rules_to_sql.specs.PointQueries.{datapoint_query}
+use Rattle.hierarchies_to_sql.specs.CheckTables.{check_hierarchy_made}
+use Rattle.vtl_to_sql.specs.Hierarchies.{hierarchy_made}
 use Rattle.selects_to_sql.specs.Tables.{Table, table_of, Made, Sources, by_name, stored, and_then, with_one, with_two, with_three, over, by_names, first_number}
 
 abbrev pub source_of : Text → FormTree → ℕ → Made → Sources
@@ -61,8 +65,11 @@ abbrev mutual
   made_of_form p r s (nodes.check a nodes.no_node spec) n = over (sources_of p r a n) (with_one (check_query p spec (structure_of a) s))
   made_of_form p r s (nodes.check a (nodes.some_node i) spec) n = over (and_then (sources_of p r a n) (sources_of p r i)) (with_two (imbalance_query p spec (structure_of a) (structure_of i) s))
   made_of_form p r s (nodes.check_datapoint a rules out) n = over (sources_of p r a n) (with_one (datapoint_query p rules.rules out (structure_of a) s))
-  -- the other forms are not evaluated yet, and no script that is translated holds one
-  made_of_form p r s other n = record { tables = []; query = []; next = n }
+  made_of_form p r s (nodes.check_hierarchy a rules m out) n = check_hierarchy_made p r (ruled_by rules (structure_of a)) m out rules.rules (structure_of a) s (sources_of p r a n)
+  made_of_form p r s (nodes.hierarchy a rules m i out) n = hierarchy_made p r (ruled_by rules (structure_of a)) m i out rules.rules (places_or_none rules.order) (structure_of a) s (sources_of p r a n)
+  -- of nothing, which is never typed
+  made_of_form p r s (nodes.union nodes.no_nodes) n = record { tables = []; query = []; next = n }
+  made_of_form p r s (nodes.intersect nodes.no_nodes) n = record { tables = []; query = []; next = n }
 
   -- all operands of a join
   pub operands_of : Settings → (result : Text) → OperandTrees → ℕ → Sources

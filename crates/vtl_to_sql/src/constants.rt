@@ -5,18 +5,21 @@ ghost use Rattle.std.specs.Option.{IfSome, option_map};
 ghost use Rattle.std.specs.Prelude.{◌<◌, ◌^◌, length};
 ghost use Rattle.vtl_cell.specs.Held.{IsHeld};
 ghost use Rattle.vtl_cell.specs.declared.cell.Cell.TheVariants as c;
+ghost use Rattle.vtl_tree.specs.Names.{name_of};
+ghost use Rattle.vtl_tree.specs.RuleItems.{signed_item};
 ghost use Rattle.vtl_tree.specs.View.{comp_exp_of};
 ghost use Rattle.vtl_tree.specs.NodeView.{analytic_tree, node_tree, point_rule_tree, value_tree};
 ghost use Rattle.vtl_meaning.specs.Operators.{value_exp};
 ghost use Rattle.vtl_check.specs.Checked.{nodes_of};
 ghost use Rattle.expressions_to_sql.specs.Held.{HoldsValues};
 ghost use Rattle.rules_to_sql.specs.Writable.{AreErrorsHeld};
-ghost use Rattle.vtl_to_sql.specs.Accepted.{AnalyticHoldsValues, AreHeld, HoldsParts, MadeHoldsValues, OperatorHoldsValue, RuleHoldsValues};
+ghost use Rattle.vtl_to_sql.specs.Accepted.{AnalyticHoldsValues, AreHeld, HoldsParts, MadeHoldsValues, OperatorHoldsValue, RuleHoldsValues, RulesHoldTexts, SidesHoldTexts};
 
 use std::alloc::Global;
 use vtl_cell::{Cell, write_cell};
 use vtl_check::Checked;
 use vtl_decimal::Profile;
+use vtl_syntax::{Comp, HierRule, SignedComp};
 use vtl_text::Txt;
 use vtl_tree::{
     AnalyticOp, AnalyticSpec, CalcItem, CalcValue, CompExpr, DatapointRule, JoinOperand, Node,
@@ -152,6 +155,46 @@ fn rules_are_held(alloc: Global, rules: &[DatapointRule], p: &Profile)
     }
 }
 
+// The name of an item, quoted or not.
+fn item_is_held(item: &Comp)
+    ensures { IsHeld (c.Text (name_of item.now)) }
+{
+    match item {
+        Comp::Name(name) | Comp::Quoted(name) => {
+            let _characters = name.as_str();
+        }
+    }
+}
+
+fn items_are_held(items: &[SignedComp])
+    ensures { AllByRecursion (λ x. IsHeld (c.Text (signed_item x))) items.now }
+{
+    for item in items {
+        item_is_held(&item.item);
+    }
+}
+
+// The texts of a hierarchical rule.
+fn sides_are_held(rule: &HierRule)
+    ensures { SidesHoldTexts rule.now }
+{
+    text_is_held(&rule.name);
+    item_is_held(&rule.item);
+    item_is_held(&rule.first);
+    items_are_held(rule.others.as_slice());
+    text_is_held(&rule.error.code);
+}
+
+// They can be numbered, too.
+fn hierarchy_is_held(rules: &[HierRule])
+    ensures { RulesHoldTexts rules.now }
+{
+    let _numbered = rules.len();
+    for rule in rules {
+        sides_are_held(rule);
+    }
+}
+
 #[cycle(constants)]
 fn node_is_held(alloc: Global, node: &Node, p: &Profile)
     ensures { HoldsParts (node_tree node.now) }
@@ -225,7 +268,14 @@ fn node_is_held(alloc: Global, node: &Node, p: &Profile)
             let _numbered = operands.len() + 1;
             operands_are_held(alloc, operands, p)
         }
-        _ => {}
+        NodeForm::CheckHierarchy { a, rules, .. } => {
+            hierarchy_is_held(rules.rules.as_slice());
+            node_is_held(alloc, a, p)
+        }
+        NodeForm::Hierarchy { a, rules, .. } => {
+            hierarchy_is_held(rules.rules.as_slice());
+            node_is_held(alloc, a, p)
+        }
     }
 }
 

@@ -19,8 +19,8 @@ use std::alloc::{AllocError, Global};
 use vtl_text::Txt;
 use vtl_tree::{Node, NodeForm, Structure};
 
-// An operand with the table that stands for it.
-fn operand<'a>(node: &'a Node, table: &'a Txt) -> Operand<'a>
+/// An operand with the table that stands for it.
+pub(crate) fn operand<'a>(node: &'a Node, table: &'a Txt) -> Operand<'a>
     ensures structure { result.structure.now ≡ structure_of (node_tree node.now) }
     ensures table { result.table.now ≡ table.now }
 {

@@ -23,7 +23,7 @@ ghost use Rattle.vtl_syntax.specs.Written.{AreWritten};
 ghost use Rattle.vtl_tree.specs.Structures.{AreStructures, Named, is_declarable};
 ghost use Rattle.vtl_tree.specs.declared.structure.Structure.{Structure};
 ghost use Rattle.vtl_meaning.specs.Profiles.{AllAreOfProfile};
-ghost use Rattle.vtl_scripts.specs.Meaning.{AreDataSets, Statement, is_built, meaning};
+ghost use Rattle.vtl_scripts.specs.Meaning.{AreDataSets, Statement, meaning};
 ghost use Rattle.vtl_tree.specs.Trees.{NodeTree};
 ghost use Rattle.vtl_check.specs.Checked.{IsTyped, TypedScript, nodes_of, tree_of};
 ghost use Rattle.vtl_check.specs.Uses.{reads};
@@ -32,7 +32,7 @@ ghost use Rattle.sql_tree.specs.Formed.{PrintableScript};
 ghost use Rattle.sql_check_parts.specs.Statements.{IsTypedScript, input_columns};
 ghost use Rattle.sql_meaning.specs.Inputs.{IsInputData};
 ghost use Rattle.sql_meaning.specs.Scripts.{Inputs, script_value};
-ghost use Rattle.vtl_to_sql.specs.Accepted.{AreFew, AreHeld, are_translated, is_translated};
+ghost use Rattle.vtl_to_sql.specs.Accepted.{AreFew, AreHeld};
 ghost use Rattle.vtl_to_sql.specs.Conditions.{HasFewTables, IsScript};
 ghost use Rattle.vtl_to_sql.specs.Exports.{AreRead, exported_as};
 ghost use Rattle.vtl_to_sql.specs.Inputs.{AreAsked, AreTaken, sets_read};
@@ -70,11 +70,11 @@ pub fn inputs_ask_for_data_sets()
     ensures taken { (e : List ℕ × Structure) (rows : List Row) → is_declarable e.1 ≡ true → AreAsked e.1 rows → IsInputData (input_of e) rows }
 {}
 
-/// A script that the checker accepted can be translated: one whose nodes are of the forms that are evaluated so far,
-/// whose constants are values that a program holds, and whose tables a program can number. It reads the declared data
-/// sets that its expressions name, and its statements are those that a back end runs.
+/// A script that the checker accepted can be translated, where its constants are values that a program holds, and a
+/// program can number its tables. It reads the declared data sets that its expressions name, and its statements are those
+/// that a back end runs.
 pub fn accepted_scripts_are_translated()
-    ensures { (t : TypedScript) → t.settings.scale ≤ 9 → AreStructures t.declared → IsTyped t → AreWritten (tree_of t) → are_translated (nodes_of t) ≡ true → AreHeld (nodes_of t) → AreFew t.settings (statements_of t) → IsScript t.settings (reads t.declared (nodes_of t)) (statements_of t) }
+    ensures { (t : TypedScript) → t.settings.scale ≤ 9 → AreStructures t.declared → IsTyped t → AreWritten (tree_of t) → AreHeld (nodes_of t) → AreFew t.settings (statements_of t) → IsScript t.settings (reads t.declared (nodes_of t)) (statements_of t) }
 {}
 
 /// Behind the tables of an expression comes the next number. So a statement has few tables where a program can hold that
@@ -82,10 +82,4 @@ pub fn accepted_scripts_are_translated()
 pub fn tables_are_counted()
     ensures counted { (p : Settings) (target : List ℕ) (n : NodeTree) (k : ℕ) → (made_of p target n k).next ≡ k + length (made_of p target n k).tables }
     ensures few { (p : Settings) (s : Statement) → (made_of p s.result s.node first_number).next < 2 ^ 64 → HasFewTables p s }
-{}
-
-/// What is evaluated so far is translated, and nothing else.
-#[tactic(auto, using(crate::proofs::AcceptedForms::evaluated))]
-pub fn what_is_evaluated_is_translated()
-    ensures { (n : NodeTree) → is_translated n ≡ is_built n }
 {}

@@ -16,6 +16,7 @@ mod existence_queries;
 mod form_queries;
 mod inputs;
 mod laws;
+mod ruled_queries;
 mod script;
 mod set_operators;
 mod set_queries;
@@ -25,6 +26,6 @@ pub use constants::constants_are_held;
 pub use laws::{
     accepted_scripts_are_translated, inputs_ask_for_data_sets, inputs_have_their_columns,
     scripts_are_translated, scripts_are_translated_over_inputs, tables_are_counted,
-    translated_scripts_are_lawful, what_is_evaluated_is_translated,
+    translated_scripts_are_lawful,
 };
 pub use script::translate;

@@ -1,14 +1,13 @@
 // A typed script in SQL.
 ghost use Rattle.std.specs.Fmt.{decimal};
-ghost use Rattle.std.specs.Prelude.{◌≡◌, ◌≤◌, ◌++◌, ◌∷◌, [], map, length, IfOk, OnOk, true};
+ghost use Rattle.std.specs.Prelude.{◌≡◌, ◌≤◌, ◌++◌, ◌∷◌, [], map, length, IfOk, OnOk};
 ghost use Rattle.vtl_syntax.specs.View.{statement_tree as vtl_statement_tree};
 ghost use Rattle.vtl_tree.specs.NodeView.{node_tree};
 ghost use Rattle.vtl_backend.specs.Inputs.{inputs_of};
-ghost use Rattle.vtl_check.specs.Checked.{nodes_of};
-ghost use Rattle.vtl_backend.specs.Statements.{is_script_built, statements_of, with_nodes};
+ghost use Rattle.vtl_backend.specs.Statements.{statements_of, with_nodes};
 ghost use Rattle.vtl_check.specs.Transformations.{transformations};
 ghost use Rattle.sql_tree.specs.View.{script_tree, statement_tree};
-ghost use Rattle.vtl_to_sql.specs.Accepted.{AreFew, are_translated, is_translated};
+ghost use Rattle.vtl_to_sql.specs.Accepted.{AreFew};
 ghost use Rattle.vtl_to_sql.specs.Conditions.{HasFewTables, IsScript};
 ghost use Rattle.vtl_to_sql.specs.Reads.{statement_of};
 ghost use Rattle.selects_to_sql.specs.Tables.{create_for};
@@ -36,7 +35,6 @@ fn push_result(
     kind: AssignKind,
     node: &Node,
 ) -> Result<(), AllocError>
-    requires { is_translated (node_tree node.now) ≡ true }
     ensures tables { OnOk result (map statement_tree draft.new.statements.items ≡ map statement_tree draft.old.statements.items ++ map create_for (statement_tables writer.now (statement_of name.now kind (node_tree node.now)))) }
     ensures few { OnOk result (HasFewTables writer.now (statement_of name.now kind (node_tree node.now))) }
 {
@@ -53,8 +51,7 @@ fn push_results(
     statements: &[Assigned],
     nodes: &[Node],
 ) -> Result<(), AllocError>
-    requires many { length nodes.now ≡ length (transformations (map vtl_statement_tree statements.now)) }
-    requires forms { are_translated (map node_tree nodes.now) ≡ true }
+    requires { length nodes.now ≡ length (transformations (map vtl_statement_tree statements.now)) }
     ensures tables { OnOk result (map statement_tree draft.new.statements.items ≡ map statement_tree draft.old.statements.items ++ map create_for (script_tables writer.now (with_nodes (transformations (map vtl_statement_tree statements.now)) (map node_tree nodes.now)))) }
     ensures few { OnOk result (AreFew writer.now (with_nodes (transformations (map vtl_statement_tree statements.now)) (map node_tree nodes.now))) }
 {
@@ -120,7 +117,6 @@ fn push_exports(
 
 // The statements of a script behind its settings.
 fn statements(alloc: Global, script: &Checked) -> Result<Vec<Statement>, AllocError>
-    requires { are_translated (nodes_of script.now) ≡ true }
     ensures statements { IfOk result (λ v. map statement_tree v.items ≡ statements_for script.now.settings (inputs_of script.now) (statements_of script.now)) }
     ensures few { IfOk result (λ v. AreFew script.now.settings (statements_of script.now)) }
 {
@@ -149,7 +145,6 @@ fn scale(alloc: Global, p: &Profile) -> Result<Txt, AllocError>
 
 // The statements of a script behind its settings, with what the laws of translated scripts ask.
 fn accepted_statements(alloc: Global, script: &Checked) -> Result<Vec<Statement>, AllocError>
-    requires { is_script_built script.now ≡ true }
     ensures statements { IfOk result (λ v. map statement_tree v.items ≡ statements_for script.now.settings (inputs_of script.now) (statements_of script.now)) }
     ensures accepted { IfOk result (λ v. script.now.settings.scale ≤ 9 → IsScript script.now.settings (inputs_of script.now) (statements_of script.now)) }
 {
@@ -161,10 +156,8 @@ fn accepted_statements(alloc: Global, script: &Checked) -> Result<Vec<Statement>
 
 /// The script in SQL: its settings, an INPUT for each data set that is read, in order of first use, the tables of each
 /// statement, and an EXPORT for each result that is written, in order. It meets what the laws of translated scripts ask,
-/// so it means the same as the script. It takes a script of forms that are evaluated so far, which a back end runs, and
-/// fails only if memory runs out.
+/// so it means the same as the script. It fails only if memory runs out.
 pub fn translate(alloc: Global, script: &Checked) -> Result<SqlScript, AllocError>
-    requires { is_script_built script.now ≡ true }
     ensures script { IfOk result (λ x. script_tree x ≡ script_for script.now.settings (inputs_of script.now) (statements_of script.now)) }
     ensures accepted { IfOk result (λ x. IsScript script.now.settings (inputs_of script.now) (statements_of script.now)) }
 {

@@ -1,17 +1,17 @@
 // The tables of an expression on data sets.
-ghost use Rattle.std.specs.Prelude.{◌≡◌, ◌++◌, ◌∷◌, [], length, map, true, IfOk, OnOk};
+ghost use Rattle.std.specs.Prelude.{◌≡◌, ◌++◌, ◌∷◌, [], length, map, IfOk, OnOk};
 ghost use Rattle.vtl_tree.specs.NodeView.{form_tree, node_tree, operand_tree};
 ghost use Rattle.sql_tree.specs.View.{query_tree, statement_tree};
 ghost use Rattle.selects_to_sql.specs.Tables.{create_for};
-ghost use Rattle.vtl_tree.specs.Trees.{join, nodes_of, operands_of};
+ghost use Rattle.vtl_tree.specs.Trees.{join, operands_of};
 ghost use Rattle.vtl_tree.specs.Shown.{shown};
 ghost use Rattle.vtl_tree.specs.Joins.{structures_of};
 ghost use Rattle.vtl_scripts.specs.Made.{operands_in};
 ghost use Rattle.vtl_to_sql.specs.Combined.{combined_made};
 ghost use Rattle.vtl_to_sql.specs.Tables.{made_of_form, operands_of as joined_sources, sources_of};
-ghost use Rattle.vtl_to_sql.specs.Accepted.{are_nodes_translated, are_operands_translated, is_form_translated, is_translated};
 
 use crate::form_queries::{query_of_one, query_of_three, query_of_two};
+use crate::ruled_queries::ruled_query;
 use crate::set_operators::SetOperator;
 use crate::set_queries::set_query;
 use joins_to_sql::join_query;
@@ -30,7 +30,6 @@ pub(crate) fn source(
     target: &Txt,
     draft: &mut Draft,
 ) -> Result<Txt, AllocError>
-    requires { is_translated (node_tree node.now) ≡ true }
     ensures name { IfOk result (λ t. t ∷ [] ≡ (sources_of writer.now target.now (node_tree node.now) draft.old.next).names) }
     ensures tables { OnOk result (map statement_tree draft.new.statements.items ≡ map statement_tree draft.old.statements.items ++ map create_for (sources_of writer.now target.now (node_tree node.now) draft.old.next).tables) }
     ensures next { OnOk result (draft.new.next ≡ (sources_of writer.now target.now (node_tree node.now) draft.old.next).next) }
@@ -65,7 +64,6 @@ fn joined_sources(
     target: &Txt,
     draft: &mut Draft,
 ) -> Result<Vec<Txt>, AllocError>
-    requires { are_operands_translated (operands_of (map operand_tree operands.now)) ≡ true }
     ensures names { IfOk result (λ v. v.items ≡ (joined_sources writer.now target.now (operands_of (map operand_tree operands.now)) draft.old.next).names) }
     ensures many { IfOk result (λ v. length v.items ≡ length operands.now) }
     ensures tables { OnOk result (map statement_tree draft.new.statements.items ≡ map statement_tree draft.old.statements.items ++ map create_for (joined_sources writer.now target.now (operands_of (map operand_tree operands.now)) draft.old.next).tables) }
@@ -89,7 +87,6 @@ fn combined(
     target: &Txt,
     draft: &mut Draft,
 ) -> Result<Query, AllocError>
-    requires { are_nodes_translated (nodes_of (map node_tree nodes.now)) ≡ true }
     ensures query { IfOk result (λ q. query_tree q ≡ (combined_made operator writer.now target.now s.now (map node_tree nodes.now) draft.old.next).query) }
     ensures tables { OnOk result (map statement_tree draft.new.statements.items ≡ map statement_tree draft.old.statements.items ++ map create_for (combined_made operator writer.now target.now s.now (map node_tree nodes.now) draft.old.next).tables) }
     ensures next { OnOk result (draft.new.next ≡ (combined_made operator writer.now target.now s.now (map node_tree nodes.now) draft.old.next).next) }
@@ -121,7 +118,6 @@ fn join(
     target: &Txt,
     draft: &mut Draft,
 ) -> Result<Query, AllocError>
-    requires { are_operands_translated (operands_of (map operand_tree operands.now)) ≡ true }
     ensures query { IfOk result (λ q. query_tree q ≡ (made_of_form writer.now target.now s.now (join (operands_of (map operand_tree operands.now)) spec.now) draft.old.next).query) }
     ensures tables { OnOk result (map statement_tree draft.new.statements.items ≡ map statement_tree draft.old.statements.items ++ map create_for (made_of_form writer.now target.now s.now (join (operands_of (map operand_tree operands.now)) spec.now) draft.old.next).tables) }
     ensures next { OnOk result (draft.new.next ≡ (made_of_form writer.now target.now s.now (join (operands_of (map operand_tree operands.now)) spec.now) draft.old.next).next) }
@@ -150,7 +146,6 @@ pub(crate) fn query(
     target: &Txt,
     draft: &mut Draft,
 ) -> Result<Query, AllocError>
-    requires { is_form_translated (form_tree form.now) ≡ true }
     ensures query { IfOk result (λ q. query_tree q ≡ (made_of_form writer.now target.now s.now (form_tree form.now) draft.old.next).query) }
     ensures tables { OnOk result (map statement_tree draft.new.statements.items ≡ map statement_tree draft.old.statements.items ++ map create_for (made_of_form writer.now target.now s.now (form_tree form.now) draft.old.next).tables) }
     ensures next { OnOk result (draft.new.next ≡ (made_of_form writer.now target.now s.now (form_tree form.now) draft.old.next).next) }
@@ -210,6 +205,9 @@ pub(crate) fn query(
             let operator = SetOperator::Intersection;
             combined(alloc, writer, operator, nodes, s, target, draft)
         }
-        _ => unreachable!(),
+        NodeForm::CheckHierarchy { a, .. } | NodeForm::Hierarchy { a, .. } => {
+            let operand = source(alloc, writer, a, target, draft)?;
+            ruled_query(alloc, writer, form, s, &operand, target, draft)
+        }
     }
 }

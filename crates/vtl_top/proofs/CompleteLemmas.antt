@@ -18,7 +18,7 @@ use Rattle.vtl_status.specs.declared.status.Status.{Status}
 use Rattle.vtl_status.specs.declared.status.Status.TheVariants as st
 use Rattle.vtl_top.proofs.MeantLemmas.{accepted_always, meant_always}
 use Rattle.vtl_top.proofs.RefusedLemmas.{faulted_always}
-use Rattle.vtl_top.proofs.Sure.{built_sure, one_status}
+use Rattle.vtl_top.proofs.Sure.{typed_sure, one_status}
 
 is_done : (status : Status) → told_by status ≡ done → status ≡ st.Done
 is_done st.Done e = refl
@@ -75,13 +75,13 @@ run_asked command r held given runs is = go runs
 text_not_refused : (s : Source) (held : Held) (t : Typed) (status : Status) → IsAccepted s held t → (asked_step (Some (sql s))).gives held (Err status) → ⊥
 text_not_refused s held t status is (first, gives, rest) = by_first first gives rest
   where
-    by_built : (other : Status) (m : Result Typed Status) → m ≡ Ok t → Behind m (λ x. (text_for x).gives held) (Err other) → ⊥
-    by_built other (Ok x) e (text, text_of, given) = cc
-    by_built other (Err refusal) e given = cc
+    by_typing : (other : Status) (m : Result Typed Status) → m ≡ Ok t → Behind m (λ x. (text_for x).gives held) (Err other) → ⊥
+    by_typing other (Ok x) e (text, text_of, given) = cc
+    by_typing other (Err refusal) e given = cc
 
     by_first : (first : Result (List ℕ) Status) → (text_step s).gives held first → Behind first (λ text. (settled (Ok (only_text text))).gives held) (Err status) → ⊥
     by_first (Ok text) gives rest = cc
-    by_first (Err other) gives rest = by_built other gives.0 ((built_sure s).one held gives.0 (Ok t) gives.1 (accepted_always s held t is)) gives.2
+    by_first (Err other) gives rest = by_typing other gives.0 ((typed_sure s).one held gives.0 (Ok t) gives.1 (accepted_always s held t is)) gives.2
 
 module _ {F O : Type 0} (g : Ghosts F) (o : Sinks O) (a b : F) (out now : O) where
   calm_until : (command : Option Command) (status : Status) (ends : Ends g o a b out now command status) → IsCalm g o a b out now → ¬ Rose (o.faults out) (o.faults ends.between)

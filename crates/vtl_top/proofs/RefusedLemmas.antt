@@ -1,7 +1,6 @@
 -- Refusals by typing and by evaluation come from these steps alone: no other step refuses by such a status.
-use Rattle.std.proofs.Common.{◌≡◌, ◌⊎◌, inl, inr, ℕ, Bool, true, false, cond, not, List, [], ◌∷◌, length, nat_lt, Option, Some, None, Result, Ok, Err, refl, sym, ap, subst}
+use Rattle.std.proofs.Common.{◌≡◌, ◌⊎◌, inl, inr, ℕ, Bool, true, false, cond, List, [], ◌∷◌, length, nat_lt, Option, Some, None, Result, Ok, Err, refl, sym, ap, subst}
 use Rattle.std.specs.Prelude.{chars}
-use Rattle.std.specs.List.{list_all}
 use Rattle.std.specs.Str.{is_utf8}
 use Rattle.vtl_files.specs.Outside.{bytes_at}
 use Rattle.vtl_decimal.specs.declared.number.Fault.TheVariants.{DivZero, Range}
@@ -14,11 +13,11 @@ use Rattle.vtl_tree.specs.Structures.{Named}
 use Rattle.vtl_csv.specs.InputFile.{Fault, dataset_rows}
 use Rattle.vtl_csv.specs.StructuresFile.{Fault as StructuresFault, structures_of_file}
 use Rattle.vtl_tree.specs.Trees.{NodeTree}
-use Rattle.vtl_scripts.specs.Meaning.{Outputs, is_built}
+use Rattle.vtl_scripts.specs.Meaning.{Outputs}
 use Rattle.vtl_check.specs.Checked.{env_over, TypedScript}
 use Rattle.vtl_check.specs.Script.{script_typed}
 use Rattle.vtl_check.specs.Uses.{reads}
-use Rattle.vtl_top.specs.Expected.{Typed, built_step, csv_limit, dataset_step, fault_status, file_in, folder_step, inputs_step, meant, one_more_step, outputs_of, points_or_fault, read, run_step, script_in, script_limit, script_of, script_step, sized, structures_limit, structures_step, text_for, text_step, typed_by, typed_or_fault, typed_step, typing_of, unbuilt, with_points}
+use Rattle.vtl_top.specs.Expected.{Typed, csv_limit, dataset_step, fault_status, file_in, folder_step, inputs_step, meant, one_more_step, outputs_of, points_or_fault, read, run_step, script_in, script_limit, script_of, script_step, sized, structures_limit, structures_step, text_for, text_step, typed_by, typed_or_fault, typed_step, typing_of, with_points}
 use Rattle.vtl_top.specs.Meant.{IsFaulted, IsMistyped, IsRead, IsReady}
 use Rattle.std.specs.Option.{IfSome}
 use Rattle.vtl_files.specs.declared.files.Files.{Ghosts}
@@ -26,13 +25,13 @@ use Rattle.vtl_top.specs.Answered.{Takes}
 use Rattle.vtl_top.specs.Informed.{HasRun, IsTold, TellsRun}
 use Rattle.vtl_top.proofs.StepLemmas.{if_some_map}
 use Rattle.vtl_top.specs.ScriptFile.{Parsed, faulty, no_text, whole}
-use Rattle.vtl_top.specs.Steps.{Behind, Held, Path, Step, ◌>>=◌, refused_if, settled}
+use Rattle.vtl_top.specs.Steps.{Behind, Held, Path, Step, ◌>>=◌, settled}
 use Rattle.vtl_top.specs.Structures.{declared, structures_in}
 use Rattle.vtl_top.specs.Wanted.{Placed, all_placed_in, entry_of}
 use Rattle.vtl_top.specs.Words.{Run, Source, settings_of}
 use Rattle.vtl_status.specs.declared.status.Status.{Status}
 use Rattle.vtl_status.specs.declared.status.Status.TheVariants as st
-use Rattle.vtl_top.proofs.MeantLemmas.{after_built, after_script, after_structures, after_typing, ready_from, ready_gives, script_there, source_from}
+use Rattle.vtl_top.proofs.MeantLemmas.{after_typing, after_script, after_structures, ready_from, ready_gives, script_there, source_from}
 
 -- where a status comes from: typing, evaluation, or the files and the form of the script
 pub data Cause : Type 0 where
@@ -124,10 +123,6 @@ module _ (status : Status) (own : is_other (cause status) ≡ false) (held : Hel
       by_text true (Err fault) e = other (st.Structure fault.0 fault.1) refl e
       by_text false read e = other (st.NotText (chars path)) refl e
 
-  pub never_refused : (b : Bool) (wrong : Status) → cause wrong ≡ otherwise → Never (refused_if b wrong)
-  never_refused true wrong is e = other wrong is e
-  never_refused false wrong is e = cc
-
   never_points : (name : List ℕ) (read : Result (List Row) Fault) → Never (settled (points_or_fault name read))
   never_points name (Ok points) e = cc
   never_points name (Err fault) e = other (st.Input name fault.0 fault.1.0 fault.1.1) refl e
@@ -157,8 +152,8 @@ module _ (status : Status) (own : is_other (cause status) ≡ false) (held : Hel
     is_read : IsRead s held tree structures
     typing : Err status ≡ typing_of s tree structures
 
-  by_types_alone : (s : Source) → (typed_step s).gives held (Err status) → ByTypes s
-  by_types_alone s gives = at_script (refused_at (script_step s.script) (after_script s) held status gives)
+  by_typing : (s : Source) → (typed_step s).gives held (Err status) → ByTypes s
+  by_typing s gives = at_script (refused_at (script_step s.script) (after_script s) held status gives)
     where
       at_typing : (tree : ScriptTree) (structures : Named) → IsRead s held tree structures
           → (settled (typing_of s tree structures)).gives held (Err status) ⊎ ((nodes : List NodeTree) × (settled (typing_of s tree structures)).gives held (Ok nodes) × (settled (Ok (typed_by tree structures (settings_of s) nodes))).gives held (Err status)) → ByTypes s
@@ -176,24 +171,13 @@ module _ (status : Status) (own : is_other (cause status) ≡ false) (held : Hel
       at_script (inl e) = absurd (never_onward (read s.script script_limit) (script_of s.script) (never_read s.script script_limit) (never_script s.script) e)
       at_script (inr (tree, is, rest)) = at_structures tree is (refused_at (structures_step s.structures) (after_structures s tree) held status rest)
 
-  by_types_built : (s : Source) → (built_step s).gives held (Err status) → ByTypes s
-  by_types_built s gives = at_types (refused_at (typed_step s) (after_typing s) held status gives)
-    where
-      at_built : (t : Typed) → (refused_if (not (list_all is_built t.nodes)) (unbuilt s)).gives held (Err status) ⊎ ((u : Unit {0}) × (refused_if (not (list_all is_built t.nodes)) (unbuilt s)).gives held (Ok u) × (settled (Ok t)).gives held (Err status)) → ByTypes s
-      at_built t (inl e) = absurd (never_refused (not (list_all is_built t.nodes)) (unbuilt s) refl e)
-      at_built t (inr (u, built, e)) = absurd (never_ok t e)
-
-      at_types : (typed_step s).gives held (Err status) ⊎ ((t : Typed) × (typed_step s).gives held (Ok t) × (after_typing s t).gives held (Err status)) → ByTypes s
-      at_types (inl e) = by_types_alone s e
-      at_types (inr (t, is, rest)) = at_built t (refused_at (refused_if (not (list_all is_built t.nodes)) (unbuilt s)) (λ built. settled (Ok t)) held status rest)
-
   -- ---- a text by the typing of its script, and a run by that, or by what it means
   by_text : (s : Source) → (text_step s).gives held (Err status) → ByTypes s
-  by_text s gives = at_built (refused_at (built_step s) text_for held status gives)
+  by_text s gives = at_typed (refused_at (typed_step s) text_for held status gives)
     where
-      at_built : (built_step s).gives held (Err status) ⊎ ((t : Typed) × (built_step s).gives held (Ok t) × (text_for t).gives held (Err status)) → ByTypes s
-      at_built (inl e) = by_types_built s e
-      at_built (inr (t, is, rest)) = absurd (never_ok rest.0 rest.2)
+      at_typed : (typed_step s).gives held (Err status) ⊎ ((t : Typed) × (typed_step s).gives held (Ok t) × (text_for t).gives held (Err status)) → ByTypes s
+      at_typed (inl e) = by_typing s e
+      at_typed (inr (t, is, rest)) = absurd (never_ok rest.0 rest.2)
 
   record ByValues (r : Run) : Type 0 where
     typed : Typed
@@ -202,17 +186,17 @@ module _ (status : Status) (own : is_other (cause status) ≡ false) (held : Hel
     values : Err status ≡ outputs_of r.output typed.settings (meant typed inputs)
 
   by_run : (r : Run) → (run_step r).gives held (Err status) → ByTypes r.source ⊎ ByValues r
-  by_run r gives = at_built (refused_at (built_step r.source) (after_built r) held status gives)
+  by_run r gives = at_typed (refused_at (typed_step r.source) (after_typing r) held status gives)
     where
-      at_values : (t : Typed) → (built_step r.source).gives held (Ok t)
+      at_values : (t : Typed) → (typed_step r.source).gives held (Ok t)
           → (folder_step r.input t.settings (reads t.structures t.nodes)).gives held (Err status)
           ⊎ ((env : Environment) × (folder_step r.input t.settings (reads t.structures t.nodes)).gives held (Ok env) × (settled (outputs_of r.output t.settings (meant t env))).gives held (Err status)) → ByTypes r.source ⊎ ByValues r
-      at_values t built (inl e) = absurd (never_folder r.input t.settings (reads t.structures t.nodes) e)
-      at_values t built (inr (env, is, rest)) = inr (record { typed = t; inputs = env; ready = ready_from r held t env built is; values = rest })
+      at_values t typed (inl e) = absurd (never_folder r.input t.settings (reads t.structures t.nodes) e)
+      at_values t typed (inr (env, is, rest)) = inr (record { typed = t; inputs = env; ready = ready_from r held t env typed is; values = rest })
 
-      at_built : (built_step r.source).gives held (Err status) ⊎ ((t : Typed) × (built_step r.source).gives held (Ok t) × (after_built r t).gives held (Err status)) → ByTypes r.source ⊎ ByValues r
-      at_built (inl e) = inl (by_types_built r.source e)
-      at_built (inr (t, is, rest)) = at_values t is (refused_at (folder_step r.input t.settings (reads t.structures t.nodes)) (λ env. settled (outputs_of r.output t.settings (meant t env))) held status rest)
+      at_typed : (typed_step r.source).gives held (Err status) ⊎ ((t : Typed) × (typed_step r.source).gives held (Ok t) × (after_typing r t).gives held (Err status)) → ByTypes r.source ⊎ ByValues r
+      at_typed (inl e) = inl (by_typing r.source e)
+      at_typed (inr (t, is, rest)) = at_values t is (refused_at (folder_step r.input t.settings (reads t.structures t.nodes)) (λ env. settled (outputs_of r.output t.settings (meant t env))) held status rest)
 
 -- ---- by types
 typing_fault : (i rule : ℕ) (typing : Result (List NodeTree) (ℕ × ℕ)) → Err (st.Mistyped i rule) ≡ typed_or_fault typing → typing ≡ Err (i, rule)
@@ -243,18 +227,16 @@ mistyped_only r held i rule gives = go (by_run (st.Mistyped i rule) refl held r 
 pub mistyped_text_only : (s : Source) (held : Held) (i rule : ℕ) → (text_step s).gives held (Err (st.Mistyped i rule)) → IsMistyped s held i rule
 mistyped_text_only s held i rule gives = mistyped_by s held i rule (by_text (st.Mistyped i rule) refl held s gives)
 
-mistyped_built : (s : Source) (held : Held) (i rule : ℕ) → IsMistyped s held i rule → (built_step s).gives held (Err (st.Mistyped i rule))
-mistyped_built s held i rule is =
+refused_by_typing : (s : Source) (held : Held) (i rule : ℕ) → IsMistyped s held i rule → (typed_step s).gives held (Err (st.Mistyped i rule))
+refused_by_typing s held i rule is =
     let typing : (settled (typing_of s is.tree is.structures)).gives held (Err (st.Mistyped i rule)) = sym (ap typed_or_fault is.fault) in
-    let typed : (typed_step s).gives held (Err (st.Mistyped i rule)) =
-    (Ok is.tree, script_there s held is.tree is.structures is.source, (Ok is.structures, is.source.declared, (Err (st.Mistyped i rule), typing, refl))) in
-    (Err (st.Mistyped i rule), typed, refl)
+    (Ok is.tree, script_there s held is.tree is.structures is.source, (Ok is.structures, is.source.declared, (Err (st.Mistyped i rule), typing, refl)))
 
 pub mistyped_always : (r : Run) (held : Held) (i rule : ℕ) → IsMistyped r.source held i rule → (run_step r).gives held (Err (st.Mistyped i rule))
-mistyped_always r held i rule is = (Err (st.Mistyped i rule), mistyped_built r.source held i rule is, refl)
+mistyped_always r held i rule is = (Err (st.Mistyped i rule), refused_by_typing r.source held i rule is, refl)
 
 pub mistyped_text_always : (s : Source) (held : Held) (i rule : ℕ) → IsMistyped s held i rule → (text_step s).gives held (Err (st.Mistyped i rule))
-mistyped_text_always s held i rule is = (Err (st.Mistyped i rule), mistyped_built s held i rule is, refl)
+mistyped_text_always s held i rule is = (Err (st.Mistyped i rule), refused_by_typing s held i rule is, refl)
 
 -- ---- by values
 pub own_values : (f : EvaluationFault) (name : List ℕ) → is_other (cause (fault_status f name)) ≡ false
@@ -294,12 +276,12 @@ module _ {F A X : Type 0} (g : Ghosts F) (a b : F) (step : Step A) (never : (f :
   no_run (st.Range name) t h = if_some_map (g.held a) (λ held. step.gives held (Err (st.Range name))) Q (λ held p. absurd (never Range name held p)) t.came
   no_run status t h = absurd h
 
-pub building_tells : {F X : Type 0} (g : Ghosts F) (a b : F) (s : Source) (view : X → Typed) (told : TypedScript → Type 0) (status : Status) → Takes g a b (built_step s) view (Err status) → TellsRun g a (built_step s) told status
-building_tells g a b s view told status = no_run g a b (built_step s) never view (λ held. IsTold held (built_step s) told) status
+pub typing_tells : {F X : Type 0} (g : Ghosts F) (a b : F) (s : Source) (view : X → Typed) (told : TypedScript → Type 0) (status : Status) → Takes g a b (typed_step s) view (Err status) → TellsRun g a (typed_step s) told status
+typing_tells g a b s view told status = no_run g a b (typed_step s) never view (λ held. IsTold held (typed_step s) told) status
   where
-    never : (f : EvaluationFault) (name : List ℕ) (held : Held) → (built_step s).gives held (Err (fault_status f name)) → ⊥
+    never : (f : EvaluationFault) (name : List ℕ) (held : Held) → (typed_step s).gives held (Err (fault_status f name)) → ⊥
     never f name held gives =
-        let b = by_types_built (fault_status f name) (own_values f name) held s gives in
+        let b = by_typing (fault_status f name) (own_values f name) held s gives in
         types_give_no_value f name (script_typed (env_over (settings_of s) b.structures) b.tree) b.typing
 
 pub inputs_tell : {F X : Type 0} (g : Ghosts F) (a b c : F) (step : Step Typed) (folder : Path) (p : Settings) (inputs : Named) (view : X → Environment) (told : TypedScript → Type 0) (status : Status) → g.held b ≡ g.held a → Takes g b c (folder_step folder p inputs) view (Err status) → TellsRun g a step told status

@@ -1,5 +1,5 @@
 -- Steps of a run: what they settle, and the data sets that they read.
-use Rattle.std.proofs.Common.{◌≡◌, inl, inr, ℕ, Bool, true, false, not, List, Result, Ok, Err, refl, sym, ap, subst, ◌∙◌, chars}
+use Rattle.std.proofs.Common.{◌≡◌, inl, inr, ℕ, List, Result, Ok, Err, refl, sym, ap, subst, ◌∙◌}
 use Rattle.vtl_files.specs.declared.files.Files.{Ghosts}
 use Rattle.vtl_decimal.specs.declared.number.Fault.TheVariants.{DivZero, Range}
 use Rattle.vtl_decimal.specs.declared.number.Fault.{Fault as EvaluationFault}
@@ -10,14 +10,13 @@ use Rattle.vtl_tree.specs.declared.structure.Structure.{Structure}
 use Rattle.vtl_csv.specs.InputFile.{Fault, Reads}
 use Rattle.vtl_csv.specs.declared.input.InputErr.{InputErr}
 use Rattle.vtl_csv.specs.declared.input.InputErr.TheVariants as input
-use Rattle.vtl_scripts.specs.Meaning.{Outputs, is_built}
+use Rattle.vtl_scripts.specs.Meaning.{Outputs}
 use Rattle.vtl_backend.specs.Runs.{Tells, script_meaning}
 use Rattle.vtl_scalar.specs.declared.run_error.RunErr.{RunErr}
 use Rattle.vtl_scalar.specs.declared.run_error.RunErr.TheVariants as run
 use Rattle.vtl_top.specs.Answered.{Came, Takes}
 use Rattle.std.specs.Prelude.{IfOk, IsErrAnd, map}
 use Rattle.vtl_syntax.specs.declared.statements.Statement.{Statement}
-use Rattle.std.specs.List.{list_all}
 use Rattle.vtl_decimal.specs.Settings.{Settings}
 use Rattle.vtl_syntax.specs.Trees.{ScriptTree}
 use Rattle.vtl_syntax.specs.View.{script_tree, statement_tree}
@@ -26,18 +25,18 @@ use Rattle.vtl_tree.specs.NotNull.{Declared}
 use Rattle.vtl_tree.specs.Structures.{Named}
 use Rattle.vtl_check.specs.Checked.{TypedScript, nodes_of, tree_of}
 use Rattle.vtl_backend.specs.Inputs.{environment_of, inputs_of}
-use Rattle.vtl_top.specs.Expected.{IsTextOf, Typed, built_step, fault_status, folder_step, meant, outputs_of, points_or_fault, run_step, script_step, structures_step, text_for, text_step, typed_by, typed_step, typing_of, unbuilt}
+use Rattle.vtl_top.specs.Expected.{IsTextOf, Typed, fault_status, folder_step, meant, outputs_of, points_or_fault, run_step, script_step, structures_step, text_for, text_step, typed_by, typed_step, typing_of}
 use Rattle.vtl_top.specs.InputsRead.{rows_in}
 use Rattle.vtl_top.specs.Kinds.{refused, told_by}
 use Rattle.vtl_top.specs.Refusal.{IsOrMemory, IsTableRead, SettlesBy, faulted, input_refusal}
-use Rattle.vtl_top.specs.Steps.{File, Made, Path, Step, ◌>>=◌, refused_if, settled}
+use Rattle.vtl_top.specs.Steps.{File, Made, Path, Step, ◌>>=◌, settled}
 use Rattle.vtl_top.specs.Informed.{HasRun, typed_view}
 use Rattle.vtl_top.specs.Words.{Run, Source, settings_of}
 use Rattle.vtl_status.specs.declared.status.Status.{Status}
 use Rattle.vtl_status.specs.declared.status.Status.TheVariants as st
 use Rattle.vtl_top.proofs.ReadScripts.{if_some_all, settled_given, typing_given}
 use Rattle.vtl_top.proofs.StepLemmas.{misses_none, nothing_read, takes_onward, takes_stopped}
-use Rattle.vtl_top.proofs.MeantLemmas.{after_built, after_script, after_structures, after_typing}
+use Rattle.vtl_top.proofs.MeantLemmas.{after_typing, after_script, after_structures}
 
 module _ {F : Type 0} (g : Ghosts F) (a : F) where
   pub settled_ok : {A X : Type 0} (view : X → A) (x : X) (wanted : Result A Status) → wanted ≡ Ok (view x) → Takes g a a (settled wanted) view (Ok x)
@@ -45,22 +44,6 @@ module _ {F : Type 0} (g : Ghosts F) (a : F) where
 
   pub memory_takes : {A X : Type 0} (view : X → A) (step : Step A) (status : Status) → status ≡ st.Memory → Takes g a a step view (Err status)
   memory_takes view step status e = record { reads = nothing_read g a; came = subst (λ (s : Status). Came g a a step view (Err s)) (sym e) tt; misses = misses_none g a status st.Memory e refl }
-
-  pub unbuilt_takes : {A X : Type 0} (view : X → A) (path : List ℕ) (given : Result A Status) (status : Status) → given ≡ Err (st.Unbuilt (chars path)) → IsOrMemory (st.Unbuilt (chars path)) status → Takes g a a (settled given) view (Err status)
-  unbuilt_takes view path given status is (inl e) = memory_takes view (settled given) status e
-  unbuilt_takes view path given status is (inr e) = record {
-    reads = nothing_read g a;
-    came = subst (λ (s : Status). Came g a a (settled given) view (Err s)) (sym e)
-        (if_some_all (g.held a) (λ held. (settled given).gives held (Err (st.Unbuilt (chars path)))) (λ held. sym is));
-    misses = misses_none g a status (st.Unbuilt (chars path)) e refl;
-  }
-
-  -- a test that holds refuses, and one that does not goes on
-  pub test_refuses : {X : Type 0} (view : X → Unit {0}) (path : List ℕ) (b : Bool) (status : Status) → b ≡ true → IsOrMemory (st.Unbuilt (chars path)) status → Takes g a a (refused_if b (st.Unbuilt (chars path))) view (Err status)
-  test_refuses view path b status e is = subst (λ d. Takes g a a (refused_if d (st.Unbuilt (chars path))) view (Err status)) (sym e) (unbuilt_takes view path (Err (st.Unbuilt (chars path))) status refl is)
-
-  pub test_passes : (b : Bool) (status : Status) → b ≡ false → Takes g a a (refused_if b status) (λ (u : Unit {0}). u) (Ok tt)
-  test_passes b status e = subst (λ d. Takes g a a (refused_if d status) (λ (u : Unit {0}). u) (Ok tt)) (sym e) (settled_ok (λ (u : Unit {0}). u) tt (Ok tt) refl)
 
 -- ---- a data set that is read
 pub input_refused : (name : List ℕ) (s : Structure) (read : Result (List Row) Fault) (error : InputErr) (status : Status) → Reads s (Err error) read → IsOrMemory (input_refusal name error) status → IsTableRead name s read (Err status)
@@ -132,60 +115,39 @@ module _ {F : Type 0} (g : Ghosts F) (s : Source) (a : F) (tree : ScriptTree) (s
       takes_stopped g (settled (typing_of s tree structures)) (λ nodes. settled (Ok (typed_by tree structures (settings_of s) nodes))) a a nodes_of typed_view status
       (typing_given g a s tree structures nodes_of (Err status) is)
 
--- ---- the steps that lead to a script whose forms are evaluated
-module _ {F : Type 0} (g : Ghosts F) (s : Source) (a b : F) where
-  pub typing_refused : (status : Status) → Takes g a b (typed_step s) typed_view (Err status) → Takes g a b (built_step s) typed_view (Err status)
-  typing_refused status t = takes_stopped g (typed_step s) (after_typing s) a b typed_view typed_view status t
-
-  module _ (t : TypedScript) (typed : Takes g a b (typed_step s) typed_view (Ok t)) where
-    abbrev test : Bool
-    test = not (list_all is_built (nodes_of t))
-
-    pub not_built : (status : Status) → list_all is_built (nodes_of t) ≡ false → IsOrMemory (unbuilt s) status → Takes g a b (built_step s) typed_view (Err status)
-    not_built status e is =
-        takes_onward g (typed_step s) (after_typing s) a b b typed_view typed_view t (Err status) typed
-        (takes_stopped g (refused_if test (unbuilt s)) (λ built. settled (Ok (typed_view t))) b b (λ (u : Unit {0}). u) typed_view status
-        (test_refuses g b (λ (u : Unit {0}). u) s.script test status (ap not e) is))
-
-    pub all_built : list_all is_built (nodes_of t) ≡ true → Takes g a b (built_step s) typed_view (Ok t)
-    all_built e =
-        takes_onward g (typed_step s) (after_typing s) a b b typed_view typed_view t (Ok t) typed
-        (takes_onward g (refused_if test (unbuilt s)) (λ built. settled (Ok (typed_view t))) b b b (λ (u : Unit {0}). u) typed_view tt (Ok t) (test_passes g b test (unbuilt s) (ap not e))
-        (settled_ok g b typed_view t (Ok (typed_view t)) refl))
-
 -- ---- the steps of a run
 module _ {F X : Type 0} (g : Ghosts F) (r : Run) (view : X → List File) (a b : F) where
-  pub building_refused : (status : Status) → Takes g a b (built_step r.source) typed_view (Err status) → Takes g a b (run_step r) view (Err status)
-  building_refused status t = takes_stopped g (built_step r.source) (after_built r) a b typed_view view status t
+  pub typing_refused : (status : Status) → Takes g a b (typed_step r.source) typed_view (Err status) → Takes g a b (run_step r) view (Err status)
+  typing_refused status t = takes_stopped g (typed_step r.source) (after_typing r) a b typed_view view status t
 
-  module _ (t : TypedScript) (built : Takes g a b (built_step r.source) typed_view (Ok t)) where
-    built_on : (c : F) (result : Result X Status) → Takes g b c (after_built r (typed_view t)) view result → Takes g a c (run_step r) view result
-    built_on c result rest = takes_onward g (built_step r.source) (after_built r) a b c typed_view view t result built rest
+  module _ (t : TypedScript) (typed : Takes g a b (typed_step r.source) typed_view (Ok t)) where
+    typed_on : (c : F) (result : Result X Status) → Takes g b c (after_typing r (typed_view t)) view result → Takes g a c (run_step r) view result
+    typed_on c result rest = takes_onward g (typed_step r.source) (after_typing r) a b c typed_view view t result typed rest
 
     pub inputs_refused : (c : F) (status : Status) → Takes g b c (folder_step r.input t.settings (inputs_of t)) (environment_of t) (Err status) → Takes g a c (run_step r) view (Err status)
     inputs_refused c status u =
-        built_on c (Err status) (takes_stopped g (folder_step r.input t.settings (inputs_of t)) (λ env. settled (outputs_of r.output t.settings (meant (typed_view t) env))) b c (environment_of t) view status u)
+        typed_on c (Err status) (takes_stopped g (folder_step r.input t.settings (inputs_of t)) (λ env. settled (outputs_of r.output t.settings (meant (typed_view t) env))) b c (environment_of t) view status u)
 
     pub then_results : (c : F) (inputs : NamedTables) (result : Result X Status) → Takes g b c (folder_step r.input t.settings (inputs_of t)) (environment_of t) (Ok inputs)
         → SettlesBy view (outputs_of r.output t.settings (script_meaning t inputs)) result → Takes g a c (run_step r) view result
     then_results c inputs result u is =
         let m = script_meaning t inputs in
-        built_on c result
+        typed_on c result
         (takes_onward g (folder_step r.input t.settings (inputs_of t)) (λ env. settled (outputs_of r.output t.settings (meant (typed_view t) env))) b c c (environment_of t) view inputs result u
         (settled_given g c view (outputs_of r.output t.settings m) (results_refuse r.output t.settings m) result is))
 
 -- ---- the steps that lead to a text in SQL
 module _ {F X : Type 0} (g : Ghosts F) (s : Source) (view : X → List ℕ) (a b : F) where
-  pub text_refused : (status : Status) → Takes g a b (built_step s) typed_view (Err status) → Takes g a b (text_step s) view (Err status)
-  text_refused status t = takes_stopped g (built_step s) text_for a b typed_view view status t
+  pub text_refused : (status : Status) → Takes g a b (typed_step s) typed_view (Err status) → Takes g a b (text_step s) view (Err status)
+  text_refused status t = takes_stopped g (typed_step s) text_for a b typed_view view status t
 
-  module _ (t : TypedScript) (built : Takes g a b (built_step s) typed_view (Ok t)) where
+  module _ (t : TypedScript) (typed : Takes g a b (typed_step s) typed_view (Ok t)) where
     pub text_unmade : (status : Status) → status ≡ st.Memory → Takes g a b (text_step s) view (Err status)
-    text_unmade status e = takes_onward g (built_step s) text_for a b b typed_view view t (Err status) built (memory_takes g b view (text_for (typed_view t)) status e)
+    text_unmade status e = takes_onward g (typed_step s) text_for a b b typed_view view t (Err status) typed (memory_takes g b view (text_for (typed_view t)) status e)
 
     pub text_made : (x : X) → IsTextOf (typed_view t) (view x) → Takes g a b (text_step s) view (Ok x)
     text_made x is =
-        takes_onward g (built_step s) text_for a b b typed_view view t (Ok x) built
+        takes_onward g (typed_step s) text_for a b b typed_view view t (Ok x) typed
         (record { reads = nothing_read g b; came = if_some_all (g.held b) (λ held. (text_for (typed_view t)).gives held (Ok (view x))) (λ held. (view x, is, refl)); misses = refl })
 
 -- ---- what is made of files, or of a text

@@ -10,7 +10,7 @@ use Rattle.vtl_tree.specs.Structures.{Named}
 use Rattle.vtl_check.specs.Uses.{reads}
 use Rattle.sql_check_parts.specs.Statements.{script_settings}
 use Rattle.sql_tree.specs.Texts as sql_texts
-use Rattle.vtl_top.specs.Expected.{IsTextOf, Typed, built_step, dataset_step, folder_step, inputs_step, run_step, script_in, script_of, structures_step, text_for, typed_step}
+use Rattle.vtl_top.specs.Expected.{IsTextOf, Typed, dataset_step, folder_step, inputs_step, run_step, script_in, script_of, structures_step, text_for, typed_step}
 use Rattle.vtl_top.specs.Forms.{asked_step}
 use Rattle.vtl_top.specs.Meant.{IsAccepted}
 use Rattle.vtl_top.specs.ScriptFile.{IsParsed, IsParsedBy, IsSqlParsed, Parsed, faulty, no_text, whole}
@@ -88,18 +88,15 @@ inputs_sure p before (w ∷ rest) = then_sure _ _ (then_sure _ _ (dataset_sure p
 folder_sure : (folder : Path) (p : Settings) (es : Named) → Sure (folder_step folder p es)
 folder_sure folder p es = inputs_sure p [] (all_placed_in folder es)
 
-typed_sure : (s : Source) → Sure (typed_step s)
+pub typed_sure : (s : Source) → Sure (typed_step s)
 typed_sure s =
     then_sure _ _ (then_sure _ _ (looked_sure _ _) (λ bytes. script_sure s.script bytes)) (λ tree.
     then_sure _ _ (structures_sure s.structures) (λ structures.
     then_sure _ _ (settled_sure _) (λ nodes.
     settled_sure _)))
 
-pub built_sure : (s : Source) → Sure (built_step s)
-built_sure s = then_sure _ _ (typed_sure s) (λ t. then_sure _ _ (settled_sure _) (λ built. settled_sure _))
-
 pub run_sure : (r : Run) → Sure (run_step r)
-run_sure r = then_sure _ _ (built_sure r.source) (λ t. then_sure _ _ (folder_sure r.input t.settings (reads t.structures t.nodes)) (λ env. settled_sure _))
+run_sure r = then_sure _ _ (typed_sure r.source) (λ t. then_sure _ _ (folder_sure r.input t.settings (reads t.structures t.nodes)) (λ env. settled_sure _))
 
 sql_sure : (path bytes : Text) → Sure (sql_of path bytes)
 sql_sure path bytes = read_sure (IsSqlParsed bytes) (sql_in path) (sql_parsed_once bytes) (parsed_somehow sql_texts.IsScript sql_texts.IsFaulty bytes (sql_read_somehow bytes))
@@ -153,7 +150,7 @@ text_status held (Ok t) first is = ap status_of is.2
 text_status held (Err status) first is = ap status_of is
 
 texts_alike : (s : Source) (held : Held) (x y : Result Made Status) → (asked_step (Some (sql s))).gives held x → (asked_step (Some (sql s))).gives held y → status_of x ≡ status_of y
-texts_alike s held x y p q = of_script x p ∙ ap status_of ((built_sure s).one held p.1.0 q.1.0 p.1.1 q.1.1) ∙ sym (of_script y q)
+texts_alike s held x y p q = of_script x p ∙ ap status_of ((typed_sure s).one held p.1.0 q.1.0 p.1.1 q.1.1) ∙ sym (of_script y q)
   where
     of_script : (given : Result Made Status) (is : (asked_step (Some (sql s))).gives held given) → status_of given ≡ status_of is.1.0
     of_script given is = made_status only_text held is.0 given is.2 ∙ text_status held is.1.0 is.0 is.1.2
@@ -168,8 +165,8 @@ one_status command held x y p q = go (sure_or_text command)
 -- there is one, where the script has a text
 module _ (s : Source) (held : Held) (has : (t : Typed) → IsAccepted s held t → (text : Text) × IsTextOf t text) where
   pub texts_not_without : ¬ ((given : Result Made Status) → ¬ (asked_step (Some (sql s))).gives held given)
-  texts_not_without none = (built_sure s).there held (λ p. by_script p.0 p.1)
+  texts_not_without none = (typed_sure s).there held (λ p. by_script p.0 p.1)
     where
-      by_script : (script : Result Typed Status) → (built_step s).gives held script → ⊥
+      by_script : (script : Result Typed Status) → (typed_step s).gives held script → ⊥
       by_script (Ok t) is = let text = has t (accepted_only s held t is) in none (Ok (only_text text.0)) (Ok text.0, (Ok t, is, (text.0, text.1, refl)), refl)
       by_script (Err status) is = none (Err status) (Err status, (Err status, is, refl), refl)

@@ -1,5 +1,5 @@
 -- What the words and the files that are held give: the outputs of the run or the text in SQL, or the first refusal.
-use Rattle.std.specs.Prelude.{ℕ, not, List, [], ◌∷◌, ◌++◌, length, map, nat_lt, Option, Some, None, Result, Ok, Err, codes, chars, encode_utf8_all, if◌then◌else◌}
+use Rattle.std.specs.Prelude.{ℕ, List, [], ◌∷◌, ◌++◌, length, map, nat_lt, Option, Some, None, Result, Ok, Err, codes, chars, encode_utf8_all, if◌then◌else◌}
 use Rattle.vtl_files.specs.Outside.{bytes_at}
 use Rattle.vtl_decimal.specs.declared.number.Fault.TheVariants.{DivZero, Range}
 use Rattle.vtl_decimal.specs.declared.number.Fault.{Fault as EvaluationFault}
@@ -9,10 +9,9 @@ use Rattle.vtl_syntax.specs.Trees.{ScriptTree}
 use Rattle.vtl_tree.specs.Environment.{DataSet, Environment}
 use Rattle.vtl_tree.specs.Structures.{Named}
 use Rattle.vtl_tree.specs.Trees.{NodeTree}
-use Rattle.vtl_scripts.specs.Meaning.{Outputs, Statement, is_built, meaning}
+use Rattle.vtl_scripts.specs.Meaning.{Outputs, Statement, meaning}
 use Rattle.vtl_backend.specs.Statements.{with_nodes}
 use Rattle.vtl_check.specs.Transformations.{transformations}
-use Rattle.std.specs.List.{list_all}
 use Rattle.vtl_tree.specs.declared.structure.Structure.{Structure}
 use Rattle.vtl_csv.specs.CsvText.{csv_of}
 use Rattle.vtl_csv.specs.InputFile.{Fault, dataset_rows}
@@ -21,7 +20,7 @@ use Rattle.vtl_check.specs.Script.{script_typed}
 use Rattle.vtl_check.specs.Uses.{reads}
 use Rattle.sql_back.specs.Texts.{IsTextFor}
 use Rattle.vtl_top.specs.ScriptFile.{IsParsed, Parsed, faulty, no_text, whole}
-use Rattle.vtl_top.specs.Steps.{File, Held, Name, Path, Step, Text, ◌>>=◌, looked, read_as, refused_if, settled}
+use Rattle.vtl_top.specs.Steps.{File, Held, Name, Path, Step, Text, ◌>>=◌, looked, read_as, settled}
 use Rattle.vtl_top.specs.Structures.{structures_in}
 use Rattle.vtl_top.specs.Wanted.{Placed, all_placed_in, entry_of}
 use Rattle.vtl_top.specs.Words.{Run, Source, settings_of}
@@ -135,10 +134,6 @@ typed_by tree structures settings nodes = record { tree = tree; structures = str
 abbrev pub typing_of : Source → ScriptTree → Named → Result (List NodeTree) Status
 typing_of s tree structures = typed_or_fault (script_typed (env_over (settings_of s) structures) tree)
 
--- the status of a script with a form that is not evaluated yet
-abbrev pub unbuilt : Source → Status
-unbuilt s = st.Unbuilt (chars s.script)
-
 -- the script of a source, typed over its structures
 abbrev pub typed_step : Source → Step Typed
 typed_step s =
@@ -146,13 +141,6 @@ typed_step s =
     structures_step s.structures >>= λ structures.
     settled (typing_of s tree structures) >>= λ nodes.
     settled (Ok (typed_by tree structures (settings_of s) nodes))
-
--- the same, where each of its forms is evaluated
-abbrev pub built_step : Source → Step Typed
-built_step s =
-    typed_step s >>= λ t.
-    refused_if (not (list_all is_built t.nodes)) (unbuilt s) >>= λ built.
-    settled (Ok t)
 
 -- its statements
 abbrev pub statements_in : Typed → List Statement
@@ -165,7 +153,7 @@ meant t env = meaning t.settings (statements_in t) env
 -- what a run makes: the files of its outputs. Inputs are read, and outputs written, with the settings of the typed script.
 abbrev pub run_step : Run → Step (List File)
 run_step r =
-    built_step r.source >>= λ t.
+    typed_step r.source >>= λ t.
     folder_step r.input t.settings (reads t.structures t.nodes) >>= λ env.
     settled (outputs_of r.output t.settings (meant t env))
 
@@ -179,4 +167,4 @@ text_for t = read_as (IsTextOf t) (λ text. Ok text)
 
 -- a text of the script of a source. No data set is read.
 abbrev pub text_step : Source → Step Text
-text_step s = built_step s >>= text_for
+text_step s = typed_step s >>= text_for

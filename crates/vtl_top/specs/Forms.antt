@@ -4,7 +4,7 @@ use Rattle.vtl_demo.specs.DataSets.{declared}
 use Rattle.vtl_demo.specs.Nodes.{typed_nodes}
 use Rattle.vtl_demo.specs.Said.{said}
 use Rattle.vtl_demo.specs.Script as script
-use Rattle.vtl_top.specs.Expected.{Typed, built_step, run_step, text_step, typed_by}
+use Rattle.vtl_top.specs.Expected.{Typed, run_step, text_step, typed_by, typed_step}
 use Rattle.vtl_top.specs.SqlRun.{engine_step}
 use Rattle.vtl_top.specs.Steps.{Made, Step, as_files, as_text, only_text, settled}
 use Rattle.vtl_top.specs.Words.{Command, demo, engine, run, sql, sqlrun}
@@ -43,7 +43,7 @@ demonstration = typed_by script.tree declared script.settings typed_nodes
 abbrev pub form_of : Option Command → Form
 form_of None = record { step = settled (Err st.Usage); half = nothing; tells = silent }
 form_of (Some (run r)) = record { step = as_files (run_step r); half = files_alone; tells = silent }
-form_of (Some (sqlrun r)) = record { step = as_files (run_step r); half = files_alone; tells = of_step (built_step r.source) }
+form_of (Some (sqlrun r)) = record { step = as_files (run_step r); half = files_alone; tells = of_step (typed_step r.source) }
 form_of (Some (sql s)) = record { step = as_text (text_step s); half = text_alone; tells = silent }
 form_of (Some (engine e)) = record { step = as_files (engine_step e); half = files_alone; tells = silent }
 form_of (Some (demo n)) = record { step = settled (Ok (only_text (said n))); half = text_alone; tells = of_itself demonstration }

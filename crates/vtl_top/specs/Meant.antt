@@ -1,5 +1,5 @@
 -- The outputs of a run, and the text of a script in SQL, in the words of the language: what the script means over its inputs.
-use Rattle.std.specs.Prelude.{◌≡◌, ℕ, true, List, map, Err, Ok, IsUtf8}
+use Rattle.std.specs.Prelude.{◌≡◌, ℕ, List, map, Err, Ok, IsUtf8}
 use Rattle.vtl_syntax.specs.Trees.{ScriptTree}
 use Rattle.vtl_parser.specs.Parsed.{IsScript}
 use Rattle.vtl_tree.specs.Environment.{Environment}
@@ -8,8 +8,7 @@ use Rattle.vtl_decimal.specs.declared.number.Fault.{Fault}
 use Rattle.vtl_check.specs.Checked.{env_over}
 use Rattle.vtl_check.specs.Script.{script_typed}
 use Rattle.vtl_check.specs.Uses.{reads}
-use Rattle.vtl_scripts.specs.Meaning.{Outputs, is_built}
-use Rattle.std.specs.List.{list_all}
+use Rattle.vtl_scripts.specs.Meaning.{Outputs}
 use Rattle.vtl_top.specs.Expected.{IsTextOf, Typed, content, folder_step, meant, output_of, script_limit, structures_step}
 use Rattle.vtl_top.specs.Steps.{File, Held, Name, Text}
 use Rattle.vtl_top.specs.Words.{Run, Source, settings_of}
@@ -22,12 +21,11 @@ pub record IsRead (s : Source) (held : Held) (tree : ScriptTree) (structures : N
   pub parsed : IsScript text tree
   pub declared : (structures_step s.structures).gives held (Ok structures)
 
--- That script is typed over the structures with the settings of the source, and each of its expressions is evaluated.
+-- That script is typed over the structures with the settings of the source.
 pub record IsAccepted (s : Source) (held : Held) (t : Typed) : Type 0 where
   pub source : IsRead s held t.tree t.structures
   pub settings : t.settings ≡ settings_of s
   pub fits : script_typed (env_over (settings_of s) t.structures) t.tree ≡ Ok t.nodes
-  pub built : list_all is_built t.nodes ≡ true
 
 -- And these are the data sets that it reads.
 pub record IsReady (r : Run) (held : Held) (t : Typed) (inputs : Environment) : Type 0 where
@@ -58,7 +56,7 @@ pub record IsMistyped (s : Source) (held : Held) (statement rule : ℕ) : Type 0
   pub source : IsRead s held tree structures
   pub fault : script_typed (env_over (settings_of s) structures) tree ≡ Err (statement, rule)
 
--- A script is typed and evaluated so, and this is a text of it in SQL.
+-- A script is typed so, and this is a text of it in SQL.
 pub record IsTextMeant (s : Source) (held : Held) (text : Text) : Type 0 where
   pub typed : Typed
   pub script : IsAccepted s held typed

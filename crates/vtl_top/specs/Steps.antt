@@ -1,5 +1,5 @@
 -- Steps of a run over the held files.
-use Rattle.std.specs.Prelude.{◌≡◌, ◌⊎◌, ℕ, Bool, List, [], Result, Ok, Err, chars, if◌then◌else◌}
+use Rattle.std.specs.Prelude.{◌≡◌, ◌⊎◌, ℕ, List, [], Result, Ok, Err, chars}
 use Rattle.vtl_status.specs.declared.status.Status.{Status}
 use Rattle.vtl_status.specs.declared.status.Status.TheVariants as st
 
@@ -52,10 +52,6 @@ abbrev pub ◌>>=◌ : {A B : Type 0} → Step A → (A → Step B) → Step B
 }
 
 infixl 10 ◌>>=◌
--- refused by this status where the test holds
-abbrev pub refused_if : Bool → Status → Step (Unit {0})
-refused_if broken status = settled (if broken then Err status else Ok tt)
-
 -- the status of a call that makes this, where nothing fails
 abbrev pub status_of : {X : Type 0} → Result X Status → Status
 status_of (Ok x) = st.Done

@@ -43,8 +43,8 @@ pub fn output_is_meant()
 {}
 
 /// A run, in SQL or not, is `Mistyped` exactly where its script breaks a rule over its structures: by the first statement
-/// that does, and by its rule. Neither whether the forms are evaluated nor the data sets are looked at before. The same
-/// holds where the text of the script in SQL is asked for.
+/// that does, and by its rule. The data sets are not looked at before. The same holds where the text of the script in SQL
+/// is asked for.
 pub fn mistyped_is_first_fault()
     ensures only { (r : Run) (held : Held) (statement rule : ℕ) → (run_step r).gives held (Err (Status.Mistyped statement rule)) → IsMistyped r.source held statement rule }
     ensures always { (r : Run) (held : Held) (statement rule : ℕ) → IsMistyped r.source held statement rule → (run_step r).gives held (Err (Status.Mistyped statement rule)) }
@@ -52,8 +52,8 @@ pub fn mistyped_is_first_fault()
     ensures text_always { (s : Source) (held : Held) (statement rule : ℕ) → IsMistyped s held statement rule → (text_step s).gives held (Err (Status.Mistyped statement rule)) }
 {}
 
-/// What `sql` gives over the held files is a text in SQL of the script that they hold, which is typed and evaluated; and
-/// it may give any such text.
+/// What `sql` gives over the held files is a text in SQL of the script that they hold, which is typed; and it may give any
+/// such text.
 pub fn texts_are_meant()
     ensures only { (s : Source) (held : Held) (text : Text) → (text_step s).gives held (Ok text) → IsTextMeant s held text }
     ensures always { (s : Source) (held : Held) (text : Text) → IsTextMeant s held text → (text_step s).gives held (Ok text) }

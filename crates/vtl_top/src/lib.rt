@@ -39,7 +39,7 @@ pub use laws::{
     structures_have_identifiers, texts_are_meant, texts_write_alike,
 };
 pub use points::Points;
-pub use run::read_built;
+pub use run::read_typed;
 pub use top::{vtl, vtl_by, vtl_with};
 pub use words::{Chosen, Source};
 

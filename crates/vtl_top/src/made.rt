@@ -11,7 +11,7 @@ ghost use Rattle.std.specs.Prelude.{◌≡◌, [], Some, Ok, IfOk};
 ghost use Rattle.std.specs.List.{AllByRecursion};
 ghost use Rattle.vtl_demo.specs.Said.{said};
 ghost use Rattle.vtl_top.specs.Answered.{Takes};
-ghost use Rattle.vtl_top.specs.Expected.{built_step};
+ghost use Rattle.vtl_top.specs.Expected.{typed_step};
 ghost use Rattle.vtl_top.specs.Forms.{IsMadeBy, asked_step, demonstration};
 ghost use Rattle.vtl_top.specs.MadeView.{IsMade, Names, made_view};
 ghost use Rattle.vtl_top.specs.OutputView.{NamesPath, outputs_view};
@@ -76,7 +76,7 @@ fn make_run<B: Backend, F: Files>(
     ensures takes { Takes F.Files files.old files.new (asked_step (Some (run (run_view asked.now)))) made_view result }
     ensures named { IfOk result Names }
     ensures shape { IfOk result (λ m. m.text.items ≡ []) }
-    ensures told { TellsRun F.Files files.old (built_step (source_view asked.now.source)) (B.told back.new) (status_of result) }
+    ensures told { TellsRun F.Files files.old (typed_step (source_view asked.now.source)) (B.told back.new) (status_of result) }
 {
     match prepare(alloc, back, files, asked) {
         Ok(outputs) => made_of(alloc, outputs, Vec::new(alloc)),

@@ -20,16 +20,6 @@ pub fn refusal(error: ReadErr, path: Txt) -> Status
     }
 }
 
-/// The status of a file with a form that is not built.
-pub fn unbuilt(alloc: Global, path: &str) -> Status
-    ensures { IsOrMemory (Status.Unbuilt (chars path.now)) result }
-{
-    match Txt::new(alloc, path) {
-        Ok(path) => Status::Unbuilt(path),
-        Err(_) => Status::Memory,
-    }
-}
-
 /// The status of a file that is not UTF-8.
 pub fn not_text(alloc: Global, path: &str) -> Status
     ensures { IsOrMemory (Status.NotText (chars path.now)) result }

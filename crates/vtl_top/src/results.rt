@@ -1,12 +1,11 @@
 // The outputs of the results.
-ghost use Rattle.std.specs.Prelude.{◌≡◌, ◌<◌, true, length, map, slice_index_or, IfOk};
+ghost use Rattle.std.specs.Prelude.{◌≡◌, ◌<◌, length, map, slice_index_or, IfOk};
 ghost use Rattle.std.specs.List.{AllByRecursion};
 ghost use Rattle.vtl_rows.specs.Tables.{listed};
 ghost use Rattle.vtl_sets.specs.TableOf.{IsTableOf};
 ghost use Rattle.vtl_check.specs.Checked.{known_of};
 ghost use Rattle.vtl_backend.specs.Inputs.{AreInRange, AreInputs};
 ghost use Rattle.vtl_backend.specs.Runs.{script_meaning};
-ghost use Rattle.vtl_backend.specs.Statements.{is_script_built};
 ghost use Rattle.vtl_top.specs.Expected.{data_set, output_of, outputs_of};
 ghost use Rattle.vtl_top.specs.OutputView.{NamesPath, output_view, outputs_view};
 ghost use Rattle.vtl_top.specs.Refusal.{SettlesBy, faulted};
@@ -106,7 +105,6 @@ pub fn results<B: Backend>(
 ) -> Result<Vec<Output>, Status>
     requires inputs { AreInputs checked.now inputs }
     requires ranges { AreInRange checked.now inputs }
-    requires built { is_script_built checked.now ≡ true }
     ensures view { SettlesBy outputs_view (outputs_of folder.now checked.now.settings (script_meaning checked.now inputs)) result }
     ensures named { IfOk result (λ o. AllByRecursion NamesPath o.items) }
     ensures told { HasRun (status_of result) → B.told back.new checked.now }

@@ -1,11 +1,10 @@
 // A script from its files: its run up to the texts of its outputs, and its text in SQL.
-ghost use Rattle.std.specs.Prelude.{◌≡◌, true, IfOk, string_bytes};
+ghost use Rattle.std.specs.Prelude.{◌≡◌, IfOk, string_bytes};
 ghost use Rattle.std.specs.List.{AllByRecursion};
 ghost use Rattle.vtl_syntax.specs.View.{script_tree};
 ghost use Rattle.vtl_syntax.specs.Written.{AreWritten};
 ghost use Rattle.vtl_top.specs.Answered.{Takes};
-ghost use Rattle.vtl_backend.specs.Statements.{is_script_built};
-ghost use Rattle.vtl_top.specs.Expected.{built_step, run_step, script_step, structures_step, text_step, typed_step};
+ghost use Rattle.vtl_top.specs.Expected.{run_step, script_step, structures_step, text_step, typed_step};
 ghost use Rattle.vtl_top.specs.OutputView.{NamesPath, outputs_view};
 ghost use Rattle.vtl_top.specs.Refusal.{IsScriptOf, IsScriptOfText, fault_of};
 ghost use Rattle.vtl_top.specs.RunView.{run_view, source_view};
@@ -15,7 +14,7 @@ ghost use Rattle.vtl_top.specs.Steps.{status_of};
 use crate::inputs::read_inputs;
 use crate::output::Output;
 use crate::reading::read_file;
-use crate::refusal::{not_text, unbuilt};
+use crate::refusal::not_text;
 use crate::results::results;
 use crate::structures::structures_of;
 use crate::typing::typed;
@@ -23,7 +22,7 @@ use crate::words::{Run, Source};
 use sql_back::text_of;
 use std::alloc::Global;
 use std::str;
-use vtl_backend::{Backend, is_built};
+use vtl_backend::Backend;
 use vtl_check::Checked;
 use vtl_files::Files;
 use vtl_parser::{ParseErr, parse};
@@ -106,22 +105,6 @@ pub fn read_typed<F: Files>(
     typed(alloc, &script, &structures, &profile)
 }
 
-/// The same, where each of its forms is evaluated.
-pub fn read_built<F: Files>(
-    alloc: Global,
-    files: &mut F,
-    source: &Source<'_>,
-) -> Result<Checked, Status>
-    ensures takes { Takes F.Files files.old files.new (built_step (source_view source.now)) typed_view result }
-    ensures built { IfOk result (λ c. is_script_built c ≡ true) }
-{
-    let checked = read_typed(alloc, files, source)?;
-    if !is_built(&checked) {
-        return Err(unbuilt(alloc, source.script));
-    }
-    Ok(checked)
-}
-
 /// Reads the files of a run, and makes its outputs: nothing is created. The answer is the outputs, or the first
 /// refusal: by the script, then by the inputs, then by what it means; or, at any place, that memory ran out.
 pub fn prepare<B: Backend, F: Files>(
@@ -132,9 +115,9 @@ pub fn prepare<B: Backend, F: Files>(
 ) -> Result<Vec<Output>, Status>
     ensures takes { Takes F.Files files.old files.new (run_step (run_view run.now)) outputs_view result }
     ensures named { IfOk result (λ o. AllByRecursion NamesPath o.items) }
-    ensures told { TellsRun F.Files files.old (built_step (source_view run.now.source)) (B.told back.new) (status_of result) }
+    ensures told { TellsRun F.Files files.old (typed_step (source_view run.now.source)) (B.told back.new) (status_of result) }
 {
-    let checked = read_built(alloc, files, &run.source)?;
+    let checked = read_typed(alloc, files, &run.source)?;
     let inputs = read_inputs(alloc, files, run.input, &checked)?;
     results(alloc, back, run.output, &checked, inputs)
 }
@@ -148,6 +131,6 @@ pub fn prepare_text<F: Files>(
 ) -> Result<String, Status>
     ensures { Takes F.Files files.old files.new (text_step (source_view source.now)) string_bytes result }
 {
-    let checked = read_built(alloc, files, source)?;
+    let checked = read_typed(alloc, files, source)?;
     Ok(text_of(alloc, &checked)?)
 }

@@ -1,5 +1,5 @@
 -- What checks show behind the identifiers of a point, and how rules are identified.
-use Rattle.std.specs.Prelude.{ℕ, suc, List, [], ◌∷◌, ◌++◌, Option, Some, None, codes}
+use Rattle.std.specs.Prelude.{ℕ, suc, cond, List, [], ◌∷◌, ◌++◌, map, Option, Some, None, codes}
 use Rattle.std.specs.Fmt.{decimal}
 use Rattle.vtl_cell.specs.declared.kind.Kind.TheVariants as k
 use Rattle.vtl_syntax.specs.declared.word_groups.CheckOut.{CheckOut}
@@ -7,6 +7,7 @@ use Rattle.vtl_syntax.specs.declared.word_groups.CheckOut.TheVariants as out
 use Rattle.vtl_tree.specs.Columns.{measures_of}
 use Rattle.vtl_tree.specs.Measures.{bool_var, made}
 use Rattle.vtl_tree.specs.Pairs.{errorcode, errorlevel, imbalance}
+use Rattle.vtl_tree.specs.Structure.{same_name}
 use Rattle.vtl_tree.specs.declared.structure.Component.{Component}
 use Rattle.vtl_tree.specs.declared.structure.Role.TheVariants as role
 use Rattle.vtl_tree.specs.declared.structure.Structure.{Structure}
@@ -40,6 +41,13 @@ error_measures = errorcode ∷ errorlevel ∷ []
 abbrev pub ruled_measures : CheckOut → Structure → List Component
 ruled_measures o a = output_parts o (measures_of a) bool_var error_measures
 
--- those of a check by hierarchical rules
+-- ---- the identifier of items, which rules add to, is without codes
+abbrev pub uncoded : (name : List ℕ) → Component → Component
+uncoded name x = cond (same_name x.name name) (record x { codes = None }) x
+
+abbrev pub without_codes : (name : List ℕ) → List Component → List Component
+without_codes name xs = map (uncoded name) xs
+
+-- the measures of a check by hierarchical rules
 abbrev pub sided_measures : CheckOut → Structure → List Component
 sided_measures o a = output_parts o (measures_of a) bool_var (imbalance ∷ error_measures)

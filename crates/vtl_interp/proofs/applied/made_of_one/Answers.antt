@@ -2,6 +2,7 @@ use Rattle.std.proofs.Common.{◌≡◌, ◌∷◌, [], Ok, map, refl, subst}
 use Rattle.std.specs.Prelude.{IfOk}
 use Rattle.vtl_scalar.specs.Answers.{Answers}
 use Rattle.vtl_tree.specs.Trees as nodes
+use Rattle.vtl_tree.specs.Trees.{structure_of}
 use Rattle.vtl_tree.specs.NodeView.{agg_tree, analytic_tree, item_tree, measure_tree, node_tree, point_rules_tree}
 use Rattle.vtl_tree.specs.declared.choices.Choice.TheVariants as choice
 use Rattle.vtl_tree.specs.declared.names.Wanted.TheVariants as wanted
@@ -13,9 +14,14 @@ use Rattle.vtl_meaning.specs.Made.{IsLeft, IsRenamed}
 use Rattle.vtl_meaning.specs.Operators.{calculated_of, left_of, measured_of, sub_of}
 use Rattle.vtl_meaning.specs.Shapes.{IsChosen, IsRenamedBy}
 use Rattle.vtl_meaning.specs.Turned.{pivot_of, unpivot_of}
+use Rattle.vtl_rulings.specs.Hierarchies.{hierarchy_of}
+use Rattle.vtl_rulings.specs.HierarchyChecks.{check_hierarchy_of, ruled_by}
+use Rattle.vtl_rulings.specs.HierarchyShapes.{IsHierarchyChecked, IsHierarchyMade}
+use Rattle.vtl_rulings.specs.Ordered.{HasOrder}
 use Rattle.vtl_rulings.specs.PointChecks.{datapoint_of}
 use Rattle.vtl_rulings.specs.Shaped.{IsPointChecked}
-use Rattle.vtl_interp.proofs.NodesEvaluated.{aggregate_fits, analytic_fits, form_tree-Aggregate, form_tree-Analytic, form_tree-Calc, form_tree-CheckDatapoint, form_tree-DropNamed, form_tree-Keep, form_tree-Measures, form_tree-Member, form_tree-Pivot, form_tree-Rename, form_tree-Sub, form_tree-Unpivot, measures_fit, one_fits, one_given_at, one_operand, renamed}
+use Rattle.vtl_interp.specs.Evaluated.{Gives}
+use Rattle.vtl_interp.proofs.NodesEvaluated.{aggregate_fits, analytic_fits, form_tree-Aggregate, form_tree-Analytic, form_tree-Calc, form_tree-CheckDatapoint, form_tree-CheckHierarchy, form_tree-DropNamed, form_tree-Hierarchy, form_tree-Keep, form_tree-Measures, form_tree-Member, form_tree-Pivot, form_tree-Rename, form_tree-Sub, form_tree-Unpivot, measures_fit, one_fits, one_given_at, one_operand, renamed}
 use Rattle.vtl_interp.proofs.applied.made_of_one.Goals as goal
 
 pub map_measures-requires : goal.map_measures-requires
@@ -267,3 +273,57 @@ returns-in-CheckDatapoint c env made g =
     one_operand (λ d. d) c.args.p.now env n (form.CheckDatapoint x.a x.rules x.out) tree a v (λ d. datapoint_of c.args.p.now x.out (point_rules_tree x.rules).rules d) c.check_datapoint.result x.is (form_tree-CheckDatapoint x.a x.rules x.out) refl
     (one_given_at c.args.p.now env n (form.CheckDatapoint x.a x.rules x.out) tree v x.is (form_tree-CheckDatapoint x.a x.rules x.out) g)
     c.check_datapoint.ensures
+
+pub check_hierarchy-requires : goal.check_hierarchy-requires
+check_hierarchy-requires c =
+    let n = c.args.node.now in
+    let v = c.args.a in
+    let x = c.in-CheckHierarchy in
+    let a = node_tree x.a.value in
+    let tree = nodes.check_hierarchy a x.rules x.mode x.out in
+    one_fits (λ s. IsHierarchyChecked x.out (ruled_by x.rules s) x.rules.rules s) c.args.p.now c.requires.0 n (form.CheckHierarchy x.a x.rules x.mode x.out) tree a v x.is (form_tree-CheckHierarchy x.a x.rules x.mode x.out) (λ m. m.1) c.requires.1
+    (one_given_at c.args.p.now c.requires.0 n (form.CheckHierarchy x.a x.rules x.mode x.out) tree v x.is (form_tree-CheckHierarchy x.a x.rules x.mode x.out) c.requires.2)
+
+pub returns-in-CheckHierarchy : goal.returns-in-CheckHierarchy
+returns-in-CheckHierarchy c env made g =
+    let p = c.args.p.now in
+    let n = c.args.node.now in
+    let v = c.args.a in
+    let x = c.in-CheckHierarchy in
+    let a = node_tree x.a.value in
+    let tree = nodes.check_hierarchy a x.rules x.mode x.out in
+    let given : Gives p env a v = one_given_at p env n (form.CheckHierarchy x.a x.rules x.mode x.out) tree v x.is (form_tree-CheckHierarchy x.a x.rules x.mode x.out) g in
+    one_operand (λ d. d) p env n (form.CheckHierarchy x.a x.rules x.mode x.out) tree a v (λ d. check_hierarchy_of p x.out (ruled_by x.rules (structure_of a)) x.mode d x.rules.rules) c.check_hierarchy.result x.is (form_tree-CheckHierarchy x.a x.rules x.mode x.out) refl given
+    (subst (λ s. Answers c.check_hierarchy.result (with_structure n.structure (check_hierarchy_of p x.out (ruled_by x.rules s) x.mode v x.rules.rules))) given.structure c.check_hierarchy.ensures)
+
+pub hierarchy-requires-clause-made : goal.hierarchy-requires-clause-made
+hierarchy-requires-clause-made c =
+    let n = c.args.node.now in
+    let v = c.args.a in
+    let x = c.in-Hierarchy in
+    let a = node_tree x.a.value in
+    let tree = nodes.hierarchy a x.rules x.mode x.input x.out in
+    one_fits (λ s. IsHierarchyMade (ruled_by x.rules s) x.rules.rules s) c.args.p.now c.requires.0 n (form.Hierarchy x.a x.rules x.mode x.input x.out) tree a v x.is (form_tree-Hierarchy x.a x.rules x.mode x.input x.out) (λ m. m.1) c.requires.1
+    (one_given_at c.args.p.now c.requires.0 n (form.Hierarchy x.a x.rules x.mode x.input x.out) tree v x.is (form_tree-Hierarchy x.a x.rules x.mode x.input x.out) c.requires.2)
+
+pub hierarchy-requires-clause-order : goal.hierarchy-requires-clause-order
+hierarchy-requires-clause-order c =
+    let n = c.args.node.now in
+    let v = c.args.a in
+    let x = c.in-Hierarchy in
+    let a = node_tree x.a.value in
+    let tree = nodes.hierarchy a x.rules x.mode x.input x.out in
+    one_fits (λ s t. HasOrder x.rules.rules x.rules.order) c.args.p.now c.requires.0 n (form.Hierarchy x.a x.rules x.mode x.input x.out) tree a v x.is (form_tree-Hierarchy x.a x.rules x.mode x.input x.out) (λ m. m.2) c.requires.1
+    (one_given_at c.args.p.now c.requires.0 n (form.Hierarchy x.a x.rules x.mode x.input x.out) tree v x.is (form_tree-Hierarchy x.a x.rules x.mode x.input x.out) c.requires.2)
+
+pub returns-in-Hierarchy : goal.returns-in-Hierarchy
+returns-in-Hierarchy c env made g =
+    let p = c.args.p.now in
+    let n = c.args.node.now in
+    let v = c.args.a in
+    let x = c.in-Hierarchy in
+    let a = node_tree x.a.value in
+    let tree = nodes.hierarchy a x.rules x.mode x.input x.out in
+    let given : Gives p env a v = one_given_at p env n (form.Hierarchy x.a x.rules x.mode x.input x.out) tree v x.is (form_tree-Hierarchy x.a x.rules x.mode x.input x.out) g in
+    one_operand (λ d. d) p env n (form.Hierarchy x.a x.rules x.mode x.input x.out) tree a v (λ d. hierarchy_of p (ruled_by x.rules (structure_of a)) x.mode x.input x.rules.rules d x.out n.structure) c.hierarchy.result x.is (form_tree-Hierarchy x.a x.rules x.mode x.input x.out) refl given
+    (subst (λ s. Answers c.hierarchy.result (with_structure n.structure (hierarchy_of p (ruled_by x.rules s) x.mode x.input x.rules.rules v x.out n.structure))) given.structure c.hierarchy.ensures)

@@ -13,7 +13,7 @@ run_statements-requires-clause-many c = c.nodes.ensures.as_many ∙ sym (ap (λ 
 pub run_statements-requires-clause-ready : goal.run_statements-requires-clause-ready
 run_statements-requires-clause-ready c =
     ready_to_run c.args.script.now c.args.inputs.now c.in_ok-known.known.entries c.profile.result.now c.statements.result.now c.nodes.result.now c.profile.ensures c.statements.ensures c.nodes.ensures.nodes
-    c.nodes.ensures.typed c.requires.built (statements_made c.args.script.now c.nodes.ensures.declared c.nodes.ensures.typed) c.in_ok-known.ensures
+    c.nodes.ensures.typed (statements_made c.args.script.now c.nodes.ensures.declared c.nodes.ensures.typed) c.in_ok-known.ensures
 
 pub returns : goal.returns
 returns c =

@@ -9,5 +9,5 @@ run-requires-clause-ranges g c = ranges_reordered c.args.inputs c.in_ok-ready.re
 
 pub returns-clause-run : goal.returns-clause-run
 returns-clause-run g c =
-    runs_reordered c.args.inputs c.in_ok-ready.ready c.args.script.now c.nodes.ensures.typed c.nodes.ensures.declared c.requires.built c.requires.inputs c.in_ok-ready.ensures
+    runs_reordered c.args.inputs c.in_ok-ready.ready c.args.script.now c.nodes.ensures.typed c.nodes.ensures.declared c.requires.inputs c.in_ok-ready.ensures
     c.args.out.now c.run.new.out c.run.result c.run.ensures.run

@@ -1,18 +1,16 @@
 use Rattle.std.proofs.Common.{rules, ◌≡◌, ◌≤◌, ◌+◌, ◌∷◌, List, Err, drop, length, map, ap, subst, sym, arith}
 use Rattle.std.specs.Map.{keys_of}
-use Rattle.std.proofs.lemmas.Bool.{and_parts}
 use Rattle.std.proofs.lemmas.List.{drop_all}
 use Rattle.vtl_rows.specs.Named.{NamedTables}
 use Rattle.vtl_syntax.specs.View.{statement_tree}
 use Rattle.vtl_syntax.specs.declared.statements.Statement.{Statement}
 use Rattle.vtl_tree.specs.NodeView.{node_tree}
-use Rattle.vtl_scripts.specs.Meaning.{is_built, meaning}
+use Rattle.vtl_scripts.specs.Meaning.{meaning}
 use Rattle.vtl_backend.specs.Statements.{with_nodes}
 use Rattle.vtl_check.specs.Transformations.{transformations_from}
 use Rattle.vtl_check.proofs.LeftLemmas.{assigned_at, left, one_left}
 use Rattle.vtl_interp.specs.Results.{AreReady}
 use Rattle.vtl_interp.proofs.Steps.{meaning_begins, meaning_ends}
-use Rattle.vtl_interp.proofs.Scripts.{are_built}
 use Rattle.vtl_interp.proofs.Turns.{fault_told, left_from, ready_now, still_many, still_meant, still_ready, still_reads}
 use Rattle.vtl_interp.proofs.Writes.{no_table}
 use Rattle.vtl_interp.proofs.statements.run_each.Goals as goal
@@ -36,16 +34,6 @@ add_result-requires-clause-made c =
     one_left ss i c.statement-item.result c.loop-statement-test.true c.statement-item.is c.in-Assignment.name c.in-Assignment.kind c.in-Assignment.value c.in-Assignment.is in
     (ready_now c.args.p.now ss c.args.nodes.now i c.loop-statement.place c.in-Assignment.name c.in-Assignment.kind c.in-Assignment.value c.index-nodes-place.result here c.loop-statement.invariant.many c.index-nodes-place.is
     c.loop-statement.held.known.entries (keys_of c.loop-statement.held.outputs) c.loop-statement.invariant.ready).made.0
-
-pub add_result-requires-clause-built : goal.add_result-requires-clause-built
-add_result-requires-clause-built c =
-    let ss = c.args.statements.now in
-    let i = c.loop-statement.statement-index in
-    let here : left ss i ≡ assigned_at i c.in-Assignment.name c.in-Assignment.kind c.in-Assignment.value ∷ left ss (i + 1) =
-    one_left ss i c.statement-item.result c.loop-statement-test.true c.statement-item.is c.in-Assignment.name c.in-Assignment.kind c.in-Assignment.value c.in-Assignment.is in
-    (and_parts (is_built (node_tree c.index-nodes-place.result)) (are_built (left_from ss c.args.nodes.now (i + 1) (c.loop-statement.place + 1)))
-    (ready_now c.args.p.now ss c.args.nodes.now i c.loop-statement.place c.in-Assignment.name c.in-Assignment.kind c.in-Assignment.value c.index-nodes-place.result here c.loop-statement.invariant.many c.index-nodes-place.is
-    c.loop-statement.held.known.entries (keys_of c.loop-statement.held.outputs) c.loop-statement.invariant.ready).built).0
 
 pub add_result-requires-clause-new_name : goal.add_result-requires-clause-new_name
 add_result-requires-clause-new_name c =

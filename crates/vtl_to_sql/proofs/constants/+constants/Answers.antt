@@ -5,8 +5,8 @@ use Rattle.vtl_tree.specs.NodeView.{node_tree, point_rule_tree, value_tree}
 use Rattle.vtl_tree.specs.declared.rules.DatapointRule.{DatapointRule}
 use Rattle.vtl_meaning.specs.Operators.{value_exp}
 use Rattle.expressions_to_sql.specs.Held.{HoldsValues}
-use Rattle.vtl_to_sql.specs.Accepted.{HoldsParts, RuleHoldsValues}
-use Rattle.vtl_to_sql.proofs.HeldConstants.{calc_node_held, check_node_held, datapoint_node_held, intersect_node_held, join_node_held, measures_node_held, pair_node_held, union_node_held}
+use Rattle.vtl_to_sql.specs.Accepted.{HoldsParts, RuleHoldsValues, RulesHoldTexts}
+use Rattle.vtl_to_sql.proofs.HeldConstants.{calc_node_held, check_node_held, checked_node_held, computed_node_held, datapoint_node_held, intersect_node_held, join_node_held, measures_node_held, pair_node_held, union_node_held}
 use Rattle.vtl_to_sql.proofs.constants.+constants.Goals as goal
 
 pub node_is_held-returns-in-Measures : goal.node_is_held-returns-in-Measures
@@ -51,3 +51,13 @@ pub node_is_held-returns-in-CheckDatapoint : goal.node_is_held-returns-in-CheckD
 node_is_held-returns-in-CheckDatapoint t c =
     datapoint_node_held c.args.node.now c.in-CheckDatapoint.a c.in-CheckDatapoint.rules c.in-CheckDatapoint.out c.in-CheckDatapoint.is (subst (λ n. HoldsParts (node_tree n)) c.deref-in-CheckDatapoint.ensures c.node_is_held-in-CheckDatapoint.ensures)
     (subst (AllByRecursion (λ r. RuleHoldsValues (point_rule_tree r))) c.as_slice-in-CheckDatapoint.ensures c.rules_are_held.ensures.rules) (subst (λ (l : List DatapointRule). length l < 2 ^ 64) c.as_slice-in-CheckDatapoint.ensures c.rules_are_held.ensures.few)
+
+pub node_is_held-returns-in-CheckHierarchy : goal.node_is_held-returns-in-CheckHierarchy
+node_is_held-returns-in-CheckHierarchy t c =
+    let x = c.in-CheckHierarchy in
+    checked_node_held c.args.node.now x.a x.rules x.mode x.out x.is (subst (λ n. HoldsParts (node_tree n)) c.deref-in-CheckHierarchy.ensures c.node_is_held-in-CheckHierarchy.ensures) (subst RulesHoldTexts c.as_slice-in-CheckHierarchy.ensures c.hierarchy_is_held.ensures)
+
+pub node_is_held-returns-in-Hierarchy : goal.node_is_held-returns-in-Hierarchy
+node_is_held-returns-in-Hierarchy t c =
+    let x = c.in-Hierarchy in
+    computed_node_held c.args.node.now x.a x.rules x.mode x.input x.out x.is (subst (λ n. HoldsParts (node_tree n)) c.deref-in-Hierarchy.ensures c.node_is_held-in-Hierarchy.ensures) (subst RulesHoldTexts c.as_slice-in-Hierarchy.ensures c.hierarchy_is_held-in-Hierarchy.ensures)

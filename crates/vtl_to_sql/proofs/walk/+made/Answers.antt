@@ -14,7 +14,8 @@ use Rattle.vtl_to_sql.specs.FormQueries.{query_of_one, query_of_two}
 use Rattle.selects_to_sql.specs.Tables.{create_for, Made, and_then, with_one, with_two}
 use Rattle.vtl_to_sql.specs.Tables.{made_of_form, sources_of}
 use Rattle.vtl_to_sql.proofs.JoinNodes.{join_gives, join_of_form}
-use Rattle.vtl_to_sql.proofs.Combining.{alone, begun, ended, ends, intersection_of_form, left_ready, one_more, turn_made, union_of_form}
+use Rattle.vtl_to_sql.proofs.Combining.{alone, begun, ended, ends, intersection_of_form, one_more, turn_made, union_of_form}
+use Rattle.vtl_to_sql.proofs.RuledNodes.{ruled_gives}
 use Rattle.vtl_to_sql.proofs.Walked.{behind_names, behind_others, check_made, imbalance_made, one_made, one_renamed, tree_of_choose, tree_of_named, two_made}
 use Rattle.vtl_to_sql.proofs.walk.+made.Goals as goal
 
@@ -266,7 +267,6 @@ combined-loop-node-init t c =
     let made = c.in_ok-so_far.ensures in
     record {
       gives = begun c.args.operator c.args.writer.now c.args.target.now c.args.s.now (map node_tree l) left first c.in_ok-so_far.so_far c.args.draft.now.next c.source.new.draft.next old new parts made.name made.tables made.next;
-      ready = left_ready (map node_tree l) left first parts c.requires;
     }
 
 pub combined-loop-node-preserved : goal.combined-loop-node-preserved
@@ -295,7 +295,6 @@ combined-loop-node-preserved t c =
       gives =
           turn_made o p r s whole old done kept new left b ms last c.loop-node.so_far c.in_ok-other.other c.in_ok-so_far-2.so_far c.loop-node.draft.next c.source-in-loop-node.new.draft.next c.store.new.self.next (query_tree c.in_ok-query.query) parts
           c.loop-node.invariant.gives made.name made.tables made.next (c.in_ok-query.ensures s (structure_of b)) stored.name stored.statements stored.next;
-      ready = left_ready left (ms ++ last ∷ []) b parts c.loop-node.invariant.ready;
     }
 
 pub combined-returns-clause-query : goal.combined-returns-clause-query
@@ -358,3 +357,48 @@ pub query-returns-in-Join-clause-next : goal.query-returns-in-Join-clause-next
 query-returns-in-Join-clause-next t c =
     let is = join_of_form c.args.writer.now c.args.target.now c.args.s.now c.args.form.now c.in-Join.operands c.deref-in-Join.result.now c.in-Join.spec c.args.draft.now.next c.in-Join.is c.deref-in-Join.ensures.value in
     IfOk-weaker c.join.result _ _ (λ q e. e ∙ ap (λ (m : Made). m.next) is) c.join.ensures.next
+
+pub query-returns-in_ok-operand-in-CheckHierarchy-clause-query : goal.query-returns-in_ok-operand-in-CheckHierarchy-clause-query
+query-returns-in_ok-operand-in-CheckHierarchy-clause-query t c =
+    let p = c.args.writer.now in
+    let r = c.args.target.now in
+    let n = c.args.draft.now.next in
+    let old = map statement_tree c.args.draft.now.statements.items in
+    let of = λ (x : Node). sources_of p r (node_tree x) n in
+    let one = c.in_ok-operand-in-CheckHierarchy.ensures in
+    let same = c.deref-in-CheckHierarchy.ensures in
+    let rest =
+    ruled_gives p r c.args.s.now c.args.form.now c.in-CheckHierarchy.a n c.in_ok-operand-in-CheckHierarchy.operand c.source-in-CheckHierarchy.new.draft.next old (map statement_tree c.source-in-CheckHierarchy.new.draft.statements.items) c.in-CheckHierarchy.is
+    (one.name ∙ ap (λ (x : Node). (of x).names) same) (one.next ∙ ap (λ (x : Node). (of x).next) same) (one.tables ∙ ap (λ (x : Node). old ++ map create_for (of x).tables) same)
+    in
+    IfOk-weaker c.ruled_query.result _ _ (λ q e. e ∙ rest.query) c.ruled_query.ensures.query
+
+pub query-returns-in_ok-operand-in-CheckHierarchy-clause-tables : goal.query-returns-in_ok-operand-in-CheckHierarchy-clause-tables
+query-returns-in_ok-operand-in-CheckHierarchy-clause-tables t c =
+    let p = c.args.writer.now in
+    let r = c.args.target.now in
+    let n = c.args.draft.now.next in
+    let old = map statement_tree c.args.draft.now.statements.items in
+    let of = λ (x : Node). sources_of p r (node_tree x) n in
+    let one = c.in_ok-operand-in-CheckHierarchy.ensures in
+    let same = c.deref-in-CheckHierarchy.ensures in
+    let rest =
+    ruled_gives p r c.args.s.now c.args.form.now c.in-CheckHierarchy.a n c.in_ok-operand-in-CheckHierarchy.operand c.source-in-CheckHierarchy.new.draft.next old (map statement_tree c.source-in-CheckHierarchy.new.draft.statements.items) c.in-CheckHierarchy.is
+    (one.name ∙ ap (λ (x : Node). (of x).names) same) (one.next ∙ ap (λ (x : Node). (of x).next) same) (one.tables ∙ ap (λ (x : Node). old ++ map create_for (of x).tables) same)
+    in
+    IfOk-weaker c.ruled_query.result _ _ (λ q e. e ∙ rest.tables) c.ruled_query.ensures.tables
+
+pub query-returns-in_ok-operand-in-CheckHierarchy-clause-next : goal.query-returns-in_ok-operand-in-CheckHierarchy-clause-next
+query-returns-in_ok-operand-in-CheckHierarchy-clause-next t c =
+    let p = c.args.writer.now in
+    let r = c.args.target.now in
+    let n = c.args.draft.now.next in
+    let old = map statement_tree c.args.draft.now.statements.items in
+    let of = λ (x : Node). sources_of p r (node_tree x) n in
+    let one = c.in_ok-operand-in-CheckHierarchy.ensures in
+    let same = c.deref-in-CheckHierarchy.ensures in
+    let rest =
+    ruled_gives p r c.args.s.now c.args.form.now c.in-CheckHierarchy.a n c.in_ok-operand-in-CheckHierarchy.operand c.source-in-CheckHierarchy.new.draft.next old (map statement_tree c.source-in-CheckHierarchy.new.draft.statements.items) c.in-CheckHierarchy.is
+    (one.name ∙ ap (λ (x : Node). (of x).names) same) (one.next ∙ ap (λ (x : Node). (of x).next) same) (one.tables ∙ ap (λ (x : Node). old ++ map create_for (of x).tables) same)
+    in
+    IfOk-weaker c.ruled_query.result _ _ (λ q e. e ∙ rest.next) c.ruled_query.ensures.next

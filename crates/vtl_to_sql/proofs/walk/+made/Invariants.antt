@@ -1,11 +1,10 @@
-use Rattle.std.proofs.Common.{◌≡◌, ◌∷◌, ◌++◌, [], true, drop, length, map}
+use Rattle.std.proofs.Common.{◌≡◌, ◌∷◌, ◌++◌, [], drop, length, map}
 use Rattle.vtl_tree.specs.Trees as nodes
 use Rattle.vtl_tree.specs.NodeView.{node_tree, operand_tree}
 use Rattle.sql_tree.specs.View.{statement_tree}
 use Rattle.vtl_to_sql.specs.Combined.{combined_made, rest_made}
 use Rattle.selects_to_sql.specs.Tables.{create_for, by_name}
 use Rattle.vtl_to_sql.specs.Tables.{operands_of}
-use Rattle.vtl_to_sql.specs.Accepted.{are_nodes_translated, are_operands_translated}
 use Rattle.vtl_to_sql.proofs.Combining.{GivesAll}
 use Rattle.vtl_to_sql.proofs.walk.+made.Given as goal
 
@@ -19,7 +18,6 @@ invariant-joined_sources-loop-operand l =
       many : length l.tables.items ≡ l.operand-index;
       tables : map statement_tree l.draft.statements.items ++ map create_for rest.tables ≡ map statement_tree l.fn.draft.statements.items ++ map create_for all.tables;
       next : rest.next ≡ all.next;
-      ready : are_operands_translated left ≡ true;
     }
 
 abbrev pub invariant-combined-loop-node : goal.invariant-combined-loop-node
@@ -28,5 +26,4 @@ invariant-combined-loop-node l =
     let left = map node_tree (drop l.node-index l.between) ++ node_tree l.last ∷ [] in
     record {
       gives : GivesAll all (map statement_tree l.fn.draft.statements.items) (map statement_tree l.draft.statements.items) (rest_made l.operator l.writer l.target l.s left l.s (by_name l.so_far l.draft.next));
-      ready : are_nodes_translated (nodes.nodes_of left) ≡ true;
     }

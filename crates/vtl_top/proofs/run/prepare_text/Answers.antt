@@ -5,4 +5,4 @@ use Rattle.vtl_top.proofs.run.prepare_text.Goals as goal
 
 pub returns : goal.returns
 returns g c =
-    text_made g.F.Files (source_view c.args.source.now) string_bytes c.args.files.now c.read_built.new.files c.in_ok-checked.checked c.in_ok-checked.ensures.takes c.in_ok-text_of.field-0 c.in_ok-text_of.ensures.text
+    text_made g.F.Files (source_view c.args.source.now) string_bytes c.args.files.now c.read_typed.new.files c.in_ok-checked.checked c.in_ok-checked.ensures c.in_ok-text_of.field-0 c.in_ok-text_of.ensures.text

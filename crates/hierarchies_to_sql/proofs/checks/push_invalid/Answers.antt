@@ -1,0 +1,13 @@
+use Rattle.std.proofs.Common.{[], ◌∷◌}
+use Rattle.vtl_tree.specs.Shown.{shown}
+use Rattle.selects_to_sql.proofs.NamedItems.{next_behind}
+use Rattle.rules_to_sql.specs.Items.{errors_as}
+use Rattle.hierarchies_to_sql.specs.RuleItems.{leaves_of}
+use Rattle.hierarchies_to_sql.specs.SideItems.{gap_as, left_as}
+use Rattle.hierarchies_to_sql.proofs.checks.push_invalid.Goals as goal
+
+pub returns : goal.returns
+returns c =
+    let gap = gap_as c.args.writer.now c.args.sided.now.mode c.args.measured.now.kind c.args.sided.now.rule.now (leaves_of c.args.measured.now c.args.sided.now.aliases.now) in
+    next_behind c.args.items.now.items c.push_left.new.items.items c.push_failed.new.items.items (left_as c.args.writer.now c.args.sided.now.mode c.args.measured.now.kind (leaves_of c.args.measured.now c.args.sided.now.aliases.now) ∷ []) (gap ∷ errors_as c.args.sided.now.rule.now.error.code c.args.sided.now.level) (shown c.args.columns.now)
+    c.in_ok-push_left.ensures c.in_ok-push_failed.ensures
