@@ -28,7 +28,7 @@ use Rattle.joins_to_sql.specs.JoinTables.{full_made, join_made, keys_of}
 use Rattle.hierarchies_to_sql.specs.CheckTables.{check_hierarchy_made, checked_items, sided}
 use Rattle.hierarchies_to_sql.specs.ComputedTables.{computed_by, computed_made, first_name, given_items, merged_query, ordered_tables, run_over, run_tables, taken_table}
 use Rattle.hierarchies_to_sql.specs.ItemTables.{Tables as ItemTables, combinations_of, item_query, item_tables, others_structure, tables_by, with_table}
-use Rattle.vtl_to_sql.specs.Hierarchies.{computed_table, hierarchy_made}
+use Rattle.vtl_to_sql.specs.Hierarchies.{computed_table, hierarchy_made, ruled_made}
 
 -- the next number behind so many tables
 abbrev AreCounted : ℕ → Sources → Type 0
@@ -132,6 +132,7 @@ module _ (p : Settings) (r : Text) where
     operand_counted (nodes.node s form) k = source_counted r form k (made_of_form p r s form k) (form_counted s form k)
 
     form_counted : (s : Structure) (form : FormTree) (k : ℕ) → (made_of_form p r s form k).next ≡ k + length (made_of_form p r s form k).tables
+    unfolding ruled_made
     form_counted s (nodes.named x) k = omega arith
     form_counted s (nodes.measures m a) k = operand_counted a k
     form_counted s (nodes.pair o a b) k = let x = sources_of p r a k in behind_counted x (sources_of p r b x.next) k (operand_counted a k) (operand_counted b x.next)

@@ -40,6 +40,7 @@ use Rattle.vtl_to_sql.specs.Conditions.{AreNodesTranslated, AreOperandsTranslate
 use Rattle.selects_to_sql.specs.Writable.{HaveNames}
 use Rattle.selects_to_sql.specs.Means.{AreEarlier, Means, NodeGives, SourcesGive, Stands, StandsAs, Extends}
 use Rattle.selects_to_sql.specs.Queries.{calc_query, choose_query, copy_query, filter_query, left_query, measures_query, pair_query, rename_query, sub_query}
+use Rattle.vtl_to_sql.specs.Hierarchies.{ruled_made}
 use Rattle.vtl_to_sql.specs.Sets.{shown_query, union_query, intersection_query, difference_query, symmetric_difference_query, existence_query}
 use Rattle.selects_to_sql.specs.Tables.{Sources, and_then, numbered, over, table_of, with_one, with_two, stored}
 use Rattle.vtl_to_sql.specs.Tables.{combined_of, made_of, made_of_form, operands_of, source_of, sources_of}
@@ -207,6 +208,7 @@ module _ (p : Settings) (law : Translates p) (r : Text) (word : is_word r ≡ tr
     operand_gives (nodes.node s form) m before stands apart i c few = source_gives before m s form stands apart i.1 few (λ l. form_gives s form m before stands apart i.0 i.1 c.0 c.1 l)
 
     form_gives : (s : Structure) (form : FormTree) (m : ℕ) (before : Data) → Stands before env → AreEarlier r m before → IsShaped s → IsMadeForm p (known_in env) s form → HaveNames (columns_of s) → IsFormTranslated p s form → m + length (made_of_form p r s form m).tables < 2 ^ 64 → NodeGives p before r m (made_of_form p r s form m) s (form_value p env s form)
+    unfolding ruled_made
     form_gives s (nodes.named x) m before stands apart w i n c few =
         let back : before ≡ before ++ [] = sym (append-nil before) in
         let st = stands x s i in
