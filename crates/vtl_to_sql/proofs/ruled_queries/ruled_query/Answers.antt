@@ -12,7 +12,7 @@ pub returns-in-CheckHierarchy-clause-query : goal.returns-in-CheckHierarchy-clau
 returns-in-CheckHierarchy-clause-query c =
     let x = c.in-CheckHierarchy in
     let made = c.operand-a.ensures in
-    let same = check_is c.args.writer.now c.args.target.now c.args.s.now c.operand-a.result.structure.now c.args.form.now x.a x.rules x.mode x.out c.operand-a.result.table.now c.args.table.now c.args.draft.now.next x.is (made.structure ∙ ap (λ (n : Node). structure_of (node_tree n)) c.deref-in-CheckHierarchy.ensures) made.table in
+    let same = check_is c.args.writer.now c.args.target.now c.args.s.now c.operand-a.result.structure.now c.args.form.now x.a x.rules x.mode x.out c.operand-a.result.table.now c.args.table.now c.args.draft.now.next x.is (made.structure ∙ ap (λ (n : Node). structure_of (node_tree n)) c.deref.ensures) made.table in
     IfOk-weaker c.check_hierarchy_query.result _ _ (λ q e. e ∙ ap (λ (m : Made). m.query) same) c.check_hierarchy_query.ensures.query
 
 pub returns-in-CheckHierarchy-clause-tables : goal.returns-in-CheckHierarchy-clause-tables
@@ -20,14 +20,14 @@ returns-in-CheckHierarchy-clause-tables c =
     let x = c.in-CheckHierarchy in
     let made = c.operand-a.ensures in
     let old = map statement_tree c.args.draft.now.statements.items in
-    let same = check_is c.args.writer.now c.args.target.now c.args.s.now c.operand-a.result.structure.now c.args.form.now x.a x.rules x.mode x.out c.operand-a.result.table.now c.args.table.now c.args.draft.now.next x.is (made.structure ∙ ap (λ (n : Node). structure_of (node_tree n)) c.deref-in-CheckHierarchy.ensures) made.table in
+    let same = check_is c.args.writer.now c.args.target.now c.args.s.now c.operand-a.result.structure.now c.args.form.now x.a x.rules x.mode x.out c.operand-a.result.table.now c.args.table.now c.args.draft.now.next x.is (made.structure ∙ ap (λ (n : Node). structure_of (node_tree n)) c.deref.ensures) made.table in
     IfOk-weaker c.check_hierarchy_query.result _ _ (λ q e. e ∙ ap (λ (m : Made). old ++ map create_for m.tables) same) c.check_hierarchy_query.ensures.tables
 
 pub returns-in-CheckHierarchy-clause-next : goal.returns-in-CheckHierarchy-clause-next
 returns-in-CheckHierarchy-clause-next c =
     let x = c.in-CheckHierarchy in
     let made = c.operand-a.ensures in
-    let same = check_is c.args.writer.now c.args.target.now c.args.s.now c.operand-a.result.structure.now c.args.form.now x.a x.rules x.mode x.out c.operand-a.result.table.now c.args.table.now c.args.draft.now.next x.is (made.structure ∙ ap (λ (n : Node). structure_of (node_tree n)) c.deref-in-CheckHierarchy.ensures) made.table in
+    let same = check_is c.args.writer.now c.args.target.now c.args.s.now c.operand-a.result.structure.now c.args.form.now x.a x.rules x.mode x.out c.operand-a.result.table.now c.args.table.now c.args.draft.now.next x.is (made.structure ∙ ap (λ (n : Node). structure_of (node_tree n)) c.deref.ensures) made.table in
     IfOk-weaker c.check_hierarchy_query.result _ _ (λ q e. e ∙ ap (λ (m : Made). m.next) same) c.check_hierarchy_query.ensures.next
 
 pub returns-in-Computed-clause-query : goal.returns-in-Computed-clause-query
