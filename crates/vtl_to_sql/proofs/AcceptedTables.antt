@@ -125,6 +125,8 @@ module _ (p : Settings) (r : Text) (h : Ruled) (a : Structure) where
 
 module _ (p : Settings) (r : Text) where
   mutual
+    unfolding ruled_made
+
     pub made_counted : (n : NodeTree) (k : ℕ) → (made_of p r n k).next ≡ k + length (made_of p r n k).tables
     made_counted (nodes.node s form) k = form_counted s form k
 
@@ -132,7 +134,6 @@ module _ (p : Settings) (r : Text) where
     operand_counted (nodes.node s form) k = source_counted r form k (made_of_form p r s form k) (form_counted s form k)
 
     form_counted : (s : Structure) (form : FormTree) (k : ℕ) → (made_of_form p r s form k).next ≡ k + length (made_of_form p r s form k).tables
-    unfolding ruled_made
     form_counted s (nodes.named x) k = omega arith
     form_counted s (nodes.measures m a) k = operand_counted a k
     form_counted s (nodes.pair o a b) k = let x = sources_of p r a k in behind_counted x (sources_of p r b x.next) k (operand_counted a k) (operand_counted b x.next)

@@ -201,6 +201,8 @@ module _ (p : Settings) (law : Translates p) (r : Text) (word : is_word r ≡ tr
       (step.means now y z a (structure_of b) st.rows su.rows st.table su.table st.named su.named na (names_in p b c) one two ia ib))
 
   mutual
+    unfolding ruled_made
+
     pub node_gives : (n : NodeTree) (m : ℕ) (before : Data) → Stands before env → AreEarlier r m before → IsMade p (known_in env) n → IsTranslated p n → m + length (made_of p r n m).tables < 2 ^ 64 → NodeGives p before r m (made_of p r n m) (structure_of n) (node_value p env n)
     node_gives (nodes.node s form) m before stands apart i c few = form_gives s form m before stands apart i.0 i.1 c.0 c.1 few
 
@@ -208,7 +210,6 @@ module _ (p : Settings) (law : Translates p) (r : Text) (word : is_word r ≡ tr
     operand_gives (nodes.node s form) m before stands apart i c few = source_gives before m s form stands apart i.1 few (λ l. form_gives s form m before stands apart i.0 i.1 c.0 c.1 l)
 
     form_gives : (s : Structure) (form : FormTree) (m : ℕ) (before : Data) → Stands before env → AreEarlier r m before → IsShaped s → IsMadeForm p (known_in env) s form → HaveNames (columns_of s) → IsFormTranslated p s form → m + length (made_of_form p r s form m).tables < 2 ^ 64 → NodeGives p before r m (made_of_form p r s form m) s (form_value p env s form)
-    unfolding ruled_made
     form_gives s (nodes.named x) m before stands apart w i n c few =
         let back : before ≡ before ++ [] = sym (append-nil before) in
         let st = stands x s i in
