@@ -28,7 +28,7 @@ use Rattle.joins_to_sql.specs.JoinTables.{full_made, join_made, keys_of}
 use Rattle.hierarchies_to_sql.specs.CheckTables.{check_hierarchy_made, checked_items, sided}
 use Rattle.hierarchies_to_sql.specs.ComputedTables.{computed_by, computed_made, first_name, given_items, merged_query, ordered_tables, run_over, run_tables, taken_table}
 use Rattle.hierarchies_to_sql.specs.ItemTables.{Tables as ItemTables, combinations_of, item_query, item_tables, others_structure, tables_by, with_table}
-use Rattle.vtl_to_sql.specs.Hierarchies.{computed_table, hierarchy_made}
+use Rattle.vtl_to_sql.specs.Hierarchies.{computed_table, hierarchy_made, ruled_made}
 
 -- the next number behind so many tables
 abbrev AreCounted : ℕ → Sources → Type 0
@@ -125,6 +125,8 @@ module _ (p : Settings) (r : Text) (h : Ruled) (a : Structure) where
 
 module _ (p : Settings) (r : Text) where
   mutual
+    unfolding ruled_made
+
     pub made_counted : (n : NodeTree) (k : ℕ) → (made_of p r n k).next ≡ k + length (made_of p r n k).tables
     made_counted (nodes.node s form) k = form_counted s form k
 

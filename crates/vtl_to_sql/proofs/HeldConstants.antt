@@ -200,7 +200,7 @@ datapoint_node_held n a ruled out e h held few =
 
 -- the texts of a rule's items
 pub items_held : (r : HierRule) → IsHeld (c.Text (name_of r.item)) → IsHeld (c.Text (name_of r.first)) → AllByRecursion (λ x. IsHeld (c.Text (signed_item x))) r.others → AllByRecursion (λ item. IsHeld (c.Text item)) (items_of r)
-items_held r left first others = (left, first, of_mapped (λ item. IsHeld (c.Text item)) signed_item r.others others)
+items_held r left first others = (left, (first, of_mapped (λ item. IsHeld (c.Text item)) signed_item r.others others))
 
 pub checked_node_held : (n : Node) (a : Box Node Global) (ruled : HierRules) (m : Mode) (o : CheckOut) → n.form ≡ form.CheckHierarchy a ruled m o → HoldsParts (node_tree a.value) → RulesHoldTexts ruled.rules → HoldsParts (node_tree n)
 checked_node_held n a ruled m o e h held =

@@ -40,6 +40,7 @@ use Rattle.vtl_to_sql.specs.Conditions.{AreNodesTranslated, AreOperandsTranslate
 use Rattle.selects_to_sql.specs.Writable.{HaveNames}
 use Rattle.selects_to_sql.specs.Means.{AreEarlier, Means, NodeGives, SourcesGive, Stands, StandsAs, Extends}
 use Rattle.selects_to_sql.specs.Queries.{calc_query, choose_query, copy_query, filter_query, left_query, measures_query, pair_query, rename_query, sub_query}
+use Rattle.vtl_to_sql.specs.Hierarchies.{ruled_made}
 use Rattle.vtl_to_sql.specs.Sets.{shown_query, union_query, intersection_query, difference_query, symmetric_difference_query, existence_query}
 use Rattle.selects_to_sql.specs.Tables.{Sources, and_then, numbered, over, table_of, with_one, with_two, stored}
 use Rattle.vtl_to_sql.specs.Tables.{combined_of, made_of, made_of_form, operands_of, source_of, sources_of}
@@ -200,6 +201,8 @@ module _ (p : Settings) (law : Translates p) (r : Text) (word : is_word r ≡ tr
       (step.means now y z a (structure_of b) st.rows su.rows st.table su.table st.named su.named na (names_in p b c) one two ia ib))
 
   mutual
+    unfolding ruled_made
+
     pub node_gives : (n : NodeTree) (m : ℕ) (before : Data) → Stands before env → AreEarlier r m before → IsMade p (known_in env) n → IsTranslated p n → m + length (made_of p r n m).tables < 2 ^ 64 → NodeGives p before r m (made_of p r n m) (structure_of n) (node_value p env n)
     node_gives (nodes.node s form) m before stands apart i c few = form_gives s form m before stands apart i.0 i.1 c.0 c.1 few
 

@@ -86,6 +86,7 @@ module _ (p : Settings) (r : Text) (h : Ruled) (m : Mode) (i : HierInput) (a s :
   hierarchy_rest out.All ruled order = over_rest (computed_table p r h m i ruled order a s) (with_two (λ y z. union_query p s a s z y)) os x n old done names next made
 
 ruled_rest : (p : Settings) (r : Text) (t : FormTree) (s : Structure) (os : Sources) (x : Text) (n : ℕ) (old done : List StatementTree) → x ∷ [] ≡ os.names → n ≡ os.next → done ≡ old ++ map create_for os.tables → GivesRest (ruled_made p r t s os) old done (ruled_made p r t s (by_name x n))
+unfolding ruled_made
 ruled_rest p r (nodes.check_hierarchy b ruled m o) s os x n old done names next made =
     let a = structure_of b in
     let h = ruled_by ruled a in
@@ -107,6 +108,7 @@ ruled_gives p r s f a n x k old done is names next made =
 
 pub check_is : (p : Settings) (r : Text) (s b : Structure) (f : NodeForm) (a : Box Node Global) (ruled : HierRules) (m : Mode) (o : CheckOut) (x y : Text) (n : ℕ) → f ≡ form.CheckHierarchy a ruled m o → b ≡ structure_of (node_tree a.value) → x ≡ y
     → check_hierarchy_made p r (ruled_by ruled b) m o ruled.rules b s (by_name x n) ≡ ruled_made p r (form_tree f) s (by_name y n)
+unfolding ruled_made
 check_is p r s b f a ruled m o x y n is same named =
     ap (λ (z : Structure). check_hierarchy_made p r (ruled_by ruled z) m o ruled.rules z s (by_name x n)) same
     ∙ ap (λ (z : Text). ruled_made p r (nodes.check_hierarchy (node_tree a.value) ruled m o) s (by_name z n)) named
@@ -143,6 +145,7 @@ module _ (p : Settings) (r : Text) (s b : Structure) (f : NodeForm) (a : Box Nod
       ∙ ap (λ (z : Text). computed_made p r (ruled_by ruled c) m i ruled.rules (places_or_none ruled.order) c s (by_name z n)) named
 
   whole_is : (shown : HierOut) → o ≡ shown → whole ≡ hierarchy_made p r (ruled_by ruled c) m i shown ruled.rules (places_or_none ruled.order) c s (by_name y n)
+  unfolding ruled_made
   whole_is shown e =
       ap (λ (t : FormTree). ruled_made p r t s (by_name y n)) (tree_of_hierarchy f a ruled m i o is)
       ∙ ap (λ (z : HierOut). hierarchy_made p r (ruled_by ruled c) m i z ruled.rules (places_or_none ruled.order) c s (by_name y n)) e

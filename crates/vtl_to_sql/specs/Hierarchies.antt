@@ -28,7 +28,7 @@ hierarchy_made p r h m i out.Computed rules order a s os = computed_made p r h m
 hierarchy_made p r h m i out.All rules order a s os = over (and_then os (computed_table p r h m i rules order a s os.names)) (with_two (λ x y. union_query p s a s y x))
 
 -- of a form under hierarchical rules, and of no other
-abbrev pub ruled_made : Settings → (result : Text) → FormTree → (s : Structure) → Sources → Made
+unfoldable pub ruled_made : Settings → (result : Text) → FormTree → (s : Structure) → Sources → Made
 ruled_made p r (nodes.check_hierarchy a rules m o) s os = check_hierarchy_made p r (ruled_by rules (structure_of a)) m o rules.rules (structure_of a) s os
 ruled_made p r (nodes.hierarchy a rules m i o) s os = hierarchy_made p r (ruled_by rules (structure_of a)) m i o rules.rules (places_or_none rules.order) (structure_of a) s os
 ruled_made p r other s os = over os (λ names. [])

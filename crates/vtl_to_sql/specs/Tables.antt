@@ -5,8 +5,6 @@ use Rattle.std.specs.List.{flat_map}
 use Rattle.vtl_decimal.specs.Settings.{Settings}
 use Rattle.vtl_tree.specs.declared.structure.Structure.{Structure}
 use Rattle.vtl_tree.specs.Joins as joins
-use Rattle.vtl_rulings.specs.HierarchyChecks.{ruled_by}
-use Rattle.vtl_rulings.specs.Ordered.{places_or_none}
 use Rattle.vtl_scripts.specs.Made.{operands_in}
 use Rattle.vtl_scripts.specs.Meaning.{Statement}
 use Rattle.vtl_tree.specs.Trees as nodes
@@ -20,8 +18,7 @@ use Rattle.groups_to_sql.specs.Windowed.{analytic_query}
 use Rattle.joins_to_sql.specs.JoinTables.{join_made}
 use Rattle.rules_to_sql.specs.CheckQueries.{check_query, imbalance_query}
 use Rattle.rules_to_sql.specs.PointQueries.{datapoint_query}
-use Rattle.hierarchies_to_sql.specs.CheckTables.{check_hierarchy_made}
-use Rattle.vtl_to_sql.specs.Hierarchies.{hierarchy_made}
+use Rattle.vtl_to_sql.specs.Hierarchies.{ruled_made}
 use Rattle.selects_to_sql.specs.Tables.{Table, table_of, Made, Sources, by_name, stored, and_then, with_one, with_two, with_three, over, by_names, first_number}
 
 abbrev pub source_of : Text → FormTree → ℕ → Made → Sources
@@ -65,8 +62,8 @@ abbrev mutual
   made_of_form p r s (nodes.check a nodes.no_node spec) n = over (sources_of p r a n) (with_one (check_query p spec (structure_of a) s))
   made_of_form p r s (nodes.check a (nodes.some_node i) spec) n = over (and_then (sources_of p r a n) (sources_of p r i)) (with_two (imbalance_query p spec (structure_of a) (structure_of i) s))
   made_of_form p r s (nodes.check_datapoint a rules out) n = over (sources_of p r a n) (with_one (datapoint_query p rules.rules out (structure_of a) s))
-  made_of_form p r s (nodes.check_hierarchy a rules m out) n = check_hierarchy_made p r (ruled_by rules (structure_of a)) m out rules.rules (structure_of a) s (sources_of p r a n)
-  made_of_form p r s (nodes.hierarchy a rules m i out) n = hierarchy_made p r (ruled_by rules (structure_of a)) m i out rules.rules (places_or_none rules.order) (structure_of a) s (sources_of p r a n)
+  made_of_form p r s (nodes.check_hierarchy a rules m out) n = ruled_made p r (nodes.check_hierarchy a rules m out) s (sources_of p r a n)
+  made_of_form p r s (nodes.hierarchy a rules m i out) n = ruled_made p r (nodes.hierarchy a rules m i out) s (sources_of p r a n)
   -- of nothing, which is never typed
   made_of_form p r s (nodes.union nodes.no_nodes) n = record { tables = []; query = []; next = n }
   made_of_form p r s (nodes.intersect nodes.no_nodes) n = record { tables = []; query = []; next = n }

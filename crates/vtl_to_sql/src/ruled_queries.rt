@@ -49,6 +49,7 @@ fn with_others(
 
 /// The query of a form under hierarchical rules, for which tables are made first, and none of any other form. It fails
 /// only if memory runs out.
+#[tactic(auto, unfolding(crate::specs::Hierarchies::ruled_made))]
 pub(crate) fn ruled_query(
     alloc: Global,
     writer: &Writer,

@@ -108,8 +108,8 @@ query-returns-in_ok-second-in-Pair-clause-tables t c =
     in
     IfOk-weaker c.query_of_two-in-Pair.result _ _ (λ q e. fact) c.query_of_two-in-Pair.ensures
 
-pub query-returns-in_default-imbalance-clause-query : goal.query-returns-in_default-imbalance-clause-query
-query-returns-in_default-imbalance-clause-query t c =
+pub query-returns-in_default-clause-query : goal.query-returns-in_default-clause-query
+query-returns-in_default-clause-query t c =
     let p = c.args.writer.now in
     let r = c.args.target.now in
     let s = c.args.s.now in
@@ -117,18 +117,18 @@ query-returns-in_default-imbalance-clause-query t c =
     let f = c.args.form.now in
     let a = c.in-Check.a in
     let spec = c.in-Check.spec in
-    let is = c.in-Check.is ∙ ap (λ (o : Option (Box Node Global)). form.Check a o spec) c.in_default-imbalance.is in
+    let is = c.in-Check.is ∙ ap (λ (o : Option (Box Node Global)). form.Check a o spec) c.in_default.is in
     let named = c.in_ok-first-in-Check.ensures.name ∙ ap (λ (x : Node). (sources_of p r (node_tree x) n).names) c.deref.ensures in
     IfOk-weaker c.query_of_one.result _ _ (λ q e. e ∙ ap (with_one (query_of_one p (form_tree f) s)) named ∙ sym (ap (λ (m : Made). m.query) (check_made p r s f a spec n is))) c.query_of_one.ensures
 
-pub query-returns-in_default-imbalance-clause-tables : goal.query-returns-in_default-imbalance-clause-tables
-query-returns-in_default-imbalance-clause-tables t c =
+pub query-returns-in_default-clause-tables : goal.query-returns-in_default-clause-tables
+query-returns-in_default-clause-tables t c =
     let p = c.args.writer.now in
     let r = c.args.target.now in
     let n = c.args.draft.now.next in
     let a = c.in-Check.a in
     let spec = c.in-Check.spec in
-    let is = c.in-Check.is ∙ ap (λ (o : Option (Box Node Global)). form.Check a o spec) c.in_default-imbalance.is in
+    let is = c.in-Check.is ∙ ap (λ (o : Option (Box Node Global)). form.Check a o spec) c.in_default.is in
     let old = map statement_tree c.args.draft.now.statements.items in
     let fact =
     c.in_ok-first-in-Check.ensures.tables
@@ -137,14 +137,14 @@ query-returns-in_default-imbalance-clause-tables t c =
     in
     IfOk-weaker c.query_of_one.result _ _ (λ q e. fact) c.query_of_one.ensures
 
-pub query-returns-in_default-imbalance-clause-next : goal.query-returns-in_default-imbalance-clause-next
-query-returns-in_default-imbalance-clause-next t c =
+pub query-returns-in_default-clause-next : goal.query-returns-in_default-clause-next
+query-returns-in_default-clause-next t c =
     let p = c.args.writer.now in
     let r = c.args.target.now in
     let n = c.args.draft.now.next in
     let a = c.in-Check.a in
     let spec = c.in-Check.spec in
-    let is = c.in-Check.is ∙ ap (λ (o : Option (Box Node Global)). form.Check a o spec) c.in_default-imbalance.is in
+    let is = c.in-Check.is ∙ ap (λ (o : Option (Box Node Global)). form.Check a o spec) c.in_default.is in
     let fact =
     c.in_ok-first-in-Check.ensures.next
     ∙ ap (λ (x : Node). (sources_of p r (node_tree x) n).next) c.deref.ensures
