@@ -225,7 +225,7 @@ END {
     list_of("scripts", "Which tree a text of VTL spells, and what its fault is where it spells none", "vtl_parser/Parsed/IsScript vtl_parser/Parsed/IsFaulty")
     list_of("structures file", "What a structures file declares, or its first fault", "vtl_csv/StructuresFile/structures_of_file")
     list_of("typing", "What a script is typed as, or the first rule that it breaks", "vtl_check/Script/script_typed")
-    list_of("accepted script", "What a script and its structures file come to before data is read", "vtl_top/Expected/built_step")
+    list_of("accepted script", "What a script and its structures file come to before data is read", "vtl_top/Expected/typed_step")
     list_of("meaning", "What a typed script means over data sets: results, or a fault", "vtl_scripts/Meaning/meaning")
     list_of("data set file", "The rows of a CSV file of a data set, or its first fault", "vtl_csv/InputFile/dataset_rows")
     list_of("CSV text", "The text that a data set is written as", "vtl_csv/CsvText/csv_of")
