@@ -3,4 +3,6 @@ mod Examples
 mod Expressions
 mod Faults
 mod Groups
+mod ItemKeys
+mod LeftItems
 mod Pairs

@@ -7,8 +7,10 @@
 //! Begin with specs/Aggregates.antt, Expressions.antt and Pairs.antt; then src/laws.rt.
 #![tactic(auto)]
 
+mod hierarchies;
 mod laws;
 
+pub use hierarchies::{hierarchies_compute_left_items, hierarchies_that_hold_change_nothing};
 pub use laws::{
     aggregates_are_read_by_groups, expressions_are_read_by_operands,
     operators_are_read_by_agreeing_pairs,
