@@ -6,3 +6,4 @@ mod Groups
 mod ItemKeys
 mod LeftItems
 mod Pairs
+mod Unchanged
