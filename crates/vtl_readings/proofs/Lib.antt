@@ -3,6 +3,7 @@ mod Examples
 mod Expressions
 mod Faults
 mod Groups
+mod HierarchyExamples
 mod ItemKeys
 mod LeftItems
 mod Pairs

@@ -1,18 +1,17 @@
 -- A hierarchy under which every check holds gives the operand's points.
-use Rattle.std.proofs.Common.{◌≡◌, ℕ, zero, suc, Bool, true, false, cond, ◌&&◌, List, [], ◌∷◌, ◌++◌, length, map, take, ℤ, ◌⊎◌, inl, inr, Option, Some, None, Ok, Err, refl, sym, ap, ◌∙◌, subst, true≢false}
+use Rattle.std.proofs.Common.{◌≡◌, ℕ, zero, suc, Bool, true, false, cond, List, [], ◌∷◌, ◌++◌, length, map, take, ℤ, ◌⊎◌, inl, inr, Option, Some, None, Ok, Err, refl, sym, ap, ◌∙◌, subst, true≢false}
 use Rattle.std.specs.Prelude.{IfOk, IfSome, option_map}
-use Rattle.std.specs.List.{AllByRecursion, filter, filter_map, find, flat_map, list_all}
+use Rattle.std.specs.List.{AllByRecursion, Contains, filter, find, flat_map, list_all}
 use Rattle.std.specs.Option.{option_map_or, option_or, option_to_list}
 use Rattle.std.proofs.lemmas.Bool.{and_parts}
-use Rattle.std.proofs.lemmas.List.Elements.{filter-append}
+use Rattle.std.proofs.lemmas.List.Elements.{All-from_recursion, filter-append}
 use Rattle.vtl_decimal.specs.Settings.{Settings}
 use Rattle.vtl_decimal.specs.declared.number.Fault.{Fault}
-use Rattle.vtl_lists.specs.Perm.{Perm}
 use Rattle.vtl_lists.proofs.Aparts.{apart_parts}
 use Rattle.vtl_cell.specs.Order.{same_cell}
 use Rattle.vtl_cell.specs.Outcome.{Outcome, after, fault_in, faults_by, join, unless}
 use Rattle.vtl_cell.specs.Outcomes.{Same, result_of}
-use Rattle.vtl_cell.specs.Row.{Row, same_key, same_row}
+use Rattle.vtl_cell.specs.Row.{Row, same_key}
 use Rattle.vtl_cell.specs.declared.cell.Cell.{Cell}
 use Rattle.vtl_cell.specs.declared.cell.Cell.TheVariants as c
 use Rattle.vtl_cell.specs.declared.kind.Kind.{Kind}
@@ -31,11 +30,10 @@ use Rattle.vtl_tree.specs.Checks.{uncoded, without_codes}
 use Rattle.vtl_tree.specs.Columns.{identifiers_of, measures_of, others_of, places_in}
 use Rattle.vtl_tree.specs.DataSet.{Distinct, IsDataSet, is_point, look}
 use Rattle.vtl_tree.specs.Environment.{DataSet}
-use Rattle.vtl_tree.specs.RuleItems.{definitions, is_equal, is_equation, left_item, right_items}
+use Rattle.vtl_tree.specs.RuleItems.{definitions, is_equal, left_item, right_items}
 use Rattle.vtl_tree.specs.Structure.{columns_of, key_width, same_name, same_role}
 use Rattle.vtl_tree.specs.declared.rules.HierRules.{HierRules}
 use Rattle.vtl_tree.specs.declared.structure.Component.{Component}
-use Rattle.vtl_tree.specs.declared.structure.Role.{Role}
 use Rattle.vtl_tree.specs.declared.structure.Role.TheVariants as role
 use Rattle.vtl_tree.specs.declared.structure.Structure.{Structure}
 use Rattle.vtl_tree.proofs.LookUps.{Perm-from_look}
@@ -45,7 +43,7 @@ use Rattle.vtl_meaning.specs.Made.{component_kinds}
 use Rattle.vtl_meaning.specs.Operators.{left_of}
 use Rattle.vtl_meaning.specs.Points.{cell_or_null, with_points}
 use Rattle.vtl_meaning.specs.Sets.{united}
-use Rattle.vtl_meaning.specs.Turned.{is_coded, other_identifiers}
+use Rattle.vtl_meaning.specs.Turned.{is_coded}
 use Rattle.vtl_meaning.proofs.JoinParts.{found_is}
 use Rattle.vtl_meaning.proofs.Kept.{both_all, look_is, shown_split}
 use Rattle.vtl_meaning.proofs.Looks.{look_key}
@@ -53,16 +51,16 @@ use Rattle.vtl_meaning.proofs.Places.{IsIdentifier, all_filtered, all_more, all_
 use Rattle.vtl_meaning.proofs.SetsKept.{shown_kept}
 use Rattle.vtl_meaning.proofs.SetsLooks.{united_look}
 use Rattle.vtl_meaning.proofs.ValueKinds.{IsOf}
-use Rattle.vtl_rulings.specs.Hierarchies.{computed, defines, hierarchy_of, items_of, items_within, made_at, made_fault, made_point, made_points, shown_points, taken}
+use Rattle.vtl_rulings.specs.Hierarchies.{computed, defines, hierarchy_of, items_of, items_within, made_at, made_fault, made_points, shown_points, taken}
 use Rattle.vtl_rulings.specs.HierarchyChecks.{Ruled, combinations, is_checked, items_at, key_at, only_name, ruled_by}
 use Rattle.vtl_rulings.specs.HierarchyShapes.{IsHierarchyMade, IsNumeric}
-use Rattle.vtl_rulings.specs.Modes.{Found, Items, appears, counted, is_filled}
+use Rattle.vtl_rulings.specs.Modes.{Items, appears, counted, is_filled}
 use Rattle.vtl_rulings.specs.Sides.{comparison_op, holds, left_side, right_side}
 use Rattle.vtl_rulings.proofs.HierarchyKeys.{items_are}
 use Rattle.vtl_rulings.proofs.SideKinds.{right_is}
 use Rattle.vtl_readings.specs.Hierarchies.{EveryCheckHolds, HoldsAt}
 use Rattle.vtl_readings.proofs.ItemKeys.{key_of_item}
-use Rattle.vtl_readings.proofs.LeftItems.{IsRow, IsRule, are_rows, are_rules, key_stands, made_hold}
+use Rattle.vtl_readings.proofs.LeftItems.{IsRow, IsRule, are_rows, are_rules, made_hold}
 
 -- ---- lists
 found_passes : (q : Row → Bool) (xs : List Row) (x : Row) → find q xs ≡ Some x → q x ≡ true
@@ -76,13 +74,18 @@ found_passes q (y ∷ ys) x e = go (q y) refl e (found_passes q ys x)
 own_look : (n : ℕ) (d : List Row) → Distinct n d → AllByRecursion (λ q. look n d (take n q) ≡ Some q) d
 own_look n [] apart = tt
 own_look n (x ∷ d) apart =
-    let parts = apart_parts (same_key n) x d apart in
-    (ap (λ b. cond b (Some x) (look n d (take n x))) (same_row-refl (take n x)),
-    both_all (λ y. same_key n x y ≡ false) (λ y. look n d (take n y) ≡ Some y) (λ y. look n (x ∷ d) (take n y) ≡ Some y) (λ y f g. ap (λ b. cond b (Some x) (look n d (take n y))) f ∙ g) d parts.0 (own_look n d parts.1))
+    let parts = apart_parts (same_key n) x d apart in (
+      ap (λ b. cond b (Some x) (look n d (take n x))) (same_row-refl (take n x)),
+      both_all (λ y. same_key n x y ≡ false) (λ y. look n d (take n y) ≡ Some y) (λ y. look n (x ∷ d) (take n y) ≡ Some y) (λ y f g. ap (λ b. cond b (Some x) (look n d (take n y))) f ∙ g) d parts.0 (own_look n d parts.1),
+    )
 
 no_fault : {X : Type 0} (f : X → Option Fault) (xs : List X) → AllByRecursion (λ x. f x ≡ None) xs → faults_by f xs ≡ None
 no_fault f [] all = refl
 no_fault f (x ∷ xs) all = ap (λ o. join o (faults_by f xs)) all.0 ∙ no_fault f xs all.1
+
+-- what holds of all holds of one of them
+held_at : {X : Type 0} (P : X → Type 0) (xs : List X) (x : X) → AllByRecursion P xs → Contains xs x → P x
+held_at P xs x all at = subst P at.2 (All-from_recursion P xs all at.0 x at.1)
 
 -- ---- columns
 no_measures : (id : List ℕ) (xs : List Component) → AllByRecursion IsIdentifier xs → filter (λ x. same_role x.role role.Measure) (without_codes id xs) ≡ []
@@ -242,7 +245,7 @@ module _ (p : Settings) (rules : HierRules) (a s : Structure) (d : List Row) (se
   made_same r row g t = go (appears mode.NonNull (map (items row) (right_items r))) (find (is_item r row) d) (right_side p mode.NonNull h.kind (items row) r) refl refl refl
     where
       checked : appears mode.NonNull (map (items row) (right_items r)) ≡ true → (is_checked mode.NonNull (items row) r ≡ true) × (holds p mode.NonNull h.kind (items row) r ≡ Ok (c.Bool true))
-      checked e = hold r row g.0 t.0 e
+      checked e = held_at (HoldsAt p h operand r) (combinations h.id operand) row (held_at (λ q. AllByRecursion (HoldsAt p h operand q) (combinations h.id operand)) (definitions rules.rules) r hold g.0) t.0 e
 
       found_filled : appears mode.NonNull (map (items row) (right_items r)) ≡ true → is_filled (option_map value_of (find (is_item r row) d)) ≡ true
       found_filled e = (and_parts (is_filled (items row (left_item r))) (list_all is_filled (map (items row) (right_items r))) (checked e).0).0

@@ -1,6 +1,6 @@
 -- What is said of hierarchies item by item: which points they compute, and that every check of their rules holds.
-use Rattle.std.specs.Prelude.{◌≡◌, true, List, ◌∷◌, map, Ok}
-use Rattle.std.specs.List.{Contains}
+use Rattle.std.specs.Prelude.{◌≡◌, true, List, map, Ok}
+use Rattle.std.specs.List.{AllByRecursion, Contains}
 use Rattle.vtl_decimal.specs.Settings.{Settings}
 use Rattle.vtl_cell.specs.Row.{Row}
 use Rattle.vtl_cell.specs.declared.cell.Cell.{Cell}
@@ -42,4 +42,4 @@ HoldsAt p h a r combination =
 
 -- so it is for each rule with `=`, at each combination
 abbrev pub EveryCheckHolds : Settings → Ruled → List HierRule → DataSet → Type 0
-EveryCheckHolds p h rules a = (r : HierRule) (combination : Row) → Contains (definitions rules) r → Contains (combinations h.id a) combination → HoldsAt p h a r combination
+EveryCheckHolds p h rules a = AllByRecursion (λ r. AllByRecursion (HoldsAt p h a r) (combinations h.id a)) (definitions rules)
