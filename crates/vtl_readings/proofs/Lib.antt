@@ -3,4 +3,8 @@ mod Examples
 mod Expressions
 mod Faults
 mod Groups
+mod HierarchyExamples
+mod ItemKeys
+mod LeftItems
 mod Pairs
+mod Unchanged
