@@ -1,0 +1,4 @@
+pub mod FormLaws
+pub mod Gaps
+pub mod Laid
+pub mod Orders
