@@ -64,6 +64,20 @@ printed() {
     fi
 }
 
+# A script and its canonical text, which is its own: `format` prints it.
+formed() {
+    for script in "$1" "${1%.vtl}.formed"; do
+        "$vtl" format "$script" >"$made/said" 2>"$made/told"
+        code=$?
+        if [ "$code" = 0 ] && [ ! -s "$made/told" ] && cmp -s "${1%.vtl}.formed" "$made/said"; then
+            pass
+        else
+            fail "$script: exit code $code"
+            diff "${1%.vtl}.formed" "$made/said" | head -n 10
+        fi
+    done
+}
+
 # A call of the program in the folder. What it prints is left in files, but where the case names a device for its standard
 # output.
 called() {
@@ -510,6 +524,7 @@ for folder in cases/*/; do
                 done
             done
             ;;
+        format) for file in cases/format/*.vtl; do formed "$file"; done ;;
         types) for file in cases/types/*.csv; do table types cases/types/structures.txt "$file"; done ;;
         depth) for file in cases/depth/*.csv; do nests syntax "$file" 1, 0,0; done ;;
         from)

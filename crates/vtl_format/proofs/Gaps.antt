@@ -12,7 +12,8 @@ use Rattle.vtl_lexer.specs.Spelling.{Spells}
 use Rattle.vtl_lexer.specs.declared.token.Sign.TheVariants as s
 use Rattle.vtl_lexer.specs.declared.token.TokenKind.{TokenKind}
 use Rattle.vtl_lexer.specs.declared.token.TokenKind.TheVariants as k
-use Rattle.vtl_format.specs.Layout.{broken_gap, closes, definition_gap, gap_between, gap_text, indentation, is_call, is_comma, is_end, is_open_bracket, is_tight, leans_back, leans_on, opens, precedes_rule, space}
+use Rattle.vtl_format.specs.Calls.{is_call}
+use Rattle.vtl_format.specs.Layout.{broken_gap, closes, definition_gap, gap_between, gap_text, indentation, is_comma, is_end, is_open_bracket, is_tight, leans_back, leans_on, opens, precedes_rule, space}
 use Rattle.vtl_format.specs.declared.gaps.Gap.{Gap}
 use Rattle.vtl_format.specs.declared.gaps.Gap.TheVariants as gap
 use Rattle.vtl_format.specs.declared.gaps.Style.{Style}

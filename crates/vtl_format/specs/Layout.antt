@@ -1,11 +1,11 @@
 -- How a statement is laid out: what stands between two of its tokens.
-use Rattle.std.specs.Prelude.{◌+◌, ◌-◌, ◌==◌, ◌||◌, ◌&&◌, nat_le, ℕ, zero, suc, Bool, true, false, List, [], ◌∷◌, ◌++◌, length, chars, is_some, if◌then◌else◌}
-use Rattle.vtl_grammar.specs.Words.{form_at}
+use Rattle.std.specs.Prelude.{◌+◌, ◌-◌, ◌==◌, ◌||◌, ◌&&◌, nat_le, ℕ, zero, suc, Bool, true, false, List, [], ◌∷◌, ◌++◌, length, chars, if◌then◌else◌}
 use Rattle.vtl_lists.specs.Runs.{begins_with}
 use Rattle.vtl_lexer.specs.declared.keyword.Keyword.TheVariants as word
 use Rattle.vtl_lexer.specs.declared.token.Sign.TheVariants as sign
 use Rattle.vtl_lexer.specs.declared.token.TokenKind.{TokenKind}
 use Rattle.vtl_lexer.specs.declared.token.TokenKind.TheVariants as token
+use Rattle.vtl_format.specs.Calls.{is_call}
 use Rattle.vtl_format.specs.declared.gaps.Gap.{Gap}
 use Rattle.vtl_format.specs.declared.gaps.Gap.TheVariants as gap
 use Rattle.vtl_format.specs.declared.gaps.Style.{Style}
@@ -49,10 +49,6 @@ leans_on (token.Sign sign.OpenSquare) = true
 leans_on (token.Sign sign.OpenBrace) = true
 leans_on (token.Sign sign.Hash) = true
 leans_on kind = false
-
--- the word of a function, of another call, of a join or of `cast`
-abbrev pub is_call : TokenKind → Bool
-is_call kind = is_some (form_at kind)
 
 abbrev pub is_open_bracket : TokenKind → Bool
 is_open_bracket (token.Sign sign.OpenBracket) = true

@@ -1,10 +1,9 @@
 // What stands between two tokens.
 ghost use Rattle.std.specs.Prelude.{◌≡◌, ◌++◌, ◌+◌, ◌^◌, ◌<◌, ◌∷◌, IfOk, string_bytes};
-ghost use Rattle.vtl_format.specs.Layout.{broken_gap, closes, definition_gap, depth_behind, gap_between, gap_text, indentation, is_call, is_comma, is_define, is_end, is_open_bracket, is_tight, leans_back, leans_on, opens, precedes_rule, space};
+ghost use Rattle.vtl_format.specs.Layout.{broken_gap, closes, definition_gap, depth_behind, gap_between, gap_text, indentation, is_comma, is_define, is_end, is_open_bracket, is_tight, leans_back, leans_on, opens, precedes_rule, space};
 
-use read_parts::WordGroup;
+use crate::calls::is_call;
 use std::alloc::AllocError;
-use vtl_grammar::CallForm;
 use vtl_lexer::{Keyword, Sign, TokenKind};
 
 // How the lines of a statement break.
@@ -72,13 +71,6 @@ fn leans_on(kind: &TokenKind) -> bool
         kind,
         TokenKind::Sign(Sign::OpenBracket | Sign::OpenSquare | Sign::OpenBrace | Sign::Hash)
     )
-}
-
-// Whether it is the word of a call, a join or `cast`.
-fn is_call(kind: &TokenKind) -> bool
-    ensures { result ≡ is_call kind.now }
-{
-    CallForm::spelled_by(kind).is_some()
 }
 
 fn is_open_bracket(kind: &TokenKind) -> bool

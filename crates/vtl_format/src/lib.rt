@@ -7,6 +7,7 @@
 //! Begin with specs/Form.antt and Layout.antt.
 #![tactic(auto)]
 
+mod calls;
 mod formatting;
 mod gaps;
 mod laws;

@@ -1,5 +1,5 @@
 -- A text has one list of parts, and its tokens stand among them.
-use Rattle.std.proofs.Common.{◌≡◌, ◌≢◌, ◌<◌, ◌+◌, ◌∷◌, ◌++◌, ◌∙◌, [], ℕ, List, Bool, Option, Some, None, true, false, length, take, drop, append_assoc, append-nil, sym, ap, subst, refl, arith}
+use Rattle.std.proofs.Common.{◌≡◌, ◌≢◌, ◌≤◌, ◌<◌, ◌+◌, ◌∷◌, ◌++◌, ◌∙◌, [], ℕ, zero, suc, List, Bool, Option, Some, None, true, false, length, take, drop, get_or, add-one, drop-cons, append_assoc, append-nil, sym, ap, subst, refl, arith}
 use Rattle.std.proofs.lemmas.Bool.{false≢true}
 use Rattle.std.proofs.lemmas.List.{length-take-le, take-append-drop}
 use Rattle.vtl_lexer.specs.Found.{IsCommentOf, IsGapOf, IsSpaceOf, IsTokenOf}
@@ -240,3 +240,33 @@ ends-there text (byte ∷ rest) at parts e goes_on = absurd (omega arith)
 pub faults-there : (text rest : List ℕ) (at : ℕ) (parts : List Part) → 0 < length rest → NoGap rest → NoToken rest → GoesOn text rest at parts → HasParts text parts (Some at)
 faults-there text rest at parts some no_gap no_token goes_on =
     subst (λ l. HasParts text l (Some at)) (append-nil parts) (goes_on [] (Some at) (holds_fault at rest (λ e. omega (arith, some, ap length e)) no_gap no_token))
+
+-- ---- those of one sort
+
+-- the part at a place of the list
+part-here : (parts : List Part) (i : ℕ) (part : Part) → i < length parts → part ≡ get_or parts i part → drop i parts ≡ part ∷ drop (i + 1) parts
+part-here parts i part lt is = drop-cons parts i part lt ∙ ap (λ q. q ∷ drop (suc i) parts) (sym is) ∙ ap (λ n. part ∷ drop n parts) (sym (add-one i))
+
+pub comment-taken : (parts : List Part) (i : ℕ) (part : Part) (comment : Comment) (items : List Comment) → i < length parts → part ≡ get_or parts i part → part ≡ p.Comment comment
+    → items ++ comments_of (drop i parts) ≡ comments_of parts → (items ++ comment ∷ []) ++ comments_of (drop (i + 1) parts) ≡ comments_of parts
+comment-taken parts i part comment items lt is same so_far =
+    append_assoc items (comment ∷ []) (comments_of (drop (i + 1) parts))
+    ∙ ap (λ l. items ++ l) (sym (ap comments_of (part-here parts i part lt is) ∙ ap (λ q. comments_of (q ∷ drop (i + 1) parts)) same)) ∙ so_far
+
+pub token-passed : (parts : List Part) (i : ℕ) (part : Part) (token : Token) (items : List Comment) → i < length parts → part ≡ get_or parts i part → part ≡ p.Token token
+    → items ++ comments_of (drop i parts) ≡ comments_of parts → items ++ comments_of (drop (i + 1) parts) ≡ comments_of parts
+token-passed parts i part token items lt is same so_far =
+    ap (λ l. items ++ l) (sym (ap comments_of (part-here parts i part lt is) ∙ ap (λ q. comments_of (q ∷ drop (i + 1) parts)) same)) ∙ so_far
+
+pub all-taken : (parts : List Part) (i : ℕ) (items : List Comment) → length parts ≤ i → items ++ comments_of (drop i parts) ≡ comments_of parts → items ≡ comments_of parts
+all-taken parts i items past so_far = sym (append-nil items) ∙ ap (λ l. items ++ comments_of l) (sym (drop-all parts i past)) ∙ so_far
+  where
+    drop-all : (parts : List Part) (i : ℕ) → length parts ≤ i → drop i parts ≡ []
+    drop-all [] zero past = refl
+    drop-all [] (suc i) past = refl
+    drop-all (part ∷ parts) zero past = absurd (omega arith)
+    drop-all (part ∷ parts) (suc i) past = drop-all parts i (omega arith)
+
+pub none-left : (parts : List Part) → length parts ≡ 0 → parts ≡ []
+none-left [] e = refl
+none-left (part ∷ parts) e = absurd (omega arith)

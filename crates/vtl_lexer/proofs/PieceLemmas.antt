@@ -11,7 +11,7 @@ use Rattle.vtl_lists.specs.Runs.{begins_with}
 use Rattle.vtl_lexer.specs.Gaps.{IsGap, block_comment, is_white_space, line_comment, white_space}
 use Rattle.vtl_lexer.specs.Lexed.{mark_len}
 use Rattle.vtl_lexer.specs.Parts.{HasParts, Holds, holds_comment, holds_fault, holds_nothing, holds_space, holds_token, before_returns, is_comment, without_returns}
-use Rattle.vtl_lexer.specs.Pieces.{IsCut, IsCutAt, Piece, Stands, a_comment, a_token, piece_of, pieces_of, stands_comment, stands_nothing, stands_space, stands_token}
+use Rattle.vtl_lexer.specs.Pieces.{IsCut, IsCutAt, IsRemark, IsWritable, Piece, Stands, a_comment, a_token, piece_of, pieces_of, stands_comment, stands_nothing, stands_space, stands_token}
 use Rattle.vtl_lexer.specs.Leads.{lead_of}
 use Rattle.vtl_lexer.specs.Spelling.{Lacks, Spells, spelling}
 use Rattle.vtl_lexer.specs.Tokens.{IsToken}
@@ -129,16 +129,6 @@ stands-parts text pieces stands =
     (read.parts, subst (λ n. Holds n (drop n text) read.parts None) (sym (stands-no_mark stands)) read.holds, read.are)
 
 -- ---- what can be written
-
--- the bytes of a comment, which stand for themselves before the end of a line
-pub record IsRemark (bytes : List ℕ) : Type 0 where
-  pub marked : is_comment bytes ≡ true
-  pub whole : without_returns bytes ≡ bytes
-  pub gap : (rest : List ℕ) → IsGap bytes (10 ∷ rest)
-
-abbrev pub IsWritable : Piece → Type 0
-IsWritable (a_token kind bytes) = Spells kind bytes
-IsWritable (a_comment bytes) = IsRemark bytes
 
 lacks-front : (byte : ℕ) (xs ys : List ℕ) → Lacks byte (xs ++ ys) → Lacks byte xs
 lacks-front byte [] ys lacks = refl

@@ -6,6 +6,7 @@ use Rattle.std.specs.Str.{IsCharBoundary}
 use Rattle.vtl_text.specs.Words.{is_word_character}
 use Rattle.vtl_lexer.specs.Gaps.{IsGap, is_white_space}
 use Rattle.vtl_lexer.specs.Parts.{is_comment, without_returns}
+use Rattle.vtl_lexer.specs.Spelling.{Spells}
 use Rattle.vtl_lexer.specs.Tokens.{IsToken}
 use Rattle.vtl_lexer.specs.declared.parts.Part.{Part}
 use Rattle.vtl_lexer.specs.declared.parts.Part.TheVariants as p
@@ -65,3 +66,13 @@ pub data Stands : List ℕ → List Piece → Type 0 where
       → Stands rest pieces → Stands text (a_comment (without_returns bytes) ∷ pieces)
   stands_token : (text bytes rest : List ℕ) (kind : TokenKind) (pieces : List Piece) → text ≡ bytes ++ rest → IsToken kind bytes rest
       → Stands rest pieces → Stands text (a_token kind bytes ∷ pieces)
+
+-- the bytes of a comment, which stand for themselves before the end of a line
+pub record IsRemark (bytes : List ℕ) : Type 0 where
+  pub marked : is_comment bytes ≡ true
+  pub whole : without_returns bytes ≡ bytes
+  pub gap : (rest : List ℕ) → IsGap bytes (10 ∷ rest)
+
+abbrev pub IsWritable : Piece → Type 0
+IsWritable (a_token kind bytes) = Spells kind bytes
+IsWritable (a_comment bytes) = IsRemark bytes

@@ -19,8 +19,10 @@ mod searches;
 mod signs;
 mod token;
 mod words;
+mod writing;
 
 pub use keyword::{Keyword, is_same_keyword, keyword_of};
 pub use lexing::{LexErr, Lexed, lex, tokens_are_determined, tokens_before_fault};
 pub use parts::{Comment, Part, Parted, comments, parts_are_determined, parts_before_fault};
 pub use token::{Sign, Token, TokenKind};
+pub use writing::{pieces_can_be_written, written_pieces_are_read};

@@ -96,3 +96,12 @@ returns c =
     let rest = c.loop-rest.rest.now in
     let none : length rest ≡ 0 = grind (arith, nat_tests) in
     rw c.of-2.ensures (ends-there c.args.text.now rest c.loop-rest.at c.loop-rest.parts.items none c.loop-rest.invariant.goes_on)
+
+pub overflow_add-at : goal.overflow_add-at
+overflow_add-at c =
+    let rest = c.loop-rest.rest.now in
+    elim c.match-branch-2.branch [
+      | in-Space w ↦ let of = subst (IsPieceOf rest) w.in-Space.is c.in_ok-size.ensures in omega (arith, w.size-is, of.0.gap.within, c.loop-rest.invariant.size)
+      | in-Comment+in_ok-push-in-Comment w ↦ let of = subst (IsPieceOf rest) w.in-Comment.is c.in_ok-size.ensures in omega (arith, w.size-is, of.0.gap.within, c.loop-rest.invariant.size)
+      | in-Token+in_ok-push-in-Token w ↦ let of = subst (IsPieceOf rest) w.in-Token.is c.in_ok-size.ensures in omega (arith, w.size-is, of.0.within, c.loop-rest.invariant.size)
+    ]
