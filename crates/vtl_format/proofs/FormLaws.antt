@@ -54,8 +54,7 @@ pub same-tokens : (text out : List ℕ) (tokens : List Token) → IsFormOf text 
     → (others : List Token) × IsLexed out others None × (lexemes_at out others ≡ lexemes_at text tokens)
 same-tokens text out tokens form lexed =
     let again = form-again text out form in
-    let same = lexed-once text (tokens_of again.parts) tokens None None (parts-lexed again.has) lexed in
-    (
+    let same = lexed-once text (tokens_of again.parts) tokens None None (parts-lexed again.has) lexed in (
       tokens_of again.others,
       parts-lexed again.again,
       sym (lexemes-parts out again.others) ∙ again.lexemes_are ∙ lexemes-parts text again.parts ∙ ap (lexemes_at text) same.0,
@@ -86,8 +85,7 @@ forms-once text out other form form' = forms-alike text text out other form.0 fo
 
 pub form-stable : (text out : List ℕ) → IsFormOf text out → IsFormOf out out
 form-stable text out form =
-    let again = form-again text out form in
-    (
+    let again = form-again text out form in (
       again.others,
       again.again,
       again.is ∙ ap (λ l. form_of l (remarks (pieces_of text again.parts))) (sym again.lexemes_are) ∙ ap (form_of (lexemes (pieces_of out again.others))) (sym again.remarks_are),

@@ -1,13 +1,14 @@
 -- A statement that is laid out reads as its tokens.
-use Rattle.std.proofs.Common.{◌≡◌, ◌∷◌, ◌++◌, ◌∙◌, [], ℕ, List, true, false, append_assoc, append-nil, sym, ap, subst, refl}
+use Rattle.std.proofs.Common.{◌≡◌, ◌∷◌, ◌++◌, ◌∙◌, [], ℕ, List, true, false, append_assoc, ap, refl}
 use Rattle.std.specs.List.{AllByRecursion, list_all}
 use Rattle.std.proofs.lemmas.Bool.{and_parts}
 use Rattle.vtl_lists.specs.Runs.{begins_with}
 use Rattle.vtl_lexer.specs.Gaps.{is_white_space}
 use Rattle.vtl_lexer.specs.Pieces.{Piece, Stands, a_token, joins, stands_space, stands_token}
 use Rattle.vtl_lexer.specs.Spelling.{Spells}
+use Rattle.vtl_lexer.specs.declared.token.TokenKind.{TokenKind}
 use Rattle.vtl_lexer.proofs.Alone.{alone}
-use Rattle.vtl_format.specs.Layout.{Lexeme, depth_behind, gap_between, gap_text, laid}
+use Rattle.vtl_format.specs.Layout.{Lexeme, depth_behind, gap_behind, gap_between, gap_text, laid}
 use Rattle.vtl_format.specs.declared.gaps.Style.{Style}
 use Rattle.vtl_format.proofs.Gaps.{apart, gap-white, quiet-joins}
 
@@ -26,28 +27,34 @@ white-stands (byte ∷ white) text pieces all stands =
     stands_space byte (white ++ text) pieces head (white-stands white text pieces tail stands)
 
 -- it begins with its first token
-laid-first : (style : Style) (depth : ℕ) (first : Lexeme) (rest : List Lexeme) → (more : List ℕ) × (laid style depth (first ∷ rest) ≡ first.bytes ++ more)
-laid-first style depth first [] = ([], sym (append-nil first.bytes))
-laid-first style depth first (second ∷ rest) =
-    (gap_text (gap_between style (depth_behind depth first.kind) first.kind second.kind) ++ laid style (depth_behind depth first.kind) (second ∷ rest), refl)
+laid-first : (style : Style) (depth : ℕ) (first : Lexeme) (rest : List Lexeme) (behind : List ℕ) → (more : List ℕ) × (laid style depth (first ∷ rest) ++ behind ≡ first.bytes ++ more)
+laid-first style depth first rest behind =
+    let more = gap_behind style (depth_behind depth first.kind) first.kind rest ++ laid style (depth_behind depth first.kind) rest in
+    (more ++ behind, append_assoc first.bytes more behind)
 
-pub laid-stands : (style : Style) (depth : ℕ) (lexemes : List Lexeme) (rest : List ℕ) (pieces : List Piece) → AllByRecursion IsSpelled lexemes → Stands rest pieces
-    → Stands (laid style depth lexemes ++ 10 ∷ rest) (token_pieces lexemes ++ pieces)
-laid-stands style depth [] rest pieces spelled stands = stands_space 10 rest pieces refl stands
-laid-stands style depth (first ∷ []) rest pieces spelled stands =
-    stands_token (first.bytes ++ 10 ∷ rest) first.bytes (10 ∷ rest) first.kind pieces refl (alone first.kind first.bytes (10 ∷ rest) spelled.0 (quiet-joins first.kind 10 refl))
-    (stands_space 10 rest pieces refl stands)
-laid-stands style depth (first ∷ second ∷ others) rest pieces spelled stands =
+-- what stands behind a token is white space
+behind-white : (style : Style) (depth : ℕ) (kind : TokenKind) (rest : List Lexeme) → list_all is_white_space (gap_behind style depth kind rest) ≡ true
+behind-white style depth kind [] = refl
+behind-white style depth kind (next ∷ rest) = gap-white (gap_between style depth kind next.kind)
+
+-- and with the rest of the line it does not go on the token
+behind-apart : (style : Style) (depth : ℕ) (kind : TokenKind) (rest : List Lexeme) (text : List ℕ) → AllByRecursion IsSpelled rest
+    → begins_with (joins kind) (gap_behind style depth kind rest ++ (laid style depth rest ++ 10 ∷ text)) ≡ false
+behind-apart style depth kind [] text spelled = quiet-joins kind 10 refl
+behind-apart style depth kind (next ∷ rest) text spelled =
+    let begins = laid-first style depth next rest (10 ∷ text) in
+    ap (λ l. begins_with (joins kind) (gap_text (gap_between style depth kind next.kind) ++ l)) begins.1 ∙ apart style depth kind next.kind next.bytes begins.0 spelled.0
+
+pub laid-stands : (style : Style) (depth : ℕ) (lexemes : List Lexeme) (text : List ℕ) (pieces : List Piece) → AllByRecursion IsSpelled lexemes → Stands text pieces
+    → Stands (laid style depth lexemes ++ 10 ∷ text) (token_pieces lexemes ++ pieces)
+laid-stands style depth [] text pieces spelled stands = stands_space 10 text pieces refl stands
+laid-stands style depth (first ∷ rest) text pieces spelled stands =
     let next = depth_behind depth first.kind in
-    let gap = gap_text (gap_between style next first.kind second.kind) in
-    let tail = laid style next (second ∷ others) in
-    let inner = laid-stands style next (second ∷ others) rest pieces spelled.1 stands in
-    let behind = white-stands gap (tail ++ 10 ∷ rest) (token_pieces (second ∷ others) ++ pieces) (gap-white (gap_between style next first.kind second.kind)) inner in
-    let begins = laid-first style next second others in
-    let split : tail ++ 10 ∷ rest ≡ second.bytes ++ (begins.0 ++ 10 ∷ rest) = ap (λ l. l ++ 10 ∷ rest) begins.1 ∙ append_assoc second.bytes begins.0 (10 ∷ rest) in
-    let quiet : begins_with (joins first.kind) (gap ++ (tail ++ 10 ∷ rest)) ≡ false =
-        ap (λ l. begins_with (joins first.kind) (gap ++ l)) split ∙ apart style next first.kind second.kind second.bytes (begins.0 ++ 10 ∷ rest) spelled.1.0 in
-    let whole : (first.bytes ++ (gap ++ tail)) ++ 10 ∷ rest ≡ first.bytes ++ (gap ++ (tail ++ 10 ∷ rest)) =
-        append_assoc first.bytes (gap ++ tail) (10 ∷ rest) ∙ ap (λ l. first.bytes ++ l) (append_assoc gap tail (10 ∷ rest)) in
-    stands_token ((first.bytes ++ (gap ++ tail)) ++ 10 ∷ rest) first.bytes (gap ++ (tail ++ 10 ∷ rest)) first.kind (token_pieces (second ∷ others) ++ pieces) whole
-    (alone first.kind first.bytes (gap ++ (tail ++ 10 ∷ rest)) spelled.0 quiet) behind
+    let gap = gap_behind style next first.kind rest in
+    let tail = laid style next rest in
+    let inner = laid-stands style next rest text pieces spelled.1 stands in
+    let behind = white-stands gap (tail ++ 10 ∷ text) (token_pieces rest ++ pieces) (behind-white style next first.kind rest) inner in
+    let whole : (first.bytes ++ (gap ++ tail)) ++ 10 ∷ text ≡ first.bytes ++ (gap ++ (tail ++ 10 ∷ text)) =
+    append_assoc first.bytes (gap ++ tail) (10 ∷ text) ∙ ap (λ l. first.bytes ++ l) (append_assoc gap tail (10 ∷ text)) in
+    stands_token ((first.bytes ++ (gap ++ tail)) ++ 10 ∷ text) first.bytes (gap ++ (tail ++ 10 ∷ text)) first.kind (token_pieces rest ++ pieces) whole
+    (alone first.kind first.bytes (gap ++ (tail ++ 10 ∷ text)) spelled.0 (behind-apart style next first.kind rest text spelled.1)) behind

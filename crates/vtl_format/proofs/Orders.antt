@@ -3,8 +3,7 @@ use Rattle.std.proofs.Common.{◌≡◌, ◌<◌, ◌+◌, ◌∷◌, ◌++◌, 
 use Rattle.std.specs.List.{AllByRecursion}
 use Rattle.std.proofs.lemmas.Bool.{false≢true}
 use Rattle.std.proofs.lemmas.Bool.Decides.{nat_tests}
-use Rattle.vtl_lexer.specs.Pieces.{Piece, Stands, a_comment, a_token, stands_comment, stands_nothing, stands_space}
-use Rattle.vtl_lexer.proofs.PieceLemmas.{IsRemark, IsWritable}
+use Rattle.vtl_lexer.specs.Pieces.{IsRemark, IsWritable, Piece, Stands, a_comment, a_token, stands_comment, stands_nothing, stands_space}
 use Rattle.vtl_lexer.specs.declared.token.TokenKind.{TokenKind}
 use Rattle.vtl_format.specs.Form.{Remark, ends_statement, form_from, is_inside, lexeme, lexemes, remark, remark_lines, remarks_from, statements, with_first}
 use Rattle.vtl_format.specs.Layout.{Lexeme, statement_form, statement_style}
@@ -197,11 +196,11 @@ written-form inside number held (a_token kind bytes ∷ pieces) =
   where
     by : (ends : Bool) → written false [] pieces ≡ form_from (number + 1) (statements false (lexemes pieces)) (remarks_from false (number + 1) pieces)
         → written (is_inside inside kind) (held ++ lexeme kind bytes ∷ []) pieces
-            ≡ form_from number (prepend (held ++ lexeme kind bytes ∷ []) (statements (is_inside inside kind) (lexemes pieces))) (remarks_from (is_inside inside kind) number pieces)
+        ≡ form_from number (prepend (held ++ lexeme kind bytes ∷ []) (statements (is_inside inside kind) (lexemes pieces))) (remarks_from (is_inside inside kind) number pieces)
         → cond ends (statement_form (held ++ lexeme kind bytes ∷ []) ++ 10 ∷ written false [] pieces) (written (is_inside inside kind) (held ++ lexeme kind bytes ∷ []) pieces)
         ≡ form_from number
-            (prepend held (cond ends ((lexeme kind bytes ∷ []) ∷ statements false (lexemes pieces)) (with_first (lexeme kind bytes) (statements (is_inside inside kind) (lexemes pieces)))))
-            (cond ends (remarks_from false (number + 1) pieces) (remarks_from (is_inside inside kind) number pieces))
+        (prepend held (cond ends ((lexeme kind bytes ∷ []) ∷ statements false (lexemes pieces)) (with_first (lexeme kind bytes) (statements (is_inside inside kind) (lexemes pieces)))))
+        (cond ends (remarks_from false (number + 1) pieces) (remarks_from (is_inside inside kind) number pieces))
     by true next same =
         let whole = held ++ lexeme kind bytes ∷ [] in
         let later = remarks_from false (number + 1) pieces in

@@ -112,12 +112,16 @@ gap_text (gap.Line depth) = 10 ∷ indentation depth
 
 -- ---- a statement
 
+-- what stands between a token and those that follow it in its statement
+abbrev pub gap_behind : Style → ℕ → TokenKind → List Lexeme → List ℕ
+gap_behind way depth kind [] = []
+gap_behind way depth kind (next ∷ rest) = gap_text (gap_between way depth kind next.kind)
+
 -- the tokens with what stands between them; before the first of them so many brackets are open
 abbrev pub laid : Style → ℕ → List Lexeme → List ℕ
-laid style depth [] = []
-laid style depth (a ∷ []) = a.bytes
-laid style depth (a ∷ b ∷ rest) =
-    a.bytes ++ (gap_text (gap_between style (depth_behind depth a.kind) a.kind b.kind) ++ laid style (depth_behind depth a.kind) (b ∷ rest))
+laid way depth [] = []
+laid way depth (first ∷ rest) =
+    first.bytes ++ (gap_behind way (depth_behind depth first.kind) first.kind rest ++ laid way (depth_behind depth first.kind) rest)
 
 -- the most characters of a transformation that stands on one line, with its `;`
 abbrev pub most_characters : ℕ

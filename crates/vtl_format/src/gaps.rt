@@ -162,12 +162,7 @@ fn definition_gap(before: &TokenKind, kind: &TokenKind) -> Gap
 }
 
 // What stands between two tokens, with so many brackets open behind the first.
-pub(crate) fn gap_between(
-    style: Style,
-    depth: usize,
-    before: &TokenKind,
-    kind: &TokenKind,
-) -> Gap
+pub(crate) fn gap_between(style: Style, depth: usize, before: &TokenKind, kind: &TokenKind) -> Gap
     ensures { result ≡ gap_between style depth before.now kind.now }
 {
     match style {

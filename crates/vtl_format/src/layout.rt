@@ -1,20 +1,24 @@
 // A statement as text.
-ghost use Rattle.std.specs.Prelude.{◌≡◌, ◌++◌, ◌+◌, ◌<◌, ◌≤◌, ◌^◌, ◌∷◌, [], IfOk, length, drop, slice_index_or, string_bytes};
+ghost use Rattle.std.specs.Prelude.{◌≡◌, ◌++◌, ◌+◌, ◌<◌, ◌≤◌, ◌^◌, ℕ, List, IfOk, drop, string_bytes};
 ghost use Rattle.std.specs.List.{AllByRecursion};
 ghost use Rattle.vtl_lexer.specs.Pieces.{IsCutOf};
 ghost use Rattle.vtl_format.specs.Form.{lexemes_at};
-ghost use Rattle.vtl_format.specs.Layout.{is_definition, laid, statement_form};
+ghost use Rattle.vtl_format.specs.Layout.{gap_behind, is_definition, laid, statement_form};
 
 use crate::gaps::{Style, depth_behind, gap_between, is_define, write_gap};
 use std::alloc::{AllocError, Global};
-use vtl_lexer::Token;
+use vtl_lexer::{Token, TokenKind};
 use vtl_text::length;
 
 // The most characters of a transformation that stands on one line, with its `;`.
 const MOST_CHARACTERS: usize = 100;
 
 // The tokens of a statement as they are laid out.
-pub(crate) fn statement_form(alloc: Global, text: &str, tokens: &[Token]) -> Result<String, AllocError>
+pub(crate) fn statement_form(
+    alloc: Global,
+    text: &str,
+    tokens: &[Token],
+) -> Result<String, AllocError>
     requires { AllByRecursion (IsCutOf text.now) tokens.now }
     ensures { IfOk result (λ form. string_bytes form ≡ statement_form (lexemes_at text.now tokens.now)) }
 {
@@ -44,25 +48,46 @@ fn laid(alloc: Global, style: Style, text: &str, tokens: &[Token]) -> Result<Str
     let mut out = String::new(alloc);
     let mut depth = 0;
     for i in 0..tokens.len() {
-        depth = write_token(style, depth, text, &tokens[i..], &mut out)?;
+        depth = write_first(style, depth, text, &tokens[i..], &mut out)?;
     }
     Ok(out)
 }
 
 // Appends the first token and what stands behind it, and gives how many brackets are then open.
-fn write_token(style: Style, depth: usize, text: &str, tokens: &[Token], out: &mut String) -> Result<usize, AllocError>
+fn write_first(
+    style: Style,
+    depth: usize,
+    text: &str,
+    tokens: &[Token],
+    out: &mut String,
+) -> Result<usize, AllocError>
     requires cut { AllByRecursion (IsCutOf text.now) tokens.now }
-    requires some { 0 < length tokens.now }
     requires room { depth + 1 < 2 ^ 64 }
     ensures written { IfOk result (λ next. string_bytes out.new ++ laid style next (lexemes_at text.now (drop 1 tokens.now))
         ≡ string_bytes out.old ++ laid style depth (lexemes_at text.now tokens.now)) }
     ensures next { IfOk result (λ next. next ≤ depth + 1) }
 {
-    let token = &tokens[0];
+    let Some((token, rest)) = tokens.split_first() else {
+        return Ok(depth);
+    };
     out.push_str(&text[token.start..token.end])?;
     let next = depth_behind(depth, &token.kind);
-    if let Some(other) = tokens.get(1) {
-        write_gap(gap_between(style, next, &token.kind, &other.kind), out)?;
-    }
+    write_gap_behind(style, next, &token.kind, rest, out)?;
     Ok(next)
+}
+
+// Appends what stands between a token and those that follow it.
+fn write_gap_behind(
+    style: Style,
+    depth: usize,
+    kind: &TokenKind,
+    rest: &[Token],
+    out: &mut String,
+) -> Result<(), AllocError>
+    ensures { IfOk result (λ done. (text : List ℕ) → string_bytes out.new ≡ string_bytes out.old ++ gap_behind style depth kind.now (lexemes_at text rest.now)) }
+{
+    match rest.split_first() {
+        Some((next, _)) => write_gap(gap_between(style, depth, kind, &next.kind), out),
+        None => Ok(()),
+    }
 }

@@ -16,6 +16,6 @@ mod statements;
 
 pub use formatting::format;
 pub use laws::{
-    forms_are_determined, formatted_texts_are_formatted, formatted_texts_have_their_comments,
-    formatted_texts_have_their_tokens,
+    formatted_texts_are_formatted, formatted_texts_have_their_comments,
+    formatted_texts_have_their_tokens, forms_are_determined,
 };

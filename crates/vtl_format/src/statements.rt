@@ -97,7 +97,7 @@ fn take_token(
     ensures written { IfOk result (λ done. (pieces : List Piece)
         → string_bytes out.new ++ written held.new.inside (lexemes_at text.now held.new.tokens.items) pieces
         ≡ string_bytes out.old ++ written held.old.inside (lexemes_at text.now held.old.tokens.items)
-            (a_token token.kind (slice_range text.now token.start token.end) ∷ pieces)) }
+        (a_token token.kind (slice_range text.now token.start token.end) ∷ pieces)) }
 {
     let ends = ends_statement(held.inside, &token.kind);
     let inside = is_inside(held.inside, &token.kind);

@@ -21,9 +21,10 @@ ghost use Rattle.vtl_top.specs.Refusal.{SettlesBy};
 ghost use Rattle.vtl_top.specs.Steps.{only_text, status_of};
 ghost use Rattle.vtl_top.specs.Words.{engine, format, run, sql};
 
+use crate::form::prepare_form;
 use crate::output::Output;
 use crate::points::Points;
-use crate::run::{prepare, prepare_form, prepare_text};
+use crate::run::{prepare, prepare_text};
 use crate::sql_run::prepare_exports;
 use crate::words::{Command, Engine, Run, Source};
 use std::alloc::Global;

@@ -4,9 +4,9 @@ ghost use Rattle.std.specs.List.{AllByRecursion};
 ghost use Rattle.vtl_syntax.specs.View.{script_tree};
 ghost use Rattle.vtl_syntax.specs.Written.{AreWritten};
 ghost use Rattle.vtl_top.specs.Answered.{Takes};
-ghost use Rattle.vtl_top.specs.Expected.{format_step, run_step, script_step, structures_step, text_step, typed_step};
+ghost use Rattle.vtl_top.specs.Expected.{run_step, script_step, structures_step, text_step, typed_step};
 ghost use Rattle.vtl_top.specs.OutputView.{NamesPath, outputs_view};
-ghost use Rattle.vtl_top.specs.Refusal.{IsFormIn, IsFormOfText, IsScriptOf, IsScriptOfText, fault_of};
+ghost use Rattle.vtl_top.specs.Refusal.{IsScriptOf, IsScriptOfText, fault_of};
 ghost use Rattle.vtl_top.specs.RunView.{run_view, source_view};
 ghost use Rattle.vtl_top.specs.Informed.{TellsRun, typed_view};
 ghost use Rattle.vtl_top.specs.Steps.{status_of};
@@ -25,18 +25,17 @@ use std::str;
 use vtl_backend::Backend;
 use vtl_check::Checked;
 use vtl_files::Files;
-use vtl_format::format;
 use vtl_parser::{ParseErr, parse};
 use vtl_status::Status;
 use vtl_syntax::Script;
 use vtl_tree::Structures;
 
-const SCRIPT_LIMIT: usize = 65_536;
+pub(crate) const SCRIPT_LIMIT: usize = 65_536;
 
 const STRUCTURES_LIMIT: usize = 1_048_576;
 
 // The status of a script file whose text is no script.
-fn unparsed(error: ParseErr) -> Status
+pub(crate) fn unparsed(error: ParseErr) -> Status
     ensures { result ≡ fault_of error }
 {
     match error {
@@ -74,40 +73,6 @@ fn parsed(alloc: Global, text: &str) -> Result<Script, Status>
     match parse(alloc, text) {
         Ok(script) => Ok(script),
         Err(error) => Err(unparsed(error)),
-    }
-}
-
-// The canonical text of the script that the bytes of a file are.
-fn form_of(alloc: Global, path: &str, bytes: &[u8]) -> Result<String, Status>
-    ensures { IsFormIn path.now bytes.now result }
-{
-    match str::from_utf8(bytes) {
-        Ok(text) => formatted(alloc, text),
-        Err(_) => Err(not_text(alloc, path)),
-    }
-}
-
-fn formatted(alloc: Global, text: &str) -> Result<String, Status>
-    ensures { IsFormOfText text.now result }
-{
-    match format(alloc, text) {
-        Ok(form) => Ok(form),
-        Err(error) => Err(unparsed(error)),
-    }
-}
-
-/// The canonical text of the script at a path; or the first refusal in the order file, script; or, at any place, that
-/// memory ran out.
-pub fn prepare_form<F: Files>(
-    alloc: Global,
-    files: &mut F,
-    path: &str,
-) -> Result<String, Status>
-    ensures { Takes F.Files files.old files.new (format_step path.now) string_bytes result }
-{
-    match read_file(alloc, files, path, SCRIPT_LIMIT) {
-        Ok(bytes) => form_of(alloc, path, &bytes),
-        Err(status) => Err(status),
     }
 }
 

@@ -4,7 +4,7 @@ use Rattle.vtl_top.specs.Refusal.{IsFormIn}
 use Rattle.vtl_top.specs.Expected.{form_of, read, script_limit}
 use Rattle.vtl_top.proofs.ReadScripts.{form_given}
 use Rattle.vtl_top.proofs.StepLemmas.{takes_onward, takes_stopped}
-use Rattle.vtl_top.proofs.run.prepare_form.Goals as goal
+use Rattle.vtl_top.proofs.form.prepare_form.Goals as goal
 
 pub returns-in-Ok : goal.returns-in-Ok
 returns-in-Ok g c =
