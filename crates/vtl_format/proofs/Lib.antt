@@ -1,4 +1,5 @@
 pub mod FormLaws
 pub mod Gaps
 pub mod Laid
+pub mod Lists
 pub mod Orders

@@ -9,6 +9,7 @@ use Rattle.vtl_format.specs.Form.{Remark, ends_statement, form_from, is_inside, 
 use Rattle.vtl_format.specs.Layout.{Lexeme, statement_form, statement_style}
 use Rattle.vtl_format.specs.Written.{last_form, written}
 use Rattle.vtl_format.proofs.Laid.{IsSpelled, laid-stands, token_pieces}
+use Rattle.vtl_format.proofs.Lists.{all-more}
 
 -- ---- the pieces in the order in which they are written: the comments of a statement before its tokens
 
@@ -24,10 +25,6 @@ comment-stands : (bytes text : List ℕ) (pieces : List Piece) → IsRemark byte
 comment-stands bytes text pieces is stands =
     subst (λ l. Stands (bytes ++ 10 ∷ text) (a_comment l ∷ pieces)) is.whole
     (stands_comment (bytes ++ 10 ∷ text) bytes (10 ∷ text) pieces refl (is.gap text) is.marked (stands_space 10 text pieces refl stands))
-
-spelled-more : (held : List Lexeme) (it : Lexeme) → AllByRecursion IsSpelled held → IsSpelled it → AllByRecursion IsSpelled (held ++ it ∷ [])
-spelled-more [] it all one = (one, tt)
-spelled-more (first ∷ held) it all one = (all.0, spelled-more held it all.1 one)
 
 last-stands : (held : List Lexeme) → AllByRecursion IsSpelled held → Stands (last_form held) (token_pieces held)
 last-stands [] all = stands_nothing
@@ -45,7 +42,7 @@ written-stands inside held (a_comment bytes ∷ pieces) spelled writable =
     comment-stands bytes (written inside held pieces) (order inside held pieces) writable.0 (written-stands inside held pieces spelled writable.1)
 written-stands inside held (a_token kind bytes ∷ pieces) spelled writable =
     let whole = held ++ lexeme kind bytes ∷ [] in
-    let more : AllByRecursion IsSpelled whole = spelled-more held (lexeme kind bytes) spelled writable.0 in
+    let more : AllByRecursion IsSpelled whole = all-more IsSpelled held (lexeme kind bytes) spelled writable.0 in
     choice-stands (ends_statement inside kind) (statement_form whole ++ 10 ∷ written false [] pieces) (written (is_inside inside kind) whole pieces) (token_pieces whole ++ order false [] pieces)
     (order (is_inside inside kind) whole pieces)
     (laid-stands (statement_style whole) 0 whole (written false [] pieces) (order false [] pieces) more (written-stands false [] pieces tt writable.1))

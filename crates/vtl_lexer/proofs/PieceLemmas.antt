@@ -71,7 +71,7 @@ stands-reads before (stands_comment text bytes rest pieces is gap marked more) =
     let comment : Comment = record { start = length before; end = length before + length kept } in
     let whole : before ++ text ≡ before ++ (kept ++ (gone.returns ++ rest)) = ap (λ l. before ++ l) (is ∙ ap (λ l. l ++ rest) gone.split ∙ append_assoc kept gone.returns rest) in
     let content : slice_range (before ++ text) (length before) (length before + length kept) ≡ kept =
-        ap (λ l. slice_range l (length before) (length before + length kept)) whole ∙ range-at before kept (gone.returns ++ rest) in
+    ap (λ l. slice_range l (length before) (length before + length kept)) whole ∙ range-at before kept (gone.returns ++ rest) in
     record {
       parts = p.Comment comment ∷ parts;
       holds = holds_comment (length before) text bytes rest comment parts None is gap marked refl refl holds;
@@ -81,7 +81,7 @@ stands-reads before (stands_token text bytes rest kind pieces is token more) =
     let (parts, holds, are) = read-behind before bytes rest pieces (stands-reads (before ++ bytes) more) in
     let it : Token = record { kind = kind; start = length before; end = length before + length bytes } in
     let content : slice_range (before ++ text) (length before) (length before + length bytes) ≡ bytes =
-        ap (λ l. slice_range (before ++ l) (length before) (length before + length bytes)) is ∙ range-at before bytes rest in
+    ap (λ l. slice_range (before ++ l) (length before) (length before + length bytes)) is ∙ range-at before bytes rest in
     record {
       parts = p.Token it ∷ parts;
       holds = holds_token (length before) text bytes rest it parts None is token refl refl holds;
@@ -107,6 +107,9 @@ token-no_mark kind bytes text spelled e =
     sign-no_mark s.Assign first = omega (arith, first)
     sign-no_mark _ first = omega (arith, first)
 
+abbrev mark_size : Bool → ℕ
+mark_size b = cond b 3 0
+
 pub stands-no_mark : {text : List ℕ} {pieces : List Piece} → Stands text pieces → mark_len text ≡ 0
 stands-no_mark {text} stands = by (starts_with nat_eq text (0xEF ∷ 0xBB ∷ 0xBF ∷ [])) refl
   where
@@ -116,7 +119,7 @@ stands-no_mark {text} stands = by (starts_with nat_eq text (0xEF ∷ 0xBB ∷ 0x
     none (stands_comment text bytes rest pieces is gap marked more) e = gap-no_mark bytes rest rest gap (sym is ∙ e ∙ ap (λ l. 239 ∷ drop 1 l) is)
     none (stands_token text bytes rest kind pieces is token more) e = token-no_mark kind bytes rest token.spelled (sym is ∙ e ∙ ap (λ l. 239 ∷ drop 1 l) is)
 
-    by : (b : Bool) → starts_with nat_eq text (0xEF ∷ 0xBB ∷ 0xBF ∷ []) ≡ b → cond b 3 0 ≡ 0
+    by : (b : Bool) → starts_with nat_eq text (0xEF ∷ 0xBB ∷ 0xBF ∷ []) ≡ b → mark_size b ≡ 0
     by true e =
         let whole : text ≡ 0xEF ∷ 0xBB ∷ 0xBF ∷ drop 3 text = start-splits text (0xEF ∷ 0xBB ∷ 0xBF ∷ []) e in
         absurd (none stands (whole ∙ ap (λ l. 239 ∷ l) (sym (ap (drop 1) whole))))
@@ -201,16 +204,14 @@ holds-writable text before (holds_space at here bytes rest parts bad is gap plai
 holds-writable text before (holds_comment at here bytes rest comment parts bad is gap marked from to more) e start =
     let gone = returns-split bytes in
     let kept = without_returns bytes in
-    let whole : text ≡ before ++ (kept ++ (gone.returns ++ rest)) = e ∙ ap (λ l. before ++ l) (is ∙ ap (λ l. l ++ rest) gone.split ∙ append_assoc kept gone.returns rest) in
-    (
+    let whole : text ≡ before ++ (kept ++ (gone.returns ++ rest)) = e ∙ ap (λ l. before ++ l) (is ∙ ap (λ l. l ++ rest) gone.split ∙ append_assoc kept gone.returns rest) in (
       subst IsRemark (sym (range-of text before kept (gone.returns ++ rest) at comment.start comment.end whole start from to)) (remark-of bytes rest gap marked),
       holds-writable text (before ++ bytes) more (front-more text before here bytes rest e is) (size-more at before bytes start),
     )
-holds-writable text before (holds_token at here bytes rest token parts bad is starts from to more) e start =
-    (
-      subst (Spells token.kind) (sym (range-of text before bytes rest at token.start token.end (e ∙ ap (λ l. before ++ l) is) start from to)) starts.spelled,
-      holds-writable text (before ++ bytes) more (front-more text before here bytes rest e is) (size-more at before bytes start),
-    )
+holds-writable text before (holds_token at here bytes rest token parts bad is starts from to more) e start = (
+  subst (Spells token.kind) (sym (range-of text before bytes rest at token.start token.end (e ∙ ap (λ l. before ++ l) is) start from to)) starts.spelled,
+  holds-writable text (before ++ bytes) more (front-more text before here bytes rest e is) (size-more at before bytes start),
+)
 holds-writable text before (holds_fault at here some no_gap no_token) e start = tt
 
 mark-within : (text : List ℕ) → mark_len text ≤ length text
@@ -260,14 +261,12 @@ holds-cut : {at : ℕ} {rest : List ℕ} {parts : List Part} {bad : Option ℕ} 
 holds-cut text before (holds_nothing at) e start utf8 = tt
 holds-cut text before (holds_space at here bytes rest parts bad is gap plain more) e start utf8 =
     holds-cut text (before ++ bytes) more (front-more text before here bytes rest e is) (size-more at before bytes start) (behind-utf8 here bytes rest utf8 is (gap-cut-of here bytes rest utf8 is gap))
-holds-cut text before (holds_comment at here bytes rest comment parts bad is gap marked from to more) e start utf8 =
-    (
-      cut-there text before here at (length (without_returns bytes)) comment.start comment.end e start from to utf8 (comment-cut here bytes rest utf8 is gap),
-      holds-cut text (before ++ bytes) more (front-more text before here bytes rest e is) (size-more at before bytes start) (behind-utf8 here bytes rest utf8 is (gap-cut-of here bytes rest utf8 is gap)),
-    )
+holds-cut text before (holds_comment at here bytes rest comment parts bad is gap marked from to more) e start utf8 = (
+  cut-there text before here at (length (without_returns bytes)) comment.start comment.end e start from to utf8 (comment-cut here bytes rest utf8 is gap),
+  holds-cut text (before ++ bytes) more (front-more text before here bytes rest e is) (size-more at before bytes start) (behind-utf8 here bytes rest utf8 is (gap-cut-of here bytes rest utf8 is gap)),
+)
 holds-cut text before (holds_token at here bytes rest token parts bad is starts from to more) e start utf8 =
-    let cut = token-cut-of here bytes rest token.kind utf8 is starts in
-    (
+    let cut = token-cut-of here bytes rest token.kind utf8 is starts in (
       cut-there text before here at (length bytes) token.start token.end e start from to utf8 cut,
       holds-cut text (before ++ bytes) more (front-more text before here bytes rest e is) (size-more at before bytes start) (behind-utf8 here bytes rest utf8 is cut),
     )

@@ -1,6 +1,7 @@
 -- Carriage returns at an end.
 use Rattle.std.proofs.Common.{◌≡◌, ◌≢◌, ◌≤◌, ◌<◌, ◌+◌, ◌-◌, ◌∷◌, ◌++◌, ◌∙◌, ◌==◌, [], ℕ, zero, suc, List, Bool, true, false, cond, length, take, get_or, sym, ap, refl, arith, inl, inr, eq-eqb, eqb-true}
 use Rattle.std.specs.List.{list_all}
+use Rattle.std.proofs.Math.Seq.{take-suc}
 use Rattle.std.proofs.lemmas.Bool.{and_from, cases_Bool}
 use Rattle.std.proofs.lemmas.List.{length-take-le}
 use Rattle.vtl_lexer.specs.Parts.{before_returns, without_returns}
@@ -75,17 +76,12 @@ returns-split (byte ∷ bytes) = by (without_returns bytes) (returns-split bytes
     }
 
 -- ---- from the end on
-take-last : (bytes : List ℕ) (n : ℕ) → n < length bytes → take (suc n) bytes ≡ take n bytes ++ get_or bytes n 0 ∷ []
-take-last [] n lt = absurd (omega arith)
-take-last (byte ∷ bytes) zero lt = refl
-take-last (byte ∷ bytes) (suc n) lt = ap (λ l. byte ∷ l) (take-last bytes n (omega arith))
-
 -- the last of some bytes
 take-before : (bytes : List ℕ) (size : ℕ) → 0 < size → size ≤ length bytes → take size bytes ≡ take (size - 1) bytes ++ get_or bytes (size - 1) 0 ∷ []
 take-before bytes zero some within = absurd (omega arith)
 take-before bytes (suc n) some within =
     let less : suc n - 1 ≡ n = omega arith in
-    take-last bytes n (omega arith) ∙ ap (λ m. take m bytes ++ get_or bytes m 0 ∷ []) (sym less)
+    take-suc bytes n 0 (omega arith) ∙ ap (λ m. take m bytes ++ get_or bytes m 0 ∷ []) (sym less)
 
 pub content-step : (bytes : List ℕ) (size : ℕ) → 0 < size → size ≤ length bytes → get_or bytes (size - 1) 0 ≡ 13 → without_returns bytes ≡ without_returns (take size bytes)
     → without_returns bytes ≡ without_returns (take (size - 1) bytes)
@@ -98,7 +94,7 @@ content-last bytes size some within other same =
     let last = get_or bytes (size - 1) 0 in
     let apart : (last == 13) ≡ false = elim (cases_Bool (last == 13)) [ inl e ↦ absurd (other (eqb-true last 13 e)) | inr e ↦ e ] in
     let whole : without_returns bytes ≡ take size bytes =
-        same ∙ ap without_returns (take-before bytes size some within) ∙ returns-stop (take (size - 1) bytes) last apart ∙ sym (take-before bytes size some within) in
+    same ∙ ap without_returns (take-before bytes size some within) ∙ returns-stop (take (size - 1) bytes) last apart ∙ sym (take-before bytes size some within) in
     sym (ap length whole ∙ length-take-le size bytes within)
 
 pub content-none : (bytes : List ℕ) (size : ℕ) → size ≤ 0 → without_returns bytes ≡ without_returns (take size bytes) → size ≡ length (without_returns bytes)

@@ -19,4 +19,4 @@ pub returns-clause-only : goal.returns-clause-only
 returns-clause-only c = λ comments bad other.
     let parts = c.in_ok-parted.parted.parts in
     let same = comments-once c.args.text.now (comments_of parts) comments c.in_ok-parted.parted.bad bad (parts, c.in_ok-parted.ensures, refl) other in
-    (c.in_ok-comments_of.ensures ∙ ap comments_of c.as_slice.ensures ∙ same.0, sym same.1 ∙ c.in-None.is)
+    (c.in_ok-comments_of-in-None.ensures ∙ ap comments_of c.as_slice.ensures ∙ same.0, sym same.1 ∙ c.in-None.is)

@@ -15,7 +15,7 @@ loop-part-preserved c =
     elim c.match-part.branch [
       | in-Comment+in_ok-push w ↦
           rw (w.comments-is, w.in_ok-push.ensures.items)
-              (comment-taken parts i c.part-item.result w.in-Comment.comment.now so_far c.loop-part-test.true c.part-item.is w.in-Comment.is c.loop-part.invariant)
+          (comment-taken parts i c.part-item.result w.in-Comment.comment so_far c.loop-part-test.true c.part-item.is w.in-Comment.is c.loop-part.invariant)
       | in_default w ↦ rw w.comments-is (token-passed parts i c.part-item.result w.in_default.field-0 so_far c.loop-part-test.true c.part-item.is w.in_default.is c.loop-part.invariant)
     ]
 

@@ -1,9 +1,11 @@
-use Rattle.std.proofs.Common.{◌≡◌, ◌≤◌, ◌<◌, arith, length, length-drop, subst, sym}
+use Rattle.std.proofs.Common.{◌≡◌, ◌≤◌, ◌<◌, arith, length, length-drop, subst, sym, take}
 use Rattle.std.specs.Str.{IsCharBoundary}
 use Rattle.std.proofs.lemmas.Bool.Decides.{nat_tests}
+use Rattle.std.proofs.lemmas.List.{length-take-le}
 use Rattle.vtl_lexer.specs.Found.{IsPieceOf}
 use Rattle.vtl_lexer.proofs.FoundLemmas.{mark-cut}
 use Rattle.vtl_lexer.proofs.PartLemmas.{comment-goes_on, ends-there, faults-there, gap-shrinks, space-goes_on, starts-there, token-goes_on, token-shrinks}
+use Rattle.vtl_lexer.proofs.ReturnLemmas.{returns-short}
 use Rattle.vtl_lexer.proofs.parts.parts_before_fault.Goals as goal
 use Rattle.vtl_lexer.proofs.parts.parts_before_fault.Goals.{in-Space, in-Comment+in_ok-push-in-Comment, in-Token+in_ok-push-in-Token}
 
@@ -100,8 +102,6 @@ returns c =
 pub overflow_add-at : goal.overflow_add-at
 overflow_add-at c =
     let rest = c.loop-rest.rest.now in
-    elim c.match-branch-2.branch [
-      | in-Space w ↦ let of = subst (IsPieceOf rest) w.in-Space.is c.in_ok-size.ensures in omega (arith, w.size-is, of.0.gap.within, c.loop-rest.invariant.size)
-      | in-Comment+in_ok-push-in-Comment w ↦ let of = subst (IsPieceOf rest) w.in-Comment.is c.in_ok-size.ensures in omega (arith, w.size-is, of.0.gap.within, c.loop-rest.invariant.size)
-      | in-Token+in_ok-push-in-Token w ↦ let of = subst (IsPieceOf rest) w.in-Token.is c.in_ok-size.ensures in omega (arith, w.size-is, of.0.within, c.loop-rest.invariant.size)
-    ]
+    let size = c.in-Comment.size in
+    let of = subst (IsPieceOf rest) c.in-Comment.is c.in_ok-size.ensures in
+    omega (arith, of.0.kept, of.0.gap.within, returns-short (take size rest), length-take-le size rest of.0.gap.within, c.loop-rest.invariant.size)
