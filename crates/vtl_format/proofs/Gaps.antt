@@ -1,9 +1,8 @@
 -- What stands between two tokens is white space, and keeps them apart.
-use Rattle.std.proofs.Common.{◌≡◌, ◌-◌, ◌∷◌, ◌++◌, ◌∙◌, ◌==◌, ◌||◌, ◌&&◌, ◌⊎◌, [], ℕ, zero, suc, List, Bool, true, false, not, cond, sym, ap, refl, arith, inl, inr}
+use Rattle.std.proofs.Common.{◌≡◌, ◌-◌, ◌*◌, ◌∷◌, ◌++◌, ◌∙◌, ◌==◌, ◌||◌, ◌&&◌, ◌⊎◌, [], ℕ, zero, suc, List, Bool, true, false, not, cond, replicate, sym, ap, refl, arith, inl, inr}
 use Rattle.std.specs.List.{list_all}
-use Rattle.std.proofs.lemmas.Bool.{and_from, and_parts, false≢true}
+use Rattle.std.proofs.lemmas.Bool.{and_parts, false≢true}
 use Rattle.std.proofs.lemmas.Bool.Decides.{nat_tests}
-use Rattle.std.proofs.lemmas.List.Folds.{list_all-append}
 use Rattle.vtl_lists.specs.Runs.{begins_with}
 use Rattle.vtl_text.specs.Words.{is_word_character}
 use Rattle.vtl_lexer.specs.Gaps.{is_white_space}
@@ -13,7 +12,7 @@ use Rattle.vtl_lexer.specs.declared.token.Sign.TheVariants as s
 use Rattle.vtl_lexer.specs.declared.token.TokenKind.{TokenKind}
 use Rattle.vtl_lexer.specs.declared.token.TokenKind.TheVariants as k
 use Rattle.vtl_format.specs.Calls.{is_call}
-use Rattle.vtl_format.specs.Layout.{broken_gap, closes, definition_gap, gap_between, gap_text, indentation, is_comma, is_end, is_open_bracket, is_tight, leans_back, leans_on, opens, precedes_rule, space}
+use Rattle.vtl_format.specs.Layout.{broken_gap, closes, definition_gap, gap_between, gap_text, is_comma, is_end, is_open_bracket, is_tight, leans_back, leans_on, opens, precedes_rule, space}
 use Rattle.vtl_format.specs.declared.gaps.Gap.{Gap}
 use Rattle.vtl_format.specs.declared.gaps.Gap.TheVariants as gap
 use Rattle.vtl_format.specs.declared.gaps.Style.{Style}
@@ -105,14 +104,14 @@ gap-form style.Definition depth a b = definition-form a b
 
 -- ---- white space
 
-indentation-white : (depth : ℕ) → list_all is_white_space (indentation depth) ≡ true
-indentation-white zero = refl
-indentation-white (suc depth) = list_all-append is_white_space (indentation depth) (32 ∷ 32 ∷ []) ∙ and_from (list_all is_white_space (indentation depth)) true (indentation-white depth) refl
+spaces-white : (n : ℕ) → list_all is_white_space (replicate n 32) ≡ true
+spaces-white zero = refl
+spaces-white (suc n) = spaces-white n
 
 pub gap-white : (it : Gap) → list_all is_white_space (gap_text it) ≡ true
 gap-white gap.Nothing = refl
 gap-white gap.Space = refl
-gap-white (gap.Line depth) = indentation-white depth
+gap-white (gap.Line depth) = spaces-white (2 * depth)
 
 -- ---- apart
 

@@ -1,11 +1,15 @@
 -- Tokens with their bytes, one after the other.
-use Rattle.std.proofs.Common.{◌≡◌, ◌≤◌, ◌<◌, ◌+◌, ◌∷◌, ◌++◌, ◌∙◌, [], ℕ, zero, suc, List, Bool, true, false, cond, length, drop, append_assoc, append-nil, sym, ap, subst, refl, arith}
+use Rattle.std.specs.Prelude.{if◌then◌else◌}
+use Rattle.std.specs.Result.{IfOk, is_ok}
+use Rattle.std.proofs.Common.{Result, Ok, Err, ◌≡◌, ◌≤◌, ◌<◌, ◌+◌, ◌∷◌, ◌++◌, ◌∙◌, [], ℕ, zero, suc, List, Bool, true, false, cond, length, drop, append_assoc, append-nil, sym, ap, subst, refl, arith}
 use Rattle.std.specs.List.{AllByRecursion, slice_range}
 use Rattle.std.proofs.lemmas.List.{drop-drop}
 use Rattle.vtl_lexer.specs.Pieces.{Piece, a_comment, a_token, piece_of, pieces_of}
 use Rattle.vtl_lexer.specs.declared.parts.Part.{Part}
 use Rattle.vtl_lexer.specs.declared.token.Token.{Token}
+use Rattle.vtl_lexer.specs.declared.token.Sign.TheVariants as sign
 use Rattle.vtl_lexer.specs.declared.token.TokenKind.{TokenKind}
+use Rattle.vtl_lexer.specs.declared.token.TokenKind.TheVariants as token_kind
 use Rattle.vtl_format.specs.Form.{ends_statement, is_inside, lexeme, lexemes_at}
 use Rattle.vtl_format.specs.Layout.{Lexeme, depth_behind, gap_behind, laid, statement_form}
 use Rattle.vtl_format.specs.Written.{last_form, written}
@@ -106,3 +110,46 @@ none-written (first ∷ rest) old all none so_far = absurd (omega arith)
 pub lexemes_at-length : (text : List ℕ) (tokens : List Token) → length (lexemes_at text tokens) ≡ length tokens
 lexemes_at-length text [] = refl
 lexemes_at-length text (token ∷ tokens) = ap suc (lexemes_at-length text tokens)
+
+-- ---- results
+
+-- what was pushed onto a text
+pub pushed : {T E : Type 0} (r : Result T E) (old text new : List ℕ) → new ≡ (if is_ok r then old ++ text else old) → IfOk r (λ done. new ≡ old ++ text)
+pushed (Ok x) old text new e = e
+pushed (Err x) old text new e = tt
+
+pub ok-always : {T E : Type 0} (r : Result T E) (P : Type 0) → P → IfOk r (λ done. P)
+ok-always (Ok x) P holds = holds
+ok-always (Err x) P holds = tt
+
+-- ---- a token is taken
+
+-- a statement ends outside of definitions
+ends-outside : (inside : Bool) (kind : TokenKind) → ends_statement inside kind ≡ true → inside ≡ false
+ends-outside true (token_kind.Sign sign.Semicolon) e = cc e
+ends-outside false kind e = refl
+ends-outside true kind e = cc e
+
+-- it ends the statement
+pub token-ends : {T E : Type 0} (r : Result T E) (text : List ℕ) (inside inside' : Bool) (held held' : List Token) (token : Token) (old new : List ℕ) → ends_statement inside token.kind ≡ true
+    → IfOk r (λ done. held' ≡ []) → IfOk r (λ done. inside' ≡ inside) → IfOk r (λ done. new ≡ old ++ (statement_form (lexemes_at text (held ++ token ∷ [])) ++ 10 ∷ []))
+    → IfOk r (λ done. (pieces : List Piece) → new ++ written inside' (lexemes_at text held') pieces ≡ old ++ written inside (lexemes_at text held) (a_token token.kind (slice_range text token.start token.end) ∷ pieces))
+token-ends (Err x) text inside inside' held held' token old new ends none same is = tt
+token-ends (Ok x) text inside inside' held held' token old new ends none same is = λ pieces.
+    let bytes = slice_range text token.start token.end in
+    let outside : inside' ≡ false = same ∙ ends-outside inside token.kind ends in
+    let whole : new ≡ old ++ (statement_form (lexemes_at text held ++ lexeme token.kind bytes ∷ []) ++ 10 ∷ []) =
+    is ∙ ap (λ l. old ++ (statement_form l ++ 10 ∷ [])) (lexemes_at-append text held token) in
+    ap (λ b. new ++ written b (lexemes_at text held') pieces) outside ∙ ap (λ (l : List Token). new ++ written false (lexemes_at text l) pieces) none
+    ∙ statement-written inside (lexemes_at text held) old new token.kind bytes pieces ends whole
+
+-- it is held back
+pub token-kept : {T E : Type 0} (r : Result T E) (text : List ℕ) (inside inside' : Bool) (held held' : List Token) (token : Token) (old : List ℕ) → ends_statement inside token.kind ≡ false
+    → IfOk r (λ done. held' ≡ held ++ token ∷ []) → IfOk r (λ done. inside' ≡ is_inside inside token.kind)
+    → IfOk r (λ done. (pieces : List Piece) → old ++ written inside' (lexemes_at text held') pieces ≡ old ++ written inside (lexemes_at text held) (a_token token.kind (slice_range text token.start token.end) ∷ pieces))
+token-kept (Err x) text inside inside' held held' token old goes_on more same = tt
+token-kept (Ok x) text inside inside' held held' token old goes_on more same = λ pieces.
+    let bytes = slice_range text token.start token.end in
+    ap (λ b. old ++ written b (lexemes_at text held') pieces) same
+    ∙ ap (λ l. old ++ written (is_inside inside token.kind) l pieces) (ap (lexemes_at text) more ∙ lexemes_at-append text held token)
+    ∙ token-held inside (lexemes_at text held) old token.kind bytes pieces goes_on

@@ -1,5 +1,5 @@
 -- How a statement is laid out: what stands between two of its tokens.
-use Rattle.std.specs.Prelude.{◌+◌, ◌-◌, ◌==◌, ◌||◌, ◌&&◌, nat_le, ℕ, zero, suc, Bool, true, false, List, [], ◌∷◌, ◌++◌, length, chars, if◌then◌else◌}
+use Rattle.std.specs.Prelude.{◌+◌, ◌-◌, ◌*◌, ◌==◌, ◌||◌, ◌&&◌, nat_le, ℕ, Bool, true, false, List, [], ◌∷◌, ◌++◌, length, replicate, chars, if◌then◌else◌}
 use Rattle.vtl_lists.specs.Runs.{begins_with}
 use Rattle.vtl_lexer.specs.declared.keyword.Keyword.TheVariants as word
 use Rattle.vtl_lexer.specs.declared.token.Sign.TheVariants as sign
@@ -100,15 +100,11 @@ gap_between style.OneLine depth a b = space a b
 gap_between style.Broken depth a b = broken_gap depth a b
 gap_between style.Definition depth a b = definition_gap a b
 
--- two spaces for each bracket
-abbrev pub indentation : ℕ → List ℕ
-indentation zero = []
-indentation (suc depth) = indentation depth ++ (32 ∷ 32 ∷ [])
-
+-- a line's end has two spaces behind it for each bracket
 abbrev pub gap_text : Gap → List ℕ
 gap_text gap.Nothing = []
 gap_text gap.Space = 32 ∷ []
-gap_text (gap.Line depth) = 10 ∷ indentation depth
+gap_text (gap.Line depth) = 10 ∷ replicate (2 * depth) 32
 
 -- ---- a statement
 

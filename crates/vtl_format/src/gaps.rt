@@ -1,6 +1,6 @@
 // What stands between two tokens.
-ghost use Rattle.std.specs.Prelude.{◌≡◌, ◌++◌, ◌+◌, ◌^◌, ◌<◌, ◌∷◌, IfOk, string_bytes};
-ghost use Rattle.vtl_format.specs.Layout.{broken_gap, closes, definition_gap, depth_behind, gap_between, gap_text, indentation, is_comma, is_define, is_end, is_open_bracket, is_tight, leans_back, leans_on, opens, precedes_rule, space};
+ghost use Rattle.std.specs.Prelude.{◌≡◌, ◌++◌, ◌+◌, ◌*◌, ◌^◌, ◌<◌, ◌∷◌, IfOk, replicate, string_bytes};
+ghost use Rattle.vtl_format.specs.Layout.{broken_gap, closes, definition_gap, depth_behind, gap_between, gap_text, is_comma, is_define, is_end, is_open_bracket, is_tight, leans_back, leans_on, opens, precedes_rule, space};
 
 use crate::calls::is_call;
 use std::alloc::AllocError;
@@ -184,7 +184,7 @@ pub(crate) fn write_gap(gap: Gap, out: &mut String) -> Result<(), AllocError>
 }
 
 fn write_line_end(depth: usize, out: &mut String) -> Result<(), AllocError>
-    ensures { IfOk result (λ done. string_bytes out.new ≡ string_bytes out.old ++ 10 ∷ indentation depth) }
+    ensures { IfOk result (λ done. string_bytes out.new ≡ string_bytes out.old ++ 10 ∷ replicate (2 * depth) 32) }
 {
     out.push_str("\n")?;
     for _ in 0..depth {

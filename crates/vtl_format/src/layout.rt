@@ -1,7 +1,7 @@
 // A statement as text.
 ghost use Rattle.std.specs.Prelude.{◌≡◌, ◌++◌, ◌+◌, ◌<◌, ◌≤◌, ◌^◌, ℕ, List, IfOk, drop, string_bytes};
-ghost use Rattle.std.specs.List.{AllByRecursion};
-ghost use Rattle.vtl_lexer.specs.Pieces.{IsCutOf};
+ghost use Rattle.std.specs.List.{AllByRecursion, slice_range};
+ghost use Rattle.vtl_lexer.specs.Pieces.{IsCut, IsCutOf};
 ghost use Rattle.vtl_format.specs.Form.{lexemes_at};
 ghost use Rattle.vtl_format.specs.Layout.{gap_behind, is_definition, laid, statement_form};
 
@@ -35,8 +35,8 @@ pub(crate) fn statement_form(
 fn is_definition(tokens: &[Token]) -> bool
     ensures { (text : List ℕ) → result ≡ is_definition (lexemes_at text tokens.now) }
 {
-    match tokens.first() {
-        Some(first) => is_define(&first.kind),
+    match tokens.split_first() {
+        Some((first, _)) => is_define(&first.kind),
         None => false,
     }
 }
@@ -70,10 +70,18 @@ fn write_first(
     let Some((token, rest)) = tokens.split_first() else {
         return Ok(depth);
     };
-    out.push_str(&text[token.start..token.end])?;
+    write_range(text, token.start, token.end, out)?;
     let next = depth_behind(depth, &token.kind);
     write_gap_behind(style, next, &token.kind, rest, out)?;
     Ok(next)
+}
+
+// Appends what stands between two places of the text.
+fn write_range(text: &str, start: usize, end: usize, out: &mut String) -> Result<(), AllocError>
+    requires { IsCut text.now start end }
+    ensures { IfOk result (λ done. string_bytes out.new ≡ string_bytes out.old ++ slice_range text.now start end) }
+{
+    out.push_str(&text[start..end])
 }
 
 // Appends what stands between a token and those that follow it.
