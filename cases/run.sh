@@ -64,19 +64,20 @@ printed() {
     fi
 }
 
-# A script and its canonical text, which is its own: `format` prints it.
+# A script, and what `format` prints of it.
 formed() {
-    for script in "$1" "${1%.vtl}.formed"; do
-        "$vtl" format "$script" >"$made/said" 2>"$made/told"
-        code=$?
-        if [ "$code" = 0 ] && [ ! -s "$made/told" ] && cmp -s "${1%.vtl}.formed" "$made/said"; then
-            pass
-        else
-            fail "$script: exit code $code"
-            diff "${1%.vtl}.formed" "$made/said" | head -n 10
-        fi
-    done
+    "$vtl" format "$1" >"$made/said" 2>"$made/told"
+    code=$?
+    if [ "$code" = 0 ] && [ ! -s "$made/told" ] && cmp -s "$2" "$made/said"; then
+        pass
+    else
+        fail "$1: exit code $code"
+        diff "$2" "$made/said" | head -n 10
+    fi
 }
+
+# A script that is its own canonical text.
+is_formed() { formed "$1" "$1"; }
 
 # A call of the program in the folder. What it prints is left in files, but where the case names a device for its standard
 # output.
@@ -524,7 +525,12 @@ for folder in cases/*/; do
                 done
             done
             ;;
-        format) for file in cases/format/*.vtl; do formed "$file"; done ;;
+        format)
+            for file in cases/format/*.vtl; do
+                formed "$file" "${file%.vtl}.formed"
+                is_formed "${file%.vtl}.formed"
+            done
+            ;;
         types) for file in cases/types/*.csv; do table types cases/types/structures.txt "$file"; done ;;
         depth) for file in cases/depth/*.csv; do nests syntax "$file" 1, 0,0; done ;;
         from)
@@ -549,6 +555,7 @@ if wanted examples; then
     for case in examples/*/; do
         run_three_ways "$top/${case%/}"
         [ ! -e "$case/text.sql" ] || printed_in_sql "$case/text.sql"
+        [ ! -e "$case/script.vtl" ] || is_formed "$case/script.vtl"
     done
 fi
 # The launcher hands its words on, and the exit code back.
