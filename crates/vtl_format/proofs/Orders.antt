@@ -107,15 +107,11 @@ pub remarks-order : (inside : Bool) (number : ℕ) (held : List Lexeme) (pieces 
 remarks-order inside number held [] none state = ap (remarks_from false number) (sym (append-nil (token_pieces held))) ∙ remarks-held false number held [] none
 remarks-order inside number held (a_comment bytes ∷ pieces) none state = ap (λ l. remark number bytes ∷ l) (remarks-order inside number held pieces none state)
 remarks-order inside number held (a_token kind bytes ∷ pieces) none state =
+    let it = lexeme kind bytes in
+    let whole = held ++ it ∷ [] in
     by (ends_statement inside kind) refl (remarks-order false (number + 1) [] pieces tt refl)
     (λ quiet. remarks-order (is_inside inside kind) number whole pieces (ends-more false held it none (ap (λ b. ends_statement b kind) state ∙ quiet)) (leads-more false held it ∙ ap (λ b. is_inside b kind) state))
   where
-    it : Lexeme
-    it = lexeme kind bytes
-
-    whole : List Lexeme
-    whole = held ++ lexeme kind bytes ∷ []
-
     by : (ends : Bool) → ends_statement inside kind ≡ ends → remarks_from false (number + 1) (order false [] pieces) ≡ remarks_from false (number + 1) pieces
         → (ends_statement inside kind ≡ false → remarks_from false number (order (is_inside inside kind) (held ++ lexeme kind bytes ∷ []) pieces) ≡ remarks_from (is_inside inside kind) number pieces)
         → remarks_from false number (cond ends (token_pieces (held ++ lexeme kind bytes ∷ []) ++ order false [] pieces) (order (is_inside inside kind) (held ++ lexeme kind bytes ∷ []) pieces))

@@ -48,7 +48,8 @@ fn laid(alloc: Global, style: Style, text: &str, tokens: &[Token]) -> Result<Str
     let mut out = String::new(alloc);
     let mut depth = 0;
     for i in 0..tokens.len() {
-        depth = write_first(style, depth, text, &tokens[i..], &mut out)?;
+        let next = write_first(style, depth, text, &tokens[i..], &mut out)?;
+        depth = next;
     }
     Ok(out)
 }

@@ -23,13 +23,13 @@ pub loop-i-preserved : goal.loop-i-preserved
 loop-i-preserved c =
     let at = c.loop-i in
     let text = c.args.text.now in
-    let next = c.in_ok-depth.depth in
+    let next = c.in_ok-next.next in
     let one = subst
-    (λ (l : List Token). string_bytes c.write_first-depth.new.out ++ laid c.args.style next (lexemes_at text (drop 1 l)) ≡ string_bytes at.out ++ laid c.args.style at.depth (lexemes_at text l))
-    c.range_from.ensures.value c.in_ok-depth.ensures.written in
+    (λ (l : List Token). string_bytes c.write_first-next.new.out ++ laid c.args.style next (lexemes_at text (drop 1 l)) ≡ string_bytes at.out ++ laid c.args.style at.depth (lexemes_at text l))
+    c.range_from.ensures.value c.in_ok-next.ensures.written in
     record {
-      room = omega (arith, c.in_ok-depth.ensures.next, at.invariant.room);
-      so_far = next-written c.args.style at.depth next text (string_bytes at.out) (string_bytes c.write_first-depth.new.out) (laid c.args.style 0 (lexemes_at text c.args.tokens.now)) c.args.tokens.now at.i one at.invariant.so_far;
+      room = omega (arith, c.in_ok-next.ensures.next, at.invariant.room);
+      so_far = next-written c.args.style at.depth next text (string_bytes at.out) (string_bytes c.write_first-next.new.out) (laid c.args.style 0 (lexemes_at text c.args.tokens.now)) c.args.tokens.now at.i one at.invariant.so_far;
     }
 
 pub returns : goal.returns
