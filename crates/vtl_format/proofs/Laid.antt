@@ -10,7 +10,7 @@ use Rattle.vtl_lexer.specs.declared.token.TokenKind.{TokenKind}
 use Rattle.vtl_lexer.proofs.Alone.{alone}
 use Rattle.vtl_format.specs.Layout.{Lexeme, depth_behind, gap_behind, gap_between, gap_text, laid}
 use Rattle.vtl_format.specs.declared.gaps.Style.{Style}
-use Rattle.vtl_format.proofs.Gaps.{apart, gap-white, quiet-joins}
+use Rattle.vtl_format.proofs.Apart.{apart, gap-white, quiet-joins}
 
 abbrev pub IsSpelled : Lexeme → Type 0
 IsSpelled lexeme = Spells lexeme.kind lexeme.bytes

@@ -5,12 +5,19 @@ ghost use Rattle.vtl_lexer.specs.Parts.{HasParts};
 ghost use Rattle.vtl_lexer.specs.Pieces.{pieces_of};
 ghost use Rattle.vtl_lexer.specs.declared.parts.Part.{Part};
 ghost use Rattle.vtl_lexer.specs.declared.token.Token.{Token};
+ghost use Rattle.vtl_parser.specs.Parsed.{IsScript};
+ghost use Rattle.vtl_syntax.specs.Trees.{ScriptTree};
 ghost use Rattle.vtl_format.specs.Form.{IsFormOf, lexemes, lexemes_at, remarks};
 
 /// The canonical text has the tokens of the text, kind and bytes, in order.
 pub fn formatted_texts_have_their_tokens()
     ensures { (text out : List ℕ) (tokens : List Token) → IsFormOf text out → IsLexed text tokens None
         → (others : List Token) × IsLexed out others None × (lexemes_at out others ≡ lexemes_at text tokens) }
+{}
+
+/// The canonical text of a script spells that script.
+pub fn formatted_scripts_are_their_scripts()
+    ensures { (text out : List ℕ) (script : ScriptTree) → IsFormOf text out → IsScript text script → IsScript out script }
 {}
 
 /// It has the comments of the text, each behind as many statements.

@@ -9,7 +9,7 @@ ghost use Rattle.vtl_format.specs.Written.{written};
 
 use crate::layout::statement_form;
 use std::alloc::{AllocError, Global};
-use vtl_lexer::{Keyword, Part, Sign, Token, TokenKind, parts_before_fault};
+use vtl_lexer::{Comment, Keyword, Part, Parted, Sign, Token, TokenKind, parts_before_fault};
 
 // The tokens of the statement that has begun.
 #[derive(Drop)]
@@ -39,13 +39,20 @@ fn ends_statement(inside: bool, kind: &TokenKind) -> bool
     }
 }
 
-// Appends a comment, on a line of its own.
-fn write_comment(text: &str, start: usize, end: usize, out: &mut String) -> Result<(), AllocError>
-    requires { IsCut text.now start end }
-    ensures { IfOk result (λ done. string_bytes out.new ≡ string_bytes out.old ++ (slice_range text.now start end ++ 10 ∷ [])) }
+// Appends a line.
+fn write_line(line: &str, out: &mut String) -> Result<(), AllocError>
+    ensures { IfOk result (λ done. string_bytes out.new ≡ string_bytes out.old ++ (line.now ++ 10 ∷ [])) }
 {
-    out.push_str(&text[start..end])?;
+    out.push_str(line)?;
     out.push_str("\n")
+}
+
+// Appends a comment, on a line of its own.
+fn write_comment(text: &str, comment: Comment, out: &mut String) -> Result<(), AllocError>
+    requires { IsCut text.now comment.start comment.end }
+    ensures { IfOk result (λ done. string_bytes out.new ≡ string_bytes out.old ++ (slice_range text.now comment.start comment.end ++ 10 ∷ [])) }
+{
+    write_line(&text[comment.start..comment.end], out)
 }
 
 // Appends a statement, and the end of its line.
@@ -59,8 +66,7 @@ fn write_statement(
     ensures { IfOk result (λ done. string_bytes out.new ≡ string_bytes out.old ++ (statement_form (lexemes_at text.now tokens.now) ++ 10 ∷ [])) }
 {
     let form = statement_form(alloc, text, tokens)?;
-    out.push_str(form.as_str())?;
-    out.push_str("\n")
+    write_line(form.as_str(), out)
 }
 
 // Takes one part more: a comment is written before the statement that it stands in, and a statement with its last token.
@@ -79,7 +85,7 @@ fn take_part(
         ≡ string_bytes out.old ++ written held.old.inside (lexemes_at text.now held.old.tokens.items) (piece_of text.now part ∷ pieces)) }
 {
     match part {
-        Part::Comment(comment) => write_comment(text, comment.start, comment.end, out),
+        Part::Comment(comment) => write_comment(text, comment, out),
         Part::Token(token) => take_token(alloc, text, token, held, out),
     }
 }
@@ -99,15 +105,41 @@ fn take_token(
         ≡ string_bytes out.old ++ written held.old.inside (lexemes_at text.now held.old.tokens.items)
         (a_token token.kind (slice_range text.now token.start token.end) ∷ pieces)) }
 {
-    let ends = ends_statement(held.inside, &token.kind);
-    let inside = is_inside(held.inside, &token.kind);
-    held.tokens.push(token)?;
-    held.inside = inside;
-    if ends {
-        write_statement(alloc, text, held.tokens.as_slice(), out)?;
-        held.tokens.clear();
-        held.inside = false;
+    if ends_statement(held.inside, &token.kind) {
+        end_statement(alloc, text, token, held, out)
+    } else {
+        hold(token, held)
     }
+}
+
+// Holds a token back.
+fn hold(token: Token, held: &mut Held) -> Result<(), AllocError>
+    ensures tokens { IfOk result (λ done. held.new.tokens.items ≡ held.old.tokens.items ++ token ∷ []) }
+    ensures inside { IfOk result (λ done. held.new.inside ≡ is_inside held.old.inside token.kind) }
+{
+    held.inside = is_inside(held.inside, &token.kind);
+    held.tokens.push(token)?;
+    Ok(())
+}
+
+// Appends the statement that ends with the token.
+fn end_statement(
+    alloc: Global,
+    text: &str,
+    token: Token,
+    held: &mut Held,
+    out: &mut String,
+) -> Result<(), AllocError>
+    requires token { IsCutOf text.now token }
+    requires held { AllByRecursion (IsCutOf text.now) held.old.tokens.items }
+    ensures tokens { IfOk result (λ done. held.new.tokens.items ≡ []) }
+    ensures inside { IfOk result (λ done. held.new.inside ≡ held.old.inside) }
+    ensures written { IfOk result (λ done. string_bytes out.new
+        ≡ string_bytes out.old ++ (statement_form (lexemes_at text.now (held.old.tokens.items ++ token ∷ [])) ++ 10 ∷ [])) }
+{
+    held.tokens.push(token)?;
+    write_statement(alloc, text, held.tokens.as_slice(), out)?;
+    held.tokens.clear();
     Ok(())
 }
 
@@ -115,8 +147,8 @@ fn take_token(
 pub(crate) fn form(alloc: Global, text: &str) -> Result<String, AllocError>
     ensures { IfOk result (λ out. (parts : List Part) × (bad : Option ℕ) × HasParts text.now parts bad × (string_bytes out ≡ form_of_pieces (pieces_of text.now parts))) }
 {
-    let parted = parts_before_fault(alloc, text)?;
-    form_of(alloc, text, parted.parts.into_vec())
+    let Parted { parts, .. } = parts_before_fault(alloc, text)?;
+    form_of(alloc, text, parts.into_vec())
 }
 
 fn form_of(alloc: Global, text: &str, parts: Vec<Part>) -> Result<String, AllocError>
@@ -131,8 +163,9 @@ fn form_of(alloc: Global, text: &str, parts: Vec<Part>) -> Result<String, AllocE
     for part in parts {
         take_part(alloc, text, part, &mut held, &mut out)?;
     }
-    if !held.tokens.is_empty() {
-        write_statement(alloc, text, held.tokens.as_slice(), &mut out)?;
+    if held.tokens.is_empty() {
+        return Ok(out);
     }
+    write_statement(alloc, text, held.tokens.as_slice(), &mut out)?;
     Ok(out)
 }
