@@ -10,10 +10,11 @@ use Rattle.vtl_tree.specs.Structures.{Named}
 use Rattle.vtl_check.specs.Uses.{reads}
 use Rattle.sql_check_parts.specs.Statements.{script_settings}
 use Rattle.sql_tree.specs.Texts as sql_texts
+use Rattle.vtl_format.specs.Formed.{IsFormed}
 use Rattle.vtl_top.specs.Expected.{IsTextOf, Typed, dataset_step, folder_step, form_of, inputs_step, run_step, script_in, script_of, structures_step, text_for, typed_step}
 use Rattle.vtl_top.specs.Forms.{asked_step}
 use Rattle.vtl_top.specs.Meant.{IsAccepted}
-use Rattle.vtl_top.specs.ScriptFile.{IsFormatted, IsFormed, IsParsed, IsParsedBy, IsSqlParsed, Parsed, faulty, no_text, whole}
+use Rattle.vtl_top.specs.ScriptFile.{IsFormatted, IsParsed, IsParsedBy, IsSqlParsed, Parsed, faulty, no_text, whole}
 use Rattle.vtl_top.specs.SqlInputs.{input_structures}
 use Rattle.vtl_top.specs.SqlRun.{engine_step, sql_checked_step, sql_in, sql_of}
 use Rattle.vtl_top.specs.Steps.{Behind, File, Held, Made, Path, Step, Text, ◌>>=◌, as_files, as_text, looked, only_text, read_as, settled, status_of}

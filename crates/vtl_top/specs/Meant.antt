@@ -10,7 +10,7 @@ use Rattle.vtl_check.specs.Script.{script_typed}
 use Rattle.vtl_check.specs.Uses.{reads}
 use Rattle.vtl_scripts.specs.Meaning.{Outputs}
 use Rattle.vtl_top.specs.Expected.{IsTextOf, Typed, content, folder_step, meant, output_of, script_limit, structures_step}
-use Rattle.vtl_top.specs.ScriptFile.{IsFormed}
+use Rattle.vtl_format.specs.Formed.{IsFormed}
 use Rattle.vtl_top.specs.Steps.{File, Held, Name, Path, Text}
 use Rattle.vtl_top.specs.Words.{Run, Source, settings_of}
 

@@ -25,7 +25,7 @@ use Rattle.sql_check.specs.declared.error.SqlTypeErr.TheVariants as typed
 use Rattle.vtl_csv.specs.declared.input.InputErr.{InputErr}
 use Rattle.vtl_csv.specs.declared.input.InputErr.TheVariants as input
 use Rattle.vtl_top.specs.Expected.{points_or_fault}
-use Rattle.vtl_top.specs.ScriptFile.{IsFormed}
+use Rattle.vtl_format.specs.Formed.{IsFormed}
 use Rattle.vtl_status.specs.declared.status.Status.{Status}
 use Rattle.vtl_status.specs.declared.status.Status.TheVariants as st
 

@@ -1,6 +1,6 @@
 -- What the bytes of a file with a script are read as, in VTL or in SQL.
 use Rattle.std.specs.Prelude.{ℕ, IsUtf8}
-use Rattle.vtl_format.specs.Form.{IsFormOf}
+use Rattle.vtl_format.specs.Formed.{IsFormed}
 use Rattle.vtl_syntax.specs.Trees.{ScriptTree}
 use Rattle.vtl_parser.specs.Parsed.{IsFaulty, IsScript}
 use Rattle.sql_tree.specs.Texts as sql
@@ -22,10 +22,7 @@ IsParsedBy IsOne HasFault bytes (whole script) = IsUtf8 bytes × IsOne bytes scr
 abbrev pub IsParsed : Text → Parsed ScriptTree → Type 0
 IsParsed = IsParsedBy IsScript IsFaulty
 
--- the canonical text of a script
-abbrev pub IsFormed : Text → Text → Type 0
-IsFormed bytes out = ((script : ScriptTree) × IsScript bytes script) × IsFormOf bytes out
-
+-- a script is read as its canonical text
 abbrev pub IsFormatted : Text → Parsed Text → Type 0
 IsFormatted = IsParsedBy IsFormed IsFaulty
 

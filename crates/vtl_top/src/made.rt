@@ -64,7 +64,7 @@ pub fn make<B: Backend, F: Files>(
         Command::SqlRun(run) => make_run(alloc, back, files, run),
         Command::Sql(source) => make_text(alloc, files, source),
         Command::Engine(engine) => make_exports(alloc, files, engine),
-        Command::Format(path) => make_form(alloc, files, path),
+        Command::Format(path) => make_form(alloc, files, *path),
         Command::Demo(points) => make_lines(alloc, back, points),
     }
 }

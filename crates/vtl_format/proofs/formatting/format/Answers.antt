@@ -5,7 +5,9 @@ use Rattle.vtl_format.proofs.formatting.format.Goals as goal
 
 pub returns-in_ok-form-clause-answer : goal.returns-in_ok-form-clause-answer
 returns-in_ok-form-clause-answer c =
-    form-of_script c.args.text.now (string_bytes c.in_ok-form.field-0) (script_tree c.in_ok-parse.field-0) c.in_ok-parse.ensures.answer c.in_ok-form.ensures
+    let script = script_tree c.in_ok-parse.field-0 in
+    let is = c.in_ok-parse.ensures.answer in
+    ((script, is), form-of_script c.args.text.now (string_bytes c.in_ok-form.field-0) script is c.in_ok-form.ensures)
 
 pub returns-in_ok-form-clause-scripts : goal.returns-in_ok-form-clause-scripts
 returns-in_ok-form-clause-scripts c = λ script is. form-of_script c.args.text.now (string_bytes c.in_ok-form.field-0) script is c.in_ok-form.ensures
