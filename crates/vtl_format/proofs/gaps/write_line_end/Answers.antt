@@ -8,5 +8,5 @@ loop-preserved c =
     let counter = c.loop.counter in
     let two : List ℕ = 32 ∷ 32 ∷ [] in
     let more : 2 * counter + 2 ≡ 2 * (counter + 1) = omega arith in
-    c.in_ok-push_str-in-loop.ensures.bytes ∙ ap (λ l. l ++ two) c.loop.invariant ∙ append_assoc old (10 ∷ replicate (2 * counter) 32) two
+    c.in_ok-push_str-2.ensures.bytes ∙ ap (λ l. l ++ two) c.loop.invariant ∙ append_assoc old (10 ∷ replicate (2 * counter) 32) two
     ∙ ap (λ l. old ++ 10 ∷ l) (replicate-append-replicate (2 * counter) 2 32 ∙ ap (λ n. replicate n 32) more)
