@@ -15,21 +15,17 @@ loop-i-init c = record {
 }
 
 pub write_first-requires-clause-cut : goal.write_first-requires-clause-cut
-write_first-requires-clause-cut c =
-    let all = all-drop (IsCutOf c.args.text.now) c.loop-i.i c.args.tokens.now c.requires in
-    subst (λ (l : List Token). AllByRecursion (IsCutOf c.args.text.now) l) (sym c.range_from.ensures.value) all
+write_first-requires-clause-cut c = all-drop (IsCutOf c.args.text.now) c.loop-i.i c.args.tokens.now c.requires
 
 pub loop-i-preserved : goal.loop-i-preserved
 loop-i-preserved c =
     let at = c.loop-i in
     let text = c.args.text.now in
     let next = c.in_ok-next.next in
-    let one = subst
-    (λ (l : List Token). string_bytes c.write_first-next.new.out ++ laid c.args.style next (lexemes_at text (drop 1 l)) ≡ string_bytes at.out ++ laid c.args.style at.depth (lexemes_at text l))
-    c.range_from.ensures.value c.in_ok-next.ensures.written in
+    let one = c.in_ok-next.ensures.written in
     record {
       room = omega (arith, c.in_ok-next.ensures.next, at.invariant.room);
-      so_far = next-written c.args.style at.depth next text (string_bytes at.out) (string_bytes c.write_first-next.new.out) (laid c.args.style 0 (lexemes_at text c.args.tokens.now)) c.args.tokens.now at.i one at.invariant.so_far;
+      so_far = next-written c.args.style at.depth next text (string_bytes at.out) (string_bytes c.write_first.new.out) (laid c.args.style 0 (lexemes_at text c.args.tokens.now)) c.args.tokens.now at.i one at.invariant.so_far;
     }
 
 pub returns : goal.returns

@@ -16,9 +16,9 @@ pub loop-part-init : goal.loop-part-init
 loop-part-init c = record {
   left = search rules;
   cut = subst (λ (l : List Part). AllByRecursion (IsCutAt c.args.text.now) l) (sym c.into_iter-part-iterator.ensures.into_iter_gives.0) c.requires;
-  held = subst (λ (l : List Token). AllByRecursion (IsCutOf c.args.text.now) l) (sym c.new-2.ensures.items) tt;
-  so_far = ap (λ l. l ++ written false (lexemes_at c.args.text.now c.new-2.result.items) (pieces_of c.args.text.now (into_iter_items c.into_iter-part-iterator.result))) c.new-out.ensures.bytes
-      ∙ ap (λ (l : List Token). written false (lexemes_at c.args.text.now l) (pieces_of c.args.text.now (into_iter_items c.into_iter-part-iterator.result))) c.new-2.ensures.items
+  held = subst (λ (l : List Token). AllByRecursion (IsCutOf c.args.text.now) l) (sym c.new.ensures.items) tt;
+  so_far = ap (λ l. l ++ written false (lexemes_at c.args.text.now c.new.result.items) (pieces_of c.args.text.now (into_iter_items c.into_iter-part-iterator.result))) c.new-out.ensures.bytes
+      ∙ ap (λ (l : List Token). written false (lexemes_at c.args.text.now l) (pieces_of c.args.text.now (into_iter_items c.into_iter-part-iterator.result))) c.new.ensures.items
       ∙ ap (λ (l : List Part). written false [] (pieces_of c.args.text.now l)) c.into_iter-part-iterator.ensures.into_iter_gives.0
       ∙ written-is_form (pieces_of c.args.text.now c.args.parts.items);
 }
