@@ -64,6 +64,21 @@ printed() {
     fi
 }
 
+# A script, and what `format` prints of it.
+formed() {
+    "$vtl" format "$1" >"$made/said" 2>"$made/told"
+    code=$?
+    if [ "$code" = 0 ] && [ ! -s "$made/told" ] && cmp -s "$2" "$made/said"; then
+        pass
+    else
+        fail "$1: exit code $code"
+        diff "$2" "$made/said" | head -n 10
+    fi
+}
+
+# A script that is its own canonical text.
+is_formed() { formed "$1" "$1"; }
+
 # A call of the program in the folder. What it prints is left in files, but where the case names a device for its standard
 # output.
 called() {
@@ -510,6 +525,12 @@ for folder in cases/*/; do
                 done
             done
             ;;
+        format)
+            for file in cases/format/*.vtl; do
+                formed "$file" "${file%.vtl}.formed"
+                is_formed "${file%.vtl}.formed"
+            done
+            ;;
         types) for file in cases/types/*.csv; do table types cases/types/structures.txt "$file"; done ;;
         depth) for file in cases/depth/*.csv; do nests syntax "$file" 1, 0,0; done ;;
         from)
@@ -534,8 +555,24 @@ if wanted examples; then
     for case in examples/*/; do
         run_three_ways "$top/${case%/}"
         [ ! -e "$case/text.sql" ] || printed_in_sql "$case/text.sql"
+        [ ! -e "$case/script.vtl" ] || is_formed "$case/script.vtl"
     done
 fi
+# The launcher says what differs from a script's canonical text, and puts this into its file.
+mended() {
+    cp cases/format/clause.vtl "$made/mended.vtl"
+    "$top/vtl" format --check "$made/mended.vtl" >"$made/said"
+    code=$?
+    if [ "$code" = 1 ] && grep -q '^+DS_r <- DS_1\[filter Me_1 > 5\];$' "$made/said"; then pass; else fail "vtl format --check: exit code $code"; fi
+    if "$top/vtl" format --write "$made/mended.vtl" && cmp -s "$made/mended.vtl" cases/format/clause.formed; then pass; else fail "vtl format --write"; fi
+    if [ -z "$("$top/vtl" format --check "$made/mended.vtl" 2>&1)" ]; then pass; else fail "vtl format --check of a canonical text"; fi
+    echo 'R <- ;' >"$made/mended.vtl"
+    if [ "$("$top/vtl" format --write "$made/mended.vtl" 2>&1; echo $?)" = "error: syntax after 0 statements at byte 0${newline}2" ] && [ "$(cat "$made/mended.vtl")" = 'R <- ;' ]; then
+        pass
+    else
+        fail "vtl format --write of no script"
+    fi
+}
 # The launcher hands its words on, and the exit code back.
 if wanted launcher && [ -x "$vtl" ]; then
     program=$top/vtl
@@ -544,6 +581,7 @@ if wanted launcher && [ -x "$vtl" ]; then
     for case in words_none no_script filter_keeps_points_above_five sql_of_a_filter sqlrun_of_a_filter; do
         run "$top/cases/run/$case"
     done
+    mended
     unset VTL_EXPLAIN
     if [ "$("$program" --version | sed 's/,* .*//')" = "vtl${newline}proved" ]; then pass; else fail "vtl --version"; fi
     program=$vtl

@@ -302,12 +302,20 @@ function points_fact() {
     return quoted(ARGV[2]) " is no number from 1 to 1000000, or has a sign or a 0 before it"
 }
 
+# What is wrong with the words after `format`.
+function path_fact() {
+    if (ARGC < 3) return "no path"
+    if (ARGV[2] == "") return "a path is empty"
+    return quoted(ARGV[3]) " has no place after the path"
+}
+
 # The first word that has no place.
 function words_fact(paths,    i, seen) {
     if (ARGC < 2) return "no words"
-    if (ARGV[1] !~ /^(run|sqlrun|sql|check|demo)$/) return quoted(ARGV[1]) " is no command"
+    if (ARGV[1] !~ /^(run|sqlrun|sql|check|format|demo)$/) return quoted(ARGV[1]) " is no command"
     for (i = 1; i < ARGC; i++) if (!is_text(ARGV[i])) return "a word is not UTF-8"
     if (ARGV[1] == "demo") return points_fact()
+    if (ARGV[1] == "format") return path_fact()
     for (i = 2; i < ARGC && i < paths + 2; i++) {
         if (ARGV[i] ~ /^--(scale|round)$/) return quoted(ARGV[i]) " stands for a path"
         if (ARGV[i] == "") return "a path is empty"

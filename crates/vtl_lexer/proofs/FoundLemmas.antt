@@ -9,13 +9,15 @@ use Rattle.std.proofs.lemmas.Str.{IsCharBoundary-end, IsCharBoundary-past_char, 
 use lib.Utf8.{encode}
 use borrow.Author.Tests.{ltb-true}
 use Rattle.vtl_text.specs.Words.{is_word, is_word_character}
-use Rattle.vtl_lexer.specs.Found.{IsGapOf, IsTokenOf}
+use Rattle.vtl_lexer.specs.Found.{IsGapOf, IsGapPieceOf, IsPieceOf, IsTokenOf}
 use Rattle.vtl_lexer.specs.Gaps.{IsGap, block_comment, line_comment, white_space}
 use Rattle.vtl_lexer.specs.Lexed.{mark_len}
 use Rattle.vtl_lexer.specs.Leads.{lead_of}
 use Rattle.vtl_lexer.specs.Spelling.{Spells, doubled, spelling}
 use Rattle.vtl_lists.specs.Runs.{begins_with}
 use Rattle.vtl_lexer.specs.Tokens.{NoToken}
+use Rattle.vtl_lexer.specs.declared.finding.Piece.{Piece}
+use Rattle.vtl_lexer.specs.declared.finding.Piece.TheVariants as p
 use Rattle.vtl_lexer.specs.declared.lead.Lead.TheVariants.{Nothing}
 use Rattle.vtl_lexer.specs.declared.token.Found.{Found}
 use Rattle.vtl_lexer.specs.declared.token.Sign.{Sign}
@@ -40,7 +42,7 @@ word-ends bytes some word = ends-all is_word_character bytes word-ascii some (wo
 same-ends : (xs ys : List ℕ) → xs ≡ ys → EndsAscii ys → EndsAscii xs
 same-ends xs ys e ends = subst EndsAscii (sym e) ends
 
-spelled-ends : (kind : TokenKind) (bytes : List ℕ) → 0 < length bytes → Spells kind bytes → EndsAscii bytes
+pub spelled-ends : (kind : TokenKind) (bytes : List ℕ) → 0 < length bytes → Spells kind bytes → EndsAscii bytes
 spelled-ends (k.Name word) bytes some h = word-ends bytes some (subst (λ w. is_word w ≡ true) (sym h.0) (name-word word h.1).0)
 spelled-ends (k.Keyword keyword) bytes some h = word-ends bytes some (keyword-word keyword bytes h)
 spelled-ends (k.QuotedName name) bytes some h = same-ends bytes _ h.1 (ends-more 39 (h.0 ++ 39 ∷ []) (ends-append h.0 (39 ∷ []) (one-end 39 (omega arith))))
@@ -65,7 +67,7 @@ line-cut text bytes (byte ∷ rest) e stops =
     let feed : byte ≡ 10 = grind (arith, nat_tests, stops) in
     cut-before text bytes rest byte e (omega arith)
 
-gap-cut-of : (text bytes rest : List ℕ) → IsUtf8 text → text ≡ bytes ++ rest → IsGap bytes rest → IsCharBoundary text (length bytes)
+pub gap-cut-of : (text bytes rest : List ℕ) → IsUtf8 text → text ≡ bytes ++ rest → IsGap bytes rest → IsCharBoundary text (length bytes)
 gap-cut-of text bytes rest u e (white_space byte is white) =
     let ascii : byte < 128 = grind (arith, nat_tests, white) in
     cut-behind text bytes rest u e (same-ends bytes (byte ∷ []) is (one-end byte ascii))
@@ -76,6 +78,15 @@ gap-cut-of text bytes rest u e (block_comment inner is none) =
 pub gap-cut : (text : List ℕ) (size : ℕ) → IsUtf8 text → IsGapOf text size → IsCharBoundary text size
 gap-cut text size u of =
     subst (IsCharBoundary text) (length-take-le size text of.within) (gap-cut-of text (take size text) (drop size text) u (sym (take-append-drop size text)) of.gap)
+
+-- a gap is white space or a comment
+pub gap-piece : (text : List ℕ) (size : ℕ) (piece : Piece) → IsGapOf text size → IsCharBoundary text size → IsGapPieceOf text size piece → IsPieceOf text piece
+gap-piece text size (p.Space n) of cut is =
+    subst (λ m. IsPieceOf text (p.Space m)) (sym is.0) (record { gap = of; plain = is.1 }, cut)
+gap-piece text size (p.Comment n content) of cut is =
+    subst (λ m. IsPieceOf text (p.Comment m content)) (sym is.0) (record { gap = of; marked = is.1; kept = is.2 }, cut)
+gap-piece text size (p.Token found) of cut is = absurd is
+gap-piece text size p.Fault of cut is = absurd is
 
 -- nothing starts in an empty text
 pub nothing-starts : (text : List ℕ) → lead_of text ≡ Nothing → NoToken text

@@ -14,7 +14,7 @@ use Rattle.vtl_lists.proofs.Runs.{front-same}
 use Rattle.vtl_lexer.proofs.SpellingLemmas.{lead_kind, front-lead, one-kind, spelled-some}
 
 -- two tokens at the front of one text are one
-one-token : (a b : TokenKind) (bytes rest more behind : List ℕ) → bytes ++ rest ≡ more ++ behind → IsToken a bytes rest → IsToken b more behind
+pub one-token : (a b : TokenKind) (bytes rest more behind : List ℕ) → bytes ++ rest ≡ more ++ behind → IsToken a bytes rest → IsToken b more behind
     → (a ≡ b) × (bytes ≡ more) × (rest ≡ behind)
 one-token a b bytes rest more behind e g h =
     let le = g.longest b more behind e h.spelled in
@@ -23,11 +23,11 @@ one-token a b bytes rest more behind e g h =
     let lead : lead_kind a ≡ lead_kind b = sym (front-lead a (bytes ++ rest) bytes rest refl g.spelled) ∙ front-lead b (bytes ++ rest) more behind e h.spelled in
     (one-kind a b bytes lead g.spelled (subst (Spells b) (sym same.0) h.spelled), same.0, same.1)
 
-nothing-split : (bytes rest : List ℕ) → [] ≡ bytes ++ rest → bytes ≡ []
+pub nothing-split : (bytes rest : List ℕ) → [] ≡ bytes ++ rest → bytes ≡ []
 nothing-split [] rest e = refl
 nothing-split (byte ∷ bytes) rest e = absurd (cc e)
 
-token-some : (kind : TokenKind) (bytes rest : List ℕ) → IsToken kind bytes rest → bytes ≢ []
+pub token-some : (kind : TokenKind) (bytes rest : List ℕ) → IsToken kind bytes rest → bytes ≢ []
 token-some kind bytes rest token e =
     let some = spelled-some kind bytes token.spelled in
     omega (arith, some, ap length e)
@@ -83,10 +83,10 @@ fault-inverts at text tokens bad some no_gap no_token (behind_gap _ _ bytes rest
 fault-inverts at text tokens bad some no_gap no_token (behind_token _ _ bytes rest token _ _ is starts from to more) = absurd (no_token token.kind bytes rest is starts)
 fault-inverts at text tokens bad some no_gap no_token (at_fault _ _ some' no_gap' no_token') = (refl, refl)
 
-abbrev token_of : TokenKind → ℕ → ℕ → Token
+abbrev pub token_of : TokenKind → ℕ → ℕ → Token
 token_of kind from to = record { kind = kind; start = from; end = to }
 
-same-token : (a b : Token) → a.kind ≡ b.kind → a.start ≡ b.start → a.end ≡ b.end → a ≡ b
+pub same-token : (a b : Token) → a.kind ≡ b.kind → a.start ≡ b.start → a.end ≡ b.end → a ≡ b
 same-token a b e f g =
     ap (λ (kind : TokenKind). token_of kind a.start a.end) e ∙ ap (λ (from : ℕ). token_of b.kind from a.end) f ∙ ap (λ (to : ℕ). token_of b.kind b.start to) g
 
@@ -108,51 +108,3 @@ lexes-once others worse (at_fault at text some no_gap no_token) h =
 
 pub lexed-once : (text : List ℕ) (tokens others : List Token) (bad worse : Option ℕ) → IsLexed text tokens bad → IsLexed text others worse → (tokens ≡ others) × (bad ≡ worse)
 lexed-once text tokens others bad worse g h = lexes-once others worse g h
-
--- the start
-pub starts-there : (text rest : List ℕ) (at : ℕ) (tokens : List Token) → at ≡ mark_len text → rest ≡ drop at text → tokens ≡ []
-    → (others : List Token) (bad : Option ℕ) → Lexes at rest others bad → IsLexed text (tokens ++ others) bad
-starts-there text rest at tokens is left none others bad h =
-    subst (λ l. IsLexed text (l ++ others) bad) (sym none) (subst (λ n. Lexes n (drop n text) others bad) is (subst (λ l. Lexes at l others bad) left h))
-
--- one gap more
-pub gap-goes_on : (text rest : List ℕ) (at size : ℕ) (tokens : List Token) → IsGapOf rest size → ((others : List Token) (bad : Option ℕ) → Lexes at rest others bad → IsLexed text (tokens ++ others) bad)
-    → (others : List Token) (bad : Option ℕ) → Lexes (at + size) (drop size rest) others bad → IsLexed text (tokens ++ others) bad
-gap-goes_on text rest at size tokens of goes_on others bad more =
-    let is : length (take size rest) ≡ size = length-take-le size rest of.within in
-    goes_on others bad (behind_gap at rest (take size rest) (drop size rest) others bad (sym (take-append-drop size rest)) of.gap (subst (λ n. Lexes (at + n) (drop size rest) others bad) (sym is) more))
-
-pub gap-shrinks : (rest : List ℕ) (size : ℕ) → IsGapOf rest size → 0 < size
-gap-shrinks rest size of = by (take size rest) (gap-some (take size rest) (drop size rest) of.gap) (length-take-le size rest of.within)
-  where
-    by : (bytes : List ℕ) → bytes ≢ [] → length bytes ≡ size → 0 < size
-    by [] some is = absurd (some refl)
-    by (byte ∷ bytes) some is = omega arith
-
--- one token more
-pub token-goes_on : (text rest : List ℕ) (at : ℕ) (found : Found) (tokens : List Token) → IsTokenOf rest found → ((others : List Token) (bad : Option ℕ) → Lexes at rest others bad → IsLexed text (tokens ++ others) bad)
-    → (others : List Token) (bad : Option ℕ) → Lexes (at + found.size) (drop found.size rest) others bad
-    → IsLexed text ((tokens ++ record { kind = found.kind; start = at; end = at + found.size } ∷ []) ++ others) bad
-token-goes_on text rest at found tokens of goes_on others bad more =
-    let size = found.size in
-    let is : length (take size rest) ≡ size = length-take-le size rest of.within in
-    let token = token_of found.kind at (at + size) in
-    subst (λ l. IsLexed text l bad) (sym (append_assoc tokens (token ∷ []) others))
-    (goes_on (token ∷ others) bad (behind_token at rest (take size rest) (drop size rest) token others bad (sym (take-append-drop size rest)) of.token refl (ap (λ n. at + n) (sym is))
-    (subst (λ n. Lexes (at + n) (drop size rest) others bad) (sym is) more)))
-
-pub token-shrinks : (rest : List ℕ) (found : Found) → IsTokenOf rest found → 0 < found.size
-token-shrinks rest found of =
-    let some = spelled-some found.kind (take found.size rest) of.token.spelled in
-    omega (arith, some, length-take-le found.size rest of.within)
-
--- the two ends
-pub ends-there : (text rest : List ℕ) (at : ℕ) (tokens : List Token) → length rest ≡ 0 → ((others : List Token) (bad : Option ℕ) → Lexes at rest others bad → IsLexed text (tokens ++ others) bad)
-    → IsLexed text tokens None
-ends-there text [] at tokens e goes_on = subst (λ l. IsLexed text l None) (append-nil tokens) (goes_on [] None (at_end at))
-ends-there text (byte ∷ rest) at tokens e goes_on = absurd (omega arith)
-
-pub faults-there : (text rest : List ℕ) (at : ℕ) (tokens : List Token) → 0 < length rest → NoGap rest → NoToken rest
-    → ((others : List Token) (bad : Option ℕ) → Lexes at rest others bad → IsLexed text (tokens ++ others) bad) → IsLexed text tokens (Some at)
-faults-there text rest at tokens some no_gap no_token goes_on =
-    subst (λ l. IsLexed text l (Some at)) (append-nil tokens) (goes_on [] (Some at) (at_fault at rest (λ e. omega (arith, some, ap length e)) no_gap no_token))

@@ -1,3 +1,4 @@
+pub mod Alone
 pub mod CutLemmas
 pub mod FoundLemmas
 pub mod GapLemmas
@@ -5,8 +6,11 @@ pub mod GapSearchLemmas
 pub mod LeadLemmas
 pub mod LexedLemmas
 pub mod NumberLemmas
+pub mod PartLemmas
+pub mod PieceLemmas
 pub mod QuoteLemmas
 pub mod ReservedLemmas
+pub mod ReturnLemmas
 pub mod SearchLemmas
 pub mod SignLemmas
 pub mod SpellingLemmas

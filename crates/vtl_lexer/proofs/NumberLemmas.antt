@@ -103,7 +103,7 @@ digits-words (byte ∷ bytes) e =
     let word : is_word_character byte ≡ true = grind (arith, nat_tests, head) in
     and_from (is_word_character byte) (list_all is_word_character bytes) word (digits-words bytes tail)
 
-decimal-words : (front part : List ℕ) → list_all is_ascii_digit front ≡ true → list_all is_ascii_digit part ≡ true → list_all is_word_character (front ++ 46 ∷ part) ≡ true
+pub decimal-words : (front part : List ℕ) → list_all is_ascii_digit front ≡ true → list_all is_ascii_digit part ≡ true → list_all is_word_character (front ++ 46 ∷ part) ≡ true
 decimal-words front part d f =
     list_all-append is_word_character front (46 ∷ part) ∙ and_from (list_all is_word_character front) (list_all is_word_character part) (digits-words front d) (digits-words part f)
 

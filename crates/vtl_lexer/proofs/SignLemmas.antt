@@ -66,11 +66,11 @@ one-spelled byte sign =
     (choose _ s.Hash sign _ (IsOne byte) (is-one byte 35) (λ e. absurd (cc e))))))))))))))))))
 
 -- a sign has one byte or two
-data SignForm (sign : Sign) : Type 0 where
+pub data SignForm (sign : Sign) : Type 0 where
   one : (byte : ℕ) → spelling sign ≡ byte ∷ [] → sign_of_one byte ≡ Some sign → SignForm sign
   two : (first second : ℕ) → spelling sign ≡ first ∷ second ∷ [] → sign_of_two first second ≡ Some sign → SignForm sign
 
-sign-form : (sign : Sign) → SignForm sign
+pub sign-form : (sign : Sign) → SignForm sign
 sign-form sign = by (spelling sign) refl (sign_of-spelling sign)
   where
     by : (bytes : List ℕ) → spelling sign ≡ bytes → sign_of bytes ≡ Some sign → SignForm sign

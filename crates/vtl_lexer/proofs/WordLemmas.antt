@@ -58,7 +58,7 @@ same-test f g [] same e = refl
 same-test f g (byte ∷ rest) same e = same byte ∙ e
 
 -- only words start with a letter
-letter-kind : (kind : TokenKind) (bytes : List ℕ) → lead_kind kind ≡ Letter → Spells kind bytes → is_word bytes ≡ true
+pub letter-kind : (kind : TokenKind) (bytes : List ℕ) → lead_kind kind ≡ Letter → Spells kind bytes → is_word bytes ≡ true
 letter-kind (k.Name word) bytes lead spelled = subst (λ w. is_word w ≡ true) (sym spelled.0) (name-word word spelled.1).0
 letter-kind (k.Keyword keyword) bytes lead spelled = keyword-word keyword bytes spelled
 letter-kind kind bytes lead spelled = absurd (cc lead)

@@ -4,6 +4,8 @@ pub mod Gaps
 pub mod Keywords
 pub mod Leads
 pub mod Lexed
+pub mod Parts
+pub mod Pieces
 pub mod Searches
 pub mod Signs
 pub mod Spelling

@@ -1,8 +1,8 @@
 // What stands at the front of a text.
-ghost use Rattle.std.specs.Prelude.{IfOk};
-ghost use Rattle.vtl_lexer.specs.Found.{IsFoundIn, IsPieceOf};
+ghost use Rattle.std.specs.Prelude.{◌≤◌, IfOk, length};
+ghost use Rattle.vtl_lexer.specs.Found.{IsFoundIn, IsGapPieceOf, IsPieceOf};
 
-use crate::gaps::gap_len;
+use crate::gaps::{content_len, gap_len, is_comment};
 use crate::lead::{Lead, lead_of};
 use crate::numbers::number;
 use crate::quotes::{quoted_name, string};
@@ -14,8 +14,10 @@ use std::alloc::{AllocError, Global};
 // What stands at the front of a text.
 #[derive(Drop)]
 pub(crate) enum Piece {
-    // White space or a comment, of this many bytes.
-    Gap(usize),
+    // White space, of this many bytes.
+    Space(usize),
+    // A comment, of this many bytes; so many of them stand before the carriage returns at its end.
+    Comment { size: usize, content: usize },
     Token(Found),
     // Neither starts here.
     Fault,
@@ -24,13 +26,30 @@ pub(crate) enum Piece {
 pub(crate) fn piece_at_front(alloc: Global, text: &str) -> Result<Piece, AllocError>
     ensures { IfOk result (λ found. IsPieceOf text.now found) }
 {
-    if let Some(size) = gap_len(text.as_bytes()) {
-        return Ok(Piece::Gap(size));
+    let bytes = text.as_bytes();
+    if let Some(size) = gap_len(bytes) {
+        return Ok(gap_piece(bytes, size));
     }
     Ok(match token_at_front(alloc, text)? {
         Some(found) => Piece::Token(found),
         None => Piece::Fault,
     })
+}
+
+// The gap at the front, of this many bytes.
+fn gap_piece(text: &[u8], size: usize) -> Piece
+    requires { size ≤ length text.now }
+    ensures { IsGapPieceOf text.now size result }
+{
+    let gap = &text[..size];
+    if is_comment(gap) {
+        Piece::Comment {
+            size,
+            content: content_len(gap),
+        }
+    } else {
+        Piece::Space(size)
+    }
 }
 
 // The token at the front, if one starts there.

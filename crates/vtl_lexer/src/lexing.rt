@@ -4,10 +4,11 @@
 // answer is exact both ways without a second description of the lexer.
 ghost use Rattle.std.specs.Prelude.{◌≡◌, ℕ, List as Items, Option, None, IfOk, MatchResult};
 ghost use Rattle.vtl_lexer.specs.Answered.{IsErrorOf, IsFault};
-ghost use Rattle.vtl_lexer.specs.Lexed.{IsLexed, mark_len};
+ghost use Rattle.vtl_lexer.specs.Lexed.{IsLexed};
+ghost use Rattle.vtl_lexer.specs.Parts.{tokens_of};
 
 use crate::Token;
-use crate::finding::{Piece, piece_at_front};
+use crate::parts::{Part, Parted, parts_before_fault};
 use std::alloc::{AllocError, Global};
 use vtl_text::List;
 
@@ -60,46 +61,22 @@ pub fn lex(alloc: Global, text: &str) -> Result<Vec<Token>, LexErr>
 pub fn tokens_before_fault(alloc: Global, text: &str) -> Result<Lexed, AllocError>
     ensures { IfOk result (λ lexed. IsLexed text.now lexed.tokens lexed.bad) }
 {
-    let mut tokens = Vec::new(alloc);
-    let mut at = mark_len(text);
-    let mut rest = &text[at..];
-    while !rest.is_empty() {
-        let size = match piece_at_front(alloc, rest)? {
-            Piece::Gap(size) => size,
-            Piece::Token(found) => {
-                let end = at + found.size;
-                tokens.push(Token {
-                    kind: found.kind,
-                    start: at,
-                    end,
-                })?;
-                found.size
-            }
-            Piece::Fault => {
-                return Ok(Lexed {
-                    tokens: List::of(tokens),
-                    bad: Some(at),
-                });
-            }
-        };
-        rest = &rest[size..];
-        at += size;
-    }
-    Ok(Lexed {
-        tokens: List::of(tokens),
-        bad: None,
-    })
+    let Parted { parts, bad } = parts_before_fault(alloc, text)?;
+    let tokens = List::of(tokens_of(alloc, parts.into_vec())?);
+    Ok(Lexed { tokens, bad })
 }
 
-// The bytes of the mark at the start.
-fn mark_len(text: &str) -> usize
-    ensures { result ≡ mark_len text.now }
+// Those of the parts that are tokens.
+fn tokens_of(alloc: Global, parts: Vec<Part>) -> Result<Vec<Token>, AllocError>
+    ensures { IfOk result (λ tokens. tokens.items ≡ tokens_of parts.items) }
 {
-    if text.as_bytes().starts_with(b"\xef\xbb\xbf") {
-        3
-    } else {
-        0
+    let mut tokens = Vec::new(alloc);
+    for part in parts {
+        if let Part::Token(token) = part {
+            tokens.push(token)?;
+        }
     }
+    Ok(tokens)
 }
 
 /// A text has one list of tokens: two answers for it are equal.

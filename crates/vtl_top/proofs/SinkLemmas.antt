@@ -14,8 +14,11 @@ use Rattle.vtl_demo.specs.Said.{said}
 use Rattle.vtl_top.specs.Answered.{Adds, Ends}
 use Rattle.vtl_top.specs.Forms.{IsMadeBy, asked_step}
 use Rattle.vtl_top.specs.Said.{Hears, Says}
-use Rattle.vtl_top.specs.Steps.{Held, Made, only_text}
-use Rattle.vtl_top.specs.Words.{Command, Engine, Run, RunsScript, demo, engine}
+use Rattle.vtl_top.specs.Expected.{format_step}
+use Rattle.vtl_top.specs.Meant.{IsFormMeant}
+use Rattle.vtl_top.specs.Steps.{Held, Made, Path, only_text, settled}
+use Rattle.vtl_top.specs.Words.{Command, Engine, Run, RunsScript, demo, engine, format}
+use Rattle.vtl_top.proofs.MeantLemmas.{form_only, went_on}
 
 taken_nothing : (t : Option (List ℕ)) → TakesAll t t []
 taken_nothing None = refl
@@ -51,4 +54,18 @@ demo_is_said g o a b out now n held told ends =
     let same : made ≡ only_text (said n) = ok_same given in (
       subst (λ (m : Made). Adds (g.written a) (g.written b) m.files) same ends.command_ends.gave.0.0,
       subst (λ s. Hears o out s (said n)) (sym ends.line) (subst (λ (m : Made). Hears o out ends.between m.text) same ends.command_ends.gave.1),
+    )
+
+-- what `format` says is the canonical text of the held script
+pub form_is_said : {F S : Type 0} (g : Store F) (o : Ghosts S) (a b : F) (out now : S) (path : Path) (held : Held) → g.held a ≡ Some held → Ends g o a b out now (Some (format path)) st.Done
+    → (form : List ℕ) × IsFormMeant path held form × Adds (g.written a) (g.written b) [] × Hears o out now form
+form_is_said g o a b out now path held told ends =
+    let made = ends.command_ends.made in
+    let given : (asked_step (Some (format path))).gives held (Ok made) = subst (λ (h : Option Held). IfSome h (λ held. (asked_step (Some (format path))).gives held (Ok made))) told ends.command_ends.given in
+    let went = went_on (format_step path) (λ text. settled (Ok (only_text text))) held made given in
+    let same : made ≡ only_text went.0 = ok_same went.2 in (
+      went.0,
+      form_only path held went.0 went.1,
+      subst (λ (m : Made). Adds (g.written a) (g.written b) m.files) same ends.command_ends.gave.0.0,
+      subst (λ s. Hears o out s went.0) (sym ends.line) (subst (λ (m : Made). Hears o out ends.between m.text) same ends.command_ends.gave.1),
     )

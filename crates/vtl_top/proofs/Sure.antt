@@ -10,18 +10,19 @@ use Rattle.vtl_tree.specs.Structures.{Named}
 use Rattle.vtl_check.specs.Uses.{reads}
 use Rattle.sql_check_parts.specs.Statements.{script_settings}
 use Rattle.sql_tree.specs.Texts as sql_texts
-use Rattle.vtl_top.specs.Expected.{IsTextOf, Typed, dataset_step, folder_step, inputs_step, run_step, script_in, script_of, structures_step, text_for, typed_step}
+use Rattle.vtl_format.specs.Formed.{IsFormed}
+use Rattle.vtl_top.specs.Expected.{IsTextOf, Typed, dataset_step, folder_step, form_of, inputs_step, run_step, script_in, script_of, structures_step, text_for, typed_step}
 use Rattle.vtl_top.specs.Forms.{asked_step}
 use Rattle.vtl_top.specs.Meant.{IsAccepted}
-use Rattle.vtl_top.specs.ScriptFile.{IsParsed, IsParsedBy, IsSqlParsed, Parsed, faulty, no_text, whole}
+use Rattle.vtl_top.specs.ScriptFile.{IsFormatted, IsParsed, IsParsedBy, IsSqlParsed, Parsed, faulty, no_text, whole}
 use Rattle.vtl_top.specs.SqlInputs.{input_structures}
 use Rattle.vtl_top.specs.SqlRun.{engine_step, sql_checked_step, sql_in, sql_of}
-use Rattle.vtl_top.specs.Steps.{Behind, File, Held, Made, Path, Step, Text, ◌>>=◌, as_files, looked, only_text, read_as, settled, status_of}
+use Rattle.vtl_top.specs.Steps.{Behind, File, Held, Made, Path, Step, Text, ◌>>=◌, as_files, as_text, looked, only_text, read_as, settled, status_of}
 use Rattle.vtl_top.specs.Wanted.{Placed, all_placed_in}
-use Rattle.vtl_top.specs.Words.{Command, Engine, Run, Source, demo, engine, run, sql, sqlrun}
+use Rattle.vtl_top.specs.Words.{Command, Engine, Run, Source, demo, engine, format, run, sql, sqlrun}
 use Rattle.vtl_status.specs.declared.status.Status.{Status}
 use Rattle.vtl_top.proofs.MeantLemmas.{accepted_only}
-use Rattle.vtl_top.proofs.ReadScripts.{parsed_once}
+use Rattle.vtl_top.proofs.ReadScripts.{form_there, formatted_once, parsed_once}
 use Rattle.vtl_top.proofs.SqlSteps.{sql_parsed_once}
 use Rattle.vtl_top.proofs.SqlTexts.{sql_read_somehow}
 use Rattle.vtl_top.proofs.TextsRead.{Read, either_way, read_somehow, then_too, there_is}
@@ -98,6 +99,19 @@ typed_sure s =
 pub run_sure : (r : Run) → Sure (run_step r)
 run_sure r = then_sure _ _ (typed_sure r.source) (λ t. then_sure _ _ (folder_sure r.input t.settings (reads t.structures t.nodes)) (λ env. settled_sure _))
 
+formed_somehow : (bytes : Text) → ¬ ¬ (((form : Text) × IsFormed bytes form) ⊎ ((done : ℕ) × (byte : ℕ) × IsFaulty bytes done byte))
+formed_somehow bytes = then_too (vtl_read_somehow bytes) by_script
+  where
+    by_script : ((script : ScriptTree) × IsScript bytes script) ⊎ ((done : ℕ) × (byte : ℕ) × IsFaulty bytes done byte) → ¬ ¬ (((form : Text) × IsFormed bytes form) ⊎ ((done : ℕ) × (byte : ℕ) × IsFaulty bytes done byte))
+    by_script (inl (script, is)) = there_is (inl (form_there bytes script is))
+    by_script (inr fault) = there_is (inr fault)
+
+form_sure : (path bytes : Text) → Sure (form_of path bytes)
+form_sure path bytes = read_sure (IsFormatted bytes) (script_in path) (formatted_once bytes) (parsed_somehow IsFormed IsFaulty bytes (formed_somehow bytes))
+
+text_sure : (step : Step Text) → Sure step → Sure (as_text step)
+text_sure step sure = then_sure _ _ sure (λ text. settled_sure _)
+
 sql_sure : (path bytes : Text) → Sure (sql_of path bytes)
 sql_sure path bytes = read_sure (IsSqlParsed bytes) (sql_in path) (sql_parsed_once bytes) (parsed_somehow sql_texts.IsScript sql_texts.IsFaulty bytes (sql_read_somehow bytes))
 
@@ -121,6 +135,7 @@ sure_or_text (Some (run r)) = inl (files_sure _ (run_sure r))
 sure_or_text (Some (sqlrun r)) = inl (files_sure _ (run_sure r))
 sure_or_text (Some (sql s)) = inr (s, refl)
 sure_or_text (Some (engine e)) = inl (files_sure _ (engine_sure e))
+sure_or_text (Some (format path)) = inl (text_sure _ (then_sure _ _ (looked_sure _ _) (λ bytes. form_sure path bytes)))
 sure_or_text (Some (demo n)) = inl (settled_sure _)
 
 abbrev pub IsNoText : Option Command → Type 0

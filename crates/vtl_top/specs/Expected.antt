@@ -19,7 +19,7 @@ use Rattle.vtl_check.specs.Checked.{env_over}
 use Rattle.vtl_check.specs.Script.{script_typed}
 use Rattle.vtl_check.specs.Uses.{reads}
 use Rattle.sql_back.specs.Texts.{IsTextFor}
-use Rattle.vtl_top.specs.ScriptFile.{IsParsed, Parsed, faulty, no_text, whole}
+use Rattle.vtl_top.specs.ScriptFile.{IsFormatted, IsParsed, Parsed, faulty, no_text, whole}
 use Rattle.vtl_top.specs.Steps.{File, Held, Name, Path, Step, Text, ◌>>=◌, looked, read_as, settled}
 use Rattle.vtl_top.specs.Structures.{structures_in}
 use Rattle.vtl_top.specs.Wanted.{Placed, all_placed_in, entry_of}
@@ -54,8 +54,8 @@ content path limit held = sized path limit (bytes_at path held)
 abbrev pub read : Path → ℕ → Step Text
 read path limit = looked (content path limit) path
 
--- the tree of a script file, by what it is read as
-abbrev pub script_in : Path → Parsed ScriptTree → Result ScriptTree Status
+-- the script of a file, by what it is read as
+abbrev pub script_in : {A : Type 0} → Path → Parsed A → Result A Status
 script_in path no_text = Err (st.NotText (chars path))
 script_in path (faulty done byte) = Err (st.Syntax done byte)
 script_in path (whole script) = Ok script
@@ -65,6 +65,13 @@ script_of path bytes = read_as (IsParsed bytes) (script_in path)
 
 abbrev pub script_step : Path → Step ScriptTree
 script_step path = read path script_limit >>= script_of path
+
+-- the canonical text of the script of a file; it is said whole
+abbrev pub form_of : Path → Text → Step Text
+form_of path bytes = read_as (IsFormatted bytes) (script_in path)
+
+abbrev pub format_step : Path → Step Text
+format_step path = read path script_limit >>= form_of path
 
 -- ---- the inputs
 -- the points that a file holds, or the status of its first fault

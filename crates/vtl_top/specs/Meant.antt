@@ -10,7 +10,8 @@ use Rattle.vtl_check.specs.Script.{script_typed}
 use Rattle.vtl_check.specs.Uses.{reads}
 use Rattle.vtl_scripts.specs.Meaning.{Outputs}
 use Rattle.vtl_top.specs.Expected.{IsTextOf, Typed, content, folder_step, meant, output_of, script_limit, structures_step}
-use Rattle.vtl_top.specs.Steps.{File, Held, Name, Text}
+use Rattle.vtl_format.specs.Formed.{IsFormed}
+use Rattle.vtl_top.specs.Steps.{File, Held, Name, Path, Text}
 use Rattle.vtl_top.specs.Words.{Run, Source, settings_of}
 
 -- The script's tree and the structures are those of the files.
@@ -55,6 +56,13 @@ pub record IsMistyped (s : Source) (held : Held) (statement rule : ℕ) : Type 0
   pub structures : Named
   pub source : IsRead s held tree structures
   pub fault : script_typed (env_over (settings_of s) structures) tree ≡ Err (statement, rule)
+
+-- The file at the path holds a script, and this is its canonical text.
+pub record IsFormMeant (path : Path) (held : Held) (out : Text) : Type 0 where
+  pub text : Text
+  pub file : content path script_limit held ≡ Ok text
+  pub utf8 : IsUtf8 text
+  pub formed : IsFormed text out
 
 -- A script is typed so, and this is a text of it in SQL.
 pub record IsTextMeant (s : Source) (held : Held) (text : Text) : Type 0 where

@@ -1,5 +1,6 @@
 -- What the bytes of a file with a script are read as, in VTL or in SQL.
 use Rattle.std.specs.Prelude.{ℕ, IsUtf8}
+use Rattle.vtl_format.specs.Formed.{IsFormed}
 use Rattle.vtl_syntax.specs.Trees.{ScriptTree}
 use Rattle.vtl_parser.specs.Parsed.{IsFaulty, IsScript}
 use Rattle.sql_tree.specs.Texts as sql
@@ -20,6 +21,10 @@ IsParsedBy IsOne HasFault bytes (whole script) = IsUtf8 bytes × IsOne bytes scr
 
 abbrev pub IsParsed : Text → Parsed ScriptTree → Type 0
 IsParsed = IsParsedBy IsScript IsFaulty
+
+-- a script is read as its canonical text
+abbrev pub IsFormatted : Text → Parsed Text → Type 0
+IsFormatted = IsParsedBy IsFormed IsFaulty
 
 abbrev pub IsSqlParsed : Text → Parsed SqlTree → Type 0
 IsSqlParsed = IsParsedBy sql.IsScript sql.IsFaulty

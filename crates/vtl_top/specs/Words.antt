@@ -34,12 +34,13 @@ pub record Engine : Type 0 where
   pub output : Path
 
 -- a command, with its paths and options: a script is run by the interpreter, or by its text in SQL; its text in SQL is said; an SQL
--- file is run; the demonstration is run over so many points
+-- file is run; the canonical text of the script at a path is said; the demonstration is run over so many points
 pub data Command : Type 0 where
   run : Run → Command
   sqlrun : Run → Command
   sql : Source → Command
   engine : Engine → Command
+  format : Path → Command
   demo : ℕ → Command
 
 -- the command runs a script, in either way
@@ -142,6 +143,11 @@ abbrev pub engine_of : List Text → Option Engine
 engine_of (file ∷ input ∷ output ∷ []) = if list_all is_path (file ∷ input ∷ output ∷ []) then Some (engine_with file input output) else None
 engine_of _ = None
 
+-- the word behind `format`: SCRIPT, a path
+abbrev pub path_of : List Text → Option Path
+path_of (path ∷ []) = if is_path path then Some path else None
+path_of _ = None
+
 -- a number of points that the demonstration may have
 abbrev pub may_be_points : ℕ → Option ℕ
 may_be_points n = if nat_le 1 n && nat_le n most_points then Some n else None
@@ -164,4 +170,5 @@ command_of (name ∷ words) =
     else (if same_name name (codes "sqlrun") then option_map sqlrun (run_of words)
     else (if same_name name (codes "sql") then option_map sql (source_of words)
     else (if same_name name (codes "engine") then option_map engine (engine_of words)
-    else (if same_name name (codes "demo") then option_map demo (points_of words) else None))))
+    else (if same_name name (codes "format") then option_map format (path_of words)
+    else (if same_name name (codes "demo") then option_map demo (points_of words) else None)))))

@@ -21,15 +21,15 @@ ghost use Rattle.vtl_demo.specs.Said.{said};
 ghost use Rattle.vtl_top.specs.Answered.{Adds, Ends};
 ghost use Rattle.vtl_top.specs.Complete.{IsCalm};
 ghost use Rattle.vtl_top.specs.Forms.{asked_step};
-ghost use Rattle.vtl_top.specs.Expected.{IsTextOf, Typed, fault_status, meant, outputs_of, run_step, text_step};
-ghost use Rattle.vtl_top.specs.Meant.{IsAccepted, IsFaulted, IsMeant, IsMistyped, IsTextMeant};
+ghost use Rattle.vtl_top.specs.Expected.{IsTextOf, Typed, fault_status, format_step, meant, outputs_of, run_step, text_step};
+ghost use Rattle.vtl_top.specs.Meant.{IsAccepted, IsFaulted, IsFormMeant, IsMeant, IsMistyped, IsTextMeant};
 ghost use Rattle.vtl_top.specs.SqlMeant.{IsExported, IsSqlFaulted, IsSqlMistyped};
 ghost use Rattle.vtl_top.specs.SqlRun.{engine_step, exports_of};
 ghost use Rattle.sql_check_parts.specs.Rules.{number_of};
 ghost use Rattle.sql_check_parts.specs.Statements.{Fault as Breach};
 ghost use Rattle.vtl_top.specs.Said.{Hears};
 ghost use Rattle.vtl_top.specs.Steps.{File, Held, Made, Name, Path, Text, status_of};
-ghost use Rattle.vtl_top.specs.Words.{Command, Engine, Run, RunsScript, Source, demo, engine, sql};
+ghost use Rattle.vtl_top.specs.Words.{Command, Engine, Run, RunsScript, Source, demo, engine, format, sql};
 ghost use Rattle.vtl_status.specs.declared.status.Status.{Status};
 
 use vtl_files::{Files, Sink};
@@ -50,6 +50,12 @@ pub fn mistyped_is_first_fault()
     ensures always { (r : Run) (held : Held) (statement rule : ℕ) → IsMistyped r.source held statement rule → (run_step r).gives held (Err (Status.Mistyped statement rule)) }
     ensures text_only { (s : Source) (held : Held) (statement rule : ℕ) → (text_step s).gives held (Err (Status.Mistyped statement rule)) → IsMistyped s held statement rule }
     ensures text_always { (s : Source) (held : Held) (statement rule : ℕ) → IsMistyped s held statement rule → (text_step s).gives held (Err (Status.Mistyped statement rule)) }
+{}
+
+/// What `format` gives over the held files is the canonical text of the script that they hold at the path.
+pub fn forms_are_meant()
+    ensures only { (path : Path) (held : Held) (form : Text) → (format_step path).gives held (Ok form) → IsFormMeant path held form }
+    ensures always { (path : Path) (held : Held) (form : Text) → IsFormMeant path held form → (format_step path).gives held (Ok form) }
 {}
 
 /// What `sql` gives over the held files is a text in SQL of the script that they hold, which is typed; and it may give any
@@ -127,6 +133,11 @@ pub fn calm_calls_are_complete<F: Files, O: Sink>()
 pub fn runs_are_quiet<F: Files, O: Sink>()
     ensures runs { (a b : F) (u v : O) (command : Command) (r : Run) → RunsScript command r → Ends F.Files O.Sink a b u v (Some command) Status.Done → v ≡ u }
     ensures engines { (a b : F) (u v : O) (e : Engine) → Ends F.Files O.Sink a b u v (Some (engine e)) Status.Done → v ≡ u }
+{}
+
+/// A `format` that is done has handed the canonical text of the held script to the sink, and written nothing.
+pub fn forms_are_said<F: Files, O: Sink>()
+    ensures { (a b : F) (u v : O) (path : Path) (held : Held) → F.held a ≡ Some held → Ends F.Files O.Sink a b u v (Some (format path)) Status.Done → (form : Text) × IsFormMeant path held form × Adds (F.written a) (F.written b) [] × Hears O.Sink u v form }
 {}
 
 /// A demonstration that is done has handed its two lines to the sink, and written nothing.

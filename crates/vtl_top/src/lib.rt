@@ -14,6 +14,7 @@
 #![tactic(auto)]
 
 mod agreement;
+mod form;
 mod inputs;
 mod laws;
 mod made;
@@ -34,9 +35,9 @@ pub use agreement::{agreeing_calls_end_alike, interpreter_and_sql_agree};
 pub use inputs::read_inputs;
 pub use laws::{
     calm_calls_are_complete, demonstrations_are_said, expected_is_determined, expected_is_there,
-    exports_are_meant, faults_are_meant, inputs_take_alike, mistyped_is_first_fault,
-    output_is_meant, runs_are_quiet, sql_breaches_are_refused, sql_faults_are_meant,
-    structures_have_identifiers, texts_are_meant, texts_write_alike,
+    exports_are_meant, faults_are_meant, forms_are_meant, forms_are_said, inputs_take_alike,
+    mistyped_is_first_fault, output_is_meant, runs_are_quiet, sql_breaches_are_refused,
+    sql_faults_are_meant, structures_have_identifiers, texts_are_meant, texts_write_alike,
 };
 pub use points::Points;
 pub use run::read_typed;

@@ -30,12 +30,12 @@ use vtl_status::Status;
 use vtl_syntax::Script;
 use vtl_tree::Structures;
 
-const SCRIPT_LIMIT: usize = 65_536;
+pub(crate) const SCRIPT_LIMIT: usize = 65_536;
 
 const STRUCTURES_LIMIT: usize = 1_048_576;
 
 // The status of a script file whose text is no script.
-fn unparsed(error: ParseErr) -> Status
+pub(crate) fn unparsed(error: ParseErr) -> Status
     ensures { result ≡ fault_of error }
 {
     match error {

@@ -4,7 +4,7 @@
 // declares.
 ghost use Rattle.std.specs.Prelude.{◌≡◌, ◌∷◌, [], map, option_map, string_bytes};
 ghost use Rattle.vtl_top.specs.RunView.{command_view, engine_view, run_view, setting_view, source_view};
-ghost use Rattle.vtl_top.specs.Words.{both_set, chosen_in, chosen_with, command_of, default_settings, engine_of, is_path, one_set, points_of, rounding, rounding_in, run_of, scale, scale_in, setting_in, settings_for, source_of};
+ghost use Rattle.vtl_top.specs.Words.{both_set, chosen_in, chosen_with, command_of, default_settings, engine_of, is_path, one_set, path_of, points_of, rounding, rounding_in, run_of, scale, scale_in, setting_in, settings_for, source_of};
 
 use crate::points::Points;
 use std::marker::Model;
@@ -107,6 +107,8 @@ pub enum Command<'a> {
     Sql(Source<'a>),
     /// An SQL file is run.
     Engine(Engine<'a>),
+    /// The canonical text of the script at this path is said.
+    Format(&'a str),
     /// The demonstration is run over so many points, in both ways.
     Demo(Points),
 }
@@ -128,7 +130,7 @@ fn is_path(word: &str) -> bool
 
 /// The command that the words are, by its name: `run` or `sqlrun`, and SCRIPT STRUCTURES IN OUT, each a path that is not
 /// empty, and then the options `--scale D` and `--round R`, each at most once; `sql`, and SCRIPT STRUCTURES and such
-/// options; `engine`, and SQLFILE IN OUT; or `demo`, and the decimal of a number of points.
+/// options; `engine`, and SQLFILE IN OUT; `format`, and SCRIPT; or `demo`, and the decimal of a number of points.
 pub fn command_of(words: &[String]) -> Option<Command<'_>>
     ensures { option_map command_view result ≡ command_of (map string_bytes words.now) }
 {
@@ -165,6 +167,12 @@ fn named<'a>(name: &str, words: &'a [String]) -> Option<Command<'a>>
             None => None,
         };
     }
+    if name == "format" {
+        return match path_of(words) {
+            Some(path) => Some(Command::Format(path)),
+            None => None,
+        };
+    }
     if name == "demo" {
         return match points_of(words) {
             Some(points) => Some(Command::Demo(points)),
@@ -172,6 +180,15 @@ fn named<'a>(name: &str, words: &'a [String]) -> Option<Command<'a>>
         };
     }
     None
+}
+
+fn path_of(words: &[String]) -> Option<&str>
+    ensures { option_map (λ path. path.now) result ≡ path_of (map string_bytes words.now) }
+{
+    match words {
+        [path] if is_path(path.as_str()) => Some(path.as_str()),
+        _ => None,
+    }
 }
 
 fn points_of(words: &[String]) -> Option<Points>

@@ -1,86 +1,12 @@
-use Rattle.std.proofs.Common.{◌≡◌, ◌<◌, arith, length, length-drop, subst, sym}
-use Rattle.std.specs.Str.{IsCharBoundary}
-use Rattle.std.proofs.lemmas.Bool.Decides.{nat_tests}
-use Rattle.vtl_lexer.specs.Found.{IsPieceOf}
-use Rattle.vtl_lexer.proofs.FoundLemmas.{mark-cut}
-use Rattle.vtl_lexer.proofs.LexedLemmas.{ends-there, faults-there, gap-goes_on, gap-shrinks, starts-there, token-goes_on, token-shrinks}
+use Rattle.std.proofs.Common.{◌≡◌, List, subst, sym}
+use Rattle.vtl_lexer.specs.Lexed.{IsLexed}
+use Rattle.vtl_lexer.specs.Parts.{tokens_of}
+use Rattle.vtl_lexer.specs.declared.token.Token.{Token}
+use Rattle.vtl_lexer.proofs.PartLemmas.{parts-lexed}
 use Rattle.vtl_lexer.proofs.lexing.tokens_before_fault.Goals as goal
-use Rattle.vtl_lexer.proofs.lexing.tokens_before_fault.Goals.{in-Gap, in-Token+in_ok-push-in-Token}
-
-pub range_from-rest-requires : goal.range_from-rest-requires
-range_from-rest-requires c = λ _. subst (IsCharBoundary c.args.text.now) (sym c.mark_len-at.ensures) (mark-cut c.args.text.now c.utf8.text)
-
-pub is_empty-requires-text-self : goal.is_empty-requires-text-self
-is_empty-requires-text-self c = λ _. c.loop-rest.invariant.utf8
-
-pub piece_at_front-requires : goal.piece_at_front-requires
-piece_at_front-requires c = tt
-
-pub loop-rest-init : goal.loop-rest-init
-loop-rest-init c =
-    let within = (mark-cut c.args.text.now c.utf8.text).0 in
-    record {
-      utf8 = c.range_from-rest.utf8;
-      size = rw c.range_from-rest.ensures.value (omega (arith, length-drop c.mark_len-at.result c.args.text.now, within, c.mark_len-at.ensures));
-      goes_on = starts-there c.args.text.now c.range_from-rest.result.now c.mark_len-at.result c.new-tokens.result.items c.mark_len-at.ensures c.range_from-rest.ensures.value c.new-tokens.ensures.items;
-    }
-
-pub returns-in-Fault : goal.returns-in-Fault
-returns-in-Fault c =
-    let rest = c.loop-rest.rest.now in
-    let of = subst (IsPieceOf rest) c.in-Fault.is c.in_ok-size.ensures in
-    let some : 0 < length rest = grind (arith, nat_tests) in
-    rw c.of.ensures (faults-there c.args.text.now rest c.loop-rest.at c.loop-rest.tokens.items some of.0 of.1 c.loop-rest.invariant.goes_on)
-
-pub range_from-rest-requires-in-loop-rest : goal.range_from-rest-requires-in-loop-rest
-range_from-rest-requires-in-loop-rest c =
-    let rest = c.loop-rest.rest.now in
-    elim c.match-branch-2.branch [
-      | in-Gap w ↦ let of = subst (IsPieceOf rest) w.in-Gap.is c.in_ok-size.ensures in λ _. subst (IsCharBoundary rest) (sym w.size-is) of.1
-      | in-Token+in_ok-push-in-Token w ↦ let of = subst (IsPieceOf rest) w.in-Token.is c.in_ok-size.ensures in λ _. subst (IsCharBoundary rest) (sym w.size-is) of.1
-    ]
-
-pub loop-rest-smaller : goal.loop-rest-smaller
-loop-rest-smaller c =
-    let rest = c.loop-rest.rest.now in
-    let shorter = length-drop c.match-branch-2.size rest in
-    let is = c.range_from-rest-in-loop-rest.ensures.value in
-    elim c.match-branch-2.branch [
-      | in-Gap w ↦
-          let of = subst (IsPieceOf rest) w.in-Gap.is c.in_ok-size.ensures in
-          rw is (omega (arith, shorter, w.size-is, gap-shrinks rest w.in-Gap.size of.0, of.0.within))
-      | in-Token+in_ok-push-in-Token w ↦
-          let of = subst (IsPieceOf rest) w.in-Token.is c.in_ok-size.ensures in
-          rw is (omega (arith, shorter, w.size-is, token-shrinks rest w.in-Token.found of.0, of.0.within))
-    ]
-
-pub loop-rest-preserved : goal.loop-rest-preserved
-loop-rest-preserved c =
-    let text = c.args.text.now in
-    let rest = c.loop-rest.rest.now in
-    let at = c.loop-rest.at in
-    let shorter = length-drop c.match-branch-2.size rest in
-    let is = c.range_from-rest-in-loop-rest.ensures.value in
-    elim c.match-branch-2.branch [
-      | in-Gap w ↦
-          let of = subst (IsPieceOf rest) w.in-Gap.is c.in_ok-size.ensures in
-          record {
-            utf8 = c.range_from-rest-in-loop-rest.utf8;
-            size = rw is (omega (arith, shorter, w.size-is, of.0.within, c.loop-rest.invariant.size));
-            goes_on = rw (is, w.size-is, w.tokens-is) (gap-goes_on text rest at w.in-Gap.size c.loop-rest.tokens.items of.0 c.loop-rest.invariant.goes_on);
-          }
-      | in-Token+in_ok-push-in-Token w ↦
-          let of = subst (IsPieceOf rest) w.in-Token.is c.in_ok-size.ensures in
-          record {
-            utf8 = c.range_from-rest-in-loop-rest.utf8;
-            size = rw is (omega (arith, shorter, w.size-is, of.0.within, c.loop-rest.invariant.size));
-            goes_on = rw (is, w.size-is, w.tokens-is, w.in_ok-push-in-Token.ensures.items)
-                (token-goes_on text rest at w.in-Token.found c.loop-rest.tokens.items of.0 c.loop-rest.invariant.goes_on);
-          }
-    ]
 
 pub returns : goal.returns
 returns c =
-    let rest = c.loop-rest.rest.now in
-    let none : length rest ≡ 0 = grind (arith, nat_tests) in
-    rw c.of-2.ensures (ends-there c.args.text.now rest c.loop-rest.at c.loop-rest.tokens.items none c.loop-rest.invariant.goes_on)
+    let parted = c.in_ok-parts.field-0 in
+    let same : c.of-tokens.result ≡ tokens_of parted.parts = cc (c.of-tokens.ensures, c.in_ok-tokens_of.ensures, c.into_vec.ensures, c.in_ok-parts.parts-is) in
+    subst (λ (l : List Token). IsLexed c.args.text.now l parted.bad) (sym same) (parts-lexed c.in_ok-parts.ensures)

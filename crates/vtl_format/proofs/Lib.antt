@@ -1,0 +1,6 @@
+pub mod Apart
+pub mod FormLaws
+pub mod Laid
+pub mod Lists
+pub mod Orders
+pub mod Scripts

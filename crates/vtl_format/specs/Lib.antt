@@ -1,0 +1,5 @@
+pub mod Calls
+pub mod Form
+pub mod Formed
+pub mod Layout
+pub mod Written
