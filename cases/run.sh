@@ -79,6 +79,17 @@ formed() {
 # A script that is its own canonical text.
 is_formed() { formed "$1" "$1"; }
 
+# The script of a whole run is so, unless it is none, or its layout is what the case is about.
+is_formed_in() {
+    [ -f "$1/script.vtl" ] && [ ! -e "$1/unformed" ] || return
+    line=
+    [ ! -e "$1/line" ] || read -r line <"$1/line"
+    case $line in
+        'error: syntax '* | 'error: not text: script.vtl' | 'error: too long: script.vtl') ;;
+        *) is_formed "$1/script.vtl" ;;
+    esac
+}
+
 # A call of the program in the folder. What it prints is left in files, but where the case names a device for its standard
 # output.
 called() {
@@ -97,7 +108,7 @@ laid_out() {
     rm -rf "$folder"
     cp -R "$case" "$folder"
     [ -e "$folder/structures.csv" ] || [ ! -e "$case/../structures.csv" ] || cp "$case/../structures.csv" "$folder"
-    (cd "$folder" && rm -rf expected line code told words setup stdout out && mkdir out) || return
+    (cd "$folder" && rm -rf expected line code told words setup stdout unformed out && mkdir out) || return
     if [ -e "$case/setup" ] && ! (cd "$folder" && sh "$case/setup"); then
         fail "$case: setup failed"
         return 1
@@ -490,7 +501,12 @@ for folder in cases/*/; do
     word=$(basename "$folder")
     wanted "$word" || continue
     case $word in
-        run) for case in cases/run/*/; do run_three_ways "$top/${case%/}"; done ;;
+        run)
+            for case in cases/run/*/; do
+                run_three_ways "$top/${case%/}"
+                is_formed_in "$case"
+            done
+            ;;
         engine) for case in cases/engine/*/; do run "$top/${case%/}"; done ;;
         translated) for case in cases/translated/*/; do translated "$top/${case%/}"; done ;;
         explain)
@@ -555,7 +571,7 @@ if wanted examples; then
     for case in examples/*/; do
         run_three_ways "$top/${case%/}"
         [ ! -e "$case/text.sql" ] || printed_in_sql "$case/text.sql"
-        [ ! -e "$case/script.vtl" ] || is_formed "$case/script.vtl"
+        is_formed_in "$case"
     done
 fi
 # The launcher says what differs from a script's canonical text, and puts this into its file.
