@@ -546,6 +546,11 @@ for folder in cases/*/; do
                 formed "$file" "${file%.vtl}.formed"
                 is_formed "${file%.vtl}.formed"
             done
+            mkdir "$made/blocks"
+            awk -v folder="$made/blocks" '/^```vtl$/ { file = folder "/" ++count ".vtl"; next }
+                /^```$/ { file = "" }
+                file != "" { print >file }' docs/*.md
+            for file in "$made"/blocks/*.vtl; do is_formed "$file"; done
             ;;
         types) for file in cases/types/*.csv; do table types cases/types/structures.txt "$file"; done ;;
         depth) for file in cases/depth/*.csv; do nests syntax "$file" 1, 0,0; done ;;
