@@ -64,9 +64,9 @@ printed() {
     fi
 }
 
-# A script, and what `format` prints of it.
+# A script, and what `format` prints of it, in a few seconds of processor time at most.
 formed() {
-    "$vtl" format "$1" >"$made/said" 2>"$made/told"
+    (ulimit -t 5 && exec "$vtl" format "$1") >"$made/said" 2>"$made/told"
     code=$?
     if [ "$code" = 0 ] && [ ! -s "$made/told" ] && cmp -s "$2" "$made/said"; then
         pass
@@ -551,6 +551,18 @@ for folder in cases/*/; do
                 /^```$/ { file = "" }
                 file != "" { print >file }' docs/*.md
             for file in "$made"/blocks/*.vtl; do is_formed "$file"; done
+            # A script of 65,536 bytes, of as many tokens as these can be.
+            awk -v folder="$made" 'BEGIN {
+                printf "R<-union(a" >(folder "/long.vtl")
+                printf "R <- union(\n  a" >(folder "/long.formed")
+                for (i = 0; i < 32762; i++) {
+                    printf ",a" >(folder "/long.vtl")
+                    printf ",\n  a" >(folder "/long.formed")
+                }
+                printf ");" >(folder "/long.vtl")
+                printf "\n);\n" >(folder "/long.formed")
+            }'
+            formed "$made/long.vtl" "$made/long.formed"
             ;;
         types) for file in cases/types/*.csv; do table types cases/types/structures.txt "$file"; done ;;
         depth) for file in cases/depth/*.csv; do nests syntax "$file" 1, 0,0; done ;;
