@@ -1,5 +1,6 @@
 -- A script and its canonical text.
-use Rattle.std.proofs.Common.{◌≡◌, ◌∙◌, ℕ, List, Option, None, sym, ap, subst, refl}
+use Rattle.std.proofs.Common.{◌≡◌, ◌∙◌, ℕ, List, Option, None, Result, Ok, Err, sym, ap, subst, refl}
+use Rattle.std.specs.Prelude.{IsErrAnd, MatchResult}
 use Rattle.vtl_grammar.specs.Faults.{WholeScript, kinds}
 use Rattle.vtl_grammar.specs.Fits.{SpellsScript}
 use Rattle.vtl_grammar.specs.Grammar.{Tokens}
@@ -34,3 +35,8 @@ same-script text out script form is =
       lexed = again;
       whole = record { whole = refl; spelled = subst (λ (k : Tokens). SpellsScript k script) (sym same_kinds) is.whole.spelled };
     }
+
+-- an error that is handed on
+pub handed_on : {A E : Type 0} (result : Result A E) (error : E) (Good : A → Type 0) (Bad : E → Type 0) → IsErrAnd result (λ other. other ≡ error) → Bad error → MatchResult result Good Bad
+handed_on (Ok value) error Good Bad is bad = absurd is
+handed_on (Err other) error Good Bad is bad = subst Bad (sym is) bad
