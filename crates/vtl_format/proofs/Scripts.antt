@@ -1,14 +1,13 @@
 -- A script and its canonical text.
 use Rattle.std.proofs.Common.{◌≡◌, ◌∙◌, ℕ, List, Option, None, Result, Ok, Err, sym, ap, subst, refl}
 use Rattle.std.specs.Prelude.{IsErrAnd, MatchResult}
-use Rattle.vtl_grammar.specs.Faults.{WholeScript, kinds}
+use Rattle.vtl_grammar.specs.Faults.{kinds}
 use Rattle.vtl_grammar.specs.Fits.{SpellsScript}
 use Rattle.vtl_grammar.specs.Grammar.{Tokens}
 use Rattle.vtl_lexer.specs.Lexed.{IsLexed}
 use Rattle.vtl_lexer.specs.Parts.{HasParts, tokens_of}
 use Rattle.vtl_lexer.specs.Pieces.{pieces_of}
 use Rattle.vtl_lexer.specs.declared.parts.Part.{Part}
-use Rattle.vtl_lexer.specs.declared.token.Token.{Token}
 use Rattle.vtl_lexer.proofs.LexedLemmas.{lexed-once}
 use Rattle.vtl_lexer.proofs.PartLemmas.{parts-lexed}
 use Rattle.vtl_parser.specs.Parsed.{IsScript}

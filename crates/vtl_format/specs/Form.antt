@@ -1,6 +1,6 @@
 -- The canonical text of a script.
-use Rattle.std.specs.Prelude.{◌≡◌, ◌+◌, ◌==◌, not, ℕ, Bool, true, false, List, [], ◌∷◌, ◌++◌, Option, None, map, if◌then◌else◌}
-use Rattle.std.specs.List.{AllByRecursion, slice_range}
+use Rattle.std.specs.Prelude.{◌≡◌, ◌+◌, ◌==◌, not, ℕ, Bool, true, false, List, [], ◌∷◌, ◌++◌, None, map, if◌then◌else◌}
+use Rattle.std.specs.List.{slice_range}
 use Rattle.vtl_lexer.specs.Parts.{HasParts}
 use Rattle.vtl_lexer.specs.Pieces.{Piece, a_comment, a_token, pieces_of}
 use Rattle.vtl_lexer.specs.declared.keyword.Keyword.TheVariants as word
