@@ -64,9 +64,9 @@ printed() {
     fi
 }
 
-# A script, and what `format` prints of it, in a few seconds of processor time at most.
+# A script, and what `format` prints of it. An unproved program takes half a minute for the longest one.
 formed() {
-    (ulimit -t 5 && exec "$vtl" format "$1") >"$made/said" 2>"$made/told"
+    (ulimit -t 30 && exec "$vtl" format "$1") >"$made/said" 2>"$made/told"
     code=$?
     if [ "$code" = 0 ] && [ ! -s "$made/told" ] && cmp -s "$2" "$made/said"; then
         pass
