@@ -1,6 +1,5 @@
 -- The status of a file that was not read, or does not hold what it should.
-use Rattle.std.specs.Prelude.{◌≡◌, ◌⊎◌, List, ℕ, chars, Result, Ok, Err, IsUtf8, string_bytes}
-use Rattle.std.specs.Global.{String}
+use Rattle.std.specs.Prelude.{◌≡◌, ◌⊎◌, List, ℕ, chars, Result, Ok, Err, IsUtf8, String, string_bytes}
 use Rattle.vtl_files.specs.declared.read_err.ReadErr.{ReadErr}
 use Rattle.vtl_files.specs.declared.read_err.ReadErr.TheVariants as e
 use Rattle.vtl_parser.specs.declared.parsing.ParseErr.{ParseErr}
