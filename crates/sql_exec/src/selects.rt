@@ -30,7 +30,7 @@ use crate::items::{ItemValues, RowItem, row_items};
 use crate::output::Output;
 use crate::simple_items::{add_simple, simple_items};
 use sql_check_queries::is_grouped;
-use sql_from::{Partners, Sources, TupleRows, asks, source_tuples};
+use sql_from::{HeldTables, Partners, Sources, TupleRows, asks, source_tuples};
 use sql_groups::push_grouped;
 use sql_meaning::{Early, Plan};
 use sql_tree::{Item, ItemValue, Select};
@@ -39,7 +39,6 @@ use std::sync::ledger::Ledger;
 use vtl_cell::Kind;
 use vtl_decimal::Profile;
 use vtl_index::Steps;
-use vtl_rows::Tables;
 use vtl_scalar::ScalarErr;
 
 fn item_asks(item: &Item) -> bool
@@ -185,7 +184,7 @@ fn add_select<L: Ledger>(
     by_index: &[usize],
     early: &[Early],
     kinds: &[Kind],
-    tables: &Tables,
+    tables: &HeldTables,
     p: &Profile,
     steps: &mut Steps<L>,
 ) -> Result<(), ScalarErr>
@@ -239,7 +238,7 @@ pub(crate) fn add_selects<L: Ledger>(
     plan: &Plan,
     selects: &[Select],
     kinds: &[Kind],
-    tables: &Tables,
+    tables: &HeldTables,
     p: &Profile,
     steps: &mut Steps<L>,
 ) -> Result<(), ScalarErr>

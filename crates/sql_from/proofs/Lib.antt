@@ -22,3 +22,4 @@ pub mod TwoSources
 pub mod Fewer
 pub mod Counted
 pub mod KeyFound
+pub mod SetNamed

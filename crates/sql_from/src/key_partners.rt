@@ -10,6 +10,7 @@ ghost use Rattle.sql_meaning.specs.Profiles.{IsLawful, IsRowOfProfile};
 ghost use Rattle.sql_from.specs.Held.{base_held, rows_held};
 ghost use Rattle.sql_from.specs.KeyPartners.{AnswersAt, asking_of};
 
+use crate::HeldTables;
 use crate::key_index::KeyIndex;
 use crate::partner_index::is_same_profile;
 use sql_eval::Existence;
@@ -19,12 +20,11 @@ use std::sync::ledger::Ledger;
 use vtl_cell::Cell;
 use vtl_decimal::Profile;
 use vtl_index::Steps;
-use vtl_rows::Tables;
 
 /// Look-ups for the EXISTS that are asked at groups, with their keys, made once for all groups. A contract sees the tables
 /// that the program holds, and the profile of the keys.
 pub struct KeyPartners<'a> {
-    held: &'a Tables,
+    held: &'a HeldTables,
     p: Profile,
     indexes: Vec<KeyIndex<'a>>,
 }
@@ -55,7 +55,7 @@ impl<'a> Model for KeyPartners<'a> {
 fn push_index<'a, L: Ledger>(
     alloc: Global,
     indexes: &mut Vec<KeyIndex<'a>>,
-    held: &'a Tables,
+    held: &'a HeldTables,
     test: &'a Existence,
     p: &Profile,
     steps: &mut Steps<L>,
@@ -72,7 +72,7 @@ fn push_index<'a, L: Ledger>(
 
 impl<'a> KeyPartners<'a> {
     /// No look-ups, over the tables that the program holds, for keys of a profile.
-    pub fn none(alloc: Global, held: &'a Tables, p: &Profile) -> KeyPartners<'a>
+    pub fn none(alloc: Global, held: &'a HeldTables, p: &Profile) -> KeyPartners<'a>
         ensures held { result.held ≡ held.now }
         ensures settings { result.settings ≡ p.now }
     {
