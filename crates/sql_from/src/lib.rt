@@ -38,6 +38,7 @@ mod partners;
 mod selects;
 mod source_condition;
 mod sources;
+mod test_places;
 mod ties;
 mod tuple_row;
 mod tuple_rows;
