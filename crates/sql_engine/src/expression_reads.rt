@@ -5,7 +5,7 @@ ghost use Rattle.sql_tree.specs.View.{branch_tree, expr_tree};
 ghost use Rattle.sql_engine.specs.LastReads.{IsNoted};
 ghost use Rattle.sql_engine.specs.Reads.{EachOfAll, EachOfBranches, EachRead};
 
-use sql_from::set_named;
+use sql_eval::set_named;
 use sql_tree::{Branch, SqlExpr};
 use std::alloc::AllocError;
 use vtl_text::{ByName, Txt};

@@ -22,4 +22,3 @@ pub mod TwoSources
 pub mod Fewer
 pub mod Counted
 pub mod KeyFound
-pub mod SetNamed
