@@ -115,7 +115,7 @@ still_stand p is_kept tables held now gone s =
   where
     kept : (n : Text) → is_kept n ≡ true → LooksAs is_kept n (table_of n held) (table_of n now) → Perm (table_named tables n).rows (rows_of (table_of n now))
     kept n k (inl e) = subst (λ o. Perm (table_named tables n).rows (rows_of o)) (sym e) (s.rows n k)
-    kept n k (inr e) = let f = e.0 in cc
+    kept n k (inr e) = let f : is_kept n ≡ false = e.0 in cc
 
     lost : (x : Listed) (o : Option Listed) → option_map without_rows o ≡ Some x → RowsFit (column_kinds x.columns) x.rows
     lost x None q = cc

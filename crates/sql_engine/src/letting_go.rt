@@ -15,7 +15,7 @@ use crate::last_reads::is_read_from;
 use sql_from::{HeldTable, HeldTables};
 use sql_tree::Statement;
 use std::alloc::{AllocError, Global};
-use vtl_rows::{Column, SharedTable, Table};
+use vtl_rows::{Column, Table};
 use vtl_text::Txt;
 
 /// A table of the same columns and no rows. It fails only if memory runs out.
@@ -29,7 +29,7 @@ pub(crate) fn without_rows(alloc: Global, table: &Table) -> Result<HeldTable, Al
             kind: column.kind,
         })?;
     }
-    HeldTable::of(alloc, SharedTable::of(alloc, Table::new(alloc, columns))?)
+    HeldTable::of(alloc, Table::new(alloc, columns))
 }
 
 /// The tables that each of so many statements reads as the last one. It fails only if memory runs out.

@@ -22,7 +22,7 @@ use std::alloc::{AllocError, Global};
 use std::sync::ledger::Ledger;
 use vtl_decimal::Profile;
 use vtl_index::Steps;
-use vtl_rows::{Inputs, SharedTable, Table};
+use vtl_rows::{Inputs, Table};
 use vtl_scalar::RunErr;
 
 // Holds the table that was read for an INPUT, with one more owner.
@@ -38,7 +38,7 @@ fn run_input(
 {
     match inputs.shared(&input.name) {
         Some(table) => {
-            let held = HeldTable::of(alloc, table.share()?)?;
+            let held = HeldTable::sharing(alloc, table.share()?)?;
             tables.put(input.name.share()?, held)
         }
         None => unreachable!(),
@@ -77,7 +77,7 @@ fn run_create<L: Ledger>(
 {
     match query_table(alloc, &create.query, tables, p, steps) {
         Ok(table) => {
-            let held = HeldTable::of(alloc, SharedTable::of(alloc, table)?)?;
+            let held = HeldTable::of(alloc, table)?;
             tables.put(create.name.share()?, held)?;
             Ok(())
         }

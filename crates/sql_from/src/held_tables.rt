@@ -48,8 +48,16 @@ impl Model for HeldTable {
 }
 
 impl HeldTable {
-    /// A table, whose columns are put in order of their names. It fails only if memory runs out.
-    pub fn of(alloc: Global, table: SharedTable) -> Result<HeldTable, AllocError>
+    /// A table with one owner. It fails only if memory runs out.
+    pub fn of(alloc: Global, table: Table) -> Result<HeldTable, AllocError>
+        ensures { IfOk result (λ t. t ≡ listed table) }
+    {
+        let shared = SharedTable::of(alloc, table)?;
+        HeldTable::sharing(alloc, shared)
+    }
+
+    /// A table that may have other owners, whose columns are put in order of their names. It fails only if memory runs out.
+    pub fn sharing(alloc: Global, table: SharedTable) -> Result<HeldTable, AllocError>
         ensures { IfOk result (λ t. t ≡ table) }
     {
         let columns = columns_by_name(alloc, table.table().columns())?;

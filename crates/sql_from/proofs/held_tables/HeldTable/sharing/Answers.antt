@@ -2,7 +2,7 @@ use Rattle.std.proofs.Common.{◌∙◌, List, ap, map, subst}
 use Rattle.vtl_rows.specs.declared.column.Column.{Column}
 use Rattle.sql_meaning.specs.Tables.{column_entry}
 use Rattle.sql_from.specs.Columns.{AreFound}
-use Rattle.sql_from.proofs.held_tables.HeldTable.of.Goals as goal
+use Rattle.sql_from.proofs.held_tables.HeldTable.sharing.Goals as goal
 
 pub invariant_of-result : goal.invariant_of-result
 invariant_of-result c =
