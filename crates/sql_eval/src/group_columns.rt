@@ -85,7 +85,7 @@ impl<'a> GroupColumns<'a> {
     }
 
     // The place of a column among them, if it is there.
-    fn found(&self, column: &Column) -> Option<usize>
+    fn known_place(&self, column: &Column) -> Option<usize>
         ensures { result ≡ place_from (same_column column.now) 0 self.now }
     {
         let named = self.places.get(&column.source)?;
@@ -96,7 +96,7 @@ impl<'a> GroupColumns<'a> {
     pub(crate) fn place(&self, column: &Column) -> usize
         ensures { result ≡ position_or_len (same_column column.now) self.now }
     {
-        match self.found(column) {
+        match self.known_place(column) {
             Some(place) => place,
             None => self.columns.len(),
         }

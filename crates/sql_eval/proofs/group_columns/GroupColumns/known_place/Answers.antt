@@ -6,7 +6,7 @@ use Rattle.vtl_text.specs.Texts.{same_text}
 use Rattle.sql_check_parts.specs.Scopes.{Named}
 use Rattle.sql_meaning.specs.Values.{same_column}
 use Rattle.sql_eval.specs.GroupPlaces.{place_from}
-use Rattle.sql_eval.proofs.group_columns.GroupColumns.found.Goals as goal
+use Rattle.sql_eval.proofs.group_columns.GroupColumns.known_place.Goals as goal
 
 pub returns-in_err-named : goal.returns-in_err-named
 returns-in_err-named c =
