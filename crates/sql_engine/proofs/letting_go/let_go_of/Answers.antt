@@ -22,5 +22,5 @@ returns c =
     let name = c.args.name.now in
     let t = listed c.in-Some.table.now in
     let there : table_of name held ≡ Some t = sym c.get.ensures ∙ ap (option_map (λ u. listed u.now)) c.in-Some.is in
-    let put = c.replace-_before.ensures.replaced ∙ ap (set_value (same_text name) held) c.in_ok-empty.ensures in
+    let put = c.replace-before.ensures.replaced ∙ ap (set_value (same_text name) held) c.in_ok-empty.ensures in
     subst (MayLetGo is_kept held) (sym put) (one_let_go is_kept name held t (sym c.is_read_from.ensures ∙ c.if-is_read_from.false) there)
