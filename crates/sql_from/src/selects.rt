@@ -30,7 +30,7 @@ use crate::joining::{cross_step, join_each, join_found, keep};
 use crate::key_lookup::{KeyLookup, lookup_of};
 use crate::pairs::Walked;
 use crate::source_condition::SourceCondition;
-use crate::{Partners, Sources, TupleRows, Tuples};
+use crate::{HeldTables, Partners, Sources, TupleRows, Tuples};
 use sql_eval::{Level, Resolved, resolve};
 use sql_meaning::Early;
 use sql_tree::{Join, JoinKind, Select, Source, SqlExpr};
@@ -38,7 +38,7 @@ use std::alloc::{AllocError, Global};
 use std::sync::ledger::Ledger;
 use vtl_decimal::Profile;
 use vtl_index::Steps;
-use vtl_rows::{Table, Tables};
+use vtl_rows::Table;
 use vtl_scalar::{ScalarErr, Seen};
 
 /// Why there are no rows: the fault of an expression, or want of memory.
@@ -284,7 +284,7 @@ impl Drop for Joining<'_> {
 fn first_source<'a>(
     alloc: Global,
     source: &Source,
-    tables: &'a Tables,
+    tables: &'a HeldTables,
 ) -> Result<Joining<'a>, AllocError>
     requires { IsSourceTyped (tables_held tables.now) [] source.now }
     ensures held { IfOk result (λ j. j.sources.held ≡ tables.now) }
@@ -456,7 +456,7 @@ fn is_listed(by_index: Option<&[usize]>, place: usize) -> bool
 fn joined<'a, L: Ledger>(
     alloc: Global,
     select: &Select,
-    tables: &'a Tables,
+    tables: &'a HeldTables,
     by_index: Option<&[usize]>,
     early: &[Early],
     p: &Profile,
@@ -499,7 +499,7 @@ fn joined<'a, L: Ledger>(
 pub fn source_tuples<'a, L: Ledger>(
     alloc: Global,
     select: &Select,
-    tables: &'a Tables,
+    tables: &'a HeldTables,
     by_index: Option<&[usize]>,
     early: &[Early],
     p: &Profile,
@@ -527,7 +527,7 @@ pub fn source_tuples<'a, L: Ledger>(
 pub fn source_rows<L: Ledger>(
     alloc: Global,
     select: &Select,
-    tables: &Tables,
+    tables: &HeldTables,
     p: &Profile,
     steps: &mut Steps<L>,
 ) -> Result<Table, ExecErr>
