@@ -52,13 +52,13 @@ one_asks : (c : Option Exp) → condition_asks c ≡ false → AllByRecursion (�
 one_asks None h = tt
 one_asks (Some e) h = parts_ask e h
 
+abbrev Silent : List Exp → Type 0
+Silent es = AllByRecursion (λ x. asks x ≡ false) es
+
 -- what is tried of it before a join
 pub due_asks : (s : SelectTree) (early : List Early) (place : ℕ) → condition_asks s.condition ≡ false → AllByRecursion (λ x. asks x ≡ false) (due_at s early place)
 due_asks s early place h = go (nat_eq place (length s.joins))
   where
-    abbrev Silent : List Exp → Type 0
-    Silent = AllByRecursion (λ x. asks x ≡ false)
-
     whole : (w : Option Exp) → condition_asks w ≡ false → Silent (all_of w)
     whole None h = tt
     whole (Some e) h = (h, tt)

@@ -173,10 +173,11 @@ pub found_more : (g : Test) (x : List ℕ) (found : List ℕ) (i number : ℕ) (
     → Gains g None (map (with_number x) (take i found)) a b → AreMarked (take i found) m n → Gains g None (with_number x number ∷ []) b d → AreMarked (number ∷ []) n o
     → Gains g None (map (with_number x) (take (i + 1) found)) a d × AreMarked (take (i + 1) found) m o
 found_more g x found i number a b d m n o h at gains marks more mark =
-    let step : take (i + 1) found ≡ take i found ++ number ∷ [] = take_more found i number h ∙ ap (λ j. take i found ++ j ∷ []) (sym at) in
-    (gains_as g None None (map (with_number x) (take i found) ++ with_number x number ∷ []) (map (with_number x) (take (i + 1) found)) a d refl (sym (ap (map (with_number x)) step ∙ map-append (with_number x) (take i found) (number ∷ [])))
-    (gains_both g None None (map (with_number x) (take i found)) (with_number x number ∷ []) a b d gains more),
-    subst (λ (l : List ℕ). AreMarked l m o) (sym step) (marked_both (take i found) (number ∷ []) m n o marks mark))
+    let step : take (i + 1) found ≡ take i found ++ number ∷ [] = take_more found i number h ∙ ap (λ j. take i found ++ j ∷ []) (sym at) in (
+      gains_as g None None (map (with_number x) (take i found) ++ with_number x number ∷ []) (map (with_number x) (take (i + 1) found)) a d refl (sym (ap (map (with_number x)) step ∙ map-append (with_number x) (take i found) (number ∷ [])))
+          (gains_both g None None (map (with_number x) (take i found)) (with_number x number ∷ []) a b d gains more),
+      subst (λ (l : List ℕ). AreMarked l m o) (sym step) (marked_both (take i found) (number ∷ []) m n o marks mark),
+    )
 
 -- all left tuples, one more
 pub lefts_more : (g : Test) (fault : List ℕ → Option Fault) (make : List ℕ → List (List ℕ)) (xs : List (List ℕ)) (i : ℕ) (x : List ℕ) (a b d : Walked) → i < length xs → x ≡ get_or xs i x
@@ -213,16 +214,13 @@ unmarked_more g marks met j a b d gains more =
     let rest = cond (not (get_or met j false)) (with_number marks j ∷ []) [] in
     gains_as g None None (unmarked_to marks met j ++ rest) (unmarked_to marks met (j + 1)) a d refl (sym step) (gains_both g None None (unmarked_to marks met j) rest a b d gains more)
   where
-    free : ℕ → Bool
-    free i = not (get_or met i false)
-
     one : (d : Bool) → map (with_number marks) (cond d (j ∷ []) []) ≡ cond d (with_number marks j ∷ []) []
     one true = refl
     one false = refl
 
-    step : unmarked_to marks met (j + 1) ≡ unmarked_to marks met j ++ cond (free j) (with_number marks j ∷ []) []
-    unfolding free
-    step = ap (λ l. map (with_number marks) (filter free l)) (one_number j)
-        ∙ ap (map (with_number marks)) (filter-append free (numbers_to j) (j ∷ []))
-        ∙ map-append (with_number marks) (filter free (numbers_to j)) (filter free (j ∷ []))
-        ∙ ap (λ l. unmarked_to marks met j ++ l) (one (free j))
+    step : unmarked_to marks met (j + 1) ≡ unmarked_to marks met j ++ cond (not (get_or met j false)) (with_number marks j ∷ []) []
+    step =
+        ap (λ l. map (with_number marks) (filter (λ i. not (get_or met i false)) l)) (one_number j)
+        ∙ ap (map (with_number marks)) (filter-append (λ i. not (get_or met i false)) (numbers_to j) (j ∷ []))
+        ∙ map-append (with_number marks) (filter (λ i. not (get_or met i false)) (numbers_to j)) (filter (λ i. not (get_or met i false)) (j ∷ []))
+        ∙ ap (λ l. unmarked_to marks met j ++ l) (one (not (get_or met j false)))

@@ -22,11 +22,6 @@ use Rattle.sql_from.specs.Standing.{condition_at}
 abbrev pub trees_of : List (Bor SqlExpr) → List Exp
 trees_of es = map (λ e. expr_tree e.now) es
 
--- conditions as the program tries them: how many numbers a tuple has, and their value at each tuple
-pub record Judged : Type 0 where
-  pub width : ℕ
-  pub test : Test
-
 -- conditions at tuples, each tried where all before it are true
 abbrev pub conditions_at : Settings → Sourced → List Exp → Test
 conditions_at p s es = in_turn (map (condition_at p s) es)

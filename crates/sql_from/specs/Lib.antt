@@ -7,6 +7,7 @@ pub mod Gains
 pub mod Standing
 pub mod Conditions
 pub mod Tried
+pub mod Together
 pub mod Keys
 pub mod Lookups
 pub mod Asking

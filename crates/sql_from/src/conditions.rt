@@ -1,27 +1,29 @@
 // Several conditions at the rows of sources.
+ghost use Rattle.std.proofs.Props.{props};
 ghost use Rattle.std.specs.List.{AllByRecursion};
-ghost use Rattle.std.specs.Prelude.{◌≡◌, length, true, false, IfOk};
+ghost use Rattle.std.specs.Prelude.{◌≡◌, length, map, true, false, IfOk};
 ghost use Rattle.sql_meaning.specs.Profiles.{IsLawful};
 ghost use Rattle.sql_from.specs.Asking.{asks};
 ghost use Rattle.sql_from.specs.Conditions.{conditions_at, trees_of};
 ghost use Rattle.sql_from.specs.Held.{base_held};
+ghost use Rattle.sql_from.specs.Joins.{in_turn};
+ghost use Rattle.sql_from.specs.Tried.{value_of};
 
 use crate::Sources;
 use crate::condition::Condition;
 use crate::source_condition::SourceCondition;
 use sql_tree::SqlExpr;
 use std::alloc::{AllocError, Global};
-use std::marker::Model;
 use std::sync::ledger::Ledger;
 use vtl_decimal::Profile;
 use vtl_index::Steps;
 use vtl_scalar::ScalarErr;
 
-/// Conditions at the rows of sources, each tried where all before it are true. A contract sees how many numbers a tuple
-/// has, and the value at each.
+/// Conditions at the rows of sources, each tried where all before it are true.
 pub(crate) struct Conditions<'a> {
-    sources: &'a Sources<'a>,
-    parts: Vec<SourceCondition<'a>>,
+    pub(crate) sources: &'a Sources<'a>,
+    pub(crate) parts: Vec<SourceCondition<'a>>,
+    ghost are_of: { AllByRecursion (λ x. x.partners ≡ sources.now) parts.items } by { Prim.hlevel props },
 }
 
 // Written out, so that a proof sees one call and not the drop of each part.
@@ -32,20 +34,6 @@ impl Drop for Conditions<'_> {
             parts: _parts,
         } = self;
     }
-}
-
-impl<'a> Model for Conditions<'a> {
-    ghost use Rattle.std.specs.Prelude.{◌≡◌, length, map};
-    ghost use Rattle.std.specs.List.{AllByRecursion};
-    ghost use Rattle.sql_from.specs.Conditions.{Judged};
-    ghost use Rattle.sql_from.specs.Joins.{in_turn};
-    ghost use Rattle.sql_from.specs.Tried.{value_of};
-
-    ghost Value = { Judged };
-
-    ghost view = { λ c. record { width = length c.sources.now.sources; test = in_turn (map value_of c.parts.items) } };
-
-    ghost invariant = { λ c. AllByRecursion (λ x. x.partners ≡ c.sources.now) c.parts.items };
 }
 
 impl<'a> Conditions<'a> {
@@ -60,8 +48,8 @@ impl<'a> Conditions<'a> {
         steps: &mut Steps<L>,
     ) -> Result<Conditions<'a>, AllocError>
         requires { by_index ≡ true → IsLawful (base_held p.now sources.now.held) }
-        ensures width { IfOk result (λ c. c.width ≡ length sources.now.sources) }
-        ensures test { IfOk result (λ c. c.test ≡ conditions_at p.now sources.now (trees_of conditions.now)) }
+        ensures sources { IfOk result (λ c. c.sources.now ≡ sources.now) }
+        ensures test { IfOk result (λ c. in_turn (map value_of c.parts.items) ≡ conditions_at p.now sources.now (trees_of conditions.now)) }
         ensures steps { AllByRecursion (λ e. asks e ≡ false) (trees_of conditions.now) → steps.new ≡ steps.old }
     {
         let mut parts = Vec::new(alloc);
@@ -73,9 +61,9 @@ impl<'a> Conditions<'a> {
 }
 
 impl<'a> Condition for Conditions<'a> {
-    ghost width = { λ c. c.width };
+    ghost width = { λ c. length c.sources.now.sources };
 
-    ghost value = { λ c. c.test };
+    ghost value = { λ c. in_turn (map value_of c.parts.items) };
 
     fn width(&self) -> usize {
         self.sources.len()

@@ -20,6 +20,7 @@ ghost use Rattle.sql_from.specs.Lookups.{Finds};
 ghost use Rattle.sql_from.specs.Joins.{joined_tuples, kept_fault, kept_tuples, pairs_fault};
 ghost use Rattle.sql_from.specs.Sources.{scope_held, table_named};
 ghost use Rattle.sql_from.specs.Standing.{MayLookUp, StandsFor, rows_for, sight_of};
+ghost use Rattle.sql_from.specs.Together.{breadth, tested};
 ghost use Rattle.sql_from.specs.Steps.{IsPlainJoin, JoinsTwo, is_listed, most_steps, two_counts};
 
 use crate::conditions::Conditions;
@@ -78,12 +79,12 @@ fn joined_by<L: Ledger>(
     steps: &mut Steps<L>,
 ) -> Result<Walked, ScalarErr>
     requires width { length sources.now.sources ≡ left.now.rows.width + 1 }
-    requires filter { filter.now.width ≡ length sources.now.sources }
+    requires filter { breadth filter.now ≡ length sources.now.sources }
     requires marks { length marks.now ≡ left.now.rows.width }
     requires lawful { by_index ≡ true → IsLawful (base_held p.now sources.now.held) }
     ensures width { IfOk result (λ w. w.rows.width ≡ left.now.rows.width + 1) }
-    ensures rows { IfOk result (λ w. w.rows.tuples ≡ kept_tuples filter.now.test (joined_tuples kind (conditions_at p.now sources.now (trees_of conditions.now)) marks.now (length (last_of sources.now).rows) left.now.rows.tuples)) }
-    ensures seen { IfOk result (λ w. seen_of w.seen ≡ join (seen_of left.now.seen) (join (pairs_fault (conditions_at p.now sources.now (trees_of conditions.now)) (length (last_of sources.now).rows) left.now.rows.tuples) (kept_fault filter.now.test (joined_tuples kind (conditions_at p.now sources.now (trees_of conditions.now)) marks.now (length (last_of sources.now).rows) left.now.rows.tuples)))) }
+    ensures rows { IfOk result (λ w. w.rows.tuples ≡ kept_tuples (tested filter.now) (joined_tuples kind (conditions_at p.now sources.now (trees_of conditions.now)) marks.now (length (last_of sources.now).rows) left.now.rows.tuples)) }
+    ensures seen { IfOk result (λ w. seen_of w.seen ≡ join (seen_of left.now.seen) (join (pairs_fault (conditions_at p.now sources.now (trees_of conditions.now)) (length (last_of sources.now).rows) left.now.rows.tuples) (kept_fault (tested filter.now) (joined_tuples kind (conditions_at p.now sources.now (trees_of conditions.now)) marks.now (length (last_of sources.now).rows) left.now.rows.tuples)))) }
     ensures steps { by_index ≡ true → (lead : ℕ) → AreLinked sources.now lead (trees_of conditions.now) → steps.new ≤ steps.old + linked_count sources.now lead + length (joined_tuples kind (conditions_at p.now sources.now (trees_of conditions.now)) marks.now (length (last_of sources.now).rows) left.now.rows.tuples) }
     ensures err { IfErr result (λ e. e ≡ ScalarErr.OutOfMemory) }
 {
