@@ -2,6 +2,8 @@ pub mod Views
 pub mod Flats
 pub mod Joins
 pub mod Gained
+pub mod Stepped
+pub mod Conditioned
 pub mod Turns
 pub mod Marks
 pub mod Named
