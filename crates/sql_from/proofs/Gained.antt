@@ -168,6 +168,13 @@ module _ (f g : Test) (x : List ℕ) where
         marked = subst (λ (l : List ℕ). AreMarked l m m) (ap (λ d. cond d (j ∷ []) []) t.0) (marked_nothing m);
       }
 
+-- rows of which all are pairs
+pub tries_found : (f g : Test) (x found ks : List ℕ) (a b : Walked) (m n : List Bool) → found ≡ filter (passes f x) ks → faults_by (fault_of f x) ks ≡ None → Gains g None (map (with_number x) found) a b → AreMarked found m n → Tries f g x ks a b m n
+tries_found f g x found ks a b m n same fault gains marked = record {
+  gains = gains_as g None (faults_by (fault_of f x) ks) (map (with_number x) found) (map (with_number x) (filter (passes f x) ks)) a b (sym fault) (ap (map (with_number x)) same) gains;
+  marked = subst (λ (l : List ℕ). AreMarked l m n) same marked;
+}
+
 -- a tuple with rows that are pairs
 pub found_more : (g : Test) (x : List ℕ) (found : List ℕ) (i number : ℕ) (a b d : Walked) (m n o : List Bool) → i < length found → number ≡ get_or found i number
     → Gains g None (map (with_number x) (take i found)) a b → AreMarked (take i found) m n → Gains g None (with_number x number ∷ []) b d → AreMarked (number ∷ []) n o

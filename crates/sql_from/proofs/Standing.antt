@@ -1,5 +1,6 @@
 -- What one source more stands for.
 use Rattle.std.proofs.Common.{◌≡◌, ℕ, suc, ◌+◌, ◌-◌, ◌<◌, List, [], ◌∷◌, ◌++◌, cond, map, length, Option, Some, None, Ok, Err, IfOk, IsSome, Result, refl, sym, ap, ◌∙◌, subst, length-append, arith}
+use Rattle.std.specs.Borrow.{Bor}
 use Rattle.std.specs.List.{AllByRecursion, filter}
 use Rattle.std.specs.Prelude.{fold}
 use Rattle.std.specs.Option.{option_map}
@@ -42,6 +43,7 @@ use Rattle.sql_from.specs.Rows.{combined, width_of}
 use Rattle.vtl_scalar.specs.Seen.{answer_of}
 use Rattle.sql_from.specs.Sources.{IsWide, Sourced, or_nothing, parts_of, scope_held, table_named}
 use Rattle.sql_from.specs.Standing.{MayLookUp, StandsFor, condition_at, rows_for, sight_of}
+use Rattle.sql_from.specs.Steps.{is_listed}
 use Rattle.sql_from.specs.Tuples.{Numbered}
 use Rattle.sql_from.proofs.Marks.{other_number, same_number}
 use Rattle.sql_from.proofs.Means.{cross_means, crossed_wide, faults_through, joined_wide, kept_means, marks_many, single_rows, singles_wide, step_faults, step_means}
@@ -278,6 +280,13 @@ pub scope_tried : (v : View) (f : Joined) (es : List Exp) → (fold (try_early v
 scope_tried v f [] = refl
 scope_tried v f (e ∷ es) = scope_tried v (try_early v f e) es
 
+-- what is tried over these sources is tried over the tables of the run
+pub restated : (p : Settings) (held : NamedTables) (z : Sourced) (f : Joined) (es ds : List Exp) (t : Numbered) (seen : Option Fault) → z.held ≡ held → es ≡ ds → StandsFor (fold (try_early (sight_of p z)) f es) z t seen → StandsFor (fold (try_early (at_rows (base_held p held) f.scope)) f ds) z t seen
+restated p held z f es ds t seen h same stands =
+    let scope : scope_held z.sources ≡ f.scope = stands.scope ∙ scope_tried (sight_of p z) f es in
+    subst (λ (v : View). StandsFor (fold (try_early v) f ds) z t seen) (λ k. at_rows (base_held p (h k)) (scope k))
+    (subst (λ (cs : List Exp). StandsFor (fold (try_early (sight_of p z)) f cs) z t seen) same stands)
+
 -- where WHERE is tried whole
 pub filtered_kept : (b : Base) (w : Option Exp) (f : Joined) → unless (fold (try_early (at_rows b f.scope)) f (all_of w)).fault (fold (try_early (at_rows b f.scope)) f (all_of w)).rows ≡ kept_of b w f
 filtered_kept b None f = ap (λ g. unless g f.rows) (sym (join_none f.fault))
@@ -331,6 +340,11 @@ module _ (b : Base) (s : SelectTree) (early : List Early) where
 pub allowed : {A : Type 0} (b : Base) (o : Option A) → IsSome o → MayLookUp b o → IsLawful b
 allowed b None e may = cc
 allowed b (Some x) e may = may
+
+-- where joins are listed, look-ups are wanted
+pub looked_up : (o : Option (Bor (List ℕ))) → is_listed o 0 ≡ true → IsSome o
+looked_up None e = cc
+looked_up (Some x) e = refl
 
 -- ---- answers
 

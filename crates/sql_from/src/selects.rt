@@ -313,8 +313,8 @@ fn joined<'a, L: Ledger>(
     let looks_up = by_index.is_some();
     let parts = conjuncts_of(alloc, &select.condition)?;
     let first = first_source(alloc, &select.from, tables)?;
-    let due = due_at(alloc, select, &parts, early, 0)?;
-    let mut so_far = first.with_parts(alloc, &due, looks_up, p, steps)?;
+    let begun = due_at(alloc, select, &parts, early, 0)?;
+    let mut so_far = first.with_parts(alloc, &begun, looks_up, p, steps)?;
     for place in 0..joins.len() {
         let due = due_at(alloc, select, &parts, early, place + 1)?;
         so_far = so_far.with_join(alloc, &joins[place], &due, looks_up, p, steps)?;
