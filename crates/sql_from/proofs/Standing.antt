@@ -352,10 +352,6 @@ pub if_ok : {A E : Type 0} (r : Result A E) (P Q : A → Type 0) → ((x : A) �
 if_ok (Ok x) P Q h k = h x k
 if_ok (Err e) P Q h k = k
 
-pub if_both : {A E : Type 0} (r : Result A E) (P Q R : A → Type 0) → ((x : A) → P x → Q x → R x) → IfOk r P → IfOk r Q → IfOk r R
-if_both (Ok x) P Q R h k l = h x k l
-if_both (Err e) P Q R h k l = k
-
 pub answered_rows : (s : Sourced) (rows t : Numbered) (seen : Option Fault) (m : Outcome (List Row)) → Ok t ≡ answer_of (unless seen rows) → unless seen (rows_for s rows) ≡ m → m ≡ Ok (rows_for s t)
 answered_rows s rows t None m e is = let same : t ≡ rows = cc in sym is ∙ ap (λ (n : Numbered). Ok (rows_for s n)) (sym same)
 answered_rows s rows t (Some DivZero) m e is = cc
