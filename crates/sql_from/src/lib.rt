@@ -17,6 +17,7 @@
 mod asking;
 mod columns;
 mod condition;
+mod conditions;
 mod counting;
 mod early;
 mod existence;

@@ -1,0 +1,25 @@
+-- Conditions of the program, one more.
+use Rattle.std.proofs.Common.{◌≡◌, ◌∙◌, ◌+◌, ◌<◌, ℕ, Bool, true, false, List, [], ◌∷◌, ◌++◌, cond, drop, get_or, length, map, take, Option, None, Some, refl, sym, ap, arith}
+use Rattle.std.specs.Borrow.{Bor}
+use Rattle.std.specs.List.{AllByRecursion, list_all}
+use Rattle.std.specs.Prelude.{◌==◌, MatchOption, slice_get}
+use Rattle.std.proofs.lemmas.List.{map-append, take_more}
+use Rattle.sql_tree.specs.Trees.{Exp}
+use Rattle.sql_tree.specs.View.{expr_tree}
+use Rattle.sql_tree.specs.declared.expressions.SqlExpr.{SqlExpr}
+use Rattle.sql_from.specs.Conditions.{trees_of}
+
+-- no references stand for nothing
+pub no_trees : (es : List (Bor SqlExpr)) → (length es == 0) ≡ true → trees_of es ≡ []
+no_trees [] e = refl
+no_trees (x ∷ es) e = cc
+
+-- the trees of one reference more
+pub trees_more : (es : List (Bor SqlExpr)) (i : ℕ) (x : Bor SqlExpr) → i < length es → x ≡ get_or es i x → trees_of (take (i + 1) es) ≡ trees_of (take i es) ++ expr_tree x.now ∷ []
+trees_more es i x h at = ap trees_of (take_more es i x h ∙ ap (λ y. take i es ++ y ∷ []) (sym at)) ∙ map-append (λ (e : Bor SqlExpr). expr_tree e.now) (take i es) (x ∷ [])
+
+-- one reference stands for one tree
+pub one_tree : (es : List (Bor SqlExpr)) (x : SqlExpr) → length es ≡ 1 → x ≡ (get_or es 0 (record { now = x })).now → trees_of es ≡ expr_tree x ∷ []
+one_tree [] x e at = cc
+one_tree (y ∷ []) x e at = ap (λ (z : SqlExpr). expr_tree z ∷ []) (sym at)
+one_tree (y ∷ z ∷ es) x e at = absurd (omega (arith, e))
