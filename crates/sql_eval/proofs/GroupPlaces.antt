@@ -1,5 +1,5 @@
 -- The columns of GROUP BY, found by name.
-use Rattle.std.proofs.Common.{◌≡◌, ◌∙◌, ℕ, suc, ◌+◌, ◌<◌, Bool, true, false, cond, ◌&&◌, List, [], ◌∷◌, drop, get_or, length, Option, None, Some, refl, ap, sym, arith}
+use Rattle.std.proofs.Common.{◌≡◌, ◌∙◌, ℕ, suc, ◌+◌, ◌<◌, Bool, true, false, cond, not, ◌&&◌, List, [], ◌∷◌, drop, get_or, length, Option, None, Some, refl, ap, sym, arith}
 use Rattle.std.specs.List.{position_or_len}
 use Rattle.std.specs.Map.{lookup}
 use Rattle.std.specs.Prelude.{option_and_then, unwrap_or}
@@ -54,11 +54,11 @@ place_is : (p : Column → Bool) (i : ℕ) (cs : List Column) → unwrap_or (pla
 place_is p i [] = refl
 place_is p i (c ∷ cs) = go (p c) (place_is p (suc i) cs)
   where
-    go : (b : Bool) → unwrap_or (place_from p (suc i) cs) (suc i + length cs) ≡ suc i + position_or_len p cs → unwrap_or (cond b (Some i) (place_from p (suc i) cs)) (i + suc (length cs)) ≡ i + cond b 0 (suc (position_or_len p cs))
+    go : (b : Bool) → unwrap_or (place_from p (suc i) cs) (suc i + length cs) ≡ suc i + position_or_len p cs → unwrap_or (cond b (Some i) (place_from p (suc i) cs)) (i + suc (length cs)) ≡ i + cond (not b) (1 + position_or_len p cs) 0
     go true ih = omega arith
     go false ih =
         let e : i + suc (length cs) ≡ suc i + length cs = omega arith in
-        let f : suc i + position_or_len p cs ≡ i + suc (position_or_len p cs) = omega arith in
+        let f : suc i + position_or_len p cs ≡ i + (1 + position_or_len p cs) = omega arith in
         ap (unwrap_or (place_from p (suc i) cs)) e ∙ ih ∙ f
 
 pub place_found : (x : Column) (columns : List Column) (o : Option ℕ) → o ≡ place_from (same_column x) 0 columns → unwrap_or o (length columns) ≡ position_or_len (same_column x) columns

@@ -15,5 +15,5 @@ loop-i-preserved g c =
     let whole : y ≡ x = whole_tuple x w (c.tuple-tuple.ensures.width ∙ sym c.width-width.ensures.width) c.width-width.ensures.some in
     record {
       width = c.in_ok-keep_tuple.ensures.gains.width ∙ c.loop-i.invariant.width;
-      gains = kept_more f tuples i x y ? c.loop-i.kept c.keep_tuple.new.so_far within c.tuple-tuple.ensures.tuple whole c.loop-i.invariant.gains c.in_ok-keep_tuple.ensures.gains;
+      gains = kept_more f tuples i x y _ c.loop-i.kept c.keep_tuple.new.so_far within c.tuple-tuple.ensures.tuple whole c.loop-i.invariant.gains c.in_ok-keep_tuple.ensures.gains;
     }

@@ -16,6 +16,6 @@ loop-i-preserved g c =
     let within : i < length tuples = omega (arith, c.len-i-end.ensures.tuples, c.loop-i-test.true) in
     record {
       width = c.in_ok-left_row.ensures.gains.width ∙ c.loop-i.invariant.width;
-      gains = lefts_more h (λ y. faults_by (fault_of f y) (numbers_to n)) (from_left c.args.keeps f n) tuples i x ? c.loop-i.so_far c.left_row.new.so_far within c.tuple.ensures.tuple c.loop-i.invariant.gains c.in_ok-left_row.ensures.gains;
+      gains = lefts_more h (λ y. faults_by (fault_of f y) (numbers_to n)) (from_left c.args.keeps f n) tuples i x _ c.loop-i.so_far c.left_row.new.so_far within c.tuple.ensures.tuple c.loop-i.invariant.gains c.in_ok-left_row.ensures.gains;
       met = marks_more (λ y. filter (passes f y) (numbers_to n)) tuples i x c.args.met.now.items c.loop-i.met.items c.left_row.new.met.items within c.tuple.ensures.tuple c.loop-i.invariant.met c.in_ok-left_row.ensures.met;
     }

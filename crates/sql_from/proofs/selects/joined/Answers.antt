@@ -117,8 +117,8 @@ returns-clause-stands g c =
     let items = c.as_slice-joins.result.now in
     let all = ap (λ (l : List Join). length l) c.as_slice-joins.ensures in
     let many = length-map joins join_tree in
-    let past : i ≡ length s.joins = ? in
-    let none : map join_tree (drop i joins) ≡ [] = ? in
+    let past : i ≡ length s.joins = omega (arith, many, all, c.loop-place-test.false, c.loop-place.auto.place-end) in
+    let none : map join_tree (drop i joins) ≡ [] = ap (map join_tree) (drop_all i joins (omega (arith, all, c.loop-place-test.false, c.loop-place.auto.place-end))) in
     let end = c.loop-place.so_far in
     left_none b s c.args.early.now i end.sources end.walked.rows (seen_of end.walked.seen) past
     (subst (λ (l : List JoinTree). Left b s c.args.early.now i l end.sources end.walked.rows (seen_of end.walked.seen)) none c.loop-place.invariant.left)
