@@ -1,8 +1,7 @@
-use Rattle.std.proofs.Common.{◌∙◌, [], ap, sym}
+use Rattle.std.proofs.Common.{◌∙◌, ap, sym}
 use Rattle.std.specs.Map.{lookup}
 use Rattle.std.specs.Prelude.{option_and_then}
 use Rattle.vtl_text.specs.Texts.{same_text}
-use Rattle.sql_check_parts.specs.Scopes.{Named}
 use Rattle.sql_eval.proofs.SetNamed.{set_other}
 use Rattle.sql_eval.proofs.group_columns.names_of.Goals as goal
 

@@ -3,7 +3,6 @@ use Rattle.std.specs.Map.{lookup}
 use Rattle.std.specs.Option.{option_copied}
 use Rattle.std.specs.Prelude.{option_and_then}
 use Rattle.vtl_text.specs.Texts.{same_text}
-use Rattle.sql_check_parts.specs.Scopes.{Named}
 use Rattle.sql_meaning.specs.Values.{same_column}
 use Rattle.sql_eval.specs.GroupPlaces.{place_from}
 use Rattle.sql_eval.proofs.group_columns.GroupColumns.known_place.Goals as goal
