@@ -8,11 +8,12 @@ use Rattle.sql_tree.specs.Trees.{Exp}
 use Rattle.sql_tree.specs.View.{expr_tree}
 use Rattle.sql_tree.specs.declared.expressions.SqlExpr.{SqlExpr}
 use Rattle.sql_from.specs.Conditions.{trees_of}
+use Rattle.sql_from.proofs.Marks.{other_number}
 
 -- no references stand for nothing
 pub no_trees : (es : List (Bor SqlExpr)) → (length es == 0) ≡ true → trees_of es ≡ []
 no_trees [] e = refl
-no_trees (x ∷ es) e = cc
+no_trees (x ∷ es) e = let unlike : (length (x ∷ es) == 0) ≡ false = other_number (length (x ∷ es)) 0 (λ s. omega (arith, s)) in cc
 
 -- the trees of one reference more
 pub trees_more : (es : List (Bor SqlExpr)) (i : ℕ) (x : Bor SqlExpr) → i < length es → x ≡ get_or es i x → trees_of (take (i + 1) es) ≡ trees_of (take i es) ++ expr_tree x.now ∷ []
@@ -20,6 +21,6 @@ trees_more es i x h at = ap trees_of (take_more es i x h ∙ ap (λ y. take i es
 
 -- one reference stands for one tree
 pub one_tree : (es : List (Bor SqlExpr)) (x : SqlExpr) → length es ≡ 1 → x ≡ (get_or es 0 (record { now = x })).now → trees_of es ≡ expr_tree x ∷ []
-one_tree [] x e at = cc
+one_tree [] x e at = absurd (omega (arith, e))
 one_tree (y ∷ []) x e at = ap (λ (z : SqlExpr). expr_tree z ∷ []) (sym at)
 one_tree (y ∷ z ∷ es) x e at = absurd (omega (arith, e))

@@ -18,6 +18,7 @@ use Rattle.sql_meaning.specs.Values.{at_rows}
 use Rattle.sql_check_parts.specs.Queries.{first_scope, join_source}
 use Rattle.sql_check_parts.specs.Scopes.{Scope, with_source}
 use Rattle.sql_meaning.specs.Tables.{Base}
+use Rattle.sql_meaning.proofs.Lists.{all_joined}
 use Rattle.sql_check_laws.specs.Selects.{AreJoinsTyped, IsJoinCondition, IsSourceTyped}
 use Rattle.sql_meaning.specs.declared.plan.Early.{Early}
 use Rattle.sql_from.specs.Asking.{asks, condition_asks}
@@ -41,11 +42,7 @@ neither false b e = (refl, e)
 
 -- parts of what asks no EXISTS ask none
 parts_ask : (e : Exp) → asks e ≡ false → AllByRecursion (λ x. asks x ≡ false) (conjuncts e)
-parts_ask (tree.binary a op.And b) h = let both = neither (asks a) (asks b) h in both_ask (conjuncts a) (conjuncts b) (parts_ask a both.0) (parts_ask b both.1)
-  where
-    both_ask : (xs ys : List Exp) → AllByRecursion (λ x. asks x ≡ false) xs → AllByRecursion (λ x. asks x ≡ false) ys → AllByRecursion (λ x. asks x ≡ false) (xs ++ ys)
-    both_ask [] ys u v = v
-    both_ask (x ∷ xs) ys u v = (u.0, both_ask xs ys u.1 v)
+parts_ask (tree.binary a op.And b) h = let both = neither (asks a) (asks b) h in all_joined (λ x. asks x ≡ false) (conjuncts a) (conjuncts b) (parts_ask a both.0) (parts_ask b both.1)
 parts_ask e h = (h, tt)
 
 one_asks : (c : Option Exp) → condition_asks c ≡ false → AllByRecursion (λ x. asks x ≡ false) (conjuncts_of c)
@@ -63,10 +60,6 @@ due_asks s early place h = go (nat_eq place (length s.joins))
     whole None h = tt
     whole (Some e) h = (h, tt)
 
-    both : (xs ys : List Exp) → Silent xs → Silent ys → Silent (xs ++ ys)
-    both [] ys u v = v
-    both (x ∷ xs) ys u v = (u.0, both xs ys u.1 v)
-
     one : (i : ℕ) (xs : List Exp) → Silent xs → Silent (take 1 (drop i xs))
     one zero [] all = tt
     one zero (x ∷ xs) all = (all.0, tt)
@@ -78,7 +71,7 @@ due_asks s early place h = go (nat_eq place (length s.joins))
     parts (e ∷ es) = here (nat_eq e.join place) (parts es)
       where
         here : (b : Bool) → Silent (parts_at (conjuncts_of s.condition) es place) → Silent (cond b (take 1 (drop e.conjunct (conjuncts_of s.condition))) [] ++ parts_at (conjuncts_of s.condition) es place)
-        here true rest = both (take 1 (drop e.conjunct (conjuncts_of s.condition))) (parts_at (conjuncts_of s.condition) es place) (one e.conjunct (conjuncts_of s.condition) (one_asks s.condition h)) rest
+        here true rest = all_joined (λ x. asks x ≡ false) (take 1 (drop e.conjunct (conjuncts_of s.condition))) (parts_at (conjuncts_of s.condition) es place) (one e.conjunct (conjuncts_of s.condition) (one_asks s.condition h)) rest
         here false rest = rest
 
     go : (b : Bool) → Silent (cond b (all_of s.condition) (parts_at (conjuncts_of s.condition) early place))
