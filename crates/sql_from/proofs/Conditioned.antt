@@ -1,8 +1,8 @@
 -- Conditions of the program, one more.
-use Rattle.std.proofs.Common.{◌≡◌, ◌∙◌, ◌+◌, ◌<◌, ℕ, Bool, true, false, List, [], ◌∷◌, ◌++◌, cond, drop, get_or, length, map, take, Option, None, Some, refl, sym, ap, arith}
+use Rattle.std.proofs.Common.{◌≡◌, ◌∙◌, ◌+◌, ◌<◌, ℕ, zero, suc, true, false, List, [], ◌∷◌, ◌++◌, get_or, length, take, refl, sym, ap, arith}
 use Rattle.std.specs.Borrow.{Bor}
-use Rattle.std.specs.List.{AllByRecursion, list_all}
-use Rattle.std.specs.Prelude.{◌==◌, MatchOption, slice_get}
+use Rattle.std.specs.List.{AllByRecursion}
+use Rattle.std.specs.Prelude.{◌==◌}
 use Rattle.std.proofs.lemmas.List.{map-append, take_more}
 use Rattle.sql_tree.specs.Trees.{Exp}
 use Rattle.sql_tree.specs.View.{expr_tree}
@@ -24,3 +24,10 @@ pub one_tree : (es : List (Bor SqlExpr)) (x : SqlExpr) → length es ≡ 1 → x
 one_tree [] x e at = absurd (omega (arith, e))
 one_tree (y ∷ []) x e at = ap (λ (z : SqlExpr). expr_tree z ∷ []) (sym at)
 one_tree (y ∷ z ∷ es) x e at = absurd (omega (arith, e))
+
+-- what holds of all holds of the first ones
+pub all_taken : (P : Exp → Type 0) (es : List (Bor SqlExpr)) (n : ℕ) → AllByRecursion P (trees_of es) → AllByRecursion P (trees_of (take n es))
+all_taken P [] zero h = tt
+all_taken P [] (suc n) h = tt
+all_taken P (e ∷ es) zero h = tt
+all_taken P (e ∷ es) (suc n) h = (h.0, all_taken P es n h.1)
