@@ -14,7 +14,7 @@ returns-then-eq c =
     let table = c.in-Some.table.now in
     let known : columns_of (tables_held c.args.self.now.held) source.table ≡ Some (columns_held table) =
     columns_are c.args.self.now.held source.table ∙ ap (λ s. option_map columns_held (table_of source.table s.held)) (sym c.self.view_is) ∙ ap (option_map columns_held) (sym c.held.ensures ∙ ap option_copied c.in-Some.is) in
-    c.place_or.ensures ∙ ap (λ n. unwrap_or (value_among (numbered 0 (columns_held table)) x.name) n) (ap (λ l. length l) (c.columns.ensures.columns ∙ ap (λ t. t.columns) c.table.ensures))
+    c.place_or.ensures ∙ ap (λ n. unwrap_or (value_among (numbered 0 (columns_held table)) x.name) n) (ap (λ l. length l) (c.columns-wide.ensures.columns ∙ ap (λ t. t.columns) c.table.ensures))
     ∙ inner_named source.alias x table.columns (columns_of (tables_held c.args.self.now.held) source.table) known (sym c.eq.ensures ∙ c.if-eq.true)
 
 pub returns-else-eq : goal.returns-else-eq
@@ -24,7 +24,7 @@ returns-else-eq c =
     let table = c.in-Some.table.now in
     let known : columns_of (tables_held c.args.self.now.held) source.table ≡ Some (columns_held table) =
     columns_are c.args.self.now.held source.table ∙ ap (λ s. option_map columns_held (table_of source.table s.held)) (sym c.self.view_is) ∙ ap (option_map columns_held) (sym c.held.ensures ∙ ap option_copied c.in-Some.is) in
-    ap (λ l. length l) (c.columns.ensures.columns ∙ ap (λ t. t.columns) c.table.ensures)
+    ap (λ l. length l) (c.columns-wide.ensures.columns ∙ ap (λ t. t.columns) c.table.ensures)
     ∙ inner_other source.alias x table.columns (columns_of (tables_held c.args.self.now.held) source.table) known (sym c.eq.ensures ∙ c.if-eq.false)
 
 pub returns-in_default : goal.returns-in_default
