@@ -42,8 +42,8 @@ returns-in_err-own-clause-place c =
     ∙ ap (option_and_then (λ (s : SourceTable). place_from s x)) (sym known)
     ∙ found_place c.self.inside.sources x c.self.invariant.sited ∙ ap (λ s. found (placed (scope_held s.sources)) x) c.self.view_is
 
-pub overflow_add-place : goal.overflow_add-place
-overflow_add-place c =
+pub overflow_add-result : goal.overflow_add-result
+overflow_add-result c =
     let x = c.args.column.now in
     let ss = c.self.inside.sources in
     let known : value_among ss x.source ≡ Some c.in_ok-source.source.now = sym c.get.ensures ∙ ap option_copied c.in_ok-source.was in
