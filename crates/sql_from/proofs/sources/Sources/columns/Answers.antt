@@ -23,7 +23,7 @@ loop-i-preserved c =
     let entries = length-map c.columns.result.now column_entry in
     let grown : length c.push_columns.new.columns.items ≡ length (c.loop-i.columns.items ++ added) = ap (λ (l : List Column). length l) c.in_ok-push_columns.ensures in
     record {
-      columns = c.in_ok-push_columns.ensures ∙ (λ n. c.loop-i.invariant.columns n ++ columns_below alias (map column_entry ((c.columns.ensures.columns ∙ ap (λ t. t.columns) c.table.ensures) n)))
+      columns = c.in_ok-push_columns.ensures ∙ (λ n. c.loop-i.invariant.columns n ++ columns_below alias (map column_entry ((c.columns-own.ensures.columns ∙ ap (λ t. t.columns) c.table.ensures) n)))
           ∙ sym (ap (λ l. source_columns (scope_held l)) (take_got ss i (alias, table) got) ∙ columns_last (take i ss) alias table);
-      some = omega (arith, long, below, entries, grown, c.loop-i.invariant.some, c.columns.ensures.some);
+      some = omega (arith, long, below, entries, grown, c.loop-i.invariant.some, c.columns-own.ensures.some);
     }
