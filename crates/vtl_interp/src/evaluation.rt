@@ -109,7 +109,16 @@ fn evaluate_filter<'a>(
     match &a.form {
         NodeForm::Join { operands, spec } => {
             let sets = evaluate_operands(alloc, known, operands, p)?;
-            filter_join(alloc, spec.kind, &sets, operands, &a.structure, condition, made, p)
+            filter_join(
+                alloc,
+                spec.kind,
+                &sets,
+                operands,
+                &a.structure,
+                condition,
+                made,
+                p,
+            )
         }
         _ => {
             let set = evaluate(alloc, known, a, p)?;

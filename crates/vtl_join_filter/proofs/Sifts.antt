@@ -83,11 +83,13 @@ module _ (a : Asked) (old new : Sieve) where
 
 -- ---- the first and the last
 module _ (a : Asked) (s : Sieve) where
-  pub nothing_yet : 0 < width_of a.gathering → IsEmpty s → so_far a s ≡ nothing_asked
-  nothing_yet some h =
+  pub all_asked : 0 < width_of a.gathering → s.waiting.items ≡ [] → so_far a s ≡ record { rows = s.kept.rows; fault = seen_of s.seen }
+  all_asked some none =
       let now : Sifted = record { rows = s.kept.rows; fault = seen_of s.seen } in
-      let is : now ≡ nothing_asked = λ i. record { rows = h.rows i; fault = h.fault i } in
-      ap (λ l. asked_of a now (points_of a.gathering l)) h.waiting ∙ ap (asked_of a now) (points_none a.gathering some) ∙ sifted_none a.profile.now (prepared_exp a.condition) now ∙ is
+      ap (λ l. asked_of a now (points_of a.gathering l)) none ∙ ap (asked_of a now) (points_none a.gathering some) ∙ sifted_none a.profile.now (prepared_exp a.condition) now
+
+  pub nothing_yet : 0 < width_of a.gathering → IsEmpty s → so_far a s ≡ nothing_asked
+  nothing_yet some h = all_asked some h.waiting ∙ (λ i. record { rows = h.rows i; fault = h.fault i })
 
   pub ready_empty : 0 < width_of a.gathering → s.kept.columns ≡ a.gathering.columns → IsEmpty s → IsReady a s
   ready_empty some columns h =

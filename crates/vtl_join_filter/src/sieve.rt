@@ -80,9 +80,15 @@ impl Sieve {
         ensures err { IfErr result (λ e. e ≡ ScalarErr.OutOfMemory) }
     {
         let points = asked.gathering.points(alloc, &self.waiting)?;
-        let condition = &asked.condition;
-        let seen = self.seen;
-        self.seen = keep_rows(alloc, &mut self.kept, seen, condition, &points, asked.profile)?;
+        let seen = keep_rows(
+            alloc,
+            &mut self.kept,
+            self.seen,
+            &asked.condition,
+            &points,
+            asked.profile,
+        )?;
+        self.seen = seen;
         self.waiting.clear();
         Ok(())
     }
