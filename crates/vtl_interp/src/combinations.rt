@@ -72,7 +72,7 @@ pub fn join<'a>(
     Ok(Value::Made(vtl_join::close(alloc, kind, joined, made)?))
 }
 
-/// A filter of a join of operands, each under its alias: `joined` is the structure of the join.
+/// A filter of a join of operands, each under its alias: `made` is the structure of the join.
 pub fn filter_join<'a>(
     alloc: Global,
     kind: JoinKind,
