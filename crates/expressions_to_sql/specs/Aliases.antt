@@ -1,5 +1,5 @@
 -- The columns that aliases, or a list of columns, give to the components of points.
-use Rattle.std.specs.Prelude.{ℕ, nat_lt, List, Option, Some, None, if◌then◌else◌, slice_get}
+use Rattle.std.specs.Prelude.{nat_lt, List, Option, Some, None, if◌then◌else◌, slice_get}
 use Rattle.sql_tree.specs.Trees.{Text}
 use Rattle.sql_tree.specs.declared.parts.Column.{Column}
 use Rattle.expressions_to_sql.specs.ToSql.{Naming, column_of}

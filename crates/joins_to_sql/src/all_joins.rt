@@ -65,15 +65,11 @@ pub fn filtered_join_query(
     match kind {
         JoinOf::Inner => {
             let kind = JoinKind::Inner;
-            reference_query(
-                alloc, writer, kind, place, structures, tables, s, condition,
-            )
+            reference_query(alloc, writer, kind, place, structures, tables, s, condition)
         }
         JoinOf::Left => {
             let kind = JoinKind::Left;
-            reference_query(
-                alloc, writer, kind, place, structures, tables, s, condition,
-            )
+            reference_query(alloc, writer, kind, place, structures, tables, s, condition)
         }
         JoinOf::Cross => cross_query(alloc, writer, structures, tables, s, condition),
         JoinOf::Full => full_join(

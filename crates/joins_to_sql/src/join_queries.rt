@@ -15,9 +15,7 @@ ghost use Rattle.joins_to_sql.specs.FilteredJoins.{condition_of, filtered_by};
 ghost use Rattle.joins_to_sql.specs.Joins.{cross_query, reference_query, without};
 ghost use Rattle.selects_to_sql.specs.Queries.{items_as, select_as, source_as};
 
-use crate::join_items::{
-    Picked, all_tied, condition_over, named_items, push_columns, push_roles,
-};
+use crate::join_items::{Picked, all_tied, condition_over, named_items, push_columns, push_roles};
 use crate::join_operands::{Aliased, with_aliases};
 use selects_to_sql::{Writer, no_query};
 use sql_tree::{Join, JoinKind, Query, Select, Source, SqlExpr};
