@@ -64,9 +64,9 @@ printed() {
     fi
 }
 
-# A script, and what `format` prints of it. An unproved program takes half a minute for the longest one.
+# A script, and what `format` prints of it.
 formed() {
-    (ulimit -t 30 && exec "$vtl" format "$1") >"$made/said" 2>"$made/told"
+    "$vtl" format "$1" >"$made/said" 2>"$made/told"
     code=$?
     if [ "$code" = 0 ] && [ ! -s "$made/told" ] && cmp -s "$2" "$made/said"; then
         pass
