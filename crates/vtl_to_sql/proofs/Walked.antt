@@ -23,8 +23,10 @@ use Rattle.vtl_tree.specs.declared.nodes.MeasureOp.{MeasureOp}
 use Rattle.vtl_tree.specs.declared.nodes.Node as node
 use Rattle.vtl_tree.specs.declared.nodes.Node.{Node}
 use Rattle.vtl_tree.specs.declared.nodes.NodeForm as forms
-use Rattle.vtl_tree.specs.declared.nodes.NodeForm.{NodeForm}
+use Rattle.vtl_tree.specs.declared.nodes.NodeForm.{NodeForm, out-NodeForm, roll-NodeForm}
+use Rattle.vtl_tree.specs.declared.nodes.NodeForm.TheOpen.{NodeForm-F}
 use Rattle.vtl_tree.specs.declared.nodes.NodeForm.TheVariants as form
+use Rattle.vtl_tree.specs.declared.nodes.NodeForm.TheViews.{roll-out-NodeForm}
 use Rattle.vtl_tree.specs.declared.specifications.AggSpec.{AggSpec}
 use Rattle.vtl_tree.specs.declared.specifications.AnalyticSpec.{AnalyticSpec}
 use Rattle.vtl_tree.specs.declared.specifications.CheckSpec.{CheckSpec}
@@ -123,8 +125,15 @@ filter_of_join p r s a os all spec e n is same =
     ∙ sym (ap (λ (b : NodeTree). made_of_filter p r s b e n) (node_is a ∙ ap (nodes.node a.structure) (tree_of_join a.form os spec is)))
 
 -- of anything else
-pub filter_of_other : (p : Settings) (r : Text) (s : Structure) (b : NodeTree) (e : CompExp) (n : ℕ) → takes_filter b ≡ false → over (sources_of p r b n) (with_one (filter_query p e s)) ≡ made_of_filter p r s b e n
-filter_of_other p r s b e n is = sym (ap (λ t. filter_made p e s t (made_of p r b n) (sources_of p r b n)) is)
+without_filter : (s : Structure) (f : NodeForm) (layer : NodeForm-F NodeForm JoinOperand Node) → out-NodeForm f ≡ layer → ((os : Vec JoinOperand Global) (spec : JoinSpec) → f ≡ form.Join os spec → ⊥) → takes_filter (nodes.node s (form_tree f)) ≡ false
+without_filter s f (NodeForm-F.Join os spec) is other = absurd (other os spec (sym (roll-out-NodeForm f) ∙ ap roll-NodeForm is ∙ form.rolls-Join os spec))
+without_filter s f layer is other = search (rules, forms.the_lemmas)
+
+pub filter_of_other : (p : Settings) (r : Text) (s : Structure) (a : Node) (e : CompExp) (n : ℕ) → ((os : Vec JoinOperand Global) (spec : JoinSpec) → a.form ≡ form.Join os spec → ⊥) → over (sources_of p r (node_tree a) n) (with_one (filter_query p e s)) ≡ made_of_filter p r s (node_tree a) e n
+filter_of_other p r s a e n other =
+    let b = node_tree a in
+    let taken : takes_filter b ≡ false = ap takes_filter (node_is a) ∙ without_filter a.structure a.form (out-NodeForm a.form) refl other in
+    sym (ap (λ t. filter_made p e s t (made_of p r b n) (sources_of p r b n)) taken)
 
 pub filter_of_form : (p : Settings) (r : Text) (s : Structure) (f : NodeForm) (a : Box Node Global) (c : CompExpr) (n : ℕ) → f ≡ form.Filter a c → made_of_filter p r s (node_tree a.value) (comp_exp_of c) n ≡ made_of_form p r s (form_tree f) n
 filter_of_form p r s f a c n is = sym (ap (λ (t : FormTree). made_of_form p r s t n) (tree_of_filter f a c is))

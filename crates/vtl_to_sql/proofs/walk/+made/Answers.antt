@@ -12,13 +12,14 @@ use Rattle.vtl_tree.specs.declared.renaming.Renaming.{Renaming}
 use Rattle.sql_tree.specs.View.{query_tree, statement_tree}
 use Rattle.vtl_to_sql.specs.Combined.{combined_made}
 use Rattle.vtl_to_sql.specs.FormQueries.{query_of_one, query_of_two}
+use Rattle.selects_to_sql.specs.Queries.{filter_query}
 use Rattle.selects_to_sql.specs.Tables.{create_for, Made, and_then, with_one, with_two}
 use Rattle.joins_to_sql.specs.FilteredJoins.{condition_of, filtered_by}
 use Rattle.vtl_to_sql.specs.Tables.{made_of_filter, made_of_form, sources_of}
 use Rattle.vtl_to_sql.proofs.JoinNodes.{join_gives, join_of_form}
 use Rattle.vtl_to_sql.proofs.Combining.{alone, begun, ended, ends, intersection_of_form, one_more, turn_made, union_of_form}
 use Rattle.vtl_to_sql.proofs.RuledNodes.{ruled_gives}
-use Rattle.vtl_to_sql.proofs.Walked.{behind_names, behind_others, check_made, filter_of_form, filter_of_join, imbalance_made, one_made, one_renamed, tree_of_choose, tree_of_named, two_made}
+use Rattle.vtl_to_sql.proofs.Walked.{behind_names, behind_others, check_made, filter_of_form, filter_of_join, filter_of_other, imbalance_made, one_made, one_renamed, tree_of_choose, tree_of_named, two_made}
 use Rattle.vtl_to_sql.proofs.walk.+made.Goals as goal
 
 pub join-returns-clause-query : goal.join-returns-clause-query
@@ -65,6 +66,30 @@ pub filter-returns-in-Join-clause-next : goal.filter-returns-in-Join-clause-next
 filter-returns-in-Join-clause-next t c =
     let is = filter_of_join c.args.writer.now c.args.target.now c.args.s.now c.args.operand.now c.in-Join.operands c.deref.result.now c.in-Join.spec (comp_exp_of c.args.condition.now) c.args.draft.now.next c.in-Join.is c.deref.ensures.value in
     IfOk-weaker c.join.result _ _ (λ q e. e ∙ ap (λ (m : Made). m.next) is) c.join.ensures.next
+
+pub filter-returns-in_ok-table-in_default-clause-query : goal.filter-returns-in_ok-table-in_default-clause-query
+filter-returns-in_ok-table-in_default-clause-query t c =
+    let p = c.args.writer.now in
+    let s = c.args.s.now in
+    let e = comp_exp_of c.args.condition.now in
+    let is = filter_of_other p c.args.target.now s c.args.operand.now e c.args.draft.now.next c.in_default.not-Join in
+    IfOk-weaker c.filter_query.result _ _ (λ q h. h ∙ ap (with_one (filter_query p e s)) c.in_ok-table-in_default.ensures.name ∙ ap (λ (m : Made). m.query) is) c.filter_query.ensures
+
+pub filter-returns-in_ok-table-in_default-clause-tables : goal.filter-returns-in_ok-table-in_default-clause-tables
+filter-returns-in_ok-table-in_default-clause-tables t c =
+    let p = c.args.writer.now in
+    let s = c.args.s.now in
+    let e = comp_exp_of c.args.condition.now in
+    let is = filter_of_other p c.args.target.now s c.args.operand.now e c.args.draft.now.next c.in_default.not-Join in
+    IfOk-weaker c.filter_query.result _ _ (λ q h. c.in_ok-table-in_default.ensures.tables ∙ ap (λ (m : Made). map statement_tree c.args.draft.now.statements.items ++ map create_for m.tables) is) c.filter_query.ensures
+
+pub filter-returns-in_ok-table-in_default-clause-next : goal.filter-returns-in_ok-table-in_default-clause-next
+filter-returns-in_ok-table-in_default-clause-next t c =
+    let p = c.args.writer.now in
+    let s = c.args.s.now in
+    let e = comp_exp_of c.args.condition.now in
+    let is = filter_of_other p c.args.target.now s c.args.operand.now e c.args.draft.now.next c.in_default.not-Join in
+    IfOk-weaker c.filter_query.result _ _ (λ q h. c.in_ok-table-in_default.ensures.next ∙ ap (λ (m : Made). m.next) is) c.filter_query.ensures
 
 pub query-returns-in_ok-table-in-Measures-clause-query : goal.query-returns-in_ok-table-in-Measures-clause-query
 query-returns-in_ok-table-in-Measures-clause-query t c =
