@@ -7,20 +7,16 @@ CREATE TABLE "density$1" AS
     "a$1"."Km2" AS "Km2", "a$2"."Name" AS "Name"
   FROM "population" AS "a$0"
   INNER JOIN "area" AS "a$1" ON "a$1"."Region" = "a$0"."Region"
-  INNER JOIN "region" AS "a$2" ON "a$2"."Region" = "a$0"."Region";
+  INNER JOIN "region" AS "a$2" ON "a$2"."Region" = "a$0"."Region"
+  WHERE "a$1"."Km2" > 0;
 CREATE TABLE "density$2" AS
   SELECT "a"."Region" AS "Region", "a"."Year" AS "Year", "a"."Inhabitants" AS "Inhabitants",
-    "a"."Km2" AS "Km2", "a"."Name" AS "Name"
-  FROM "density$1" AS "a"
-  WHERE "a"."Km2" > 0;
-CREATE TABLE "density$3" AS
-  SELECT "a"."Region" AS "Region", "a"."Year" AS "Year", "a"."Inhabitants" AS "Inhabitants",
     "a"."Km2" AS "Km2", "a"."Name" AS "Name", "a"."Inhabitants" / "a"."Km2" AS "Density"
-  FROM "density$2" AS "a";
+  FROM "density$1" AS "a";
 CREATE TABLE "density" AS
   SELECT "a"."Region" AS "Region", "a"."Year" AS "Year", "a"."Name" AS "Name",
     "a"."Density" AS "Density"
-  FROM "density$3" AS "a";
+  FROM "density$2" AS "a";
 CREATE TABLE "known" AS
   SELECT "a$0"."Region" AS "Region", "a$0"."Year" AS "Year", "a$0"."Inhabitants" AS "Inhabitants",
     "a$1"."Km2" AS "Km2"

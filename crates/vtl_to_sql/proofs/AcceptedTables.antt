@@ -1,6 +1,7 @@
 -- The next number of a table counts the tables that are made.
 use Rattle.std.proofs.Common.{◌≡◌, ℕ, ◌+◌, Bool, true, false, cond, List, [], ◌∷◌, ◌++◌, length, arith, length-append}
 use Rattle.vtl_decimal.specs.Settings.{Settings}
+use Rattle.vtl_tree.specs.CompExp.{CompExp}
 use Rattle.vtl_tree.specs.declared.structure.Structure.{Structure}
 use Rattle.vtl_syntax.specs.declared.statements.HierRule.{HierRule}
 use Rattle.vtl_syntax.specs.declared.word_groups.CheckOut.{CheckOut}
@@ -23,7 +24,7 @@ use Rattle.sql_tree.specs.Trees.{QueryTree, Text}
 use Rattle.vtl_to_sql.specs.Sets.{intersection_query, union_query}
 use Rattle.joins_to_sql.specs.FullJoins.{key_structure, keys_query, once_query}
 use Rattle.selects_to_sql.specs.Tables.{Made, Sources, and_then, by_name, by_names, numbered, over, stored, table_of, with_one, with_two}
-use Rattle.vtl_to_sql.specs.Tables.{combined_of, made_of, made_of_form, operands_of, source_of, sources_of}
+use Rattle.vtl_to_sql.specs.Tables.{combined_of, filter_made, made_of, made_of_form, operands_of, source_of, sources_of, takes_filter}
 use Rattle.joins_to_sql.specs.JoinTables.{full_made, join_made, keys_of}
 use Rattle.hierarchies_to_sql.specs.CheckTables.{check_hierarchy_made, checked_items, sided}
 use Rattle.hierarchies_to_sql.specs.ComputedTables.{computed_by, computed_made, first_name, given_items, merged_query, ordered_tables, run_over, run_tables, taken_table}
@@ -44,6 +45,10 @@ source_counted r form k m h = stored_counted r m k h
 -- operands, and others behind them
 behind_counted : (a b : Sources) (k : ℕ) → AreCounted k a → AreCounted a.next b → b.next ≡ k + length (a.tables ++ b.tables)
 behind_counted a b k h i = omega (arith, h, i, length-append a.tables b.tables)
+
+filter_counted : (p : Settings) (e : CompExp) (s : Structure) (taken : Bool) (m : Made) (os : Sources) (k : ℕ) → m.next ≡ k + length m.tables → AreCounted k os → (filter_made p e s taken m os).next ≡ k + length (filter_made p e s taken m os).tables
+filter_counted p e s true m os k h i = h
+filter_counted p e s false m os k h i = i
 
 -- a full join has two tables of its own
 keys_counted : (p : Settings) (r : Text) (a : Structure) (ss : List Structure) (names : List Text) (k : ℕ) → AreCounted k (keys_of p r a ss names k)
@@ -143,7 +148,7 @@ module _ (p : Settings) (r : Text) where
         let z = sources_of p r b y.next in
         behind_counted x (record { names = y.names ++ z.names; tables = y.tables ++ z.tables; next = z.next }) k (operand_counted q k) (behind_counted y z x.next (operand_counted a x.next) (operand_counted b y.next))
     form_counted s (nodes.member a m) k = operand_counted a k
-    form_counted s (nodes.filter a e) k = operand_counted a k
+    form_counted s (nodes.filter a e) k = filter_counted p e s (takes_filter a) (made_of p r a k) (sources_of p r a k) k (made_counted a k) (operand_counted a k)
     form_counted s (nodes.calc a items) k = operand_counted a k
     form_counted s (nodes.keep a names) k = operand_counted a k
     form_counted s (nodes.drop_named a names) k = operand_counted a k

@@ -16,6 +16,7 @@ use Rattle.vtl_tree.specs.CompExp.{CompExp, aggregate, call, comp_exp, no_comp_e
 use Rattle.vtl_tree.specs.declared.expression.AggCall.{AggCall}
 use Rattle.vtl_tree.specs.declared.structure.Component.{Component}
 use Rattle.vtl_tree.specs.declared.structure.Role.TheVariants as role
+use Rattle.vtl_tree.specs.Structure.{columns_of}
 use Rattle.vtl_tree.specs.declared.structure.Structure.{Structure}
 use Rattle.vtl_tree.specs.Measures.{bool_var, made}
 use Rattle.vtl_syntax.specs.declared.word_groups.BasicOut.TheVariants as basic
@@ -35,6 +36,7 @@ use Rattle.sql_lexer.specs.Spelling.{spelled}
 use Rattle.sql_tree.specs.Printing.{written_query, written_statement}
 use Rattle.sql_tree.specs.Trees.{QueryTree, StatementTree}
 use Rattle.sql_tree.specs.declared.word_groups.JoinKind.TheVariants as joining
+use Rattle.joins_to_sql.specs.FilteredJoins.{filtered_by}
 use Rattle.joins_to_sql.specs.FullJoins.{full_query, key_structure, keys_query, once_query}
 use Rattle.groups_to_sql.specs.Grouped.{aggregate_query}
 use Rattle.joins_to_sql.specs.Joins.{cross_query, reference_query}
@@ -219,6 +221,13 @@ digit n h = sym (append-nil (decimal n)) ∙ decimal_last n [] h
 
 left : shown (reference_query scale_six joining.Left 1 (sized ∷ by_year ∷ []) joined_with (table ∷ other ∷ [])) ≡ codes " SELECT \"a$0\" . \"area\" AS \"area\" , \"a$0\" . \"year\" AS \"year\" , \"a$1\" . \"size\" AS \"size\" , \"a$0\" . \"people\" AS \"people\" FROM \"B\" AS \"a$0\" LEFT JOIN \"A\" AS \"a$1\" ON \"a$1\" . \"area\" = \"a$0\" . \"area\""
 left = rw (digit 0 (omega arith), digit 1 (omega arith)) refl
+
+-- with its filter, which asks of the columns that are shown
+abbrev crowded : CompExp
+crowded = call op.Greater k.Bool (comp_exp (column_named (columns_of joined_with) (codes "people")) (comp_exp (column_named (columns_of joined_with) (codes "size")) no_comp_exps))
+
+filtered : shown (filtered_by scale_six (Some crowded) (reference_query scale_six joining.Left 1 (sized ∷ by_year ∷ []) joined_with (table ∷ other ∷ []))) ≡ codes " SELECT \"a$0\" . \"area\" AS \"area\" , \"a$0\" . \"year\" AS \"year\" , \"a$1\" . \"size\" AS \"size\" , \"a$0\" . \"people\" AS \"people\" FROM \"B\" AS \"a$0\" LEFT JOIN \"A\" AS \"a$1\" ON \"a$1\" . \"area\" = \"a$0\" . \"area\" WHERE \"a$0\" . \"people\" > \"a$1\" . \"size\""
+filtered = rw (digit 0 (omega arith), digit 1 (omega arith)) refl
 
 cross : shown (cross_query scale_six (counted ∷ sized ∷ []) crossed (table ∷ other ∷ [])) ≡ codes " SELECT \"a$0\" . \"area\" AS \"x'area\" , \"a$1\" . \"area\" AS \"y'area\" , \"a$0\" . \"people\" AS \"people\" , \"a$1\" . \"size\" AS \"size\" FROM \"A\" AS \"a$0\" CROSS JOIN \"B\" AS \"a$1\""
 cross = rw (digit 0 (omega arith), digit 1 (omega arith)) refl

@@ -1,5 +1,5 @@
 -- A join of the program and what is left of it behind the tables of its operands.
-use Rattle.std.proofs.Common.{◌≡◌, ℕ, List, ◌++◌, map, rules, sym, ap, ◌∙◌, subst}
+use Rattle.std.proofs.Common.{◌≡◌, ℕ, List, ◌++◌, map, sym, ap, ◌∙◌, subst}
 use Rattle.std.specs.Prelude.{Vec}
 use Rattle.std.specs.declared.alloc.Global.{Global}
 use Rattle.vtl_decimal.specs.Settings.{Settings}
@@ -9,7 +9,6 @@ use Rattle.vtl_tree.specs.Trees.{FormTree, OperandTrees}
 use Rattle.vtl_tree.specs.NodeView.{form_tree, operand_tree}
 use Rattle.vtl_tree.specs.declared.specifications.JoinSpec.{JoinSpec}
 use Rattle.vtl_tree.specs.declared.nodes.JoinOperand.{JoinOperand}
-use Rattle.vtl_tree.specs.declared.nodes.NodeForm as forms
 use Rattle.vtl_tree.specs.declared.nodes.NodeForm.{NodeForm}
 use Rattle.vtl_tree.specs.declared.nodes.NodeForm.TheVariants as form
 use Rattle.vtl_tree.specs.Joins.{structures_of}
@@ -19,9 +18,7 @@ use Rattle.selects_to_sql.specs.Tables.{create_for, by_names}
 use Rattle.joins_to_sql.specs.JoinTables.{join_made}
 use Rattle.vtl_to_sql.specs.Tables.{made_of_form, operands_of}
 use Rattle.joins_to_sql.proofs.JoinTables.{GivesRest, rest_given}
-
-tree_of_join : (f : NodeForm) (os : Vec JoinOperand Global) (spec : JoinSpec) → f ≡ form.Join os spec → form_tree f ≡ nodes.join (nodes.operands_of (map operand_tree os.items)) spec
-tree_of_join f os spec e = ap form_tree e ∙ search (rules, forms.the_lemmas)
+use Rattle.vtl_to_sql.proofs.Walked.{tree_of_join}
 
 -- of a form of the program
 pub join_of_form : (p : Settings) (r : Text) (s : Structure) (f : NodeForm) (os : Vec JoinOperand Global) (all : List JoinOperand) (spec : JoinSpec) (n : ℕ) → f ≡ form.Join os spec → all ≡ os.items

@@ -1,9 +1,10 @@
 -- The tables of an expression on data sets mean it.
 use Rattle.vtl_to_sql.proofs.Existences.{existence_means}
 use Rattle.vtl_meaning.proofs.SetsOrders.{existence_order}
-use Rattle.std.proofs.Common.{◌≡◌, ◌+◌, ◌<◌, ◌^◌, ℕ, true, List, [], ◌∷◌, ◌++◌, length, map, Option, Some, Ok, Err, refl, sym, subst, arith, append-nil, length-append, ap, ◌≤◌, ◌∙◌}
+use Rattle.std.proofs.Common.{◌≡◌, ◌+◌, ◌<◌, ◌^◌, ℕ, Bool, true, false, List, [], ◌∷◌, ◌++◌, length, map, Option, Some, Ok, Err, refl, sym, subst, arith, append-nil, length-append, ap, ◌≤◌, ◌∙◌}
 use Rattle.std.specs.Prelude.{IfOk, fold}
 use Rattle.std.specs.List.{AllByRecursion}
+use Rattle.std.proofs.lemmas.Bool.{false≢true}
 use Rattle.std.proofs.lemmas.List.{length-map}
 use Rattle.vtl_cell.specs.Outcome.{Outcome, after}
 use Rattle.vtl_cell.specs.Row.{Row}
@@ -11,6 +12,7 @@ use Rattle.vtl_decimal.specs.Settings.{Settings}
 use Rattle.vtl_syntax.specs.declared.statements.HierRule.{HierRule}
 use Rattle.vtl_text.specs.Words.{is_word}
 use Rattle.vtl_tree.specs.Clauses.{filter_of}
+use Rattle.vtl_tree.specs.CompExp.{CompExp}
 use Rattle.vtl_tree.specs.DataSet.{AreOfProfile, IsDataSet}
 use Rattle.vtl_tree.specs.Environment.{DataSet, Environment, known_in, points_named}
 use Rattle.vtl_tree.specs.Structure.{columns_of, IsStructure, key_width}
@@ -18,7 +20,8 @@ use Rattle.vtl_tree.specs.declared.structure.Component.{Component}
 use Rattle.vtl_tree.specs.declared.structure.Structure.{Structure}
 use Rattle.vtl_tree.specs.ClauseShapes.{renamed}
 use Rattle.vtl_tree.specs.Joins as joins
-use Rattle.vtl_meaning.specs.Made.{IsAlternative, IsLeft}
+use Rattle.vtl_meaning.specs.Joined.{join_of}
+use Rattle.vtl_meaning.specs.Made.{IsAlternative, IsFiltered, IsLeft}
 use Rattle.vtl_scripts.specs.Made.{AreMade, AreMadeOperands, IsMade, IsMadeForm, node_structures, operands_in}
 use Rattle.vtl_scripts.specs.Meaning.{AreDataSets, operands_value, form_value, node_value, nodes_value, with_first}
 use Rattle.vtl_meaning.specs.Operators.{calculated_exps, calculated_of, choice_of, left_of, measured_exps, measured_of, pair_of, sub_of}
@@ -37,13 +40,15 @@ use Rattle.vtl_scripts.proofs.ScriptsProfiles as profiles
 use Rattle.sql_tree.specs.Trees.{QueryTree, Text}
 use Rattle.sql_meaning.specs.Scripts.{Data}
 use Rattle.vtl_to_sql.specs.Conditions.{AreNodesTranslated, AreOperandsTranslated, IsFormTranslated, IsTranslated}
-use Rattle.selects_to_sql.specs.Writable.{HaveNames}
+use Rattle.selects_to_sql.specs.Writable.{CanBeWritten, HaveNames}
 use Rattle.selects_to_sql.specs.Means.{AreEarlier, Means, NodeGives, SourcesGive, Stands, StandsAs, Extends}
 use Rattle.selects_to_sql.specs.Queries.{calc_query, choose_query, copy_query, filter_query, left_query, measures_query, pair_query, rename_query, sub_query}
 use Rattle.vtl_to_sql.specs.Hierarchies.{ruled_made}
 use Rattle.vtl_to_sql.specs.Sets.{shown_query, union_query, intersection_query, difference_query, symmetric_difference_query, existence_query}
 use Rattle.selects_to_sql.specs.Tables.{Sources, and_then, numbered, over, table_of, with_one, with_two, stored}
-use Rattle.vtl_to_sql.specs.Tables.{combined_of, made_of, made_of_form, operands_of, source_of, sources_of}
+use Rattle.joins_to_sql.specs.FilteredJoins.{filtered_made}
+use Rattle.joins_to_sql.specs.JoinTables.{join_made}
+use Rattle.vtl_to_sql.specs.Tables.{combined_of, filter_made, made_of, made_of_form, operands_of, source_of, sources_of, takes_filter}
 use Rattle.vtl_meaning.proofs.TurnedOrders.{pivot_order, unpivot_order}
 use Rattle.vtl_meaning.proofs.AnalyticOrders.{analytics_respect}
 use Rattle.vtl_meaning.proofs.GroupOrders.{aggregates_respect}
@@ -59,7 +64,7 @@ use Rattle.selects_to_sql.proofs.OneOperand.{calc_means, copy_means, filter_mean
 use Rattle.vtl_to_sql.proofs.SetQueries.{IsShown, shown_means}
 use Rattle.vtl_to_sql.proofs.SetSteps.{IsStep, difference_step, identifiers_named, intersection_step, intersections_fold, shown_own, shown_self, shown_set_of, symmetric_difference_step, union_step, unions_fold}
 use Rattle.selects_to_sql.proofs.Givens.{AreGiven, columns_given}
-use Rattle.joins_to_sql.proofs.Joins.{join_gives, operands_first}
+use Rattle.joins_to_sql.proofs.Joins.{filtered_gives, join_gives, operands_first}
 use Rattle.groups_to_sql.proofs.Pivots.{pivot_means}
 use Rattle.selects_to_sql.proofs.Subs.{sub_means}
 use Rattle.selects_to_sql.proofs.TwoOperands.{pair_means}
@@ -215,10 +220,7 @@ module _ (p : Settings) (law : Translates p) (r : Text) (word : is_word r ≡ tr
         let st = stands x s i in
         let set = set_turned s (points_named x env) st.rows st.same (node_kept p env (nodes.node s (nodes.named x)) (points_named x env) (w, i) sets refl) in
         (no_tables p r word before m, subst (λ now. Means p now (copy_query p s x) s (Ok (points_named x env))) back (means_by p before (copy_query p s x) s (Ok st.rows) (Ok (points_named x env)) st.same (copy_means p law before x s st.rows st.table st.named n set (columns_given s w n))))
-    form_gives s (nodes.filter a e) m before stands apart w i n c few =
-        one_gives p r word before m (sources_of p r a m) (filter_query p e s) (structure_of a) s (node_value p env a) (filter_of p e) (operand_gives a m before stands apart i.0 c.0 few)
-        (λ now x d is st. means_by p now (filter_query p e s x) s (filter_of p e st.rows) (filter_of p e d) (filtered_respects p e st.rows d st.same)
-        (filter_means p law now x (structure_of a) st.rows st.table st.named (names_in p a c.0) (set_of a now x d c.0 i.0 is st) e s i.1 c.1 (columns_given s w n)))
+    form_gives s (nodes.filter a e) m before stands apart w i n c few = filter_gives s a e (takes_filter a) refl m before stands apart w i.0 i.1 n c.0 c.1 (operand_gives a m before stands apart i.0 c.0) few
     form_gives s (nodes.calc a items) m before stands apart w i n c few =
         one_gives p r word before m (sources_of p r a m) (calc_query p items (structure_of a) s) (structure_of a) s (node_value p env a) (λ d. calculated_of p items (with_points (structure_of a) d) s) (operand_gives a m before stands apart i.0 c.0 few)
         (λ now x d is st. means_by p now (calc_query p items (structure_of a) s x) s (calculated_of p items (with_points (structure_of a) st.rows) s) (calculated_of p items (with_points (structure_of a) d) s) (each_respects p (calculated_exps items (structure_of a) s) st.rows d st.same)
@@ -389,6 +391,26 @@ module _ (p : Settings) (law : Translates p) (r : Text) (word : is_word r ≡ tr
         let order = places_or_none rules.order in
         hierarchy_gives p law r word before m os h q k out rules.rules order (structure_of a) s (node_value p env a) (names_in p a c.0) n (columns_given s w n) w.well_formed (given_sets a c.0 i.0) i.1 refl (order_given rules.rules rules.order i.2) c.1.written apart few
         (operand_gives a m before stands apart i.0 c.0 (omega (arith, few, computed_first p r h q k out rules.rules order (structure_of a) s os)))
+
+    -- a filter
+    filter_gives : (s : Structure) (a : NodeTree) (e : CompExp) (taken : Bool) → takes_filter a ≡ taken → (m : ℕ) (before : Data) → Stands before env → AreEarlier r m before → IsShaped s → IsMade p (known_in env) a → IsFiltered p e (structure_of a) s → HaveNames (columns_of s) → IsTranslated p a → CanBeWritten e
+        → (m + length (sources_of p r a m).tables < 2 ^ 64 → SourcesGive p before r m (sources_of p r a m) (alone p r word (structure_of a) (node_value p env a)))
+        → m + length (filter_made p e s taken (made_of p r a m) (sources_of p r a m)).tables < 2 ^ 64 → NodeGives p before r m (filter_made p e s taken (made_of p r a m) (sources_of p r a m)) s (after (node_value p env a) (filter_of p e))
+    filter_gives s a e false is m before stands apart w i f n c written g few =
+        one_gives p r word before m (sources_of p r a m) (filter_query p e s) (structure_of a) s (node_value p env a) (filter_of p e) (g few)
+        (λ now x d got st. means_by p now (filter_query p e s x) s (filter_of p e st.rows) (filter_of p e d) (filtered_respects p e st.rows d st.same)
+        (filter_means p law now x (structure_of a) st.rows st.table st.named (names_in p a c) (set_of a now x d c i got st) e s f written (columns_given s w n)))
+    filter_gives s (nodes.node t (nodes.join os spec)) e true is m before stands apart w i f n c written g few =
+        let ss = joins.structures_of (operands_in os) in
+        let sources = operands_of p r os m in
+        let size = length-map (operands_in os) (λ o. o.structure) in
+        let many = c.1.1 in
+        let made = filtered_made p (Some e) (join_made p r spec.kind ss t sources) in
+        subst (λ z. NodeGives p before r m made z (after (after (operands_value p env os) (λ ds. Ok (join_of spec.kind ds))) (filter_of p e))) (sym f.same)
+        (subst (NodeGives p before r m made t) (sym (after_then (operands_value p env os) (join_of spec.kind) (filter_of p e)))
+        (filtered_gives p law r word t (columns_given t i.0 c.0) (Some e) (f.condition, f.boolean, written) ss (operands_named p os c.1.0) (omega (arith, many, size)) spec.kind i.1.1 before m sources (operands_value p env os) (λ ds got. operands_kept p env os ds i.1.0 sets got) apart few
+        (operands_give os m before stands apart i.1.0 c.1.0 (omega (arith, few, operands_first p r spec.kind ss t sources)))))
+    filter_gives s (nodes.node t form) e true is m before stands apart w i f n c written g few = absurd (false≢true is)
 
     -- the operands of a join
     operands_give : (os : OperandTrees) (m : ℕ) (before : Data) → Stands before env → AreEarlier r m before → AreMadeOperands p (known_in env) os → AreOperandsTranslated p os → m + length (operands_of p r os m).tables < 2 ^ 64 → SourcesGive p before r m (operands_of p r os m) (operands_value p env os)

@@ -1,6 +1,6 @@
 -- Expressions as trees, and the tables of several operands one behind the other.
 use Rattle.std.proofs.Common.{◌≡◌, ◌⊎◌, inl, inr, ℕ, List, [], ◌∷◌, ◌++◌, map, length, ◌<◌, ◌≤◌, arith, append_assoc, None, Some, refl, rules, sym, ap, subst, ◌∙◌}
-use Rattle.std.specs.Prelude.{Box}
+use Rattle.std.specs.Prelude.{Box, Vec, false}
 use Rattle.std.specs.declared.alloc.Global.{Global}
 use Rattle.std.proofs.lemmas.List.{map-append}
 use Rattle.vtl_decimal.specs.Settings.{Settings}
@@ -8,29 +8,36 @@ use Rattle.vtl_cell.specs.declared.operator.ScalarOp.{ScalarOp}
 use Rattle.vtl_syntax.specs.declared.word_groups.CheckOut.{CheckOut}
 use Rattle.vtl_syntax.specs.declared.word_groups.Retain.{Retain}
 use Rattle.vtl_text.specs.declared.shared_text.Txt.{Txt}
+use Rattle.vtl_tree.specs.CompExp.{CompExp}
 use Rattle.vtl_tree.specs.View.{comp_exp_of}
 use Rattle.vtl_tree.specs.declared.expression.CompExpr.{CompExpr}
 use Rattle.vtl_tree.specs.declared.structure.Structure.{Structure}
 use Rattle.vtl_tree.specs.declared.renaming.Renaming.{Renaming}
 use Rattle.vtl_tree.specs.Trees as nodes
-use Rattle.vtl_tree.specs.Trees.{FormTree, NodeTree}
-use Rattle.vtl_tree.specs.NodeView.{agg_tree, analytic_tree, form_tree, item_tree, measure_tree, node_tree, point_rules_tree}
+use Rattle.vtl_tree.specs.Trees.{FormTree, NodeTree, OperandTrees}
+use Rattle.vtl_tree.specs.NodeView.{agg_tree, analytic_tree, form_tree, item_tree, measure_tree, node_tree, operand_tree, point_rules_tree}
 use Rattle.vtl_tree.specs.declared.clauses.CalcItem.{CalcItem}
 use Rattle.vtl_tree.specs.declared.clauses.SubItem.{SubItem}
+use Rattle.vtl_tree.specs.declared.nodes.JoinOperand.{JoinOperand}
 use Rattle.vtl_tree.specs.declared.nodes.MeasureOp.{MeasureOp}
 use Rattle.vtl_tree.specs.declared.nodes.Node as node
 use Rattle.vtl_tree.specs.declared.nodes.Node.{Node}
 use Rattle.vtl_tree.specs.declared.nodes.NodeForm as forms
-use Rattle.vtl_tree.specs.declared.nodes.NodeForm.{NodeForm}
+use Rattle.vtl_tree.specs.declared.nodes.NodeForm.{NodeForm, out-NodeForm, roll-NodeForm}
+use Rattle.vtl_tree.specs.declared.nodes.NodeForm.TheOpen.{NodeForm-F}
 use Rattle.vtl_tree.specs.declared.nodes.NodeForm.TheVariants as form
+use Rattle.vtl_tree.specs.declared.nodes.NodeForm.TheViews.{roll-out-NodeForm}
 use Rattle.vtl_tree.specs.declared.specifications.AggSpec.{AggSpec}
 use Rattle.vtl_tree.specs.declared.specifications.AnalyticSpec.{AnalyticSpec}
 use Rattle.vtl_tree.specs.declared.specifications.CheckSpec.{CheckSpec}
+use Rattle.vtl_tree.specs.declared.specifications.JoinSpec.{JoinSpec}
 use Rattle.vtl_tree.specs.declared.rules.DatapointRules.{DatapointRules}
 use Rattle.sql_tree.specs.Trees.{StatementTree, Text}
+use Rattle.joins_to_sql.specs.FilteredJoins.{filtered_made}
+use Rattle.selects_to_sql.specs.Queries.{filter_query}
 use Rattle.selects_to_sql.specs.Tables.{create_for, Sources, and_then, over, with_one, with_two}
 use Rattle.vtl_to_sql.specs.FormQueries.{query_of_one, query_of_two}
-use Rattle.vtl_to_sql.specs.Tables.{made_of, made_of_form, sources_of}
+use Rattle.vtl_to_sql.specs.Tables.{filter_made, made_of, made_of_filter, made_of_form, sources_of, takes_filter}
 
 -- ---- trees of forms
 
@@ -97,11 +104,44 @@ tree_of_check f a spec e = ap form_tree e ∙ search (rules, forms.the_lemmas)
 pub tree_of_imbalance : (f : NodeForm) (a b : Box Node Global) (spec : CheckSpec) → f ≡ form.Check a (Some b) spec → form_tree f ≡ nodes.check (node_tree a.value) (nodes.some_node (node_tree b.value)) spec
 tree_of_imbalance f a b spec e = ap form_tree e ∙ search (rules, forms.the_lemmas)
 
+pub tree_of_join : (f : NodeForm) (os : Vec JoinOperand Global) (spec : JoinSpec) → f ≡ form.Join os spec → form_tree f ≡ nodes.join (nodes.operands_of (map operand_tree os.items)) spec
+tree_of_join f os spec e = ap form_tree e ∙ search (rules, forms.the_lemmas)
+
+-- ---- nodes
+
+node_is : (n : Node) → node_tree n ≡ nodes.node n.structure (form_tree n.form)
+node_is n = search (rules, node.the_lemmas)
+
+-- ---- filters
+
+abbrev trees_of : List JoinOperand → OperandTrees
+trees_of os = nodes.operands_of (map operand_tree os)
+
+-- of a join
+pub filter_of_join : (p : Settings) (r : Text) (s : Structure) (a : Node) (os : Vec JoinOperand Global) (all : List JoinOperand) (spec : JoinSpec) (e : CompExp) (n : ℕ) → a.form ≡ form.Join os spec → all ≡ os.items
+    → filtered_made p (Some e) (made_of_form p r a.structure (nodes.join (trees_of all) spec) n) ≡ made_of_filter p r s (node_tree a) e n
+filter_of_join p r s a os all spec e n is same =
+    ap (λ (l : List JoinOperand). filtered_made p (Some e) (made_of_form p r a.structure (nodes.join (trees_of l) spec) n)) same
+    ∙ sym (ap (λ (b : NodeTree). made_of_filter p r s b e n) (node_is a ∙ ap (nodes.node a.structure) (tree_of_join a.form os spec is)))
+
+-- of anything else
+without_filter : (s : Structure) (f : NodeForm) (layer : NodeForm-F NodeForm JoinOperand Node) → out-NodeForm f ≡ layer → ((os : Vec JoinOperand Global) (spec : JoinSpec) → f ≡ form.Join os spec → ⊥) → takes_filter (nodes.node s (form_tree f)) ≡ false
+without_filter s f (NodeForm-F.Join os spec) is other = absurd (other os spec (sym (roll-out-NodeForm f) ∙ ap roll-NodeForm is ∙ form.rolls-Join os spec))
+without_filter s f layer is other = search (rules, forms.the_lemmas)
+
+pub filter_of_other : (p : Settings) (r : Text) (s : Structure) (a : Node) (e : CompExp) (n : ℕ) → ((os : Vec JoinOperand Global) (spec : JoinSpec) → a.form ≡ form.Join os spec → ⊥) → over (sources_of p r (node_tree a) n) (with_one (filter_query p e s)) ≡ made_of_filter p r s (node_tree a) e n
+filter_of_other p r s a e n other =
+    let b = node_tree a in
+    let taken : takes_filter b ≡ false = ap takes_filter (node_is a) ∙ without_filter a.structure a.form (out-NodeForm a.form) refl other in
+    sym (ap (λ t. filter_made p e s t (made_of p r b n) (sources_of p r b n)) taken)
+
+pub filter_of_form : (p : Settings) (r : Text) (s : Structure) (f : NodeForm) (a : Box Node Global) (c : CompExpr) (n : ℕ) → f ≡ form.Filter a c → made_of_filter p r s (node_tree a.value) (comp_exp_of c) n ≡ made_of_form p r s (form_tree f) n
+filter_of_form p r s f a c n is = sym (ap (λ (t : FormTree). made_of_form p r s t n) (tree_of_filter f a c is))
+
 -- ---- forms of one operand, and of two that are no list
 abbrev IsOf : NodeForm → Box Node Global → Type 0
 IsOf f a =
     ((op : MeasureOp) × f ≡ form.Measures op a)
-    ⊎ ((c : CompExpr) × f ≡ form.Filter a c)
     ⊎ ((items : List CalcItem) × f ≡ form.Calc a items)
     ⊎ ((values : List SubItem) × f ≡ form.Sub a values)
     ⊎ ((id : Txt) × (m : Txt) × f ≡ form.Pivot a id m)
@@ -119,22 +159,18 @@ one_at p r s b n f t is made = subst (λ (u : FormTree). made_of_form p r s u n 
 
 pub one_made : (p : Settings) (r : Text) (s : Structure) (f : NodeForm) (a : Box Node Global) (n : ℕ) → IsOf f a → made_of_form p r s (form_tree f) n ≡ over (sources_of p r (node_tree a.value) n) (with_one (query_of_one p (form_tree f) s))
 one_made p r s f a n (inl (op, e)) = let b = node_tree a.value in one_at p r s b n (form_tree f) (nodes.measures (measure_tree op) b) (tree_of_measures f op a e) refl
-one_made p r s f a n (inr (inl (c, e))) = let b = node_tree a.value in one_at p r s b n (form_tree f) (nodes.filter b (comp_exp_of c)) (tree_of_filter f a c e) refl
-one_made p r s f a n (inr (inr (inl (items, e)))) = let b = node_tree a.value in one_at p r s b n (form_tree f) (nodes.calc b (map item_tree items)) (tree_of_calc f a items e) refl
-one_made p r s f a n (inr (inr (inr (inl (values, e))))) = let b = node_tree a.value in one_at p r s b n (form_tree f) (nodes.sub b values) (tree_of_sub f a values e) refl
-one_made p r s f a n (inr (inr (inr (inr (inl (id, m, e)))))) = let b = node_tree a.value in one_at p r s b n (form_tree f) (nodes.pivot b id m) (tree_of_pivot f a id m e) refl
-one_made p r s f a n (inr (inr (inr (inr (inr (inl (spec, e))))))) = let b = node_tree a.value in one_at p r s b n (form_tree f) (nodes.aggregate b (agg_tree spec)) (tree_of_aggregate f a spec e) refl
-one_made p r s f a n (inr (inr (inr (inr (inr (inr (inl (spec, e)))))))) = let b = node_tree a.value in one_at p r s b n (form_tree f) (nodes.analytic_of b (analytic_tree spec)) (tree_of_analytic f a spec e) refl
-one_made p r s f a n (inr (inr (inr (inr (inr (inr (inr (inl (id, m, e))))))))) = let b = node_tree a.value in one_at p r s b n (form_tree f) (nodes.unpivot b id m) (tree_of_unpivot f a id m e) refl
-one_made p r s f a n (inr (inr (inr (inr (inr (inr (inr (inr (inl (m, e)))))))))) = let b = node_tree a.value in one_at p r s b n (form_tree f) (nodes.member b m) (tree_of_member f a m e) refl
-one_made p r s f a n (inr (inr (inr (inr (inr (inr (inr (inr (inr (inl (names, e))))))))))) = let b = node_tree a.value in one_at p r s b n (form_tree f) (nodes.keep b names) (tree_of_keep f a names e) refl
-one_made p r s f a n (inr (inr (inr (inr (inr (inr (inr (inr (inr (inr (inl (names, e)))))))))))) = let b = node_tree a.value in one_at p r s b n (form_tree f) (nodes.drop_named b names) (tree_of_drop f a names e) refl
-one_made p r s f a n (inr (inr (inr (inr (inr (inr (inr (inr (inr (inr (inr (ruled, out, e)))))))))))) = let b = node_tree a.value in one_at p r s b n (form_tree f) (nodes.check_datapoint b (point_rules_tree ruled) out) (tree_of_datapoint f a ruled out e) refl
+one_made p r s f a n (inr (inl (items, e))) = let b = node_tree a.value in one_at p r s b n (form_tree f) (nodes.calc b (map item_tree items)) (tree_of_calc f a items e) refl
+one_made p r s f a n (inr (inr (inl (values, e)))) = let b = node_tree a.value in one_at p r s b n (form_tree f) (nodes.sub b values) (tree_of_sub f a values e) refl
+one_made p r s f a n (inr (inr (inr (inl (id, m, e))))) = let b = node_tree a.value in one_at p r s b n (form_tree f) (nodes.pivot b id m) (tree_of_pivot f a id m e) refl
+one_made p r s f a n (inr (inr (inr (inr (inl (spec, e)))))) = let b = node_tree a.value in one_at p r s b n (form_tree f) (nodes.aggregate b (agg_tree spec)) (tree_of_aggregate f a spec e) refl
+one_made p r s f a n (inr (inr (inr (inr (inr (inl (spec, e))))))) = let b = node_tree a.value in one_at p r s b n (form_tree f) (nodes.analytic_of b (analytic_tree spec)) (tree_of_analytic f a spec e) refl
+one_made p r s f a n (inr (inr (inr (inr (inr (inr (inl (id, m, e)))))))) = let b = node_tree a.value in one_at p r s b n (form_tree f) (nodes.unpivot b id m) (tree_of_unpivot f a id m e) refl
+one_made p r s f a n (inr (inr (inr (inr (inr (inr (inr (inl (m, e))))))))) = let b = node_tree a.value in one_at p r s b n (form_tree f) (nodes.member b m) (tree_of_member f a m e) refl
+one_made p r s f a n (inr (inr (inr (inr (inr (inr (inr (inr (inl (names, e)))))))))) = let b = node_tree a.value in one_at p r s b n (form_tree f) (nodes.keep b names) (tree_of_keep f a names e) refl
+one_made p r s f a n (inr (inr (inr (inr (inr (inr (inr (inr (inr (inl (names, e))))))))))) = let b = node_tree a.value in one_at p r s b n (form_tree f) (nodes.drop_named b names) (tree_of_drop f a names e) refl
+one_made p r s f a n (inr (inr (inr (inr (inr (inr (inr (inr (inr (inr (ruled, out, e))))))))))) = let b = node_tree a.value in one_at p r s b n (form_tree f) (nodes.check_datapoint b (point_rules_tree ruled) out) (tree_of_datapoint f a ruled out e) refl
 
 -- ---- a naming
-
-node_is : (n : Node) → node_tree n ≡ nodes.node n.structure (form_tree n.form)
-node_is n = search (rules, node.the_lemmas)
 
 -- one that renames nothing is its operand
 pub nothing_renamed : (p : Settings) (r : Text) (s : Structure) (f : NodeForm) (a : Box Node Global) (pairs : List Renaming) (n : ℕ) → f ≡ form.Rename a pairs → length pairs < 1

@@ -6,7 +6,7 @@ use Rattle.vtl_tree.specs.Trees as nodes
 use Rattle.vtl_tree.specs.Trees.{FormTree, structure_of}
 use Rattle.sql_tree.specs.Trees.{QueryTree, Text}
 use Rattle.groups_to_sql.specs.Grouped.{aggregate_query}
-use Rattle.selects_to_sql.specs.Queries.{calc_query, choose_query, filter_query, left_query, measures_query, pair_query, rename_query, sub_query}
+use Rattle.selects_to_sql.specs.Queries.{calc_query, choose_query, left_query, measures_query, pair_query, rename_query, sub_query}
 use Rattle.vtl_to_sql.specs.Sets.{difference_query, existence_query, symmetric_difference_query}
 use Rattle.groups_to_sql.specs.Turned.{pivot_query, unpivot_query}
 use Rattle.groups_to_sql.specs.Windowed.{analytic_query}
@@ -16,7 +16,6 @@ use Rattle.rules_to_sql.specs.PointQueries.{datapoint_query}
 abbrev pub query_of_one : Settings → FormTree → (s : Structure) → (table : Text) → QueryTree
 query_of_one p (nodes.measures m a) s = measures_query p m (structure_of a) s
 query_of_one p (nodes.member a m) s = left_query p (structure_of a) s
-query_of_one p (nodes.filter a e) s = filter_query p e s
 query_of_one p (nodes.calc a items) s = calc_query p items (structure_of a) s
 query_of_one p (nodes.keep a names) s = left_query p (structure_of a) s
 query_of_one p (nodes.drop_named a names) s = left_query p (structure_of a) s

@@ -1,8 +1,9 @@
 -- The tables that are made for an expression on data sets, for a statement and for a script. An expression is the tables of its
 -- operands and then one query.
-use Rattle.std.specs.Prelude.{ℕ, ◌+◌, List, [], ◌∷◌, ◌++◌}
+use Rattle.std.specs.Prelude.{ℕ, ◌+◌, Bool, true, false, List, [], ◌∷◌, ◌++◌, Some}
 use Rattle.std.specs.List.{flat_map}
 use Rattle.vtl_decimal.specs.Settings.{Settings}
+use Rattle.vtl_tree.specs.CompExp.{CompExp}
 use Rattle.vtl_tree.specs.declared.structure.Structure.{Structure}
 use Rattle.vtl_tree.specs.Joins as joins
 use Rattle.vtl_scripts.specs.Made.{operands_in}
@@ -15,6 +16,7 @@ use Rattle.selects_to_sql.specs.Queries.{calc_query, choose_query, copy_query, f
 use Rattle.vtl_to_sql.specs.Sets.{difference_query, intersection_query, shown_query, symmetric_difference_query, union_query, existence_query}
 use Rattle.groups_to_sql.specs.Turned.{pivot_query, unpivot_query}
 use Rattle.groups_to_sql.specs.Windowed.{analytic_query}
+use Rattle.joins_to_sql.specs.FilteredJoins.{filtered_made}
 use Rattle.joins_to_sql.specs.JoinTables.{join_made}
 use Rattle.rules_to_sql.specs.CheckQueries.{check_query, imbalance_query}
 use Rattle.rules_to_sql.specs.PointQueries.{datapoint_query}
@@ -24,6 +26,18 @@ use Rattle.selects_to_sql.specs.Tables.{Table, table_of, Made, Sources, by_name,
 abbrev pub source_of : Text → FormTree → ℕ → Made → Sources
 source_of result (nodes.named x) n m = by_name x n
 source_of result form n m = stored result m
+
+-- ---- filters
+
+-- whether the query of an expression can have the condition of a filter of it: that of a join can, since it shows columns alone
+abbrev pub takes_filter : NodeTree → Bool
+takes_filter (nodes.node s (nodes.join os spec)) = true
+takes_filter a = false
+
+-- in the query of its operand, or over the operand's table
+abbrev pub filter_made : Settings → CompExp → (s : Structure) → (taken : Bool) → Made → Sources → Made
+filter_made p e s true m os = filtered_made p (Some e) m
+filter_made p e s false m os = over os (with_one (filter_query p e s))
 
 -- ---- expressions
 
@@ -41,7 +55,7 @@ abbrev mutual
   made_of_form p r s (nodes.choose t a b) n =
       over (and_then (sources_of p r t n) (λ m. and_then (sources_of p r a m) (sources_of p r b))) (with_three (choose_query p (structure_of t) (structure_of a) (structure_of b) s))
   made_of_form p r s (nodes.member a m) n = over (sources_of p r a n) (with_one (left_query p (structure_of a) s))
-  made_of_form p r s (nodes.filter a e) n = over (sources_of p r a n) (with_one (filter_query p e s))
+  made_of_form p r s (nodes.filter a e) n = filter_made p e s (takes_filter a) (made_of p r a n) (sources_of p r a n)
   made_of_form p r s (nodes.calc a items) n = over (sources_of p r a n) (with_one (calc_query p items (structure_of a) s))
   made_of_form p r s (nodes.keep a names) n = over (sources_of p r a n) (with_one (left_query p (structure_of a) s))
   made_of_form p r s (nodes.drop_named a names) n = over (sources_of p r a n) (with_one (left_query p (structure_of a) s))
@@ -78,6 +92,10 @@ abbrev mutual
   combined_of p r q s nodes.no_nodes a os = over os (with_one (shown_query p a s))
   combined_of p r q s (nodes.and_node b nodes.no_nodes) a os = over (and_then os (sources_of p r b)) (with_two (q a (structure_of b)))
   combined_of p r q s (nodes.and_node b (nodes.and_node c ns)) a os = combined_of p r q s (nodes.and_node c ns) s (stored r (over (and_then os (sources_of p r b)) (with_two (q a (structure_of b)))))
+
+-- a filter of an expression
+abbrev pub made_of_filter : Settings → (result : Text) → Structure → NodeTree → CompExp → ℕ → Made
+made_of_filter p r s a e n = made_of_form p r s (nodes.filter a e) n
 
 -- ---- statements
 

@@ -11,8 +11,8 @@ use crate::set_queries::set_query;
 use groups_to_sql::{aggregate_query, analytic_query, pivot_query, unpivot_query};
 use rules_to_sql::{check_query, datapoint_query, imbalance_query};
 use selects_to_sql::{
-    Operand, Writer, calc_query, choose_query, filter_query, left_query, measures_query, no_query,
-    pair_query, rename_query, sub_query,
+    Operand, Writer, calc_query, choose_query, left_query, measures_query, no_query, pair_query,
+    rename_query, sub_query,
 };
 use sql_tree::Query;
 use std::alloc::{AllocError, Global};
@@ -30,7 +30,7 @@ pub(crate) fn operand<'a>(node: &'a Node, table: &'a Txt) -> Operand<'a>
     }
 }
 
-/// The query of a form of one operand, and none of any other form. It fails only if memory runs out.
+/// The query of a form of one operand other than a filter, and none of any other form. It fails only if memory runs out.
 pub(crate) fn query_of_one(
     alloc: Global,
     writer: &Writer,
@@ -42,7 +42,6 @@ pub(crate) fn query_of_one(
 {
     match form {
         NodeForm::Measures { op, a } => measures_query(alloc, writer, op, &a.structure, s, table),
-        NodeForm::Filter { c, .. } => filter_query(alloc, writer, c, s, table),
         NodeForm::Calc { items, .. } => calc_query(alloc, writer, items.as_slice(), s, table),
         NodeForm::Rename { a, .. } => rename_query(alloc, writer, &a.structure, s, table),
         NodeForm::Sub { values, .. } => sub_query(alloc, writer, values.as_slice(), s, table),

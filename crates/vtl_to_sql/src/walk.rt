@@ -2,24 +2,26 @@
 ghost use Rattle.std.specs.Prelude.{◌≡◌, ◌++◌, ◌∷◌, [], length, map, IfOk, OnOk};
 ghost use Rattle.vtl_tree.specs.NodeView.{form_tree, node_tree, operand_tree};
 ghost use Rattle.sql_tree.specs.View.{query_tree, statement_tree};
+ghost use Rattle.joins_to_sql.specs.FilteredJoins.{condition_of, filtered_by};
 ghost use Rattle.selects_to_sql.specs.Tables.{create_for};
 ghost use Rattle.vtl_tree.specs.Trees.{join, operands_of};
+ghost use Rattle.vtl_tree.specs.View.{comp_exp_of};
 ghost use Rattle.vtl_tree.specs.Shown.{shown};
 ghost use Rattle.vtl_tree.specs.Joins.{structures_of};
 ghost use Rattle.vtl_scripts.specs.Made.{operands_in};
 ghost use Rattle.vtl_to_sql.specs.Combined.{combined_made};
-ghost use Rattle.vtl_to_sql.specs.Tables.{made_of_form, operands_of as joined_sources, sources_of};
+ghost use Rattle.vtl_to_sql.specs.Tables.{made_of_filter, made_of_form, operands_of as joined_sources, sources_of};
 
 use crate::form_queries::{query_of_one, query_of_three, query_of_two};
 use crate::ruled_queries::ruled_query;
 use crate::set_operators::SetOperator;
 use crate::set_queries::set_query;
-use joins_to_sql::join_query;
-use selects_to_sql::{Draft, Writer, left_query, no_query};
+use joins_to_sql::filtered_join_query;
+use selects_to_sql::{Draft, Writer, filter_query, left_query, no_query};
 use sql_tree::Query;
 use std::alloc::{AllocError, Global};
 use vtl_text::Txt;
-use vtl_tree::{JoinOperand, JoinSpec, Node, NodeForm, Structure};
+use vtl_tree::{CompExpr, JoinOperand, JoinSpec, Node, NodeForm, Structure};
 
 /// The name of a table that stands for an operand, for which tables are made first where it is more than a name.
 #[cycle(made)]
@@ -107,7 +109,8 @@ fn combined(
     set_query(alloc, writer, operator, s, &so_far, &other)
 }
 
-// A join. The tables that stand for its operands are made first.
+// A join, and of its points those that its filter leaves, where it has one. The tables that stand for its operands are made
+// first.
 #[cycle(made)]
 fn join(
     alloc: Global,
@@ -115,25 +118,55 @@ fn join(
     operands: &[JoinOperand],
     spec: &JoinSpec,
     s: &Structure,
+    condition: Option<&CompExpr>,
     target: &Txt,
     draft: &mut Draft,
 ) -> Result<Query, AllocError>
-    ensures query { IfOk result (λ q. query_tree q ≡ (made_of_form writer.now target.now s.now (join (operands_of (map operand_tree operands.now)) spec.now) draft.old.next).query) }
+    ensures query { IfOk result (λ q. query_tree q ≡ filtered_by writer.now (condition_of condition.entry) (made_of_form writer.now target.now s.now (join (operands_of (map operand_tree operands.now)) spec.now) draft.old.next).query) }
     ensures tables { OnOk result (map statement_tree draft.new.statements.items ≡ map statement_tree draft.old.statements.items ++ map create_for (made_of_form writer.now target.now s.now (join (operands_of (map operand_tree operands.now)) spec.now) draft.old.next).tables) }
     ensures next { OnOk result (draft.new.next ≡ (made_of_form writer.now target.now s.now (join (operands_of (map operand_tree operands.now)) spec.now) draft.old.next).next) }
 {
     let structures = joined_structures(alloc, operands)?;
     let tables = joined_sources(alloc, writer, operands, target, draft)?;
-    join_query(
+    filtered_join_query(
         alloc,
         writer,
         spec.kind,
         &structures,
         &tables,
         s,
+        condition,
         target,
         draft,
     )
+}
+
+// A filter. The query of a join has its condition, so that no point is held that the filter leaves out.
+#[cycle(made)]
+fn filter(
+    alloc: Global,
+    writer: &Writer,
+    operand: &Node,
+    condition: &CompExpr,
+    s: &Structure,
+    target: &Txt,
+    draft: &mut Draft,
+) -> Result<Query, AllocError>
+    ensures query { IfOk result (λ q. query_tree q ≡ (made_of_filter writer.now target.now s.now (node_tree operand.now) (comp_exp_of condition.now) draft.old.next).query) }
+    ensures tables { OnOk result (map statement_tree draft.new.statements.items ≡ map statement_tree draft.old.statements.items ++ map create_for (made_of_filter writer.now target.now s.now (node_tree operand.now) (comp_exp_of condition.now) draft.old.next).tables) }
+    ensures next { OnOk result (draft.new.next ≡ (made_of_filter writer.now target.now s.now (node_tree operand.now) (comp_exp_of condition.now) draft.old.next).next) }
+{
+    match &operand.form {
+        NodeForm::Join { operands, spec } => {
+            let s = &operand.structure;
+            let condition = Some(condition);
+            join(alloc, writer, operands, spec, s, condition, target, draft)
+        }
+        _ => {
+            let table = source(alloc, writer, operand, target, draft)?;
+            filter_query(alloc, writer, condition, s, &table)
+        }
+    }
 }
 
 /// The query of an expression of a structure. The tables that stand for its operands are made first.
@@ -153,7 +186,6 @@ pub(crate) fn query(
     match form {
         NodeForm::Named(name) => left_query(alloc, writer, s, name),
         NodeForm::Measures { a, .. }
-        | NodeForm::Filter { a, .. }
         | NodeForm::Calc { a, .. }
         | NodeForm::Sub { a, .. }
         | NodeForm::Pivot { a, .. }
@@ -197,7 +229,9 @@ pub(crate) fn query(
                 query_of_one(alloc, writer, form, s, &operand)
             }
         },
-        NodeForm::Join { operands, spec } => join(alloc, writer, operands, spec, s, target, draft),
+        NodeForm::Join { operands, spec } => {
+            join(alloc, writer, operands, spec, s, None, target, draft)
+        }
         NodeForm::Union(nodes) => {
             combined(alloc, writer, SetOperator::Union, nodes, s, target, draft)
         }
@@ -209,5 +243,6 @@ pub(crate) fn query(
             let operand = source(alloc, writer, a, target, draft)?;
             ruled_query(alloc, writer, form, s, &operand, target, draft)
         }
+        NodeForm::Filter { a, c } => filter(alloc, writer, a, c, s, target, draft),
     }
 }

@@ -5,18 +5,21 @@ use Rattle.std.specs.declared.alloc.Global.{Global}
 use Rattle.vtl_tree.specs.Shown.{shown}
 use Rattle.vtl_tree.specs.Trees.{FormTree, structure_of}
 use Rattle.vtl_tree.specs.NodeView.{form_tree, node_tree}
+use Rattle.vtl_tree.specs.View.{comp_exp_of}
 use Rattle.vtl_tree.specs.declared.nodes.Node.{Node}
 use Rattle.vtl_tree.specs.declared.nodes.NodeForm.TheVariants as form
 use Rattle.vtl_tree.specs.declared.renaming.Renaming.{Renaming}
 use Rattle.sql_tree.specs.View.{query_tree, statement_tree}
 use Rattle.vtl_to_sql.specs.Combined.{combined_made}
 use Rattle.vtl_to_sql.specs.FormQueries.{query_of_one, query_of_two}
+use Rattle.selects_to_sql.specs.Queries.{filter_query}
 use Rattle.selects_to_sql.specs.Tables.{create_for, Made, and_then, with_one, with_two}
-use Rattle.vtl_to_sql.specs.Tables.{made_of_form, sources_of}
+use Rattle.joins_to_sql.specs.FilteredJoins.{condition_of, filtered_by}
+use Rattle.vtl_to_sql.specs.Tables.{made_of_filter, made_of_form, sources_of}
 use Rattle.vtl_to_sql.proofs.JoinNodes.{join_gives, join_of_form}
 use Rattle.vtl_to_sql.proofs.Combining.{alone, begun, ended, ends, intersection_of_form, one_more, turn_made, union_of_form}
 use Rattle.vtl_to_sql.proofs.RuledNodes.{ruled_gives}
-use Rattle.vtl_to_sql.proofs.Walked.{behind_names, behind_others, check_made, imbalance_made, one_made, one_renamed, tree_of_choose, tree_of_named, two_made}
+use Rattle.vtl_to_sql.proofs.Walked.{behind_names, behind_others, check_made, filter_of_form, filter_of_join, filter_of_other, imbalance_made, one_made, one_renamed, tree_of_choose, tree_of_named, two_made}
 use Rattle.vtl_to_sql.proofs.walk.+made.Goals as goal
 
 pub join-returns-clause-query : goal.join-returns-clause-query
@@ -27,7 +30,7 @@ join-returns-clause-query t c =
     (map statement_tree c.args.draft.now.statements.items) (map statement_tree c.joined_sources.new.draft.statements.items)
     (ap shown c.deref.ensures.value ∙ c.in_ok-structures.ensures.structures) (c.deref-2.ensures.value ∙ made.names) made.tables made.next
     in
-    IfOk-weaker c.join_query.result _ _ (λ q e. e ∙ rest.query) c.join_query.ensures.query
+    IfOk-weaker c.filtered_join_query.result _ _ (λ q e. e ∙ ap (filtered_by c.args.writer.now (condition_of c.args.condition)) rest.query) c.filtered_join_query.ensures.query
 
 pub join-returns-clause-tables : goal.join-returns-clause-tables
 join-returns-clause-tables t c =
@@ -37,7 +40,7 @@ join-returns-clause-tables t c =
     (map statement_tree c.args.draft.now.statements.items) (map statement_tree c.joined_sources.new.draft.statements.items)
     (ap shown c.deref.ensures.value ∙ c.in_ok-structures.ensures.structures) (c.deref-2.ensures.value ∙ made.names) made.tables made.next
     in
-    IfOk-weaker c.join_query.result _ _ (λ q e. e ∙ rest.tables) c.join_query.ensures.tables
+    IfOk-weaker c.filtered_join_query.result _ _ (λ q e. e ∙ rest.tables) c.filtered_join_query.ensures.tables
 
 pub join-returns-clause-next : goal.join-returns-clause-next
 join-returns-clause-next t c =
@@ -47,7 +50,46 @@ join-returns-clause-next t c =
     (map statement_tree c.args.draft.now.statements.items) (map statement_tree c.joined_sources.new.draft.statements.items)
     (ap shown c.deref.ensures.value ∙ c.in_ok-structures.ensures.structures) (c.deref-2.ensures.value ∙ made.names) made.tables made.next
     in
-    IfOk-weaker c.join_query.result _ _ (λ q e. e ∙ rest.next) c.join_query.ensures.next
+    IfOk-weaker c.filtered_join_query.result _ _ (λ q e. e ∙ rest.next) c.filtered_join_query.ensures.next
+
+pub filter-returns-in-Join-clause-query : goal.filter-returns-in-Join-clause-query
+filter-returns-in-Join-clause-query t c =
+    let is = filter_of_join c.args.writer.now c.args.target.now c.args.s.now c.args.operand.now c.in-Join.operands c.deref.result.now c.in-Join.spec (comp_exp_of c.args.condition.now) c.args.draft.now.next c.in-Join.is c.deref.ensures.value in
+    IfOk-weaker c.join.result _ _ (λ q e. e ∙ ap (λ (m : Made). m.query) is) c.join.ensures.query
+
+pub filter-returns-in-Join-clause-tables : goal.filter-returns-in-Join-clause-tables
+filter-returns-in-Join-clause-tables t c =
+    let is = filter_of_join c.args.writer.now c.args.target.now c.args.s.now c.args.operand.now c.in-Join.operands c.deref.result.now c.in-Join.spec (comp_exp_of c.args.condition.now) c.args.draft.now.next c.in-Join.is c.deref.ensures.value in
+    IfOk-weaker c.join.result _ _ (λ q e. e ∙ ap (λ (m : Made). map statement_tree c.args.draft.now.statements.items ++ map create_for m.tables) is) c.join.ensures.tables
+
+pub filter-returns-in-Join-clause-next : goal.filter-returns-in-Join-clause-next
+filter-returns-in-Join-clause-next t c =
+    let is = filter_of_join c.args.writer.now c.args.target.now c.args.s.now c.args.operand.now c.in-Join.operands c.deref.result.now c.in-Join.spec (comp_exp_of c.args.condition.now) c.args.draft.now.next c.in-Join.is c.deref.ensures.value in
+    IfOk-weaker c.join.result _ _ (λ q e. e ∙ ap (λ (m : Made). m.next) is) c.join.ensures.next
+
+pub filter-returns-in_ok-table-in_default-clause-query : goal.filter-returns-in_ok-table-in_default-clause-query
+filter-returns-in_ok-table-in_default-clause-query t c =
+    let p = c.args.writer.now in
+    let s = c.args.s.now in
+    let e = comp_exp_of c.args.condition.now in
+    let is = filter_of_other p c.args.target.now s c.args.operand.now e c.args.draft.now.next c.in_default.not-Join in
+    IfOk-weaker c.filter_query.result _ _ (λ q h. h ∙ ap (with_one (filter_query p e s)) c.in_ok-table-in_default.ensures.name ∙ ap (λ (m : Made). m.query) is) c.filter_query.ensures
+
+pub filter-returns-in_ok-table-in_default-clause-tables : goal.filter-returns-in_ok-table-in_default-clause-tables
+filter-returns-in_ok-table-in_default-clause-tables t c =
+    let p = c.args.writer.now in
+    let s = c.args.s.now in
+    let e = comp_exp_of c.args.condition.now in
+    let is = filter_of_other p c.args.target.now s c.args.operand.now e c.args.draft.now.next c.in_default.not-Join in
+    IfOk-weaker c.filter_query.result _ _ (λ q h. c.in_ok-table-in_default.ensures.tables ∙ ap (λ (m : Made). map statement_tree c.args.draft.now.statements.items ++ map create_for m.tables) is) c.filter_query.ensures
+
+pub filter-returns-in_ok-table-in_default-clause-next : goal.filter-returns-in_ok-table-in_default-clause-next
+filter-returns-in_ok-table-in_default-clause-next t c =
+    let p = c.args.writer.now in
+    let s = c.args.s.now in
+    let e = comp_exp_of c.args.condition.now in
+    let is = filter_of_other p c.args.target.now s c.args.operand.now e c.args.draft.now.next c.in_default.not-Join in
+    IfOk-weaker c.filter_query.result _ _ (λ q h. c.in_ok-table-in_default.ensures.next ∙ ap (λ (m : Made). m.next) is) c.filter_query.ensures
 
 pub query-returns-in_ok-table-in-Measures-clause-query : goal.query-returns-in_ok-table-in-Measures-clause-query
 query-returns-in_ok-table-in-Measures-clause-query t c =
@@ -402,3 +444,34 @@ query-returns-in_ok-operand-in-CheckHierarchy-clause-next t c =
     (one.name ∙ ap (λ (x : Node). (of x).names) same) (one.next ∙ ap (λ (x : Node). (of x).next) same) (one.tables ∙ ap (λ (x : Node). old ++ map create_for (of x).tables) same)
     in
     IfOk-weaker c.ruled_query.result _ _ (λ q e. e ∙ rest.next) c.ruled_query.ensures.next
+
+pub query-returns-in-Filter-clause-query : goal.query-returns-in-Filter-clause-query
+query-returns-in-Filter-clause-query t c =
+    let p = c.args.writer.now in
+    let r = c.args.target.now in
+    let n = c.args.draft.now.next in
+    let e = comp_exp_of c.in-Filter.c in
+    let of = λ (x : Node). made_of_filter p r c.args.s.now (node_tree x) e n in
+    let is = filter_of_form p r c.args.s.now c.args.form.now c.in-Filter.a c.in-Filter.c n c.in-Filter.is in
+    IfOk-weaker c.filter.result _ _ (λ q h. h ∙ ap (λ (x : Node). (of x).query) c.deref-in-Filter.ensures ∙ ap (λ (m : Made). m.query) is) c.filter.ensures.query
+
+pub query-returns-in-Filter-clause-tables : goal.query-returns-in-Filter-clause-tables
+query-returns-in-Filter-clause-tables t c =
+    let p = c.args.writer.now in
+    let r = c.args.target.now in
+    let n = c.args.draft.now.next in
+    let e = comp_exp_of c.in-Filter.c in
+    let old = map statement_tree c.args.draft.now.statements.items in
+    let of = λ (x : Node). made_of_filter p r c.args.s.now (node_tree x) e n in
+    let is = filter_of_form p r c.args.s.now c.args.form.now c.in-Filter.a c.in-Filter.c n c.in-Filter.is in
+    IfOk-weaker c.filter.result _ _ (λ q h. h ∙ ap (λ (x : Node). old ++ map create_for (of x).tables) c.deref-in-Filter.ensures ∙ ap (λ (m : Made). old ++ map create_for m.tables) is) c.filter.ensures.tables
+
+pub query-returns-in-Filter-clause-next : goal.query-returns-in-Filter-clause-next
+query-returns-in-Filter-clause-next t c =
+    let p = c.args.writer.now in
+    let r = c.args.target.now in
+    let n = c.args.draft.now.next in
+    let e = comp_exp_of c.in-Filter.c in
+    let of = λ (x : Node). made_of_filter p r c.args.s.now (node_tree x) e n in
+    let is = filter_of_form p r c.args.s.now c.args.form.now c.in-Filter.a c.in-Filter.c n c.in-Filter.is in
+    IfOk-weaker c.filter.result _ _ (λ q h. h ∙ ap (λ (x : Node). (of x).next) c.deref-in-Filter.ensures ∙ ap (λ (m : Made). m.next) is) c.filter.ensures.next

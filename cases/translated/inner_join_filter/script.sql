@@ -1,0 +1,9 @@
+SET SCALE 6 ROUNDING HALF_UP;
+INPUT "x" ("k" TEXT, "n" INTEGER, "u" INTEGER) KEY ("k", "n");
+INPUT "y" ("k" TEXT, "v" INTEGER) KEY ("k");
+CREATE TABLE "R" AS
+  SELECT "a$0"."k" AS "k", "a$0"."n" AS "n", "a$0"."u" AS "u", "a$1"."v" AS "v"
+  FROM "x" AS "a$0"
+  INNER JOIN "y" AS "a$1" ON "a$1"."k" = "a$0"."k"
+  WHERE "a$0"."u" > "a$1"."v" AND "a$0"."k" <> 'c';
+EXPORT "R" ORDER BY "k", "n";

@@ -1,0 +1,12 @@
+SET SCALE 6 ROUNDING HALF_UP;
+INPUT "x" ("k" TEXT, "u" INTEGER) KEY ("k");
+INPUT "y" ("k" TEXT, "v" INTEGER) KEY ("k");
+CREATE TABLE "R$1" AS
+  SELECT "a$0"."k" AS "k", "a$0"."u" AS "u", "a$1"."v" AS "v"
+  FROM "x" AS "a$0"
+  INNER JOIN "y" AS "a$1" ON "a$1"."k" = "a$0"."k"
+  WHERE "a$0"."u" / "a$1"."v" > 1;
+CREATE TABLE "R" AS
+  SELECT "a"."k" AS "k", "a"."u" AS "u", "a"."v" AS "v", "a"."u" + "a"."v" AS "s"
+  FROM "R$1" AS "a";
+EXPORT "R" ORDER BY "k";
