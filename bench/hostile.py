@@ -3,8 +3,9 @@
 
 hostile.py list            prints a line for each case: its name, its plain counterpart, how many rows it has, and the
                            program that reads it
-hostile.py CASE FOLDER N   writes the case with N rows (names, codes, tables) into a folder that is made: script.vtl,
-                           structures.csv, in/ and out/ for `vtl run`, or script.sql for `vtl_probe sql`
+hostile.py CASE FOLDER N   writes the case with N rows (names, codes, tables, parts of a text) into a folder that is made:
+                           script.vtl, structures.csv, in/ and out/ for `vtl run`; script.sql for `vtl_probe sql`; or
+                           script.sql, in/ and out/ for `vtl engine`
 
 Hashes of the standard library have a fixed seed, so that texts of one hash can be worked out: they have 16 bytes after
 which the state is known, the eight bytes of this state, by which it is multiplied with nothing, and then any eight bytes.
@@ -292,6 +293,148 @@ def lengths_of_texts(folder, count):
     clause(folder, count, 'calc x := length(Id_1)')
 
 
+# ---- texts that the engine runs
+
+SETTINGS = 'SET SCALE 2 ROUNDING HALF_UP;\n'
+
+
+def balanced(parts, word):
+    """Parts with a word between them, in brackets, so that they are no deeper than the logarithm of their number."""
+    while len(parts) > 1:
+        pairs = zip(parts[::2], parts[1::2])
+        left = parts[len(parts) - 1:] if len(parts) % 2 else []
+        parts = [f'({a} {word} {b})' for a, b in pairs] + left
+    return parts[0]
+
+
+def engine_folder(folder, inputs, text):
+    """A text over tables of integers, each of a name, columns of which the first is the key, and rows."""
+    os.makedirs(f'{folder}/in')
+    os.makedirs(f'{folder}/out')
+    declared = []
+    for name, columns, rows in inputs:
+        listed = ', '.join(f'"{column}" INTEGER' for column in columns)
+        declared.append(f'INPUT "{name}" ({listed}) KEY ("{columns[0]}");\n')
+        lines = [','.join(columns)] + [','.join(map(str, row)) for row in rows]
+        write(f'{folder}/in/{name}.csv', [('\n'.join(lines) + '\n').encode()])
+    write(f'{folder}/script.sql', [(SETTINGS + ''.join(declared) + text).encode()])
+
+
+def keyed(count):
+    return [(i, i) for i in range(count)]
+
+
+PAIR = ['id', 'v']
+JOINED = 'FROM "T" AS "a" INNER JOIN "T" AS "b" ON "b"."id" = "a"."id"'
+
+
+def one_table(folder, rows, query):
+    engine_folder(folder, [('T', PAIR, keyed(rows))], f'CREATE TABLE "U" AS {query};\nEXPORT "U";\n')
+
+
+def creates(folder, names):
+    names = [name.decode() for name in names]
+    made = (f'CREATE TABLE "{name}" AS SELECT 1 AS "x" FROM "T" AS "t";\n' for name in names)
+    engine_folder(folder, [('T', PAIR, keyed(1))], ''.join(made) + f'EXPORT "{names[-1]}";\n')
+
+
+def chosen_creates(folder, count):
+    creates(folder, of_one_hash(NAME, 1, count))
+
+
+def plain_creates(folder, count):
+    creates(folder, (b'N%031d' % i for i in range(count)))
+
+
+def where(folder, count, start):
+    parts = [f'"a"."v" < {10 + i}' for i in range(count)]
+    one_table(folder, 10, f'SELECT "a"."id" AS "id" {start} WHERE {balanced(parts, "AND")}')
+
+
+def parts_beside_a_join(folder, count):
+    where(folder, count, JOINED)
+
+
+def parts_alone(folder, count):
+    where(folder, count, 'FROM "T" AS "a"')
+
+
+def unions(folder, count, start):
+    one_table(folder, 1, '\nUNION ALL '.join(f'SELECT {i} AS "n" {start}' for i in range(count)))
+
+
+def planned_unions(folder, count):
+    unions(folder, count, JOINED)
+
+
+def unions_of_products(folder, count):
+    unions(folder, count, 'FROM "T" AS "a" CROSS JOIN "T" AS "b"')
+
+
+def tests(folder, count, number):
+    parts = [
+        f'EXISTS (SELECT 1 FROM "T" AS "t" WHERE "t"."c{number(i) % 30}" = "a"."c{number(i) // 30 % 30}" AND "t"."c{number(i) // 900}" = "a"."id")'
+        for i in range(count)
+    ]
+    columns = ['id'] + [f'c{i}' for i in range(30)]
+    rows = [[i] * 31 for i in range(100)]
+    query = f'SELECT COUNT(*) AS "n" FROM "T" AS "a" WHERE {balanced(parts, "AND")}'
+    engine_folder(folder, [('T', columns, rows)], f'CREATE TABLE "U" AS {query};\nEXPORT "U";\n')
+
+
+def different_exists(folder, count):
+    tests(folder, count, lambda i: i)
+
+
+def equal_exists(folder, count):
+    tests(folder, count, lambda i: 7)
+
+
+def selects(folder, count, width):
+    columns = ['id'] + [f'a_column_of_a_long_name_{i:04d}' for i in range(1, width)]
+    query = '\nUNION ALL '.join('SELECT 1 AS "n" FROM "T" AS "t"' for _ in range(count))
+    engine_folder(folder, [('T', columns, [[1] * width])], f'CREATE TABLE "U" AS {query};\nEXPORT "U";\n')
+
+
+def selects_of_a_wide_table(folder, count):
+    selects(folder, count, 1024)
+
+
+def selects_of_a_narrow_table(folder, count):
+    selects(folder, count, 2)
+
+
+def groups(folder, count, used):
+    width = 1000
+    sources = [f't{i}' for i in range(-(-count // width))]
+    columns = [f'"{source}"."c{i}"' for source in sources for i in range(width)][:count]
+    parts = [f'{used(columns, i)} = 1' for i in range(count)]
+    query = f'SELECT COUNT(*) AS "n" FROM "T" AS "t0" ' + ' '.join(f'CROSS JOIN "T" AS "{s}"' for s in sources[1:])
+    query += f' GROUP BY {", ".join(columns)} HAVING {balanced(parts, "AND")}'
+    engine_folder(folder, [('T', [f'c{i}' for i in range(width)], [[1] * width])], f'CREATE TABLE "U" AS {query};\nEXPORT "U";\n')
+
+
+def all_columns_of_groups(folder, count):
+    groups(folder, count, lambda columns, i: columns[i])
+
+
+def first_column_of_groups(folder, count):
+    groups(folder, count, lambda columns, i: columns[0])
+
+
+def joins(folder, count, condition):
+    joined = ' '.join(f'INNER JOIN "T" AS "t{i}" ON {condition(i)}' for i in range(1, count))
+    one_table(folder, 300, f'SELECT COUNT(*) AS "n" FROM "T" AS "t0" {joined}')
+
+
+def chain_of_joins(folder, count):
+    joins(folder, count, lambda i: f'"t{i}"."id" = "t{i - 1}"."id"')
+
+
+def star_of_joins(folder, count):
+    joins(folder, count, lambda i: f'"t{i}"."id" = "t0"."id"')
+
+
 # the case, its plain counterpart, how many rows, and what reads it
 CASES = [
     (chosen_names, plain_names, 20164, 'vtl'),
@@ -310,6 +453,13 @@ CASES = [
     (renamed, short_rows, 1000000, 'vtl'),
     (parts_of_texts, lengths_of_texts, 1000000, 'vtl'),
     (changed_texts, lengths_of_texts, 1000000, 'vtl'),
+    (chosen_creates, plain_creates, 4000, 'engine'),
+    (parts_beside_a_join, parts_alone, 20000, 'engine'),
+    (planned_unions, unions_of_products, 32000, 'engine'),
+    (different_exists, equal_exists, 2000, 'engine'),
+    (selects_of_a_wide_table, selects_of_a_narrow_table, 1000, 'engine'),
+    (all_columns_of_groups, first_column_of_groups, 16000, 'engine'),
+    (chain_of_joins, star_of_joins, 2000, 'engine'),
 ]
 
 

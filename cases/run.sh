@@ -80,14 +80,16 @@ formed() {
 is_formed() { formed "$1" "$1"; }
 
 # A call of the program in the folder. What it prints is left in files, but where the case names a device for its standard
-# output.
+# output. Where the case has a limit, it is killed after so many seconds of processor time.
 called() {
     output=$made/said
+    seconds=unlimited
+    [ ! -e "$case/seconds" ] || read -r seconds <"$case/seconds"
     if [ -e "$case/stdout" ]; then
         : >"$made/said"
         read -r output <"$case/stdout"
     fi
-    (cd "$folder" && "$program" "$@" >"$output" 2>"$made/told" </dev/null)
+    (cd "$folder" && ulimit -t "$seconds" && "$program" "$@" >"$output" 2>"$made/told" </dev/null)
     code=$?
 }
 
@@ -97,7 +99,7 @@ laid_out() {
     rm -rf "$folder"
     cp -R "$case" "$folder"
     [ -e "$folder/structures.csv" ] || [ ! -e "$case/../structures.csv" ] || cp "$case/../structures.csv" "$folder"
-    (cd "$folder" && rm -rf expected line code told words setup stdout out && mkdir out) || return
+    (cd "$folder" && rm -rf expected line code told words setup seconds stdout out && mkdir out) || return
     if [ -e "$case/setup" ] && ! (cd "$folder" && sh "$case/setup"); then
         fail "$case: setup failed"
         return 1

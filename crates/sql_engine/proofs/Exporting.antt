@@ -1,7 +1,7 @@
 -- The exports of a script, one after the other.
 use Rattle.std.proofs.Common.{◌≡◌, ◌+◌, ◌<◌, ℕ, Bool, true, false, cond, ◌||◌, List, [], ◌∷◌, ◌++◌, map, drop, get_or, length, Option, Some, None, IsSome, refl, sym, ap, ◌∙◌, subst, append_assoc}
 use Rattle.std.specs.Prelude.{option_map, unwrap_or}
-use Rattle.std.specs.Map.{keys_of, lookup}
+use Rattle.std.specs.Map.{keys_of}
 use Rattle.std.specs.Cmp.Lexicographic.{nat_list_eq_equiv}
 use Rattle.std.proofs.lemmas.List.{drop_more, map-append}
 use Rattle.vtl_text.specs.Texts.{same_text}
@@ -17,23 +17,7 @@ use Rattle.sql_check_laws.specs.Statements.{AreNames, IsOrder}
 use Rattle.sql_from.specs.Held.{tables_held}
 use Rattle.sql_engine.specs.Exported.{AreExported, exported_of, exports_in, no_listed, placed_by}
 use Rattle.sql_engine.specs.declared.orders.RowOrder.{RowOrder}
-use Rattle.sql_engine.proofs.TableLookups.{columns_in, columns_looked, free_name, or_else, or_else_again, table_behind}
-
--- ---- tables by name
-
-module _ (before rest : NamedTables) (n : Text) (t : Listed) (entries now : NamedTables) (popped : before ≡ rest ++ (n, t) ∷ []) (put : (q : Text) → lookup (same_text q) now ≡ cond (same_text n q) (Some t) (lookup (same_text q) entries)) where
-  pub owned_more : (name : Text) → or_else (table_of name rest) (lookup (same_text name) now) ≡ or_else (table_of name before) (lookup (same_text name) entries)
-  owned_more name =
-      let last : Option Listed = cond (same_text name n) (Some t) None in
-      let at : or_else (table_of name before) (lookup (same_text name) entries) ≡ or_else (table_of name rest) (or_else last (lookup (same_text name) entries)) =
-      ap (λ (l : NamedTables). or_else (table_of name l) (lookup (same_text name) entries)) popped
-      ∙ ap (λ o. or_else o (lookup (same_text name) entries)) (table_behind name rest ((n, t) ∷ []))
-      ∙ or_else_again (table_of name rest) last (lookup (same_text name) entries) in
-      ap (or_else (table_of name rest)) (put name ∙ ap (λ b. cond b (Some t) (lookup (same_text name) entries)) (nat_list_eq_equiv.symm n name) ∙ sym (chosen (same_text name n))) ∙ sym at
-    where
-      chosen : (b : Bool) → or_else (cond b (Some t) None) (lookup (same_text name) entries) ≡ cond b (Some t) (lookup (same_text name) entries)
-      chosen true = refl
-      chosen false = refl
+use Rattle.sql_engine.proofs.TableLookups.{columns_in, columns_looked, free_name}
 
 -- ---- one statement after the other
 
@@ -43,7 +27,7 @@ one_left ss i x h e = ap (map statement_tree) (drop_more ss i x h ∙ ap (λ (y 
 -- the exports so far are there, and the tables of the others are still to be taken
 pub record Exporting (how : RowOrder) (tables : NamedTables) (all rest : List SqlExport) (owned out : NamedTables) : Type 0 where
   pub fits : AreExported (tables_held tables) (keys_of out) rest
-  pub kept : (name : Text) → is_among name (keys_of out) ≡ false → lookup (same_text name) owned ≡ table_of name tables
+  pub kept : (name : Text) → is_among name (keys_of out) ≡ false → table_of name owned ≡ table_of name tables
   pub whole : out ++ map (exported_of how tables) rest ≡ map (exported_of how tables) all
 
 some_table : (name : Text) (tables : NamedTables) (o : Option Listed) → table_of name tables ≡ o → IsSome (columns_of (tables_held tables) name) → IsSome o
@@ -51,20 +35,20 @@ some_table name tables None e h = let q : IsSome (option_map columns_in None) = 
 some_table name tables (Some t) e h = refl
 
 module _ (how : RowOrder) (tables : NamedTables) (all rest : List SqlExport) (s : SqlExport) (owned out : NamedTables) (x : Exporting how tables all (s ∷ rest) owned out) where
-  pub owned_here : lookup (same_text s.name) owned ≡ table_of s.name tables
+  pub owned_here : table_of s.name owned ≡ table_of s.name tables
   owned_here = x.kept s.name x.fits.1
 
-  pub is_there : IsSome (lookup (same_text s.name) owned)
+  pub is_there : IsSome (table_of s.name owned)
   is_there = subst IsSome (sym owned_here) (some_table s.name tables (table_of s.name tables) refl x.fits.0)
 
   pub is_new : table_of s.name out ≡ None
   is_new = free_name s.name out x.fits.1
 
-  module _ (t : Listed) (taken : lookup (same_text s.name) owned ≡ Some t) where
+  module _ (t : Listed) (taken : table_of s.name owned ≡ Some t) where
     pub in_order : AreNames (columns_in t) s.order
     in_order = subst (λ o. IsOrder o s.order) (columns_looked s.name tables ∙ ap (option_map columns_in) (sym owned_here ∙ taken)) x.fits.2
 
-    pub exported_more : (left : NamedTables) → ((name : Text) → same_text s.name name ≡ false → lookup (same_text name) left ≡ lookup (same_text name) owned) → Exporting how tables all rest left (out ++ (s.name, placed_by how s.order t) ∷ [])
+    pub exported_more : (left : NamedTables) → ((name : Text) → same_text s.name name ≡ false → table_of name left ≡ table_of name owned) → Exporting how tables all rest left (out ++ (s.name, placed_by how s.order t) ∷ [])
     exported_more left others =
         let keys : keys_of (out ++ (s.name, placed_by how s.order t) ∷ []) ≡ keys_of out ++ s.name ∷ [] = map-append (λ (e : Text × Listed). e.0) out ((s.name, placed_by how s.order t) ∷ []) in
         let here : exported_of how tables s ≡ (s.name, placed_by how s.order t) = ap (λ (o : Option Listed). (s.name, placed_by how s.order (unwrap_or o no_listed))) (sym owned_here ∙ taken) in

@@ -1,57 +1,78 @@
 -- Rows that no statement reads any more.
-use Rattle.std.proofs.Common.{◌≡◌, Bool, true, false, not, ◌||◌, List, [], ◌∷◌, ◌++◌, refl, sym, ap, ◌∙◌, None}
-use Rattle.std.specs.Prelude.{reverse}
-use Rattle.std.specs.List.{list_any}
-use Rattle.std.specs.Map.{keys_of}
-use Rattle.std.specs.Cmp.Lexicographic.{nat_list_eq_equiv}
-use Rattle.std.proofs.lemmas.Bool.{and_parts}
-use Rattle.std.proofs.lemmas.List.{map-append, reverse-append}
-use Rattle.vtl_lists.specs.Apart.{all_apart}
+use Rattle.std.proofs.Common.{◌≡◌, inl, inr, ◌⊎◌, Bool, true, false, cond, List, [], ◌∷◌, Option, Some, None, refl, sym, ap, ◌∙◌, subst}
+use Rattle.std.specs.Map.{set_value}
+use Rattle.std.specs.Option.{option_map}
+use Rattle.std.specs.Cmp.Lexicographic.{bytes_decides}
 use Rattle.vtl_text.specs.Texts.{same_text}
 use Rattle.vtl_rows.specs.Named.{NamedTables, table_of}
 use Rattle.vtl_rows.specs.Tables.{Listed}
 use Rattle.sql_tree.specs.Trees.{Text}
-use Rattle.sql_check_parts.specs.Scopes.{is_among}
-use Rattle.sql_engine.specs.Held.{let_go}
-use Rattle.sql_engine.proofs.TableLookups.{free_name}
+use Rattle.sql_from.specs.Held.{tables_held}
+use Rattle.sql_engine.specs.Held.{MayLetGo, MayLoseRows, without_rows}
+use Rattle.sql_engine.proofs.TableLookups.{columns_in}
 
-pub keys_stay : (is_kept : Text → Bool) (held : NamedTables) → keys_of (let_go is_kept held) ≡ keys_of held
-keys_stay is_kept [] = refl
-keys_stay is_kept (t ∷ held) = ap (λ l. t.0 ∷ l) (keys_stay is_kept held)
+module _ (is_kept : Text → Bool) where
+  -- ---- none, one, and one after the other
 
--- a name is none of those before it
-apart_front : (xs : List Text) (y : Text) (ys : List Text) → all_apart same_text (xs ++ y ∷ ys) ≡ true → is_among y xs ≡ false
-apart_front [] y ys h = refl
-apart_front (x ∷ xs) y ys h =
-    let parts = and_parts (not (list_any (same_text x) (xs ++ y ∷ ys))) (all_apart same_text (xs ++ y ∷ ys)) h in
-    go (same_text y x) (nat_list_eq_equiv.symm y x ∙ unlike xs (not_true (list_any (same_text x) (xs ++ y ∷ ys)) parts.0)) (apart_front xs y ys parts.1)
-  where
-    not_true : (b : Bool) → not b ≡ true → b ≡ false
-    not_true true q = cc
-    not_true false q = refl
+  pub none_let_go : (held : NamedTables) → MayLetGo is_kept held held
+  none_let_go [] = tt
+  none_let_go (t ∷ held) = (inl refl, none_let_go held)
 
-    unlike : (zs : List Text) → list_any (same_text x) (zs ++ y ∷ ys) ≡ false → same_text x y ≡ false
-    unlike [] q = first (same_text x y) q
-      where
-        first : (b : Bool) → (b || list_any (same_text x) ys) ≡ false → b ≡ false
-        first true q = q
-        first false q = refl
-    unlike (z ∷ zs) q = at (same_text x z) (unlike zs) q
-      where
-        at : (b : Bool) → (list_any (same_text x) (zs ++ y ∷ ys) ≡ false → same_text x y ≡ false) → (b || list_any (same_text x) (zs ++ y ∷ ys)) ≡ false → same_text x y ≡ false
-        at true ih q = cc
-        at false ih q = ih q
+  pub one_let_go : (name : Text) (held : NamedTables) (t : Listed) → is_kept name ≡ false → table_of name held ≡ Some t → MayLetGo is_kept held (set_value (same_text name) held (without_rows t))
+  one_let_go name [] t unread e = cc
+  one_let_go name (x ∷ held) t unread e = go (same_text name x.0) (λ b. (bytes_decides name x.0).0 b) (one_let_go name held t unread) e
+    where
+      go : (b : Bool) → (b ≡ true → name ≡ x.0) → (table_of name held ≡ Some t → MayLetGo is_kept held (set_value (same_text name) held (without_rows t)))
+          → cond b (Some x.1) (table_of name held) ≡ Some t → MayLetGo is_kept (x ∷ held) (cond b ((x.0, without_rows t) ∷ held) (x ∷ set_value (same_text name) held (without_rows t)))
+      go true same ih e = let here : x.1 ≡ t = cc in (inr (ap is_kept (sym (same refl)) ∙ unread, ap (λ u. (x.0, without_rows u)) (sym here)), none_let_go held)
+      go false same ih e = (inl refl, ih e)
 
-    go : (b : Bool) → b ≡ false → is_among y xs ≡ false → (b || is_among y xs) ≡ false
-    go true e f = cc
-    go false e f = f
+  pub let_go_both : (a b c : NamedTables) → MayLetGo is_kept a b → MayLetGo is_kept b c → MayLetGo is_kept a c
+  let_go_both [] [] [] f g = tt
+  let_go_both [] [] (z ∷ c) f g = absurd g
+  let_go_both [] (y ∷ b) c f g = absurd f
+  let_go_both (x ∷ a) [] c f g = absurd f
+  let_go_both (x ∷ a) (y ∷ b) [] f g = absurd g
+  let_go_both (x ∷ a) (y ∷ b) (z ∷ c) f g = (each f.0 g.0, let_go_both a b c f.1 g.1)
+    where
+      each : MayLoseRows is_kept x y → MayLoseRows is_kept y z → MayLoseRows is_kept x z
+      each (inl p) (inl q) = inl (q ∙ p)
+      each (inl p) (inr q) = inr (subst (λ (t : Text × Listed). (is_kept t.0 ≡ false) × (z ≡ (t.0, without_rows t.1))) p q)
+      each (inr p) (inl q) = inr (p.0, q ∙ p.1)
+      each (inr p) (inr q) = inr (p.0, q.1 ∙ ap (λ (t : Text × Listed). (t.0, without_rows t.1)) p.1)
 
-pub fresh_here : (is_kept : Text → Bool) (out left tables : NamedTables) (name : Text) (t : Listed) → out ++ let_go is_kept ((name, t) ∷ left) ≡ let_go is_kept tables → all_apart same_text (keys_of tables) ≡ true → table_of name out ≡ None
-fresh_here is_kept out left tables name t e apart =
-    let first = keys_of (let_go is_kept ((name, t) ∷ left)) in
-    let keys : keys_of out ++ keys_of (let_go is_kept ((name, t) ∷ left)) ≡ keys_of tables =
-    sym (map-append (λ (x : Text × Listed). x.0) out (let_go is_kept ((name, t) ∷ left))) ∙ ap keys_of e ∙ keys_stay is_kept tables in
-    free_name name out (apart_front (keys_of out) name (keys_of (let_go is_kept left)) (ap (all_apart same_text) keys ∙ apart))
+  -- ---- what is known of the tables
 
-pub last_is : (entries rest : NamedTables) (x : Text × Listed) → entries ≡ rest ++ x ∷ [] → reverse entries ≡ x ∷ reverse rest
-last_is entries rest x e = ap reverse e ∙ reverse-append rest (x ∷ [])
+  pub columns_stay : (held now : NamedTables) → MayLetGo is_kept held now → tables_held now ≡ tables_held held
+  columns_stay [] [] f = refl
+  columns_stay [] (u ∷ now) f = absurd f
+  columns_stay (t ∷ held) [] f = absurd f
+  columns_stay (t ∷ held) (u ∷ now) f = λ i. each f.0 i ∷ columns_stay held now f.1 i
+    where
+      each : MayLoseRows is_kept t u → (u.0, columns_in u.1) ≡ (t.0, columns_in t.1)
+      each (inl p) = ap (λ (x : Text × Listed). (x.0, columns_in x.1)) p
+      each (inr p) = ap (λ (x : Text × Listed). (x.0, columns_in x.1)) p.1
+
+  -- the table of a name is as it was, or it is not read any more and has lost its rows
+  abbrev pub LooksAs : Text → (before now : Option Listed) → Type 0
+  LooksAs name before now = (now ≡ before) ⊎ ((is_kept name ≡ false) × (now ≡ option_map without_rows before))
+
+  pub looked_up : (name : Text) (held now : NamedTables) → MayLetGo is_kept held now → LooksAs name (table_of name held) (table_of name now)
+  looked_up name [] [] f = inl refl
+  looked_up name [] (u ∷ now) f = absurd f
+  looked_up name (t ∷ held) [] f = absurd f
+  looked_up name (t ∷ held) (u ∷ now) f = at f.0
+    where
+      as_before : (b : Bool) → LooksAs name (table_of name held) (table_of name now) → LooksAs name (cond b (Some t.1) (table_of name held)) (cond b (Some t.1) (table_of name now))
+      as_before true ih = inl refl
+      as_before false ih = ih
+
+      lost : is_kept t.0 ≡ false → (b : Bool) → (b ≡ true → name ≡ t.0) → LooksAs name (table_of name held) (table_of name now) → LooksAs name (cond b (Some t.1) (table_of name held)) (cond b (Some (without_rows t.1)) (table_of name now))
+      lost unread true same ih = inr (ap is_kept (same refl) ∙ unread, refl)
+      lost unread false same ih = ih
+
+      at : MayLoseRows is_kept t u → LooksAs name (cond (same_text name t.0) (Some t.1) (table_of name held)) (cond (same_text name u.0) (Some u.1) (table_of name now))
+      at (inl p) = subst (λ (x : Text × Listed). LooksAs name (cond (same_text name t.0) (Some t.1) (table_of name held)) (cond (same_text name x.0) (Some x.1) (table_of name now))) (sym p)
+          (as_before (same_text name t.0) (looked_up name held now f.1))
+      at (inr p) = subst (λ (x : Text × Listed). LooksAs name (cond (same_text name t.0) (Some t.1) (table_of name held)) (cond (same_text name x.0) (Some x.1) (table_of name now))) (sym p.1)
+          (lost p.0 (same_text name t.0) (λ b. (bytes_decides name t.0).0 b) (looked_up name held now f.1))

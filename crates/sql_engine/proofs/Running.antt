@@ -1,11 +1,9 @@
 -- A run, one statement after the other.
-use Rattle.std.proofs.Common.{◌≡◌, inl, inr, ◌≤◌, ◌+◌, ℕ, Bool, true, false, cond, List, [], ◌∷◌, ◌++◌, map, Option, Some, None, Result, Ok, Err, refl, sym, ap, ◌∙◌, subst, arith}
+use Rattle.std.proofs.Common.{◌≡◌, ◌≤◌, ◌+◌, ℕ, Bool, true, false, cond, List, [], ◌∷◌, ◌++◌, map, Option, Some, None, Result, Ok, Err, refl, sym, ap, ◌∙◌, subst, arith}
 use Rattle.std.specs.Prelude.{IfOk, fold, nat_le, unwrap_or}
 use Rattle.std.specs.Map.{keys_of, lookup}
 use Rattle.std.proofs.lemmas.List.{map-append}
 use Rattle.vtl_lists.proofs.Perms.{AllByRecursion-Perm}
-use Rattle.vtl_text.proofs.Apart.{apart_push}
-use Rattle.vtl_lists.specs.Apart.{all_apart}
 use Rattle.vtl_decimal.specs.declared.number.Fault.TheVariants.{DivZero, Range}
 use Rattle.vtl_decimal.specs.declared.number.Fault.{Fault}
 use Rattle.vtl_cell.specs.Outcome.{Outcome}
@@ -39,14 +37,14 @@ use Rattle.sql_meaning.proofs.Profiled.{query_are}
 use Rattle.sql_meaning.proofs.QueryKinds.{query_fit}
 use Rattle.sql_from.specs.Held.{base_held, tables_held}
 use Rattle.sql_engine.specs.Exported.{exports_in}
-use Rattle.sql_engine.specs.Held.{HaveMade, MayLetGo, StandFor, let_go}
+use Rattle.sql_engine.specs.Held.{HaveMade, MayLetGo, StandFor}
 use Rattle.sql_engine.specs.InputTables.{AreInputsInRange, HaveInputTables, rows_given}
 use Rattle.sql_engine.specs.LastReads.{AreNoted, EachExported, IsReadFrom, LastPlaces, is_from, is_read_from}
 use Rattle.sql_engine.specs.Runs.{FaultIs}
 use Rattle.sql_engine.specs.Statements.{HasFault, HasRun, IsPut, MayRun}
 use Rattle.vtl_scalar.specs.declared.run_error.RunErr.{RunErr}
 use Rattle.vtl_scalar.specs.declared.run_error.RunErr.TheVariants as run
-use Rattle.sql_engine.proofs.LettingGo.{keys_stay}
+use Rattle.sql_engine.proofs.LettingGo.{columns_stay}
 use Rattle.sql_engine.proofs.Standing.{fewer_stand, lawful, none_stand, one_stands, query_stands, still_stand}
 use Rattle.sql_engine.proofs.TableLookups.{columns_in, free_name, keys_held}
 
@@ -62,7 +60,6 @@ pub record Running (p : Settings) (inputs : NamedTables) (last : LastPlaces) (fi
   pub in_range : AreInputsInRange p inputs rest
   pub noted : AreNoted last place rest
   pub stands : StandFor p (is_read_from place last) made.tables held
-  pub apart : all_apart same_text (keys_of held) ≡ true
   pub whole_is : statements_made p (rows_given inputs) made rest ≡ whole
 
 -- ---- small facts
@@ -134,10 +131,6 @@ module _ (p : Settings) (inputs : NamedTables) (last : LastPlaces) (final : Give
   known_more name columns u given now known e put =
       (λ i. known i ++ (name, sym e i) ∷ []) ∙ sym (map-append (λ (x : Text × Listed). (x.0, columns_in x.1)) held ((name, u) ∷ [])) ∙ sym (ap tables_held put)
 
-  apart_more : (name : Text) (u : Listed) (now : NamedTables) → all_apart same_text (keys_of held) ≡ true → is_among name (keys_of held) ≡ false → now ≡ held ++ (name, u) ∷ [] → all_apart same_text (keys_of now) ≡ true
-  apart_more name u now apart new put =
-      ap (all_apart same_text) (ap keys_of put ∙ map-append (λ (x : Text × Listed). x.0) held ((name, u) ∷ [])) ∙ apart_push (keys_of held) name apart new
-
   fitting : (kinds : List Kind) (u : Listed) (rows : List Row) → column_kinds u.columns ≡ kinds → RowsFit kinds rows → Perm rows u.rows → RowsFit (column_kinds u.columns) u.rows
   fitting kinds u rows e fit q = subst (λ ks. RowsFit ks u.rows) (sym e) (AllByRecursion-Perm (λ r. fits_kinds kinds r ≡ true) q fit)
 
@@ -165,7 +158,6 @@ module _ (p : Settings) (inputs : NamedTables) (last : LastPlaces) (final : Give
         noted = r.noted.1;
         stands = stands_more s.name t u r.made now r.stands (sym put.columns_are) (subst (λ l. Perm l u.rows) (sym is) put.rows_are)
             (fitting (kinds_of (input_columns s)) u rows (kinds_are u.columns ∙ ap kinds_of put.columns_are) r.there.0.fit put.rows_are) (AllByRecursion-Perm (IsRowOfProfile p) put.rows_are r.in_range.0) put.put;
-        apart = apart_more s.name u now r.apart (free s.name r.given r.known r.typed.0.free) put.put;
         whole_is = r.whole_is;
       }
 
@@ -192,7 +184,6 @@ module _ (p : Settings) (inputs : NamedTables) (last : LastPlaces) (final : Give
         noted = r.noted.1;
         stands = stands_more name t u r.made now r.stands columns one.2 (fitting (kinds_of (query_columns (tables_held held) q)) u own.0 (kinds_are u.columns ∙ ap kinds_of put.columns_are) fit own.2)
             (AllByRecursion-Perm (IsRowOfProfile p) own.2 (ranged (query_value (base_held p held) q) own.0 own.1 (query_are (base_held p held) r.stands.ranged q))) put.put;
-        apart = apart_more name u now r.apart (free name r.given r.known r.typed.0.0) put.put;
         whole_is = ap (λ (m : Outcome (List Row)). (or_named name m >>= (λ rows. Ok (and_table r.made name (created r.made.tables q rows)))) >>= (λ n. statements_made p (rows_given inputs) n rest)) (sym one.1) ∙ r.whole_is;
       }
     where
@@ -216,7 +207,6 @@ module _ (p : Settings) (inputs : NamedTables) (last : LastPlaces) (final : Give
         in_range = r.in_range.1;
         noted = r.noted.1;
         stands = still_reads r.made.tables held r.stands;
-        apart = r.apart;
         whole_is = r.whole_is;
       })
 
@@ -247,29 +237,23 @@ module _ (p : Settings) (inputs : NamedTables) (last : LastPlaces) (final : Give
 
 -- ---- rows are let go
 
-pub let_go_running : (p : Settings) (inputs : NamedTables) (last : LastPlaces) (final : Given) (whole : Result Made NamedFault) (place : ℕ) (rest : List StatementTree) (held : NamedTables) → Running p inputs last final whole place rest held
-    → Running p inputs last final whole place rest (let_go (is_read_from place last) held)
-let_go_running p inputs last final whole place rest held r =
-    let now = still_stand p (is_read_from place last) r.made.tables held r.stands in
+pub let_go_running : (p : Settings) (inputs : NamedTables) (last : LastPlaces) (final : Given) (whole : Result Made NamedFault) (place : ℕ) (rest : List StatementTree) (held now : NamedTables) → MayLetGo (is_read_from place last) held now
+    → Running p inputs last final whole place rest held → Running p inputs last final whole place rest now
+let_go_running p inputs last final whole place rest held now gone r =
+    let stands = still_stand p (is_read_from place last) r.made.tables held now gone r.stands in
     record {
       made = r.made;
       given = r.given;
-      known = r.known ∙ sym r.stands.same ∙ now.same;
+      known = r.known ∙ sym (columns_stay (is_read_from place last) held now gone);
       ends = r.ends;
       typed = r.typed;
       formed = r.formed;
       there = r.there;
       in_range = r.in_range;
       noted = r.noted;
-      stands = now;
-      apart = ap (all_apart same_text) (keys_stay (is_read_from place last) held) ∙ r.apart;
+      stands = stands;
       whole_is = r.whole_is;
     }
-
-pub in_turn : (p : Settings) (inputs : NamedTables) (last : LastPlaces) (final : Given) (whole : Result Made NamedFault) (place : ℕ) (rest : List StatementTree) (held now : NamedTables) → MayLetGo (is_read_from place last) held now
-    → Running p inputs last final whole place rest held → Running p inputs last final whole place rest now
-in_turn p inputs last final whole place rest held now (inl e) r = subst (Running p inputs last final whole place rest) (sym e) (let_go_running p inputs last final whole place rest held r)
-in_turn p inputs last final whole place rest held now (inr e) r = subst (Running p inputs last final whole place rest) (sym e) r
 
 -- ---- the beginning and the end
 
@@ -291,7 +275,6 @@ module _ (p : Settings) (inputs : NamedTables) (last : LastPlaces) (ss : List St
         in_range = in_range;
         noted = noted;
         stands = none_stand p (is_read_from 0 last) held e;
-        apart = ap (λ (l : NamedTables). all_apart same_text (keys_of l)) e;
         whole_is = refl;
       }
 

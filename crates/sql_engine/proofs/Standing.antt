@@ -1,8 +1,7 @@
 -- The tables that are held stand for those of the meaning.
-use Rattle.std.proofs.Common.{◌≡◌, ◌≤◌, Bool, true, false, cond, List, [], ◌∷◌, ◌++◌, Option, Some, None, refl, sym, ap, ◌∙◌, subst}
+use Rattle.std.proofs.Common.{◌≡◌, inl, inr, ◌≤◌, Bool, true, false, cond, List, [], ◌∷◌, ◌++◌, Option, Some, None, refl, sym, ap, ◌∙◌, subst}
 use Rattle.std.specs.Prelude.{option_map, unwrap_or}
 use Rattle.std.specs.Map.{lookup}
-use Rattle.std.specs.Cmp.Lexicographic.{bytes_decides}
 use Rattle.std.proofs.lemmas.List.{map-append}
 use Rattle.vtl_lists.proofs.Perms.{Perm-refl}
 use Rattle.vtl_cell.specs.Outcomes.{Same}
@@ -22,8 +21,9 @@ use Rattle.sql_meaning.specs.Tables.{Base, HasColumns, HasTable, RowsFit, rows_o
 use Rattle.sql_meaning.proofs.HeldTables.{held_fit}
 use Rattle.sql_meaning.proofs.Orders as orders
 use Rattle.sql_from.specs.Held.{base_held, tables_held}
-use Rattle.sql_engine.specs.Held.{StandFor, let_go, without_rows}
+use Rattle.sql_engine.specs.Held.{MayLetGo, StandFor, without_rows}
 use Rattle.sql_engine.specs.Reads.{EachOfQuery}
+use Rattle.sql_engine.proofs.LettingGo.{LooksAs, columns_stay, looked_up}
 use Rattle.sql_engine.proofs.OnlyRead as only
 use Rattle.sql_engine.proofs.ReadMaps.{query_so}
 use Rattle.sql_engine.proofs.TableLookups.{columns_in, columns_looked, or_else, table_behind}
@@ -104,49 +104,34 @@ module _ (p : Settings) (is_kept : Text → Bool) (tables : Data) (held : NamedT
 
 -- ---- rows are let go
 
-abbrev kept_or_not : Bool → Listed → Listed
-kept_or_not b t = cond b t (without_rows t)
-
-table_let_go : (is_kept : Text → Bool) (name : Text) (held : NamedTables) → table_of name (let_go is_kept held) ≡ option_map (kept_or_not (is_kept name)) (table_of name held)
-table_let_go is_kept name [] = refl
-table_let_go is_kept name (t ∷ held) = go (same_text name t.0) (λ e. (bytes_decides name t.0).0 e) (table_let_go is_kept name held)
-  where
-    go : (b : Bool) → (b ≡ true → name ≡ t.0) → table_of name (let_go is_kept held) ≡ option_map (kept_or_not (is_kept name)) (table_of name held)
-        → cond b (Some (kept_or_not (is_kept t.0) t.1)) (table_of name (let_go is_kept held)) ≡ option_map (kept_or_not (is_kept name)) (cond b (Some t.1) (table_of name held))
-    go true f ih = ap (λ (n : Text). Some (kept_or_not (is_kept n) t.1)) (sym (f refl))
-    go false f ih = ih
-
-columns_stay : (is_kept : Text → Bool) (held : NamedTables) → tables_held (let_go is_kept held) ≡ tables_held held
-columns_stay is_kept [] = refl
-columns_stay is_kept (t ∷ held) = λ i. (t.0, each (is_kept t.0) i) ∷ columns_stay is_kept held i
-  where
-    each : (b : Bool) → columns_in (kept_or_not b t.1) ≡ columns_in t.1
-    each true = refl
-    each false = refl
-
-pub still_stand : (p : Settings) (is_kept : Text → Bool) (tables : Data) (held : NamedTables) → StandFor p is_kept tables held → StandFor p is_kept tables (let_go is_kept held)
-still_stand p is_kept tables held s =
+pub still_stand : (p : Settings) (is_kept : Text → Bool) (tables : Data) (held now : NamedTables) → MayLetGo is_kept held now → StandFor p is_kept tables held → StandFor p is_kept tables now
+still_stand p is_kept tables held now gone s =
     record {
-      same = s.same ∙ sym (columns_stay is_kept held);
-      rows = λ n k. subst (λ o. Perm (table_named tables n).rows (rows_of o)) (sym (table_let_go is_kept n held)) (kept (table_of n held) (is_kept n) k n (s.rows n k));
-      fit = λ n x e. fits n x (table_of n held) refl (is_kept n) (sym (table_let_go is_kept n held) ∙ e);
-      ranged = λ n. subst (λ o. AreOfProfile p (rows_of o)) (sym (table_let_go is_kept n held)) (in_range (table_of n held) (s.ranged n) (is_kept n));
+      same = s.same ∙ sym (columns_stay is_kept held now gone);
+      rows = λ n k. kept n k (looked_up is_kept n held now gone);
+      fit = λ n x e. fits n x e (looked_up is_kept n held now gone);
+      ranged = λ n. in_range n (looked_up is_kept n held now gone);
     }
   where
-    kept : (o : Option Listed) (b : Bool) → b ≡ true → (n : Text) → Perm (table_named tables n).rows (rows_of o) → Perm (table_named tables n).rows (rows_of (option_map (kept_or_not b) o))
-    kept None b e n q = q
-    kept (Some y) true e n q = q
-    kept (Some y) false e n q = cc
+    kept : (n : Text) → is_kept n ≡ true → LooksAs is_kept n (table_of n held) (table_of n now) → Perm (table_named tables n).rows (rows_of (table_of n now))
+    kept n k (inl e) = subst (λ o. Perm (table_named tables n).rows (rows_of o)) (sym e) (s.rows n k)
+    kept n k (inr e) = let f : is_kept n ≡ false = e.0 in cc
 
-    fits : (n : Text) (x : Listed) (o : Option Listed) → table_of n held ≡ o → (b : Bool) → option_map (kept_or_not b) o ≡ Some x → RowsFit (column_kinds x.columns) x.rows
-    fits n x None e b q = cc
-    fits n x (Some y) e true q = s.fit n x (e ∙ q)
-    fits n x (Some y) e false q = let same : without_rows y ≡ x = cc in subst (λ (z : Listed). RowsFit (column_kinds z.columns) z.rows) same tt
+    lost : (x : Listed) (o : Option Listed) → option_map without_rows o ≡ Some x → RowsFit (column_kinds x.columns) x.rows
+    lost x None q = cc
+    lost x (Some y) q = let same : without_rows y ≡ x = cc in subst (λ (z : Listed). RowsFit (column_kinds z.columns) z.rows) same tt
 
-    in_range : (o : Option Listed) → AreOfProfile p (rows_of o) → (b : Bool) → AreOfProfile p (rows_of (option_map (kept_or_not b) o))
-    in_range None h b = tt
-    in_range (Some y) h true = h
-    in_range (Some y) h false = tt
+    fits : (n : Text) (x : Listed) → table_of n now ≡ Some x → LooksAs is_kept n (table_of n held) (table_of n now) → RowsFit (column_kinds x.columns) x.rows
+    fits n x q (inl e) = s.fit n x (sym e ∙ q)
+    fits n x q (inr e) = lost x (table_of n held) (sym e.1 ∙ q)
+
+    no_rows : (o : Option Listed) → AreOfProfile p (rows_of (option_map without_rows o))
+    no_rows None = tt
+    no_rows (Some y) = tt
+
+    in_range : (n : Text) → LooksAs is_kept n (table_of n held) (table_of n now) → AreOfProfile p (rows_of (table_of n now))
+    in_range n (inl e) = subst (λ o. AreOfProfile p (rows_of o)) (sym e) (s.ranged n)
+    in_range n (inr e) = subst (λ o. AreOfProfile p (rows_of o)) (sym e.1) (no_rows (table_of n held))
 
 -- ---- queries
 

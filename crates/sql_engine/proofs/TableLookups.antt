@@ -1,7 +1,8 @@
 -- Look-ups in tables that are held.
-use Rattle.std.proofs.Common.{◌≡◌, Bool, true, false, cond, ◌||◌, [], ◌∷◌, ◌++◌, map, Option, Some, None, refl, ap}
+use Rattle.std.proofs.Common.{◌≡◌, Bool, true, false, cond, ◌||◌, [], ◌∷◌, ◌++◌, map, Option, Some, None, IsSome, refl, sym, ap, ◌∙◌, subst}
 use Rattle.std.specs.Prelude.{option_map}
-use Rattle.std.specs.Map.{keys_of}
+use Rattle.std.specs.Cmp.Lexicographic.{bytes_decides, nat_list_eq_equiv}
+use Rattle.std.specs.Map.{keys_of, set_value}
 use Rattle.vtl_text.specs.Texts.{same_text}
 use Rattle.vtl_rows.specs.Named.{NamedTables, table_of}
 use Rattle.vtl_rows.specs.Tables.{Listed}
@@ -53,3 +54,20 @@ free_name name (t ∷ held) h = go (same_text name t.0) (free_name name held) h
     go : (b : Bool) → (is_among name (keys_of held) ≡ false → table_of name held ≡ None) → (b || is_among name (keys_of held)) ≡ false → cond b (Some t.1) (table_of name held) ≡ None
     go true ih q = cc
     go false ih q = ih q
+
+-- ---- a table in place of another
+
+pub there_is : {X Y : Type 0} {f : X → Y} (o : Option X) (p : Option Y) → option_map f o ≡ p → IsSome p → IsSome o
+there_is None p e h = let q : IsSome None = subst IsSome (sym e) h in cc
+there_is (Some x) p e h = refl
+
+pub looked_other : (name other : Text) (held : NamedTables) (t : Listed) → same_text name other ≡ false → table_of other (set_value (same_text name) held t) ≡ table_of other held
+looked_other name other [] t unlike = refl
+looked_other name other (x ∷ held) t unlike = go (same_text name x.0) refl (looked_other name other held t unlike)
+  where
+    go : (b : Bool) → same_text name x.0 ≡ b → table_of other (set_value (same_text name) held t) ≡ table_of other held
+        → table_of other (cond b ((x.0, t) ∷ held) (x ∷ set_value (same_text name) held t)) ≡ cond (same_text other x.0) (Some x.1) (table_of other held)
+    go true here ih =
+        let apart : same_text other x.0 ≡ false = nat_list_eq_equiv.symm other x.0 ∙ ap (λ (n : Text). same_text n other) (sym ((bytes_decides name x.0).0 here)) ∙ unlike in
+        ap (λ b. cond b (Some t) (table_of other held)) apart ∙ sym (ap (λ b. cond b (Some x.1) (table_of other held)) apart)
+    go false here ih = ap (cond (same_text other x.0) (Some x.1)) ih

@@ -1,5 +1,5 @@
 -- The tables that a run holds.
-use Rattle.std.specs.Prelude.{◌≡◌, ◌⊎◌, Bool, true, List, [], fold, map, Result, Ok, Err, if◌then◌else◌}
+use Rattle.std.specs.Prelude.{◌≡◌, ◌⊎◌, Bool, true, false, List, [], ◌∷◌, fold, Result, Ok, Err}
 use Rattle.vtl_lists.specs.Perm.{Perm}
 use Rattle.vtl_decimal.specs.Settings.{Settings}
 use Rattle.vtl_rows.specs.Named.{NamedTables, table_of}
@@ -27,13 +27,16 @@ pub record StandFor (p : Settings) (is_kept : Text → Bool) (tables : Data) (he
 abbrev pub without_rows : Listed → Listed
 without_rows t = record { columns = t.columns; rows = [] }
 
--- those that are still read stay as they are, and the others lose their rows
-abbrev pub let_go : (Text → Bool) → NamedTables → NamedTables
-let_go is_kept held = map (λ t. (t.0, if is_kept t.0 then t.1 else without_rows t.1)) held
+-- a table stays as it is, or it is not read any more and loses its rows
+abbrev pub MayLoseRows : (Text → Bool) → (held now : Text × Listed) → Type 0
+MayLoseRows is_kept t u = (u ≡ t) ⊎ ((is_kept t.0 ≡ false) × (u ≡ (t.0, without_rows t.1)))
 
--- rows are let go, or are so later
+-- and so does each of some tables
 abbrev pub MayLetGo : (Text → Bool) → (held now : NamedTables) → Type 0
-MayLetGo is_kept held now = (now ≡ let_go is_kept held) ⊎ (now ≡ held)
+MayLetGo is_kept [] [] = Unit {0}
+MayLetGo is_kept [] (u ∷ now) = ⊥
+MayLetGo is_kept (t ∷ held) [] = ⊥
+MayLetGo is_kept (t ∷ held) (u ∷ now) = MayLoseRows is_kept t u × MayLetGo is_kept held now
 
 -- ---- all statements
 

@@ -5,20 +5,19 @@ ghost use Rattle.sql_tree.specs.View.{branch_tree, expr_tree};
 ghost use Rattle.sql_engine.specs.LastReads.{IsNoted};
 ghost use Rattle.sql_engine.specs.Reads.{EachOfAll, EachOfBranches, EachRead};
 
-use indexmap::IndexMap;
+use sql_eval::set_named;
 use sql_tree::{Branch, SqlExpr};
 use std::alloc::AllocError;
-use vtl_text::Txt;
+use vtl_text::{ByName, Txt};
 
 /// For each table that statements read, the place of the last one that reads it.
-pub type LastReads = IndexMap<Txt, usize>;
+pub type LastReads = ByName<usize>;
 
 /// Notes that a statement reads a table. It fails only if memory runs out.
 pub fn note(name: &Txt, last: &mut LastReads, place: usize) -> Result<(), AllocError>
-    ensures { OnOk result (IsNoted place last.old.entries last.new.entries (λ P. P name.now)) }
+    ensures { OnOk result (IsNoted place last.old last.new (λ P. P name.now)) }
 {
-    last.insert(name.share()?, place)?;
-    Ok(())
+    set_named(last, name, place)
 }
 
 /// Notes that a statement reads the tables that an expression names in EXISTS. It fails only if memory runs out.
@@ -28,7 +27,7 @@ pub fn note_expression(
     last: &mut LastReads,
     place: usize,
 ) -> Result<(), AllocError>
-    ensures { OnOk result (IsNoted place last.old.entries last.new.entries (λ P. EachRead P (expr_tree expression.now))) }
+    ensures { OnOk result (IsNoted place last.old last.new (λ P. EachRead P (expr_tree expression.now))) }
 {
     match expression {
         SqlExpr::Binary { left, right, .. } => {
@@ -51,7 +50,7 @@ pub fn note_expression(
 
 #[cycle(noted)]
 fn note_operands(operands: &[SqlExpr], last: &mut LastReads, place: usize) -> Result<(), AllocError>
-    ensures { OnOk result (IsNoted place last.old.entries last.new.entries (λ P. EachOfAll P (exps_of (map expr_tree operands.now)))) }
+    ensures { OnOk result (IsNoted place last.old last.new (λ P. EachOfAll P (exps_of (map expr_tree operands.now)))) }
 {
     for operand in operands {
         note_expression(operand, last, place)?;
@@ -61,7 +60,7 @@ fn note_operands(operands: &[SqlExpr], last: &mut LastReads, place: usize) -> Re
 
 #[cycle(noted)]
 fn note_branches(branches: &[Branch], last: &mut LastReads, place: usize) -> Result<(), AllocError>
-    ensures { OnOk result (IsNoted place last.old.entries last.new.entries (λ P. EachOfBranches P (branches_of (map branch_tree branches.now)))) }
+    ensures { OnOk result (IsNoted place last.old last.new (λ P. EachOfBranches P (branches_of (map branch_tree branches.now)))) }
 {
     for branch in branches {
         note_expression(&branch.condition, last, place)?;

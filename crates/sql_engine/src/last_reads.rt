@@ -16,7 +16,7 @@ use std::alloc::{AllocError, Global};
 use vtl_text::Txt;
 
 fn note_create(statement: &Statement, last: &mut LastReads, place: usize) -> Result<(), AllocError>
-    ensures { OnOk result (IsNoted place last.old.entries last.new.entries (λ P. EachCreated P (statement_tree statement.now))) }
+    ensures { OnOk result (IsNoted place last.old last.new (λ P. EachCreated P (statement_tree statement.now))) }
 {
     match statement {
         Statement::Create(create) => note_query(&create.query, last, place),
@@ -27,7 +27,7 @@ fn note_create(statement: &Statement, last: &mut LastReads, place: usize) -> Res
 
 // Notes what each CREATE reads, at its place.
 fn note_creates(statements: &[Statement], last: &mut LastReads) -> Result<(), AllocError>
-    ensures { OnOk result ((later : LastPlaces) → StaysRead (length statements.now) last.new.entries later → AreNoted later 0 (map statement_tree statements.now)) }
+    ensures { OnOk result ((later : LastPlaces) → StaysRead (length statements.now) last.new later → AreNoted later 0 (map statement_tree statements.now)) }
 {
     for place in 0..statements.len() {
         note_create(&statements[place], last, place)?;
@@ -36,7 +36,7 @@ fn note_creates(statements: &[Statement], last: &mut LastReads) -> Result<(), Al
 }
 
 fn note_export(statement: &Statement, last: &mut LastReads, place: usize) -> Result<(), AllocError>
-    ensures { OnOk result (IsNoted place last.old.entries last.new.entries (λ P. EachExported P (statement_tree statement.now ∷ []))) }
+    ensures { OnOk result (IsNoted place last.old last.new (λ P. EachExported P (statement_tree statement.now ∷ []))) }
 {
     match statement {
         Statement::Export(export) => note(&export.name, last, place),
@@ -51,7 +51,7 @@ fn note_exports(
     last: &mut LastReads,
     place: usize,
 ) -> Result<(), AllocError>
-    ensures { OnOk result (IsNoted place last.old.entries last.new.entries (λ P. EachExported P (map statement_tree statements.now))) }
+    ensures { OnOk result (IsNoted place last.old last.new (λ P. EachExported P (map statement_tree statements.now))) }
 {
     for statement in statements {
         note_export(statement, last, place)?;
@@ -61,8 +61,8 @@ fn note_exports(
 
 /// The last statement that reads each table: exports are read behind all statements. It fails only if memory runs out.
 pub fn last_reads(alloc: Global, statements: &[Statement]) -> Result<LastReads, AllocError>
-    ensures created { IfOk result (λ last. AreNoted last.entries 0 (map statement_tree statements.now)) }
-    ensures exported { IfOk result (λ last. EachExported (IsReadFrom (length statements.now) last.entries) (map statement_tree statements.now)) }
+    ensures created { IfOk result (λ last. AreNoted last 0 (map statement_tree statements.now)) }
+    ensures exported { IfOk result (λ last. EachExported (IsReadFrom (length statements.now) last) (map statement_tree statements.now)) }
 {
     let mut last = LastReads::new(alloc);
     note_creates(statements, &mut last)?;
@@ -72,7 +72,7 @@ pub fn last_reads(alloc: Global, statements: &[Statement]) -> Result<LastReads, 
 
 /// Whether a statement at a place or behind it reads a table.
 pub fn is_read_from(place: usize, last: &LastReads, name: &Txt) -> bool
-    ensures { result ≡ is_read_from place last.now.entries name.now }
+    ensures { result ≡ is_read_from place last.now name.now }
 {
     match last.get(name) {
         Some(read) => place <= *read,

@@ -3,25 +3,24 @@
 // A table that no later statement reads keeps its columns and loses its rows: what typing knows of the tables then
 // stays the same. That a query's value does not see these rows is a law (`queries_depend_on_what_they_read`).
 //
-// Rows are let go after each statement, and in turns where there are more than 256 tables: all tables are looked at,
-// so without turns a script would take time with the square of its statements.
-ghost use Rattle.std.specs.Map.{keys_of};
-ghost use Rattle.std.specs.Prelude.{◌≡◌, IfOk, reverse, true, if◌then◌else◌};
-ghost use Rattle.vtl_lists.specs.Apart.{all_apart};
-ghost use Rattle.vtl_text.specs.Texts.{same_text};
+// Behind a statement only those tables are looked at that it reads as the last one, and the one that it makes
+// (`read_last`): each table twice in a run, whatever the number of statements.
+ghost use Rattle.std.specs.Prelude.{◌≡◌, IfOk, OnOk, length};
 ghost use Rattle.vtl_rows.specs.Tables.{listed};
-ghost use Rattle.sql_engine.specs.Held.{MayLetGo, let_go, without_rows};
+ghost use Rattle.sql_engine.specs.Held.{MayLetGo, without_rows};
 ghost use Rattle.sql_engine.specs.LastReads.{is_read_from};
 
 use crate::expression_reads::LastReads;
 use crate::last_reads::is_read_from;
+use sql_from::{HeldTable, HeldTables};
+use sql_tree::Statement;
 use std::alloc::{AllocError, Global};
-use vtl_rows::{Column, SharedTable, Table, Tables};
+use vtl_rows::{Column, Table};
 use vtl_text::Txt;
 
-// A table of the same columns.
-fn without_rows(alloc: Global, table: &Table) -> Result<Table, AllocError>
-    ensures { IfOk result (λ t. listed t ≡ without_rows (listed table.now)) }
+/// A table of the same columns and no rows. It fails only if memory runs out.
+pub(crate) fn without_rows(alloc: Global, table: &Table) -> Result<HeldTable, AllocError>
+    ensures { IfOk result (λ t. t ≡ without_rows (listed table.now)) }
 {
     let mut columns = Vec::new(alloc);
     for column in table.columns() {
@@ -30,76 +29,104 @@ fn without_rows(alloc: Global, table: &Table) -> Result<Table, AllocError>
             kind: column.kind,
         })?;
     }
-    Ok(Table::new(alloc, columns))
+    HeldTable::of(alloc, Table::new(alloc, columns))
 }
 
-// The table as it is, where a statement at a place or behind it reads it, and else without its rows.
-fn if_read(
+/// The tables that each of so many statements reads as the last one. It fails only if memory runs out.
+pub(crate) fn read_last(
     alloc: Global,
+    last: &LastReads,
+    count: usize,
+) -> Result<Vec<Vec<Txt>>, AllocError>
+    ensures { IfOk result (λ v. length v.items ≡ count) }
+{
+    let mut names = none_each(alloc, count)?;
+    for i in 0..last.len() {
+        let (name, place) = last.at(i);
+        if *place < count {
+            names[*place].push(name.share()?)?;
+        }
+    }
+    Ok(names)
+}
+
+// So many lists of nothing.
+fn none_each(alloc: Global, count: usize) -> Result<Vec<Vec<Txt>>, AllocError>
+    ensures { IfOk result (λ v. length v.items ≡ count) }
+{
+    let mut names = Vec::with_capacity(alloc, count)?;
+    for _ in 0..count {
+        names.push(Vec::new(alloc))?;
+    }
+    Ok(names)
+}
+
+// Lets go of the rows of a table, where no statement at a place or behind it reads it.
+fn let_go_of(
+    alloc: Global,
+    tables: &mut HeldTables,
     name: &Txt,
-    table: SharedTable,
     last: &LastReads,
     place: usize,
-) -> Result<SharedTable, AllocError>
-    ensures { IfOk result (λ t. t ≡ (if is_read_from place last.now.entries name.now then table else without_rows table)) }
+) -> Result<(), AllocError>
+    ensures { OnOk result (MayLetGo (is_read_from place last.now) tables.old tables.new) }
 {
-    if is_read_from(place, last, name) || table.table().len() == 0 {
-        return Ok(table);
+    if is_read_from(place, last, name) {
+        return Ok(());
     }
-    let empty = without_rows(alloc, table.table())?;
-    SharedTable::of(alloc, empty)
+    let Some(table) = tables.get(name) else {
+        return Ok(());
+    };
+    let empty = without_rows(alloc, table)?;
+    let _before = tables.replace(name, empty);
+    Ok(())
 }
 
-// The tables from the last one on.
-fn from_last(alloc: Global, tables: Tables) -> Result<Vec<(Txt, SharedTable)>, AllocError>
-    ensures { IfOk result (λ entries. reverse entries.items ≡ tables) }
-{
-    let mut rest = tables;
-    let mut entries = Vec::with_capacity(alloc, rest.len())?;
-    while let Some(entry) = rest.pop_shared() {
-        entries.push(entry)?;
-    }
-    Ok(entries)
-}
-
-// The same tables; those that no statement at a place or behind it reads have lost their rows.
-fn let_go(
+// Lets go of the rows of the table that a statement makes, where no statement at a place or behind it reads it.
+fn let_go_made(
     alloc: Global,
-    tables: Tables,
+    tables: &mut HeldTables,
+    statement: &Statement,
     last: &LastReads,
     place: usize,
-) -> Result<Tables, AllocError>
-    requires { all_apart same_text (keys_of tables) ≡ true }
-    ensures { IfOk result (λ now. now ≡ let_go (is_read_from place last.now.entries) tables) }
+) -> Result<(), AllocError>
+    ensures { OnOk result (MayLetGo (is_read_from place last.now) tables.old tables.new) }
 {
-    let mut entries = from_last(alloc, tables)?;
-    let mut now = Tables::new(alloc);
-    while let Some((name, table)) = entries.pop() {
-        let table = if_read(alloc, &name, table, last, place)?;
-        now.put_shared(name, table)?;
+    match statement {
+        Statement::Input(input) => let_go_of(alloc, tables, &input.name, last, place),
+        Statement::Create(create) => let_go_of(alloc, tables, &create.name, last, place),
+        Statement::Export(_) => Ok(()),
     }
-    Ok(now)
 }
 
-// How many tables may be looked at for each statement.
-const TABLES_FOR_A_STATEMENT: usize = 256;
-
-/// The same tables; those that no statement at a place or behind it reads have lost their rows. All tables are looked
-/// at; where there are very many this is left to later places, so that it takes time in proportion to the number of
-/// statements. It fails only if memory runs out.
-pub fn let_go_in_turn(
+// Lets go of the rows of those of some tables that no statement at a place or behind it reads.
+fn let_go_each(
     alloc: Global,
-    tables: Tables,
+    tables: &mut HeldTables,
+    names: &[Txt],
     last: &LastReads,
     place: usize,
-) -> Result<Tables, AllocError>
-    requires { all_apart same_text (keys_of tables) ≡ true }
-    ensures { IfOk result (MayLetGo (is_read_from place last.now.entries) tables) }
+) -> Result<(), AllocError>
+    ensures { OnOk result (MayLetGo (is_read_from place last.now) tables.old tables.new) }
 {
-    let turns = tables.len() / TABLES_FOR_A_STATEMENT + 1;
-    if place % turns == 0 {
-        let_go(alloc, tables, last, place)
-    } else {
-        Ok(tables)
+    for name in names {
+        let_go_of(alloc, tables, name, last, place)?;
     }
+    Ok(())
+}
+
+/// Lets go of the rows that no statement at a place or behind it reads: of the table that the statement before the place
+/// makes, and of these, which are those that it reads as the last one. It fails only if memory runs out.
+pub(crate) fn let_go_behind(
+    alloc: Global,
+    tables: &mut HeldTables,
+    statement: &Statement,
+    names: &[Txt],
+    last: &LastReads,
+    place: usize,
+) -> Result<(), AllocError>
+    ensures { OnOk result (MayLetGo (is_read_from place last.now) tables.old tables.new) }
+{
+    let_go_made(alloc, tables, statement, last, place)?;
+    let_go_each(alloc, tables, names, last, place)
 }

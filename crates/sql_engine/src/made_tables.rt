@@ -12,14 +12,15 @@ ghost use Rattle.sql_engine.specs.LastReads.{AreNoted, EachExported, IsReadFrom}
 
 use crate::expression_reads::LastReads;
 use crate::last_reads::last_reads;
-use crate::letting_go::let_go_in_turn;
+use crate::letting_go::{let_go_behind, read_last};
 use crate::statements::run_statement;
+use sql_from::HeldTables;
 use sql_tree::Statement;
 use std::alloc::Global;
 use std::sync::ledger::Ledger;
 use vtl_decimal::Profile;
 use vtl_index::Steps;
-use vtl_rows::{Inputs, Tables};
+use vtl_rows::Inputs;
 use vtl_scalar::RunErr;
 
 // The tables of INPUTs and CREATEs, carried out in order. Rows that no later statement reads are let go.
@@ -30,20 +31,29 @@ fn run_each<L: Ledger>(
     last: &LastReads,
     p: &Profile,
     steps: &mut Steps<L>,
-) -> Result<Tables, RunErr>
+) -> Result<HeldTables, RunErr>
     requires scale { p.now.scale ≤ 9 }
     requires formed { Each (IsStatement most_levels) (map statement_tree statements.now) }
     requires typed { AreTyped p.now nothing (map statement_tree statements.now) }
     requires there { HaveInputTables inputs.now (map statement_tree statements.now) }
     requires in_range { AreInputsInRange p.now inputs.now (map statement_tree statements.now) }
-    requires created { AreNoted last.now.entries 0 (map statement_tree statements.now) }
-    requires exported { EachExported (IsReadFrom (length statements.now) last.now.entries) (map statement_tree statements.now) }
+    requires created { AreNoted last.now 0 (map statement_tree statements.now) }
+    requires exported { EachExported (IsReadFrom (length statements.now) last.now) (map statement_tree statements.now) }
     ensures { Make p.now inputs.now (map statement_tree statements.now) result }
 {
-    let mut tables = Tables::new(alloc);
+    let mut tables = HeldTables::new(alloc);
+    let names = read_last(alloc, last, statements.len())?;
     for place in 0..statements.len() {
-        run_statement(alloc, &statements[place], inputs, &mut tables, p, steps)?;
-        tables = let_go_in_turn(alloc, tables, last, place + 1)?;
+        let statement = &statements[place];
+        run_statement(alloc, statement, inputs, &mut tables, p, steps)?;
+        let_go_behind(
+            alloc,
+            &mut tables,
+            statement,
+            &names[place],
+            last,
+            place + 1,
+        )?;
     }
     Ok(tables)
 }
@@ -56,7 +66,7 @@ pub fn made_tables<L: Ledger>(
     inputs: &Inputs,
     p: &Profile,
     steps: &mut Steps<L>,
-) -> Result<Tables, RunErr>
+) -> Result<HeldTables, RunErr>
     requires scale { p.now.scale ≤ 9 }
     requires formed { Each (IsStatement most_levels) (map statement_tree statements.now) }
     requires typed { AreTyped p.now nothing (map statement_tree statements.now) }

@@ -15,7 +15,7 @@ fn note_maybe(
     last: &mut LastReads,
     place: usize,
 ) -> Result<(), AllocError>
-    ensures { OnOk result (IsNoted place last.old.entries last.new.entries (λ P. EachOfMaybe P (option_map expr_tree condition.now))) }
+    ensures { OnOk result (IsNoted place last.old last.new (λ P. EachOfMaybe P (option_map expr_tree condition.now))) }
 {
     match condition {
         Some(condition) => note_expression(condition, last, place),
@@ -24,7 +24,7 @@ fn note_maybe(
 }
 
 fn note_item(item: &Item, last: &mut LastReads, place: usize) -> Result<(), AllocError>
-    ensures { OnOk result (IsNoted place last.old.entries last.new.entries (λ P. EachOfItem P (item_tree item.now))) }
+    ensures { OnOk result (IsNoted place last.old last.new (λ P. EachOfItem P (item_tree item.now))) }
 {
     match &item.value {
         ItemValue::Expr(expression) => note_expression(expression, last, place),
@@ -33,7 +33,7 @@ fn note_item(item: &Item, last: &mut LastReads, place: usize) -> Result<(), Allo
 }
 
 fn note_items(items: &[Item], last: &mut LastReads, place: usize) -> Result<(), AllocError>
-    ensures { OnOk result (IsNoted place last.old.entries last.new.entries (λ P. AllByRecursion (EachOfItem P) (map item_tree items.now))) }
+    ensures { OnOk result (IsNoted place last.old last.new (λ P. AllByRecursion (EachOfItem P) (map item_tree items.now))) }
 {
     for item in items {
         note_item(item, last, place)?;
@@ -42,7 +42,7 @@ fn note_items(items: &[Item], last: &mut LastReads, place: usize) -> Result<(), 
 }
 
 fn note_join(join: &Join, last: &mut LastReads, place: usize) -> Result<(), AllocError>
-    ensures { OnOk result (IsNoted place last.old.entries last.new.entries (λ P. EachOfJoin P (join_tree join.now))) }
+    ensures { OnOk result (IsNoted place last.old last.new (λ P. EachOfJoin P (join_tree join.now))) }
 {
     match join {
         Join::On {
@@ -58,7 +58,7 @@ fn note_join(join: &Join, last: &mut LastReads, place: usize) -> Result<(), Allo
 }
 
 fn note_joins(joins: &[Join], last: &mut LastReads, place: usize) -> Result<(), AllocError>
-    ensures { OnOk result (IsNoted place last.old.entries last.new.entries (λ P. AllByRecursion (EachOfJoin P) (map join_tree joins.now))) }
+    ensures { OnOk result (IsNoted place last.old last.new (λ P. AllByRecursion (EachOfJoin P) (map join_tree joins.now))) }
 {
     for join in joins {
         note_join(join, last, place)?;
@@ -67,7 +67,7 @@ fn note_joins(joins: &[Join], last: &mut LastReads, place: usize) -> Result<(), 
 }
 
 fn note_select(select: &Select, last: &mut LastReads, place: usize) -> Result<(), AllocError>
-    ensures { OnOk result (IsNoted place last.old.entries last.new.entries (λ P. EachOfSelect P (select_tree select.now))) }
+    ensures { OnOk result (IsNoted place last.old last.new (λ P. EachOfSelect P (select_tree select.now))) }
 {
     note(&select.from.table, last, place)?;
     note_joins(select.joins.as_slice(), last, place)?;
@@ -78,7 +78,7 @@ fn note_select(select: &Select, last: &mut LastReads, place: usize) -> Result<()
 
 /// Notes that a statement reads the tables that a query names in FROM and in EXISTS. It fails only if memory runs out.
 pub fn note_query(query: &Query, last: &mut LastReads, place: usize) -> Result<(), AllocError>
-    ensures { OnOk result (IsNoted place last.old.entries last.new.entries (λ P. EachOfQuery P (query_tree query.now))) }
+    ensures { OnOk result (IsNoted place last.old last.new (λ P. EachOfQuery P (query_tree query.now))) }
 {
     for select in query.selects.as_slice() {
         note_select(select, last, place)?;

@@ -15,24 +15,32 @@ ghost use Rattle.sql_tree.specs.Trees as tree;
 
 use crate::faults::named;
 use sql_exec::exec;
-use sql_from::ExecErr;
+use sql_from::{ExecErr, HeldTable, HeldTables};
 use sql_plan::plan;
 use sql_tree::{Query, SqlCreate, SqlInput, Statement};
 use std::alloc::{AllocError, Global};
 use std::sync::ledger::Ledger;
 use vtl_decimal::Profile;
 use vtl_index::Steps;
-use vtl_rows::{Inputs, Table, Tables};
+use vtl_rows::{Inputs, Table};
 use vtl_scalar::RunErr;
 
 // Holds the table that was read for an INPUT, with one more owner.
-fn run_input(input: &SqlInput, inputs: &Inputs, tables: &mut Tables) -> Result<(), AllocError>
+fn run_input(
+    alloc: Global,
+    input: &SqlInput,
+    inputs: &Inputs,
+    tables: &mut HeldTables,
+) -> Result<(), AllocError>
     requires free { table_of input.now.name tables.old ≡ None }
     requires there { HasTable (input_columns input.now) (table_of input.now.name inputs.now) }
     ensures { OnOk result (IsPut input.now.name (input_columns input.now) (Ok (rows_of (table_of input.now.name inputs.now))) tables.old tables.new) }
 {
     match inputs.shared(&input.name) {
-        Some(table) => tables.put_shared(input.name.share()?, table.share()?),
+        Some(table) => {
+            let held = HeldTable::sharing(alloc, table.share()?)?;
+            tables.put(input.name.share()?, held)
+        }
         None => unreachable!(),
     }
 }
@@ -42,7 +50,7 @@ fn run_input(input: &SqlInput, inputs: &Inputs, tables: &mut Tables) -> Result<(
 fn query_table<L: Ledger>(
     alloc: Global,
     query: &Query,
-    tables: &Tables,
+    tables: &HeldTables,
     p: &Profile,
     steps: &mut Steps<L>,
 ) -> Result<Table, ExecErr>
@@ -59,7 +67,7 @@ fn query_table<L: Ledger>(
 fn run_create<L: Ledger>(
     alloc: Global,
     create: &SqlCreate,
-    tables: &mut Tables,
+    tables: &mut HeldTables,
     p: &Profile,
     steps: &mut Steps<L>,
 ) -> Result<(), RunErr>
@@ -69,7 +77,8 @@ fn run_create<L: Ledger>(
 {
     match query_table(alloc, &create.query, tables, p, steps) {
         Ok(table) => {
-            tables.put(alloc, create.name.share()?, table)?;
+            let held = HeldTable::of(alloc, table)?;
+            tables.put(create.name.share()?, held)?;
             Ok(())
         }
         Err(error) => Err(named(alloc, &create.name, error)),
@@ -82,7 +91,7 @@ pub fn run_statement<L: Ledger>(
     alloc: Global,
     statement: &Statement,
     inputs: &Inputs,
-    tables: &mut Tables,
+    tables: &mut HeldTables,
     p: &Profile,
     steps: &mut Steps<L>,
 ) -> Result<(), RunErr>
@@ -91,7 +100,7 @@ pub fn run_statement<L: Ledger>(
 {
     match statement {
         Statement::Input(input) => {
-            run_input(input, inputs, tables)?;
+            run_input(alloc, input, inputs, tables)?;
             Ok(())
         }
         Statement::Create(create) => run_create(alloc, create, tables, p, steps),

@@ -1,3 +1,4 @@
+pub mod GroupPlaces
 pub mod Placed
 pub mod View
 pub mod Resolves

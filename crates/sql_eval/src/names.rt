@@ -1,11 +1,11 @@
 // Where the cells of columns stand.
-ghost use Rattle.std.specs.List.{position_or_len};
 ghost use Rattle.std.specs.Prelude.{◌≡◌};
 ghost use Rattle.sql_check_parts.specs.Exists.{inner_of};
 ghost use Rattle.sql_check_parts.specs.Scopes.{Scope, Tables, found};
-ghost use Rattle.sql_meaning.specs.Values.{inner_scope, place_in, same_column};
+ghost use Rattle.sql_meaning.specs.Values.{inner_scope, place_in};
 ghost use Rattle.sql_eval.specs.Resolves.{place_at};
 
+use crate::GroupColumns;
 use sql_tree::{Column, Source};
 use vtl_cell::Kind;
 
@@ -35,25 +35,7 @@ pub enum Level<'a> {
     /// Rows of FROM.
     Rows,
     /// Groups, by the columns of GROUP BY: a row holds their cells.
-    Groups(&'a [Column]),
-}
-
-fn is_same_column(a: &Column, b: &Column) -> bool
-    ensures { result ≡ same_column a.now b.now }
-{
-    a.source == b.source && a.name == b.name
-}
-
-// The place of a column among others; past the last one where it is not there.
-fn position(columns: &[Column], column: &Column) -> usize
-    ensures { result ≡ position_or_len (same_column column.now) columns.now }
-{
-    for i in 0..columns.len() {
-        if is_same_column(column, &columns[i]) {
-            return i;
-        }
-    }
-    columns.len()
+    Groups(&'a GroupColumns<'a>),
 }
 
 /// The place of a column in the row that an expression sees.
@@ -62,6 +44,6 @@ pub(crate) fn place_at<N: Names>(names: &N, level: &Level<'_>, column: &Column) 
 {
     match level {
         Level::Rows => names.place(column),
-        Level::Groups(columns) => position(columns, column),
+        Level::Groups(columns) => columns.place(column),
     }
 }

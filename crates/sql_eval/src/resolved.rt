@@ -5,7 +5,7 @@ use vtl_scalar::Members;
 use vtl_text::Txt;
 
 /// A side of an equality of EXISTS.
-#[derive(Clone, Copy, Debug, PartialEq, Eq)]
+#[derive(Clone, Copy, Debug, PartialEq, Eq, PartialOrd, Ord)]
 pub enum Side {
     /// The cell at a place of a row of EXISTS's own table.
     Inner(usize),
@@ -14,7 +14,7 @@ pub enum Side {
 }
 
 /// An equality of EXISTS.
-#[derive(Clone, Copy, Debug, PartialEq, Eq)]
+#[derive(Clone, Copy, Debug, PartialEq, Eq, PartialOrd, Ord)]
 pub struct Tie {
     /// What stands before the sign.
     pub left: Side,
@@ -22,8 +22,9 @@ pub struct Tie {
     pub right: Side,
 }
 
-/// What EXISTS asks: whether some row of a table makes every equality true.
-#[derive(Drop)]
+/// What EXISTS asks: whether some row of a table makes every equality true. They have an order, in which equal ones are
+/// found.
+#[derive(Drop, PartialEq, Eq, PartialOrd, Ord)]
 pub struct Existence {
     /// The table.
     pub table: Txt,

@@ -27,7 +27,7 @@ use Rattle.sql_meaning.specs.Values.{at_rows, place_in}
 use Rattle.sql_meaning.specs.Windows.{told_apart}
 use Rattle.sql_meaning.proofs.SourceKinds.{column_fits}
 use Rattle.sql_exec.specs.Gathered.{AreColumnsAt, IsColumnAt}
-use Rattle.sql_exec.proofs.PlacedColumns.{place_within}
+use Rattle.sql_groups.proofs.KeyLemmas.{place_within}
 use Rattle.sql_exec.proofs.PlainRows.{row_fault_same, row_same}
 use Rattle.sql_exec.proofs.Steps.{zipped_more}
 

@@ -13,3 +13,4 @@ pub mod WholeQueries
 pub mod Counted
 pub mod ItemWalks
 pub mod SimpleRows
+pub mod PlannedLists

@@ -4,4 +4,5 @@ pub mod ItemCells
 pub mod Items
 pub mod Outputs
 pub mod Parts
+pub mod Planned
 pub mod SimpleItems

@@ -12,6 +12,7 @@ mod gathered;
 mod item_cells;
 mod items;
 mod output;
+mod planned;
 mod queries;
 mod selects;
 mod simple_items;

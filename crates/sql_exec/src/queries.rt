@@ -27,13 +27,13 @@ ghost use Rattle.sql_exec.specs.Answers.{Gives};
 use crate::columns::{named_columns, query_kinds};
 use crate::output::Output;
 use crate::selects::add_selects;
-use sql_from::ExecErr;
+use sql_from::{ExecErr, HeldTables};
 use sql_meaning::Plan;
 use std::alloc::Global;
 use std::sync::ledger::Ledger;
 use vtl_decimal::Profile;
 use vtl_index::Steps;
-use vtl_rows::{Table, Tables};
+use vtl_rows::Table;
 
 /// The table of a query: its columns with their names and kinds, and its rows, each as often, in any order. Joins that
 /// its plan lists go by an index, and every other join tries each pair; parts of a WHERE that it lists are tried before
@@ -49,7 +49,7 @@ use vtl_rows::{Table, Tables};
 pub fn exec<L: Ledger>(
     alloc: Global,
     plan: &Plan,
-    tables: &Tables,
+    tables: &HeldTables,
     p: &Profile,
     steps: &mut Steps<L>,
 ) -> Result<Table, ExecErr>
@@ -77,7 +77,7 @@ pub fn exec<L: Ledger>(
 pub fn source_rows<L: Ledger>(
     alloc: Global,
     plan: &Plan,
-    tables: &Tables,
+    tables: &HeldTables,
     p: &Profile,
     steps: &mut Steps<L>,
 ) -> Result<Table, ExecErr>

@@ -4,11 +4,11 @@
 // where FROM and WHERE leave all its rows: such selects give tables new names of columns, of which translation writes
 // many.
 ghost use Rattle.std.specs.List.{AllByRecursion, list_any};
-ghost use Rattle.std.specs.Prelude.{◌≡◌, ◌+◌, ◌≤◌, ◌==◌, ◌∷◌, [], filter, length, map, zip, true, false, None, IfErr, IfOk, OnOk};
+ghost use Rattle.std.specs.Prelude.{◌≡◌, ◌+◌, ◌≤◌, ◌==◌, ◌∷◌, [], length, map, zip, true, false, None, IfErr, IfOk, OnOk};
 ghost use Rattle.vtl_rows.specs.Tables.{column_kinds};
 ghost use Rattle.sql_tree.specs.Trees.{SelectTree};
 ghost use Rattle.sql_tree.specs.View.{item_tree, select_tree};
-ghost use Rattle.sql_meaning.specs.Plans.{IsPlan, early_in, indexed_in, is_indexed, planned_selects, planned_source_rows};
+ghost use Rattle.sql_meaning.specs.Plans.{IsPlan, indexed_in, is_indexed, planned_selects, planned_source_rows};
 ghost use Rattle.sql_from.specs.Asking.{item_asks};
 ghost use Rattle.sql_check_parts.specs.Queries.{is_grouped, scope_of};
 ghost use Rattle.sql_check_parts.specs.Scopes.{row_of};
@@ -28,9 +28,10 @@ ghost use Rattle.sql_exec.specs.Parts.{HasRowsOf, IsPart, MakesKinds, phase_of};
 use crate::gathered::{add_gathered, column_places};
 use crate::items::{ItemValues, RowItem, row_items};
 use crate::output::Output;
+use crate::planned::PlannedSelects;
 use crate::simple_items::{add_simple, simple_items};
 use sql_check_queries::is_grouped;
-use sql_from::{Partners, Sources, TupleRows, asks, source_tuples};
+use sql_from::{HeldTables, Partners, Sources, TupleRows, asks, source_tuples};
 use sql_groups::push_grouped;
 use sql_meaning::{Early, Plan};
 use sql_tree::{Item, ItemValue, Select};
@@ -39,7 +40,6 @@ use std::sync::ledger::Ledger;
 use vtl_cell::Kind;
 use vtl_decimal::Profile;
 use vtl_index::Steps;
-use vtl_rows::Tables;
 use vtl_scalar::ScalarErr;
 
 fn item_asks(item: &Item) -> bool
@@ -185,7 +185,7 @@ fn add_select<L: Ledger>(
     by_index: &[usize],
     early: &[Early],
     kinds: &[Kind],
-    tables: &Tables,
+    tables: &HeldTables,
     p: &Profile,
     steps: &mut Steps<L>,
 ) -> Result<(), ScalarErr>
@@ -203,34 +203,6 @@ fn add_select<L: Ledger>(
     }
 }
 
-// The joins of the select at a place that go by an index.
-fn indexed_joins(alloc: Global, plan: &Plan, select: usize) -> Result<Vec<usize>, AllocError>
-    ensures { IfOk result (λ v. v.items ≡ map (λ i. i.join) (filter (λ i. i.select == select) plan.now.ways.indexed)) }
-{
-    let indexed = plan.indexed();
-    let mut joins = Vec::new(alloc);
-    for entry in indexed {
-        if entry.select == select {
-            joins.push(entry.join)?;
-        }
-    }
-    Ok(joins)
-}
-
-// The parts of the WHERE of the select at a place that are tried early.
-fn early_parts(alloc: Global, plan: &Plan, select: usize) -> Result<Vec<Early>, AllocError>
-    ensures { IfOk result (λ v. v.items ≡ early_in plan.now.ways select) }
-{
-    let early = plan.early();
-    let mut parts = Vec::new(alloc);
-    for entry in early {
-        if entry.select == select {
-            parts.push(*entry)?;
-        }
-    }
-    Ok(parts)
-}
-
 /// Adds the rows of all selects, or the worst of their faults, as the plan of the query has them: each select is carried
 /// out, whatever those before it give, with the joins by an index and the parts of WHERE that the plan lists for it.
 pub(crate) fn add_selects<L: Ledger>(
@@ -239,7 +211,7 @@ pub(crate) fn add_selects<L: Ledger>(
     plan: &Plan,
     selects: &[Select],
     kinds: &[Kind],
-    tables: &Tables,
+    tables: &HeldTables,
     p: &Profile,
     steps: &mut Steps<L>,
 ) -> Result<(), ScalarErr>
@@ -251,13 +223,12 @@ pub(crate) fn add_selects<L: Ledger>(
     ensures steps { (s : SelectTree) → map select_tree selects.now ≡ s ∷ [] → is_indexed (indexed_in plan.now.ways 0) 0 ≡ true → IsPlainJoin s → steps.new ≤ steps.old + most_steps (base_held p.now tables.now) s }
     ensures err { IfErr result (λ e. e ≡ ScalarErr.OutOfMemory) }
 {
+    let planned = PlannedSelects::of(alloc, plan, selects.len())?;
     for place in 0..selects.len() {
-        let by_index = indexed_joins(alloc, plan, place)?;
-        let early = early_parts(alloc, plan, place)?;
         let select = &selects[place];
-        add_select(
-            alloc, out, select, &by_index, &early, kinds, tables, p, steps,
-        )?;
+        let by_index = planned.joins[place].as_slice();
+        let early = planned.early[place].as_slice();
+        add_select(alloc, out, select, by_index, early, kinds, tables, p, steps)?;
     }
     Ok(())
 }

@@ -1,6 +1,10 @@
 pub mod Views
 pub mod Flats
 pub mod Joins
+pub mod Gained
+pub mod Stepped
+pub mod Conditioned
+pub mod Turns
 pub mod Marks
 pub mod Named
 pub mod Parted
@@ -13,7 +17,6 @@ pub mod ChosenCells
 pub mod Alone
 pub mod Equalities
 pub mod Conjunctions
-pub mod Conjuncts
 pub mod Found
 pub mod Spots
 pub mod Tied

@@ -1,13 +1,14 @@
 -- Equalities that link two sources.
-use Rattle.std.proofs.Common.{◌≡◌, ◌∙◌, ℕ, true, Option, None, Some, IsSome, sym}
-use Rattle.std.specs.List.{list_all}
+use Rattle.std.proofs.Common.{◌≡◌, ◌∙◌, ℕ, true, false, ◌||◌, List, [], ◌∷◌, Option, None, Some, IsSome, refl, sym}
+use Rattle.std.specs.List.{AllByRecursion, list_all}
 use Rattle.std.proofs.lemmas.Bool.{and_parts}
 use Rattle.std.proofs.lemmas.List.Folds.{list_all-append}
 use Rattle.vtl_cell.specs.declared.operator.ScalarOp.TheVariants as op
 use Rattle.sql_tree.specs.Trees as tree
 use Rattle.sql_tree.specs.Trees.{Exp}
 use Rattle.sql_meaning.specs.Plans.{conjuncts}
-use Rattle.sql_from.specs.Keys.{is_link}
+use Rattle.sql_from.specs.Asking.{asks}
+use Rattle.sql_from.specs.Keys.{AreLinked, are_linked, is_link}
 use Rattle.sql_from.specs.Sources.{Sourced}
 
 -- what links on both sides of AND
@@ -23,3 +24,19 @@ found_other o x e n = cc
 
 pub found_same : {A : Type 0} (o : Option A) (x y : A) → o ≡ Some x → o ≡ Some y → x ≡ y
 found_same o x y e f = cc
+
+-- what links two sources asks no EXISTS
+equal_asks : (s : Sourced) (lead : ℕ) (a b : Exp) → are_linked s lead a b ≡ true → (asks a || asks b) ≡ false
+equal_asks s lead (tree.column x) (tree.column y) h = refl
+equal_asks s lead (tree.column x) b h = cc
+equal_asks s lead a b h = cc
+
+link_asks : (s : Sourced) (lead : ℕ) (e : Exp) → list_all (is_link s lead) (conjuncts e) ≡ true → asks e ≡ false
+link_asks s lead (tree.binary a op.And b) h = let both = links_parted s lead a b h in λ i. link_asks s lead a both.0 i || link_asks s lead b both.1 i
+link_asks s lead (tree.binary a op.Equal b) h = equal_asks s lead a b (and_parts (are_linked s lead a b) true h).0
+link_asks s lead e h = cc
+
+pub linked_asks : (s : Sourced) (lead : ℕ) (es : List Exp) → AreLinked s lead es → AllByRecursion (λ e. asks e ≡ false) es
+linked_asks s lead [] h = absurd h
+linked_asks s lead (e ∷ []) h = (link_asks s lead e h.links, tt)
+linked_asks s lead (e ∷ d ∷ es) h = absurd h

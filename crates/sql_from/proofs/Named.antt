@@ -12,7 +12,7 @@ use Rattle.vtl_rows.specs.declared.column.Column.{Column}
 use Rattle.sql_tree.specs.Trees.{Text}
 use Rattle.sql_check_parts.specs.Scopes.{Columns, Named, numbered, value_among}
 use Rattle.sql_meaning.specs.Tables.{column_entry}
-use Rattle.sql_from.specs.Sources.{AreFound}
+use Rattle.sql_from.specs.Columns.{AreFound}
 use Rattle.sql_from.specs.declared.columns.ColumnAt.{ColumnAt}
 
 -- the first of two that there is
@@ -50,27 +50,27 @@ same_text-is (i ∷ x) (j ∷ y) e =
     λ m. eqb-true i j parts.0 m ∷ rest m
 
 -- ---- one column more
-module _ (first : ℕ) (es : Columns) (named : Named ColumnAt) (key : Text) (kind : Kind) (before : AreFound first es named) where
-  pub put_found : (n : ℕ) (after : Named ColumnAt) → n ≡ first + length es → after ≡ named ++ (key, record { place = n; kind = kind }) ∷ [] → AreFound first (es ++ (key, kind) ∷ []) after
-  put_found n after e is = subst (AreFound first (es ++ (key, kind) ∷ [])) (sym (is ∙ ap (λ (i : ℕ). named ++ (key, at i) ∷ []) e)) found
+module _ (es : Columns) (named : Named ColumnAt) (key : Text) (kind : Kind) (before : AreFound es named) where
+  pub put_found : (n : ℕ) (after : Named ColumnAt) → n ≡ 0 + length es → after ≡ named ++ (key, record { place = n; kind = kind }) ∷ [] → AreFound (es ++ (key, kind) ∷ []) after
+  put_found n after e is = subst (AreFound (es ++ (key, kind) ∷ [])) (sym (is ∙ ap (λ (i : ℕ). named ++ (key, at i) ∷ []) e)) found
     where
       at : ℕ → ColumnAt
       at i = record { place = i; kind = kind }
 
-      found : AreFound first (es ++ (key, kind) ∷ []) (named ++ (key, at (first + length es)) ∷ [])
+      found : AreFound (es ++ (key, kind) ∷ []) (named ++ (key, at (0 + length es)) ∷ [])
       found = record {
-        kinds = λ name. ap (option_map (λ c. c.kind)) (value_last named key (at (first + length es)) name) ∙ mapped_first (λ c. c.kind) (value_among named name) (same_text name key) (at (first + length es))
+        kinds = λ name. ap (option_map (λ c. c.kind)) (value_last named key (at (0 + length es)) name) ∙ mapped_first (λ c. c.kind) (value_among named name) (same_text name key) (at (0 + length es))
             ∙ ap (λ o. first_of o (cond (same_text name key) (Some kind) None)) (before.kinds name) ∙ sym (value_last es key kind name);
-        places = λ name. ap (option_map (λ c. c.place)) (value_last named key (at (first + length es)) name) ∙ mapped_first (λ c. c.place) (value_among named name) (same_text name key) (at (first + length es))
-            ∙ ap (λ o. first_of o (cond (same_text name key) (Some (first + length es)) None)) (before.places name) ∙ sym (value_last (numbered first es) key (first + length es) name)
-            ∙ ap (λ l. value_among l name) (sym (numbered_last first es key kind));
+        places = λ name. ap (option_map (λ c. c.place)) (value_last named key (at (0 + length es)) name) ∙ mapped_first (λ c. c.place) (value_among named name) (same_text name key) (at (0 + length es))
+            ∙ ap (λ o. first_of o (cond (same_text name key) (Some (0 + length es)) None)) (before.places name) ∙ sym (value_last (numbered 0 es) key (0 + length es) name)
+            ∙ ap (λ l. value_among l name) (sym (numbered_last 0 es key kind));
       }
 
   -- one whose name is there is not found
-  pub skip_found : list_any (same_text key) (keys_of named) ≡ true → AreFound first (es ++ (key, kind) ∷ []) named
+  pub skip_found : list_any (same_text key) (keys_of named) ≡ true → AreFound (es ++ (key, kind) ∷ []) named
   skip_found there = record {
     kinds = λ name. before.kinds name ∙ sym (value_last es key kind name ∙ passed (value_among es name) kind name (λ s. known es kinds_known name s));
-    places = λ name. before.places name ∙ sym (ap (λ l. value_among l name) (numbered_last first es key kind) ∙ value_last (numbered first es) key (first + length es) name ∙ passed (value_among (numbered first es) name) (first + length es) name (λ s. known (numbered first es) places_known name s));
+    places = λ name. before.places name ∙ sym (ap (λ l. value_among l name) (numbered_last 0 es key kind) ∙ value_last (numbered 0 es) key (0 + length es) name ∙ passed (value_among (numbered 0 es) name) (0 + length es) name (λ s. known (numbered 0 es) places_known name s));
   }
     where
       some_named : (xs : Named ColumnAt) → list_any (same_text key) (keys_of xs) ≡ true → IsSome (value_among xs key)
@@ -88,7 +88,7 @@ module _ (first : ℕ) (es : Columns) (named : Named ColumnAt) (key : Text) (kin
       kinds_known : IsSome (value_among es key)
       kinds_known = subst IsSome (before.kinds key) (some_mapped (λ c. c.kind) (value_among named key) (some_named named there))
 
-      places_known : IsSome (value_among (numbered first es) key)
+      places_known : IsSome (value_among (numbered 0 es) key)
       places_known = subst IsSome (before.places key) (some_mapped (λ c. c.place) (value_among named key) (some_named named there))
 
       known : {W : Type 0} (xs : Named W) → IsSome (value_among xs key) → (name : Text) → same_text name key ≡ true → IsSome (value_among xs name)
@@ -104,25 +104,8 @@ module _ (first : ℕ) (es : Columns) (named : Named ColumnAt) (key : Text) (kin
 
 -- ---- columns in order
 
-pub columns_more : (first : ℕ) (columns : List Column) (i : ℕ) (x : Column) (named after : Named ColumnAt) → i < length columns → x ≡ get_or columns i x → AreFound first (map column_entry (take i columns) ++ (x.name, x.kind) ∷ []) after → AreFound first (map column_entry (take (i + 1) columns)) after
-columns_more first columns i x named after h at found =
-    subst (λ es. AreFound first es after)
+pub columns_more : (columns : List Column) (i : ℕ) (x : Column) (named after : Named ColumnAt) → i < length columns → x ≡ get_or columns i x → AreFound (map column_entry (take i columns) ++ (x.name, x.kind) ∷ []) after → AreFound (map column_entry (take (i + 1) columns)) after
+columns_more columns i x named after h at found =
+    subst (λ es. AreFound es after)
     (sym (ap (map column_entry) (take_more columns i x h ∙ ap (λ y. take i columns ++ y ∷ []) (sym at)) ∙ map-append column_entry (take i columns) (x ∷ [])))
     found
-
--- the place of a name among those that are left
-pub place_here : (columns : List Column) (name : Text) (i : ℕ) (x : Column) (d : ℕ) → i < length columns → x ≡ get_or columns i x → same_text name x.name ≡ true → unwrap_or (value_among (numbered i (map column_entry (drop i columns))) name) d ≡ i
-place_here columns name i x d h at s =
-    ap (λ l. unwrap_or (value_among (numbered i (map column_entry l)) name) d) (drop_more columns i x h ∙ ap (λ y. y ∷ drop (i + 1) columns) (sym at))
-    ∙ ap (λ b. unwrap_or (cond b (Some i) (value_among (numbered (suc i) (map column_entry (drop (i + 1) columns))) name)) d) s
-
-pub place_on : (columns : List Column) (name : Text) (i : ℕ) (x : Column) (d : ℕ) → i < length columns → x ≡ get_or columns i x → same_text name x.name ≡ false
-    → unwrap_or (value_among (numbered i (map column_entry (drop i columns))) name) d ≡ unwrap_or (value_among (numbered (i + 1) (map column_entry (drop (i + 1) columns))) name) d
-place_on columns name i x d h at s =
-    let e : suc i ≡ i + 1 = omega arith in
-    ap (λ l. unwrap_or (value_among (numbered i (map column_entry l)) name) d) (drop_more columns i x h ∙ ap (λ y. y ∷ drop (i + 1) columns) (sym at))
-    ∙ ap (λ b. unwrap_or (cond b (Some i) (value_among (numbered (suc i) (map column_entry (drop (i + 1) columns))) name)) d) s
-    ∙ ap (λ n. unwrap_or (value_among (numbered n (map column_entry (drop (i + 1) columns))) name) d) e
-
-pub place_past : (columns : List Column) (name : Text) (i d : ℕ) → length columns ≤ i → unwrap_or (value_among (numbered i (map column_entry (drop i columns))) name) d ≡ d
-place_past columns name i d h = ap (λ l. unwrap_or (value_among (numbered i (map column_entry l)) name) d) (drop_all i columns h)

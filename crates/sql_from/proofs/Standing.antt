@@ -1,10 +1,10 @@
 -- What one source more stands for.
-use Rattle.std.proofs.Common.{◌≡◌, ℕ, suc, ◌+◌, ◌-◌, ◌<◌, List, [], ◌∷◌, ◌++◌, map, take, get_or, length, Option, Some, None, Ok, Err, IfOk, IsSome, Result, refl, sym, ap, ◌∙◌, subst, length-append, arith}
+use Rattle.std.proofs.Common.{◌≡◌, ℕ, suc, ◌+◌, ◌-◌, ◌<◌, List, [], ◌∷◌, ◌++◌, cond, map, length, Option, Some, None, Ok, Err, IfOk, IsSome, Result, refl, sym, ap, ◌∙◌, subst, length-append, arith}
+use Rattle.std.specs.Borrow.{Bor}
 use Rattle.std.specs.List.{AllByRecursion, filter}
 use Rattle.std.specs.Prelude.{fold}
 use Rattle.std.specs.Option.{option_map}
-use Rattle.std.proofs.lemmas.Grind.{flat_map-append}
-use Rattle.std.proofs.lemmas.List.{length-map, map-append, take_more}
+use Rattle.std.proofs.lemmas.List.{length-map, map-append}
 use Rattle.vtl_lists.proofs.Sorts.{AllByRecursion-filter}
 use Rattle.vtl_decimal.specs.declared.number.Fault.TheVariants.{DivZero, Range}
 use Rattle.vtl_decimal.specs.declared.number.Fault.{Fault}
@@ -34,7 +34,8 @@ use Rattle.sql_meaning.specs.Tables.{Base, column_entry, columns_named, rows_of}
 use Rattle.sql_meaning.specs.Values.{View, at_rows, value}
 use Rattle.sql_meaning.specs.declared.plan.Early.{Early}
 use Rattle.sql_meaning.proofs.SourceKinds.{source_added}
-use Rattle.sql_meaning.proofs.UpToOrder.{join_none}
+use Rattle.sql_meaning.proofs.UpToOrder.{join_assoc, join_none}
+use Rattle.sql_from.specs.Conditions.{all_of, conditions_at, due_at, filtered, kind_of, on_of}
 use Rattle.sql_from.specs.Held.{base_held, columns_held, rows_held, tables_held}
 use Rattle.sql_from.specs.Joins.{crossed_tuples, joined_tuples, kept_fault, kept_tuples, marks_of, numbers_to, pairs_fault, singles}
 use Rattle.sql_from.specs.Keys.{last_of as last_source}
@@ -42,10 +43,13 @@ use Rattle.sql_from.specs.Rows.{combined, width_of}
 use Rattle.vtl_scalar.specs.Seen.{answer_of}
 use Rattle.sql_from.specs.Sources.{IsWide, Sourced, or_nothing, parts_of, scope_held, table_named}
 use Rattle.sql_from.specs.Standing.{MayLookUp, StandsFor, condition_at, rows_for, sight_of}
+use Rattle.sql_from.specs.Steps.{is_listed}
 use Rattle.sql_from.specs.Tuples.{Numbered}
+use Rattle.sql_from.proofs.Marks.{other_number, same_number}
 use Rattle.sql_from.proofs.Means.{cross_means, crossed_wide, faults_through, joined_wide, kept_means, marks_many, single_rows, singles_wide, step_faults, step_means}
 use Rattle.sql_from.proofs.Parted.{get_behind}
 use Rattle.sql_from.proofs.Sited.{columns_are, row_wide, table_there}
+use Rattle.sql_from.proofs.Turns.{all_kept, fault_in_turn, joined_none, joined_one, kept_in_turn, no_fault_kept, pairs_none, pairs_one}
 
 last_of : {X : Type 0} (P : X → Type 0) (xs : List X) (x : X) → AllByRecursion P (xs ++ x ∷ []) → P x
 last_of P [] x all = all.0
@@ -183,15 +187,6 @@ first_stands p held source t s count typed is wide counted w tuples =
 -- ---- WHERE, and a part of it that is tried early
 
 module _ (p : Settings) (s : Sourced) (t : Numbered) (seen : Option Fault) (f : Joined) (before : StandsFor f s t seen) where
-  pub kept_stands : (e : Exp) (tuples : List (List ℕ)) (seen' : Option Fault) → tuples ≡ kept_tuples (condition_at p s e) t.tuples → seen' ≡ join seen (kept_fault (condition_at p s e) t.tuples)
-      → unless seen' (map (combined (parts_of s.sources)) tuples) ≡ kept_of (base_held p s.held) (Some e) f
-  kept_stands e tuples seen' is fault =
-      let v : Row → Outcome Cell = λ r. value (sight_of p s) e r [] in
-      let h = combined (parts_of s.sources) in
-      (λ i. unless (fault i) (map h (is i)))
-      ∙ (λ i. unless (join (before.fault i) (faults_through (λ r. fault_in (v r)) h t.tuples i)) (kept_means h v t.tuples i))
-      ∙ (λ i. unless (join f.fault (faults_by (λ r. fault_in (value (at_rows (base_held p s.held) (before.scope i)) e r [])) (before.rows i))) (filter (λ r. is_true (value (at_rows (base_held p s.held) (before.scope i)) e r [])) (before.rows i)))
-
   pub tried_stands : (e : Exp) (t' : Numbered) (seen' : Option Fault) → t'.width ≡ t.width → t'.tuples ≡ kept_tuples (condition_at p s e) t.tuples → seen' ≡ join seen (kept_fault (condition_at p s e) t.tuples) → StandsFor (try_early (sight_of p s) f e) s t' seen'
   tried_stands e t' seen' w is fault =
       let v : Row → Outcome Cell = λ r. value (sight_of p s) e r [] in
@@ -205,8 +200,73 @@ module _ (p : Settings) (s : Sourced) (t : Numbered) (seen : Option Fault) (f : 
         fault = fault ∙ (λ i. join (before.fault i) (faults_through (λ r. fault_in (v r)) h t.tuples i)) ∙ ap (λ rows. join f.fault (faults_by (λ r. fault_in (v r)) rows)) before.rows;
       }
 
-  pub all_stand : unless seen (rows_for s t) ≡ kept_of (base_held p s.held) None f
-  all_stand = (λ i. unless (before.fault i) (before.rows i)) ∙ ap (λ g. unless g f.rows) (sym (join_none f.fault))
+-- the same tuples and the same fault
+same_stands : (f : Joined) (s : Sourced) (t t' : Numbered) (seen seen' : Option Fault) → StandsFor f s t seen → t'.width ≡ t.width → t'.tuples ≡ t.tuples → seen' ≡ seen → StandsFor f s t' seen'
+same_stands f s t t' seen seen' before w is fault = record {
+  scope = before.scope;
+  width = w ∙ before.width;
+  whole = subst (AllByRecursion (λ x. length x ≡ length s.sources)) (sym is) before.whole;
+  wide = before.wide;
+  rows = ap (map (combined (parts_of s.sources))) is ∙ before.rows;
+  fault = fault ∙ before.fault;
+}
+
+-- parts that are tried in turn
+pub all_tried : (p : Settings) (s : Sourced) (es : List Exp) (t : Numbered) (seen : Option Fault) (f : Joined) → StandsFor f s t seen → (t' : Numbered) (seen' : Option Fault) → t'.width ≡ t.width
+    → t'.tuples ≡ kept_tuples (conditions_at p s es) t.tuples → seen' ≡ join seen (kept_fault (conditions_at p s es) t.tuples) → StandsFor (fold (try_early (sight_of p s)) f es) s t' seen'
+all_tried p s [] t seen f before t' seen' w is fault = same_stands f s t t' seen seen' before w (is ∙ all_kept t.tuples) (fault ∙ ap (join seen) (no_fault_kept t.tuples) ∙ join_none seen)
+all_tried p s (e ∷ es) t seen f before t' seen' w is fault =
+    let here = condition_at p s e in
+    let rest = conditions_at p s es in
+    let kept : Numbered = record { width = t.width; tuples = kept_tuples here t.tuples } in
+    let tried : StandsFor (try_early (sight_of p s) f e) s kept (join seen (kept_fault here t.tuples)) = tried_stands p s t seen f before e kept (join seen (kept_fault here t.tuples)) refl refl refl in
+    all_tried p s es kept (join seen (kept_fault here t.tuples)) (try_early (sight_of p s) f e) tried t' seen' w
+    (is ∙ kept_in_turn here (map (condition_at p s) es) t.tuples)
+    (fault ∙ ap (join seen) (fault_in_turn here (map (condition_at p s) es) t.tuples) ∙ sym (join_assoc seen (kept_fault here t.tuples) (kept_fault rest kept.tuples)))
+
+-- ---- a join, and what is tried on its tuples
+
+pub join_stands : (s : Sourced) (j : JoinTree) (typed : IsSourceTyped (tables_held s.held) (scope_held s.sources) (join_source j)) (p : Settings) (t : Numbered) (seen : Option Fault) (f : Joined) → StandsFor f s t seen
+    → AllByRecursion IsWide (parts_of (with_table s (join_source j)).sources) → (count : ℕ) → count ≡ length (rows_held s.held (join_source j).table) → (marks : List ℕ) (t' : Numbered) (seen' : Option Fault) → marks ≡ marks_of (parts_of s.sources) → t'.width ≡ t.width + 1
+    → t'.tuples ≡ joined_tuples (kind_of j) (conditions_at p (with_table s (join_source j)) (on_of j)) marks count t.tuples → seen' ≡ join seen (pairs_fault (conditions_at p (with_table s (join_source j)) (on_of j)) count t.tuples)
+    → StandsFor (with_join (base_held p s.held) f j) (with_table s (join_source j)) t' seen'
+join_stands s (tree.on kind source e) typed p t seen f before wide count counted marks t' seen' m w is fault =
+    let on = condition_at p (with_table s source) e in
+    on_stands s source typed p t seen f before wide count counted kind e marks t' seen' m w (is ∙ joined_one kind on marks count t.tuples) (fault ∙ ap (join seen) (pairs_one on count t.tuples))
+join_stands s (tree.cross source) typed p t seen f before wide count counted marks t' seen' m w is fault =
+    cross_stands s source typed p t seen f before wide count counted t' seen' w (is ∙ joined_none marks count t.tuples) (fault ∙ ap (join seen) (pairs_none count t.tuples) ∙ join_none seen)
+
+module _ (s : Sourced) (j : JoinTree) (typed : IsSourceTyped (tables_held s.held) (scope_held s.sources) (join_source j)) (p : Settings) (t : Numbered) (seen : Option Fault) (f : Joined) (before : StandsFor f s t seen) where
+  -- the tuples of the join, over these sources
+  abbrev pub joined_over : Sourced → List ℕ → List (List ℕ)
+  joined_over z marks = joined_tuples (kind_of j) (conditions_at p z (on_of j)) marks (length (last_source z).rows) t.tuples
+
+  abbrev pub fault_over : Sourced → Option Fault
+  fault_over z = pairs_fault (conditions_at p z (on_of j)) (length (last_source z).rows) t.tuples
+
+  abbrev Stands : List Exp → List ℕ → Numbered → Option Fault → Sourced → Type 0
+  Stands es marks t' seen' z =
+      AllByRecursion IsWide (parts_of z.sources) → t'.tuples ≡ kept_tuples (conditions_at p z es) (joined_over z marks)
+      → seen' ≡ join seen (join (fault_over z) (kept_fault (conditions_at p z es) (joined_over z marks)))
+      → StandsFor (fold (try_early (sight_of p z)) (with_join (base_held p s.held) f j) es) z t' seen'
+
+  pub join_tried : (es : List Exp) (marks : List ℕ) (t' : Numbered) (seen' : Option Fault) (z : Sourced) → z ≡ with_table s (join_source j) → marks ≡ marks_of (parts_of s.sources) → t'.width ≡ t.width + 1 → Stands es marks t' seen' z
+  join_tried es marks t' seen' z same m w = subst (Stands es marks t' seen') (sym same) here
+    where
+      here : Stands es marks t' seen' (with_table s (join_source j))
+      here wide is fault =
+          let next = with_table s (join_source j) in
+          let made : Numbered = record { width = t.width + 1; tuples = joined_over next marks } in
+          let told = join seen (fault_over next) in
+          let stands : StandsFor (with_join (base_held p s.held) f j) next made told = join_stands s j typed p t seen f before wide (length (last_source next).rows) (last_counted s (join_source j) typed) marks made told m refl refl refl in
+          all_tried p next es made told (with_join (base_held p s.held) f j) stands t' seen' w is (fault ∙ sym (join_assoc seen (fault_over next) (kept_fault (conditions_at p next es) made.tuples)))
+
+  pub rows_joined : (marks : List ℕ) (z : Sourced) → z ≡ with_table s (join_source j) → AllByRecursion IsWide (parts_of z.sources) → marks ≡ marks_of (parts_of s.sources) → length (joined_over z marks) ≡ length (with_join (base_held p s.held) f j).rows
+  rows_joined marks z same wide m =
+      let next = with_table s (join_source j) in
+      let made : Numbered = record { width = t.width + 1; tuples = joined_over next marks } in
+      let stands = join_stands s j typed p t seen f before (subst (λ (y : Sourced). AllByRecursion IsWide (parts_of y.sources)) same wide) (length (last_source next).rows) (last_counted s (join_source j) typed) marks made (join seen (fault_over next)) m refl refl refl in
+      ap (λ (y : Sourced). length (joined_over y marks)) same ∙ sym (length-map (joined_over next marks) (combined (parts_of next.sources))) ∙ ap (λ l. length l) stands.rows
 
 -- ---- all joins
 
@@ -216,56 +276,81 @@ scope_behind b f (tree.on kind s e) = refl
 scope_behind b f (tree.cross s) = refl
 
 -- what is tried early keeps the sources
-scope_tried : (v : View) (f : Joined) (es : List Exp) → (fold (try_early v) f es).scope ≡ f.scope
+pub scope_tried : (v : View) (f : Joined) (es : List Exp) → (fold (try_early v) f es).scope ≡ f.scope
 scope_tried v f [] = refl
 scope_tried v f (e ∷ es) = scope_tried v (try_early v f e) es
 
+-- what is tried over these sources is tried over the tables of the run
+pub restated : (p : Settings) (held : NamedTables) (z : Sourced) (f : Joined) (es ds : List Exp) (t : Numbered) (seen : Option Fault) → z.held ≡ held → es ≡ ds → StandsFor (fold (try_early (sight_of p z)) f es) z t seen → StandsFor (fold (try_early (at_rows (base_held p held) f.scope)) f ds) z t seen
+restated p held z f es ds t seen h same stands =
+    let scope : scope_held z.sources ≡ f.scope = stands.scope ∙ scope_tried (sight_of p z) f es in
+    subst (λ (v : View). StandsFor (fold (try_early v) f ds) z t seen) (λ k. at_rows (base_held p (h k)) (scope k))
+    (subst (λ (cs : List Exp). StandsFor (fold (try_early (sight_of p z)) f cs) z t seen) same stands)
+
+-- where WHERE is tried whole
+pub filtered_kept : (b : Base) (w : Option Exp) (f : Joined) → unless (fold (try_early (at_rows b f.scope)) f (all_of w)).fault (fold (try_early (at_rows b f.scope)) f (all_of w)).rows ≡ kept_of b w f
+filtered_kept b None f = ap (λ g. unless g f.rows) (sym (join_none f.fault))
+filtered_kept b (Some e) f = refl
+
 module _ (b : Base) (s : SelectTree) (early : List Early) where
-  -- what has been tried before the n-th join, and what is joined to it
-  abbrev tried_at : ℕ → Joined → Joined
-  tried_at n f = fold (try_early (at_rows b f.scope)) f (early_at s early n)
+  -- with what is tried before the n-th join
+  abbrev pub tried_at : ℕ → Joined → Joined
+  tried_at n f = fold (try_early (at_rows b f.scope)) f (due_at s early n)
 
-  scope_next : (n : ℕ) (f : Joined) (j : JoinTree) → (with_join b (tried_at n f) j).scope ≡ with_source b.tables f.scope (join_source j)
-  scope_next n f j = scope_behind b (tried_at n f) j ∙ ap (λ scope. with_source b.tables scope (join_source j)) (scope_tried (at_rows b f.scope) f (early_at s early n))
+  scope_next : (es : List Exp) (f : Joined) (j : JoinTree) → (with_join b (fold (try_early (at_rows b f.scope)) f es) j).scope ≡ with_source b.tables f.scope (join_source j)
+  scope_next es f j = scope_behind b (fold (try_early (at_rows b f.scope)) f es) j ∙ ap (λ scope. with_source b.tables scope (join_source j)) (scope_tried (at_rows b f.scope) f es)
 
-  pub scope_joined : (n : ℕ) (f : Joined) (js : List JoinTree) → (planned_joins b s [] early n f js).scope ≡ joined_scope b.tables f.scope js
+  scope_joined : (n : ℕ) (f : Joined) (js : List JoinTree) → (planned_joins b s [] early n f js).scope ≡ joined_scope b.tables f.scope js
   scope_joined n f [] = refl
-  scope_joined n f (j ∷ js) = scope_joined (suc n) (with_join b (tried_at n f) j) js ∙ ap (λ scope. joined_scope b.tables scope js) (scope_next n f j)
+  scope_joined n f (j ∷ js) = scope_joined (suc n) (with_join b (fold (try_early (at_rows b f.scope)) f (early_at s early n)) j) js ∙ ap (λ scope. joined_scope b.tables scope js) (scope_next (early_at s early n) f j)
 
-  -- what has been joined, and the joins that are left from the n-th on
+  pub scope_filtered : (filtered b s early).scope ≡ joined_scope b.tables (first_of b s.source).scope s.joins
+  scope_filtered =
+      let f = planned_joins b s [] early 0 (first_of b s.source) s.joins in
+      scope_tried (at_rows b f.scope) f (all_of s.condition) ∙ scope_joined 0 (first_of b s.source) s.joins
+
+  due_before : (n : ℕ) → n < length s.joins → due_at s early n ≡ early_at s early n
+  due_before n h = ap (λ t. cond t (all_of s.condition) (early_at s early n)) (other_number n (length s.joins) (λ e. omega (arith, e, h)))
+
+  due_last : (n : ℕ) → n ≡ length s.joins → due_at s early n ≡ all_of s.condition
+  due_last n e = ap (λ t. cond t (all_of s.condition) (early_at s early n)) (same_number n (length s.joins) e)
+
+  -- what has been joined, with what is tried of it, and the joins that are left from the n-th on
   pub record Left (n : ℕ) (js : List JoinTree) (sources : Sourced) (t : Numbered) (seen : Option Fault) : Type 0 where
     pub so_far : Joined
-    pub stands : StandsFor so_far sources t seen
+    pub stands : StandsFor (tried_at n so_far) sources t seen
     pub typed : AreJoinsTyped b.settings b.tables so_far.scope js
     pub all : planned_joins b s [] early n so_far js ≡ planned_joins b s [] early 0 (first_of b s.source) s.joins
 
-  pub left_less : (n : ℕ) (j : JoinTree) (js : List JoinTree) (sources sources' : Sourced) (t t' : Numbered) (seen seen' : Option Fault) (left : Left n (j ∷ js) sources t seen)
-      → StandsFor (with_join b (tried_at n left.so_far) j) sources' t' seen' → Left (suc n) js sources' t' seen'
-  left_less n j js sources sources' t t' seen seen' left stands = record {
+  pub left_less : (n : ℕ) (j : JoinTree) (js : List JoinTree) (sources sources' : Sourced) (t t' : Numbered) (seen seen' : Option Fault) (left : Left n (j ∷ js) sources t seen) → n < length s.joins
+      → StandsFor (tried_at (suc n) (with_join b (tried_at n left.so_far) j)) sources' t' seen' → Left (suc n) js sources' t' seen'
+  left_less n j js sources sources' t t' seen seen' left h stands = record {
     so_far = with_join b (tried_at n left.so_far) j;
     stands = stands;
-    typed = subst (λ scope. AreJoinsTyped b.settings b.tables scope js) (sym (scope_next n left.so_far j)) left.typed.2;
-    all = left.all;
+    typed = subst (λ scope. AreJoinsTyped b.settings b.tables scope js) (sym (scope_next (due_at s early n) left.so_far j)) left.typed.2;
+    all = ap (λ es. planned_joins b s [] early (suc n) (with_join b (fold (try_early (at_rows b left.so_far.scope)) left.so_far es) j) js) (due_before n h) ∙ left.all;
   }
 
-  -- one entry more
-  pub early_more : (i n : ℕ) (e : Early) → i < length early → e ≡ get_or early i e → early_at s (take (i + 1) early) n ≡ early_at s (take i early) n ++ early_at s (e ∷ []) n
-  early_more i n e h at = ap (λ es. early_at s es n) (take_more early i e h ∙ ap (λ x. take i early ++ x ∷ []) (sym at)) ∙ flat_map-append _ (take i early) (e ∷ [])
+  pub left_none : (n : ℕ) (sources : Sourced) (t : Numbered) (seen : Option Fault) → n ≡ length s.joins → Left n [] sources t seen → StandsFor (filtered b s early) sources t seen
+  left_none n sources t seen e left =
+      subst (λ (f : Joined). StandsFor (fold (try_early (at_rows b f.scope)) f (all_of s.condition)) sources t seen) left.all
+      (subst (λ (es : List Exp). StandsFor (fold (try_early (at_rows b left.so_far.scope)) left.so_far es) sources t seen) (due_last n e) left.stands)
 
 -- ---- look-ups that are wanted
 pub allowed : {A : Type 0} (b : Base) (o : Option A) → IsSome o → MayLookUp b o → IsLawful b
 allowed b None e may = cc
 allowed b (Some x) e may = may
 
+-- where joins are listed, look-ups are wanted
+pub looked_up : (o : Option (Bor (List ℕ))) → is_listed o 0 ≡ true → IsSome o
+looked_up None e = cc
+looked_up (Some x) e = refl
+
 -- ---- answers
 
 pub if_ok : {A E : Type 0} (r : Result A E) (P Q : A → Type 0) → ((x : A) → P x → Q x) → IfOk r P → IfOk r Q
 if_ok (Ok x) P Q h k = h x k
 if_ok (Err e) P Q h k = k
-
-pub if_both : {A E : Type 0} (r : Result A E) (P Q R : A → Type 0) → ((x : A) → P x → Q x → R x) → IfOk r P → IfOk r Q → IfOk r R
-if_both (Ok x) P Q R h k l = h x k l
-if_both (Err e) P Q R h k l = k
 
 pub answered_rows : (s : Sourced) (rows t : Numbered) (seen : Option Fault) (m : Outcome (List Row)) → Ok t ≡ answer_of (unless seen rows) → unless seen (rows_for s rows) ≡ m → m ≡ Ok (rows_for s t)
 answered_rows s rows t None m e is = let same : t ≡ rows = cc in sym is ∙ ap (λ (n : Numbered). Ok (rows_for s n)) (sym same)

@@ -1,10 +1,11 @@
 -- Joins of tuples of row numbers.
-use Rattle.std.specs.Prelude.{ℕ, ◌-◌, ◌==◌, Bool, true, false, not, List, [], ◌∷◌, ◌++◌, map, filter, length, slice_index_or, Option, Ok, if◌then◌else◌}
-use Rattle.std.specs.List.{list_any, range_with_len}
+use Rattle.std.specs.Prelude.{ℕ, Bool, true, false, not, List, [], ◌∷◌, ◌++◌, map, filter, length, slice_index_or, Option, Ok, if◌then◌else◌}
+use Rattle.std.specs.List.{flat_map, range_with_len}
 use Rattle.vtl_decimal.specs.declared.number.Fault.{Fault}
 use Rattle.vtl_cell.specs.Outcome.{Outcome, after, fault_in, faults_by}
 use Rattle.vtl_cell.specs.Outcomes.{is_true}
 use Rattle.vtl_cell.specs.declared.cell.Cell.{Cell}
+use Rattle.vtl_cell.specs.declared.cell.Cell.TheVariants as c
 use Rattle.vtl_rows.specs.Tables.{Listed}
 use Rattle.sql_tree.specs.declared.word_groups.JoinKind.{JoinKind}
 use Rattle.sql_tree.specs.declared.word_groups.JoinKind.TheVariants as joining
@@ -70,13 +71,16 @@ keeps_right joining.Full = true
 abbrev pub from_left : Bool → Test → ℕ → List ℕ → List (List ℕ)
 from_left keeps f count x = if keeps then partners_or_alone (passes f) with_number (λ y. with_number y count) (numbers_to count) x else pairs_with f count x
 
--- whether a tuple ends with a number
-abbrev pub ends_with : ℕ → List ℕ → Bool
-ends_with j x = slice_index_or x (length x - 1) 0 == j
+-- the numbers of the rows that each tuple is a pair with, one tuple after the other
+abbrev pub partner_numbers : Test → ℕ → List (List ℕ) → List ℕ
+partner_numbers f count xs = flat_map (λ x. filter (passes f x) (numbers_to count)) xs
 
--- the numbers with which no tuple ends, behind those of missing parts
-abbrev pub added : List ℕ → ℕ → List (List ℕ) → List (List ℕ)
-added marks count tuples = map (with_number marks) (filter (λ j. not (list_any (ends_with j) tuples)) (numbers_to count))
+-- the numbers below this one that are not marked, behind those of missing parts
+abbrev pub unmarked_to : List ℕ → List Bool → ℕ → List (List ℕ)
+unmarked_to marks met count = map (with_number marks) (filter (λ j. not (slice_index_or met j false)) (numbers_to count))
+
+abbrev pub unmarked : List ℕ → List Bool → List (List ℕ)
+unmarked marks met = unmarked_to marks met (length met)
 
 -- ---- the first source, and WHERE
 
@@ -88,3 +92,10 @@ kept_tuples f tuples = filter (λ x. is_true (f x)) tuples
 
 abbrev pub kept_fault : Test → List (List ℕ) → Option Fault
 kept_fault f tuples = faults_by (λ x. fault_in (f x)) tuples
+
+-- ---- conditions in turn
+
+-- each is tried where all before it are true
+abbrev pub in_turn : List Test → Test
+in_turn [] x = Ok (c.Bool true)
+in_turn (f ∷ fs) x = after (f x) (λ v. if is_true (Ok v) then in_turn fs x else Ok v)

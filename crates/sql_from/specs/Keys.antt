@@ -74,6 +74,12 @@ pub record IsLinked (s : Sourced) (lead : ℕ) (e : Exp) : Type 0 where
   pub before : lead + 1 < length s.sources
   pub links : list_all (is_link s lead) (conjuncts e) ≡ true
 
+-- there is one condition, and it is such a one
+abbrev pub AreLinked : Sourced → ℕ → List Exp → Type 0
+AreLinked s lead [] = ⊥
+AreLinked s lead (e ∷ []) = IsLinked s lead e
+AreLinked s lead es = ⊥
+
 -- how many rows the source that leads and the last one have
 abbrev pub linked_count : Sourced → ℕ → ℕ
 linked_count s lead = length (part_at (parts_of s.sources) lead).rows + length (last_of s).rows

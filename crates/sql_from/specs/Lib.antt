@@ -3,7 +3,11 @@ pub mod Tuples
 pub mod Rows
 pub mod Sources
 pub mod Joins
+pub mod Gains
 pub mod Standing
+pub mod Conditions
+pub mod Tried
+pub mod Together
 pub mod Keys
 pub mod Lookups
 pub mod Asking

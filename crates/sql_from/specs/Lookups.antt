@@ -15,6 +15,11 @@ pub record Finds (width : ℕ) (f : Test) (l : KeyLookup) : Type 0 where
   pub sound : (front : List ℕ) (last : ℕ) → length front + 1 ≡ width → fault_of f front last ≡ None
   pub found : (front : List ℕ) → length front + 1 ≡ width → matched l.matches (slice_index front l.lead) ≡ filter (passes f front) (numbers_to l.count)
 
+-- and a filter takes tuples of that width
+pub record IsSound (filtered width : ℕ) (f : Test) (l : KeyLookup) : Type 0 where
+  pub wide : filtered ≡ width
+  pub finds : Finds width f l
+
 -- a look-up of the rows of a table by columns of its own, asked with the rows of a table that leads
 pub record IsKeyed (own : Listed) (lead : ℕ) (table : Listed) (keys : List KeyPair) (p : Settings) (l : KeyLookup) : Type 0 where
   pub lead_is : l.lead ≡ lead

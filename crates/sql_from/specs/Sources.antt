@@ -1,17 +1,15 @@
 -- The sources of a select over tables that the program holds.
 use Rattle.std.specs.Prelude.{◌≡◌, ℕ, ◌+◌, List, [], ◌∷◌, map, length, Option, None, Some, All}
 use Rattle.std.specs.List.{AllByRecursion}
-use Rattle.std.specs.Option.{option_map}
 use Rattle.vtl_cell.specs.declared.cell.Cell.{Cell}
 use Rattle.vtl_cell.specs.declared.cell.Cell.TheVariants.{Null}
 use Rattle.vtl_rows.specs.Named.{NamedTables, table_of}
-use Rattle.vtl_rows.specs.Tables.{Listed, listed}
+use Rattle.vtl_rows.specs.Tables.{Listed}
 use Rattle.vtl_rows.specs.declared.gather.Pick.{Pick}
 use Rattle.sql_tree.specs.Trees.{Text}
-use Rattle.sql_check_parts.specs.Scopes.{Columns, Named, Scope, numbered, value_among}
-use Rattle.sql_from.specs.Held.{IsHeld, columns_held, tables_held}
+use Rattle.sql_check_parts.specs.Scopes.{Named, Scope}
+use Rattle.sql_from.specs.Held.{IsHeld, tables_held}
 use Rattle.sql_from.specs.Rows.{picks_from}
-use Rattle.sql_from.specs.declared.columns.ColumnAt.{ColumnAt}
 use Rattle.sql_from.specs.declared.sources.SourceTable.{SourceTable}
 
 -- All tables that the program holds, and the sources, each an alias with its table.
@@ -37,18 +35,13 @@ table_named held name = or_nothing (table_of name held)
 
 -- ---- places
 
--- Columns by name are found as they are found in a list: their kinds, and their places from this one on.
-pub record AreFound (first : ℕ) (columns : Columns) (named : Named ColumnAt) : Type 0 where
-  pub kinds : (name : Text) → option_map (λ c. c.kind) (value_among named name) ≡ value_among columns name
-  pub places : (name : Text) → option_map (λ c. c.place) (value_among named name) ≡ value_among (numbered first columns) name
-
 abbrev pub source_of : Text × SourceTable → Text × Listed
-source_of s = (s.0, listed s.1.table.now)
+source_of s = (s.0, s.1.table.now)
 
--- the columns of each source are found, with places behind those of the sources before it
+-- the columns of each source stand behind those of the sources before it
 abbrev pub AreSited : ℕ → Named SourceTable → Type 0
 AreSited n [] = Unit {0}
-AreSited n (s ∷ ss) = AreFound n (columns_held (listed s.1.table.now)) s.1.columns × AreSited (n + length s.1.table.now.columns) ss
+AreSited n (s ∷ ss) = (s.1.first ≡ n) × AreSited (n + length s.1.table.now.columns) ss
 
 -- each row has a cell for each column
 abbrev pub IsWide : Listed → Type 0

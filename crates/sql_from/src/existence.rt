@@ -8,12 +8,11 @@ ghost use Rattle.vtl_cell.specs.declared.cell.Cell.TheVariants.{Null};
 ghost use Rattle.sql_eval.specs.Placed.{has_partner, is_tied, side_cell};
 ghost use Rattle.sql_from.specs.Held.{rows_held};
 
-use crate::OuterRow;
+use crate::{HeldTables, OuterRow};
 use sql_eval::{Existence, Side, Tie};
 use std::alloc::{AllocError, Global};
 use vtl_cell::{Cell, ScalarOp};
 use vtl_decimal::Profile;
-use vtl_rows::Tables;
 use vtl_scalar::{ScalarErr, apply_two};
 
 // The cell on a side of an equality; past the last one of the inner row the null that is lent.
@@ -77,7 +76,7 @@ fn all_tied<R: OuterRow>(
 /// memory runs out.
 pub fn has_partner<R: OuterRow>(
     alloc: Global,
-    tables: &Tables,
+    tables: &HeldTables,
     test: &Existence,
     outer: &R,
     p: &Profile,

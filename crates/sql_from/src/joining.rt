@@ -1,10 +1,12 @@
-// Joins of tuples with the rows of a further source, and WHERE.
+// Joins of tuples with the rows of a further source, whose tuples are tried by a filter as they are made, and WHERE.
 //
-// FULL reads from the tuples which rows were met, so it does not see how the pairs were found.
-ghost use Rattle.std.specs.List.{list_any};
-ghost use Rattle.std.specs.Prelude.{◌≡◌, ◌+◌, ◌<◌, ◌^◌, ◌++◌, length, map, slice_index_or, ℕ, false, IfErr, IfOk, OnOk};
+// FULL marks the rows that are met as pairs are made, before the filter is tried, so that what is kept of the pairs
+// decides nothing about which rows stand alone.
+ghost use Rattle.std.specs.List.{flat_map};
+ghost use Rattle.std.specs.Prelude.{◌≡◌, ◌+◌, false, length, replicate, None, IfErr, IfOk, if◌then◌else◌};
 ghost use Rattle.vtl_cell.specs.Outcome.{join};
-ghost use Rattle.sql_from.specs.Joins.{added, crossed_tuples, ends_with, joined_tuples, keeps_left, keeps_right, kept_fault, kept_tuples, numbers_to, pairs_fault, with_number};
+ghost use Rattle.sql_from.specs.Gains.{Gains};
+ghost use Rattle.sql_from.specs.Joins.{joined_tuples, keeps_left, keeps_right, kept_fault, kept_tuples, pairs_fault, pairs_with, unmarked};
 ghost use Rattle.sql_from.specs.Lookups.{Finds};
 ghost use Rattle.vtl_scalar.specs.Seen.{seen_of};
 
@@ -13,46 +15,12 @@ use crate::condition::Condition;
 use crate::key_lookup::KeyLookup;
 use crate::lookup::Lookup;
 use crate::pairing::Pairing;
-use crate::pairs::{EachRow, Walked, left_rows, try_tuple};
+use crate::pairs::{EachRow, Walked, keep_tuple, left_rows};
 use sql_tree::JoinKind;
 use std::alloc::{AllocError, Global};
+use std::sync::ledger::Ledger;
+use vtl_index::Steps;
 use vtl_scalar::ScalarErr;
-
-// Which numbers are last in a tuple.
-fn met_numbers(alloc: Global, rows: &Tuples, count: usize) -> Result<Vec<bool>, AllocError>
-    ensures many { IfOk result (λ v. length v.items ≡ count) }
-    ensures met { IfOk result (λ v. (j : ℕ) → j < count → slice_index_or v.items j false ≡ list_any (ends_with j) rows.now.tuples) }
-{
-    let mut met = vec![in alloc; false; count]?;
-    for i in 0..rows.len() {
-        let tuple = rows.tuple(i);
-        let last = tuple[rows.width() - 1];
-        if last < count {
-            met[last] = true;
-        }
-    }
-    Ok(met)
-}
-
-// Puts the numbers with which no tuple ends behind the tuples, each behind the marks of missing parts.
-fn add_unmet(
-    alloc: Global,
-    marks: &[usize],
-    count: usize,
-    rows: &mut Tuples,
-) -> Result<(), AllocError>
-    requires { length marks.now + 1 ≡ rows.old.width }
-    ensures width { rows.new.width ≡ rows.old.width }
-    ensures rows { OnOk result (rows.new.tuples ≡ rows.old.tuples ++ added marks.now count rows.old.tuples) }
-{
-    let met = met_numbers(alloc, rows, count)?;
-    for j in 0..count {
-        if !met[j] {
-            rows.push(marks, j)?;
-        }
-    }
-    Ok(())
-}
 
 fn keeps_left(kind: JoinKind) -> bool
     ensures { result ≡ keeps_left kind }
@@ -66,8 +34,38 @@ fn keeps_right(kind: JoinKind) -> bool
     matches!(kind, JoinKind::Full)
 }
 
-// The tuples behind a join with the rows of a source, and the fault of its condition over all pairs beside the one that
-// was seen before.
+// A mark for each of so many rows, none of which is set; no marks where the join asks for none.
+fn no_marks(alloc: Global, kind: JoinKind, count: usize) -> Result<Vec<bool>, AllocError>
+    ensures { IfOk result (λ v. v.items ≡ replicate (if keeps_right kind then count else 0) false) }
+{
+    let marked = if keeps_right(kind) { count } else { 0 };
+    vec![in alloc; false; marked]
+}
+
+// Puts the rows that are not marked behind the tuples, each behind the marks of missing parts, where the filter is true.
+fn add_unmet<P: Pairing>(
+    alloc: Global,
+    pairing: &P,
+    marks: &[usize],
+    met: &[bool],
+    so_far: &mut Walked,
+) -> Result<(), ScalarErr>
+    requires sound { P.is_sound pairing.now }
+    requires marks { length marks.now + 1 ≡ so_far.old.rows.width }
+    requires width { P.width pairing.now ≡ so_far.old.rows.width }
+    ensures gains { IfOk result (λ _. Gains (P.keeps pairing.now) None (unmarked marks.now met.now) so_far.old so_far.new) }
+    ensures err { IfErr result (λ e. e ≡ ScalarErr.OutOfMemory) }
+{
+    for j in 0..met.len() {
+        if !met[j] {
+            pairing.keep(alloc, marks, j, so_far)?;
+        }
+    }
+    Ok(())
+}
+
+// The tuples behind a join with the rows of a source that its filter keeps, and the faults of its condition over all pairs
+// and of its filter over all tuples of the join, beside the one that was seen before.
 pub(crate) fn join_step<P: Pairing>(
     alloc: Global,
     kind: JoinKind,
@@ -79,87 +77,71 @@ pub(crate) fn join_step<P: Pairing>(
     requires width { P.width pairing.now ≡ left.now.rows.width + 1 }
     requires marks { length marks.now ≡ left.now.rows.width }
     ensures width { IfOk result (λ w. w.rows.width ≡ left.now.rows.width + 1) }
-    ensures rows { IfOk result (λ w. w.rows.tuples ≡ joined_tuples kind (P.value pairing.now) marks.now (P.count pairing.now) left.now.rows.tuples) }
-    ensures seen { IfOk result (λ w. seen_of w.seen ≡ join (seen_of left.now.seen) (pairs_fault (P.value pairing.now) (P.count pairing.now) left.now.rows.tuples)) }
+    ensures rows { IfOk result (λ w. w.rows.tuples ≡ kept_tuples (P.keeps pairing.now) (joined_tuples kind (P.value pairing.now) marks.now (P.count pairing.now) left.now.rows.tuples)) }
+    ensures seen { IfOk result (λ w. seen_of w.seen ≡ join (seen_of left.now.seen) (join (pairs_fault (P.value pairing.now) (P.count pairing.now) left.now.rows.tuples) (kept_fault (P.keeps pairing.now) (joined_tuples kind (P.value pairing.now) marks.now (P.count pairing.now) left.now.rows.tuples)))) }
     ensures err { IfErr result (λ e. e ≡ ScalarErr.OutOfMemory) }
 {
-    let mut so_far = left_rows(alloc, keeps_left(kind), pairing, left)?;
-    if keeps_right(kind) {
-        add_unmet(alloc, marks, pairing.count(), &mut so_far.rows)?;
-    }
+    let mut met = no_marks(alloc, kind, pairing.count())?;
+    let mut so_far = left_rows(alloc, keeps_left(kind), pairing, left, &mut met)?;
+    add_unmet(alloc, pairing, marks, &met, &mut so_far)?;
     Ok(so_far)
 }
 
-// The tuples behind a join with so many rows, of which each is tried, and the fault of the condition over all pairs beside
-// the one that was seen before.
-pub(crate) fn join_each<C: Condition>(
+// The same for a join with so many rows, of which each is tried.
+pub(crate) fn join_each<C: Condition, F: Condition>(
     alloc: Global,
     kind: JoinKind,
     condition: &C,
+    filter: &F,
     left: &Walked,
     marks: &[usize],
     count: usize,
 ) -> Result<Walked, ScalarErr>
     requires width { C.width condition.now ≡ left.now.rows.width + 1 }
+    requires filter { F.width filter.now ≡ C.width condition.now }
     requires marks { length marks.now ≡ left.now.rows.width }
     ensures width { IfOk result (λ w. w.rows.width ≡ left.now.rows.width + 1) }
-    ensures rows { IfOk result (λ w. w.rows.tuples ≡ joined_tuples kind (C.value condition.now) marks.now count left.now.rows.tuples) }
-    ensures seen { IfOk result (λ w. seen_of w.seen ≡ join (seen_of left.now.seen) (pairs_fault (C.value condition.now) count left.now.rows.tuples)) }
+    ensures rows { IfOk result (λ w. w.rows.tuples ≡ kept_tuples (F.value filter.now) (joined_tuples kind (C.value condition.now) marks.now count left.now.rows.tuples)) }
+    ensures seen { IfOk result (λ w. seen_of w.seen ≡ join (seen_of left.now.seen) (join (pairs_fault (C.value condition.now) count left.now.rows.tuples) (kept_fault (F.value filter.now) (joined_tuples kind (C.value condition.now) marks.now count left.now.rows.tuples)))) }
     ensures err { IfErr result (λ e. e ≡ ScalarErr.OutOfMemory) }
 {
-    let each = EachRow { condition, count };
+    let each = EachRow {
+        condition,
+        filter,
+        count,
+    };
     join_step(alloc, kind, &each, left, marks)
 }
 
-// The tuples behind a join with rows that are looked up, with which the condition has no fault.
-pub(crate) fn join_found<C: Condition>(
+// The same for a join with rows that are looked up, with which the condition has no fault. It takes a step for each row that
+// is found of a tuple.
+pub(crate) fn join_found<C: Condition, F: Condition, L: Ledger>(
     alloc: Global,
     kind: JoinKind,
     condition: &C,
+    filter: &F,
     keys: &KeyLookup<'_>,
     left: &Walked,
     marks: &[usize],
+    steps: &mut Steps<L>,
 ) -> Result<Walked, ScalarErr>
     requires finds { Finds (C.width condition.now) (C.value condition.now) keys.now }
     requires width { C.width condition.now ≡ left.now.rows.width + 1 }
+    requires filter { F.width filter.now ≡ C.width condition.now }
     requires marks { length marks.now ≡ left.now.rows.width }
     ensures width { IfOk result (λ w. w.rows.width ≡ left.now.rows.width + 1) }
-    ensures rows { IfOk result (λ w. w.rows.tuples ≡ joined_tuples kind (C.value condition.now) marks.now keys.now.count left.now.rows.tuples) }
-    ensures seen { IfOk result (λ w. seen_of w.seen ≡ join (seen_of left.now.seen) (pairs_fault (C.value condition.now) keys.now.count left.now.rows.tuples)) }
+    ensures rows { IfOk result (λ w. w.rows.tuples ≡ kept_tuples (F.value filter.now) (joined_tuples kind (C.value condition.now) marks.now keys.now.count left.now.rows.tuples)) }
+    ensures seen { IfOk result (λ w. seen_of w.seen ≡ join (seen_of left.now.seen) (join (pairs_fault (C.value condition.now) keys.now.count left.now.rows.tuples) (kept_fault (F.value filter.now) (joined_tuples kind (C.value condition.now) marks.now keys.now.count left.now.rows.tuples)))) }
+    ensures steps { steps.new ≡ steps.old + length (flat_map (pairs_with (C.value condition.now) keys.now.count) left.now.rows.tuples) }
     ensures err { IfErr result (λ e. e ≡ ScalarErr.OutOfMemory) }
 {
-    let found = Lookup { condition, keys };
+    let found = Lookup {
+        condition,
+        filter,
+        keys,
+    };
+    found.count_found(&left.rows, steps);
     join_step(alloc, kind, &found, left, marks)
-}
-
-// Puts one tuple with each of so many numbers behind the tuples.
-fn push_each(front: &[usize], count: usize, rows: &mut Tuples) -> Result<(), AllocError>
-    requires { length front.now + 1 ≡ rows.old.width }
-    ensures width { rows.new.width ≡ rows.old.width }
-    ensures rows { OnOk result (rows.new.tuples ≡ rows.old.tuples ++ map (with_number front.now) (numbers_to count)) }
-{
-    for j in 0..count {
-        rows.push(front, j)?;
-    }
-    Ok(())
-}
-
-// Each tuple with each row of a source; tuples have this width behind it.
-pub(crate) fn cross_step(
-    alloc: Global,
-    left: &Tuples,
-    count: usize,
-    width: usize,
-) -> Result<Tuples, AllocError>
-    requires { width ≡ left.now.width + 1 }
-    ensures width { IfOk result (λ t. t.width ≡ left.now.width + 1) }
-    ensures rows { IfOk result (λ t. t.tuples ≡ crossed_tuples count left.now.tuples) }
-{
-    let mut rows = Tuples::new(alloc, width);
-    for i in 0..left.len() {
-        push_each(left.tuple(i), count, &mut rows)?;
-    }
-    Ok(rows)
 }
 
 // The tuples at which a condition is true, and its fault beside the one that was seen before.
@@ -181,7 +163,7 @@ pub(crate) fn keep<C: Condition>(
     };
     for i in 0..from.rows.len() {
         let tuple = from.rows.tuple(i);
-        try_tuple(
+        keep_tuple(
             alloc,
             condition,
             &tuple[..width - 1],

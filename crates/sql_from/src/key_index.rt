@@ -9,6 +9,7 @@ ghost use Rattle.sql_meaning.specs.Profiles.{IsLawful};
 ghost use Rattle.sql_from.specs.Held.{base_held};
 ghost use Rattle.sql_from.specs.KeyPartners.{AnswersAt, AreTiedAs, IsTiedAs, asking_of, found_for};
 
+use crate::HeldTables;
 use crate::key_pairs::{KeyPair, asked_columns, own_columns};
 use crate::ties::are_same_ties;
 use sql_eval::{Existence, Side, Tie};
@@ -18,7 +19,6 @@ use std::sync::ledger::{Blank, Ledger};
 use vtl_cell::Cell;
 use vtl_decimal::Profile;
 use vtl_index::{KeyColumn, NullKeys, RowIndex, Steps};
-use vtl_rows::Tables;
 
 /// What an EXISTS asks, an index of the rows of its table, and the columns of a key by whose cells it is asked. A key
 /// with null in these is not found.
@@ -76,7 +76,7 @@ impl<'a> KeyIndex<'a> {
     /// none. It takes a step for each row of the table. It fails only if memory runs out.
     pub(crate) fn of<L: Ledger>(
         alloc: Global,
-        held: &'a Tables,
+        held: &'a HeldTables,
         test: &'a Existence,
         p: &Profile,
         steps: &mut Steps<L>,

@@ -10,8 +10,10 @@ ghost use Rattle.sql_meaning.specs.Profiles.{IsLawful, IsRowOfProfile};
 ghost use Rattle.sql_from.specs.Held.{base_held, rows_held};
 ghost use Rattle.sql_from.specs.KeyPartners.{AnswersAt, asking_of};
 
+use crate::HeldTables;
 use crate::key_index::KeyIndex;
 use crate::partner_index::is_same_profile;
+use crate::test_places::TestPlaces;
 use sql_eval::Existence;
 use std::alloc::{AllocError, Global};
 use std::marker::Model;
@@ -19,14 +21,14 @@ use std::sync::ledger::Ledger;
 use vtl_cell::Cell;
 use vtl_decimal::Profile;
 use vtl_index::Steps;
-use vtl_rows::Tables;
 
 /// Look-ups for the EXISTS that are asked at groups, with their keys, made once for all groups. A contract sees the tables
 /// that the program holds, and the profile of the keys.
 pub struct KeyPartners<'a> {
-    held: &'a Tables,
+    held: &'a HeldTables,
     p: Profile,
     indexes: Vec<KeyIndex<'a>>,
+    places: TestPlaces,
 }
 
 // Written out, so that a proof above sees one call and not the drop of each part.
@@ -36,6 +38,7 @@ impl Drop for KeyPartners<'_> {
             held: _,
             p: _,
             indexes: _indexes,
+            places: _places,
         } = self;
     }
 }
@@ -51,11 +54,12 @@ impl<'a> Model for KeyPartners<'a> {
     ghost invariant = { λ x. AllByRecursion (AnswersAt (asking_of x.held.now x.p)) x.indexes.items };
 }
 
-// Puts the look-up for an EXISTS behind others, where there can be one.
+// Puts the look-up for an EXISTS behind others, where there can be one and none of them asks the same.
 fn push_index<'a, L: Ledger>(
     alloc: Global,
     indexes: &mut Vec<KeyIndex<'a>>,
-    held: &'a Tables,
+    places: &mut TestPlaces,
+    held: &'a HeldTables,
     test: &'a Existence,
     p: &Profile,
     steps: &mut Steps<L>,
@@ -64,7 +68,11 @@ fn push_index<'a, L: Ledger>(
     requires before { AllByRecursion (AnswersAt (asking_of held.now p.now)) indexes.old.items }
     ensures { OnOk result (AllByRecursion (AnswersAt (asking_of held.now p.now)) indexes.new.items) }
 {
+    if places.place(test).is_some() {
+        return Ok(());
+    }
     if let Some(index) = KeyIndex::of(alloc, held, test, p, steps)? {
+        places.put(alloc, test, indexes.len())?;
         indexes.push(index)?;
     }
     Ok(())
@@ -72,7 +80,7 @@ fn push_index<'a, L: Ledger>(
 
 impl<'a> KeyPartners<'a> {
     /// No look-ups, over the tables that the program holds, for keys of a profile.
-    pub fn none(alloc: Global, held: &'a Tables, p: &Profile) -> KeyPartners<'a>
+    pub fn none(alloc: Global, held: &'a HeldTables, p: &Profile) -> KeyPartners<'a>
         ensures held { result.held ≡ held.now }
         ensures settings { result.settings ≡ p.now }
     {
@@ -80,6 +88,7 @@ impl<'a> KeyPartners<'a> {
             held,
             p: *p,
             indexes: Vec::new(alloc),
+            places: TestPlaces::new(alloc),
         }
     }
 
@@ -94,10 +103,21 @@ impl<'a> KeyPartners<'a> {
         requires { IsLawful (base_held self.settings self.held) }
         ensures { IfOk result (λ x. x ≡ self.entry) }
     {
-        let KeyPartners { held, p, indexes } = self;
+        let KeyPartners {
+            held,
+            p,
+            indexes,
+            places,
+        } = self;
         let mut indexes = indexes;
-        push_index(alloc, &mut indexes, held, test, &p, steps)?;
-        Ok(KeyPartners { held, p, indexes })
+        let mut places = places;
+        push_index(alloc, &mut indexes, &mut places, held, test, &p, steps)?;
+        Ok(KeyPartners {
+            held,
+            p,
+            indexes,
+            places,
+        })
     }
 
     /// Whether a row of the table of EXISTS makes each of its equalities true, at a key whose integers are of the profile;
@@ -109,8 +129,9 @@ impl<'a> KeyPartners<'a> {
         if !is_same_profile(&self.p, p) {
             return None;
         }
-        for i in 0..self.indexes.len() {
-            let index = &self.indexes[i];
+        let place = self.places.place(test)?;
+        if place < self.indexes.len() {
+            let index = &self.indexes[place];
             if index.is_for(test) {
                 return Some(index.has(key));
             }

@@ -1,6 +1,6 @@
 //! FROM and WHERE of a select of the SQL dialect, on tables that the program holds.
 //!
-//! A row of FROM is kept as a tuple of row numbers, one for each source, and no cell of it is copied: `TupleRow` lends
+//! `HeldTables` has the tables by name, and the columns of each by name. A row of FROM is kept as a tuple of row numbers, one for each source, and no cell of it is copied: `TupleRow` lends
 //! the cells to the evaluator (`sql_eval`), and `Sources` says where those of each column stand, worked out once for a
 //! select. Where the rows are those of the only source, each once and in order, its table is lent (`lent_table.rt`).
 //! How the rows are found that go together with a tuple is left to the trait `Pairing`: each row is tried, or, for
@@ -17,9 +17,11 @@
 mod asking;
 mod columns;
 mod condition;
+mod conditions;
 mod counting;
 mod early;
 mod existence;
+mod held_tables;
 mod joining;
 mod key_index;
 mod key_lookup;
@@ -36,6 +38,7 @@ mod partners;
 mod selects;
 mod source_condition;
 mod sources;
+mod test_places;
 mod ties;
 mod tuple_row;
 mod tuple_rows;
@@ -43,6 +46,7 @@ mod tuples;
 
 pub use asking::asks;
 pub use existence::has_partner;
+pub use held_tables::{HeldTable, HeldTables};
 pub use key_partners::KeyPartners;
 pub use outer_row::OuterRow;
 pub use partnered_row::PartneredRow;

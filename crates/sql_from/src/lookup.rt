@@ -3,45 +3,76 @@
 // A look-up is right whatever is listed: the columns of its key are read from ON itself, and where ON is no
 // conjunction of equalities, or asks two sources for cells, each row is tried. So nothing is asked of the list of a
 // plan.
-ghost use Rattle.std.specs.Prelude.{◌≡◌, ◌+◌, ◌++◌, length, map, OnOk};
-ghost use Rattle.sql_from.specs.Joins.{with_number};
-ghost use Rattle.sql_from.specs.Lookups.{Finds};
+ghost use Rattle.std.specs.List.{flat_map};
+ghost use Rattle.std.specs.Prelude.{◌≡◌, ◌+◌, ◌++◌, ◌∷◌, [], length, map, None, IfErr, IfOk};
+ghost use Rattle.sql_from.specs.Gains.{AreMarked, Gains};
+ghost use Rattle.sql_from.specs.Joins.{pairs_with, with_number};
+ghost use Rattle.sql_from.specs.Lookups.{Finds, IsSound};
 
 use crate::Tuples;
 use crate::condition::Condition;
+use crate::counting::count_each;
 use crate::key_lookup::KeyLookup;
 use crate::pairing::Pairing;
-use crate::pairs::Walked;
-use std::alloc::{AllocError, Global};
+use crate::pairs::{Walked, keep_tuple, mark};
+use std::alloc::Global;
+use std::sync::ledger::Ledger;
+use vtl_index::Steps;
 use vtl_scalar::ScalarErr;
 
 /// The rows of a source, of which those are looked up that a condition keeps beside a tuple.
 #[derive(Drop)]
-pub(crate) struct Lookup<'c, 'l, 'k, C> {
+pub(crate) struct Lookup<'c, 'f, 'l, 'k, C, F> {
     pub(crate) condition: &'c C,
+    pub(crate) filter: &'f F,
     pub(crate) keys: &'l KeyLookup<'k>,
 }
 
-// Puts one tuple with each of these numbers behind the tuples.
-fn push_found(front: &[usize], found: &[usize], rows: &mut Tuples) -> Result<(), AllocError>
-    requires { length front.now + 1 ≡ rows.old.width }
-    ensures width { rows.new.width ≡ rows.old.width }
-    ensures rows { OnOk result (rows.new.tuples ≡ rows.old.tuples ++ map (with_number front.now) found.now) }
+// Makes the pairs of one tuple with the rows of these numbers, and marks the rows.
+fn add_found<F: Condition>(
+    alloc: Global,
+    filter: &F,
+    front: &[usize],
+    found: &[usize],
+    met: &mut Vec<bool>,
+    so_far: &mut Walked,
+) -> Result<(), ScalarErr>
+    requires front { length front.now + 1 ≡ so_far.old.rows.width }
+    requires width { F.width filter.now ≡ so_far.old.rows.width }
+    ensures gains { IfOk result (λ _. Gains (F.value filter.now) None (map (with_number front.now) found.now) so_far.old so_far.new) }
+    ensures marked { IfOk result (λ _. AreMarked found.now met.old.items met.new.items) }
+    ensures err { IfErr result (λ e. e ≡ ScalarErr.OutOfMemory) }
 {
     for number in found {
-        rows.push(front, *number)?;
+        mark(met, *number);
+        keep_tuple(alloc, filter, front, *number, so_far)?;
     }
     Ok(())
 }
 
-impl<'c, 'l, 'k, C: Condition> Pairing for Lookup<'c, 'l, 'k, C> {
+impl<'c, 'f, 'l, 'k, C: Condition, F: Condition> Lookup<'c, 'f, 'l, 'k, C, F> {
+    /// Counts a step for each row that is found of a tuple.
+    pub(crate) fn count_found<L: Ledger>(&self, left: &Tuples, steps: &mut Steps<L>)
+        requires finds { Finds (C.width self.now.condition.now) (C.value self.now.condition.now) self.now.keys.now }
+        requires width { C.width self.now.condition.now ≡ left.now.width + 1 }
+        ensures { steps.new ≡ steps.old + length (flat_map (pairs_with (C.value self.now.condition.now) self.now.keys.now.count) left.now.tuples) }
+    {
+        for i in 0..left.len() {
+            count_each(self.keys.found(left.tuple(i)).len(), steps);
+        }
+    }
+}
+
+impl<'c, 'f, 'l, 'k, C: Condition, F: Condition> Pairing for Lookup<'c, 'f, 'l, 'k, C, F> {
     ghost width = { λ l. C.width l.condition.now };
 
     ghost count = { λ l. l.keys.now.count };
 
     ghost value = { λ l. C.value l.condition.now };
 
-    ghost is_sound = { λ l. Finds (C.width l.condition.now) (C.value l.condition.now) l.keys.now };
+    ghost keeps = { λ l. F.value l.filter.now };
+
+    ghost is_sound = { λ l. IsSound (F.width l.filter.now) (C.width l.condition.now) (C.value l.condition.now) l.keys.now };
 
     fn width(&self) -> usize {
         self.condition.width()
@@ -51,14 +82,25 @@ impl<'c, 'l, 'k, C: Condition> Pairing for Lookup<'c, 'l, 'k, C> {
         self.keys.count
     }
 
+    fn keep(
+        &self,
+        alloc: Global,
+        front: &[usize],
+        last: usize,
+        so_far: &mut Walked,
+    ) -> Result<(), ScalarErr> {
+        keep_tuple(alloc, self.filter, front, last, so_far)
+    }
+
     fn add_pairs(
         &self,
-        _: Global,
+        alloc: Global,
         front: &[usize],
+        met: &mut Vec<bool>,
         so_far: &mut Walked,
     ) -> Result<bool, ScalarErr> {
         let found = self.keys.found(front);
-        push_found(front, found, &mut so_far.rows)?;
+        add_found(alloc, self.filter, front, found, met, so_far)?;
         Ok(!found.is_empty())
     }
 }

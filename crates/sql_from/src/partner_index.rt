@@ -9,6 +9,7 @@ ghost use Rattle.sql_from.specs.Partners.{Answers};
 
 use crate::Sources;
 use crate::key_lookup::{KeyLookup, keyed};
+use crate::test_places::copied;
 use crate::ties::{are_same_ties, lead_of_tie, tied_columns};
 use sql_eval::{Existence, Tie};
 use std::alloc::{AllocError, Global};
@@ -97,14 +98,6 @@ impl<'a> PartnerIndex<'a> {
         };
         !self.keys.matches.rows(number).is_empty()
     }
-}
-
-fn copied(alloc: Global, ties: &[Tie]) -> Result<Vec<Tie>, AllocError>
-    ensures { IfOk result (λ v. v.items ≡ ties.now) }
-{
-    let mut copies = Vec::new(alloc);
-    copies.extend_from_slice(ties)?;
-    Ok(copies)
 }
 
 /// Whether two profiles are the same.

@@ -1,7 +1,7 @@
 // The EXISTS of a select, asked by look-ups that are made once.
 //
-// Look-ups for EXISTS are kept beside the sources (`Partners`), and found again by table and equalities: an
-// expression that is resolved once knows no tables.
+// Look-ups for EXISTS are kept beside the sources (`Partners`), and found again by table and equalities
+// (`TestPlaces`): an expression that is resolved once knows no tables.
 ghost use Rattle.std.specs.List.{AllByRecursion};
 ghost use Rattle.std.specs.Prelude.{◌≡◌, ◌+◌, ◌<◌, ◌++◌, ◌∷◌, [], IfOk, IfSome, length, OnOk};
 ghost use Rattle.sql_eval.specs.Placed.{has_partner};
@@ -14,6 +14,7 @@ ghost use Rattle.sql_from.specs.Sources.{parts_of};
 
 use crate::Sources;
 use crate::partner_index::PartnerIndex;
+use crate::test_places::TestPlaces;
 use sql_eval::{Existence, Resolved};
 use std::alloc::{AllocError, Global};
 use std::marker::Model;
@@ -26,6 +27,7 @@ use vtl_index::Steps;
 pub struct Partners<'a> {
     sources: &'a Sources<'a>,
     indexes: Vec<PartnerIndex<'a>>,
+    places: TestPlaces,
 }
 
 // Written out, so that a proof above sees one call and not the drop of each part.
@@ -34,6 +36,7 @@ impl Drop for Partners<'_> {
         let Partners {
             sources: _,
             indexes: _indexes,
+            places: _places,
         } = self;
     }
 }
@@ -50,10 +53,11 @@ impl<'a> Model for Partners<'a> {
     ghost invariant = { λ x. AllByRecursion (Answers x.sources.now) x.indexes.items };
 }
 
-// Puts the look-up for an EXISTS behind others, where there can be one.
+// Puts the look-up for an EXISTS behind others, where there can be one and none of them asks the same.
 fn push_index<'a, L: Ledger>(
     alloc: Global,
     indexes: &mut Vec<PartnerIndex<'a>>,
+    places: &mut TestPlaces,
     sources: &Sources<'a>,
     test: &Existence,
     p: &Profile,
@@ -63,7 +67,11 @@ fn push_index<'a, L: Ledger>(
     requires before { AllByRecursion (Answers sources.now) indexes.old.items }
     ensures { OnOk result (AllByRecursion (Answers sources.now) indexes.new.items) }
 {
+    if places.place(test).is_some() {
+        return Ok(());
+    }
     if let Some(index) = PartnerIndex::of(alloc, sources, test, p, steps)? {
+        places.put(alloc, test, indexes.len())?;
         indexes.push(index)?;
     }
     Ok(())
@@ -74,6 +82,7 @@ fn push_index<'a, L: Ledger>(
 fn push_indexes<'a, L: Ledger>(
     alloc: Global,
     indexes: &mut Vec<PartnerIndex<'a>>,
+    places: &mut TestPlaces,
     sources: &Sources<'a>,
     e: &Resolved,
     p: &Profile,
@@ -84,20 +93,20 @@ fn push_indexes<'a, L: Ledger>(
     ensures { OnOk result (AllByRecursion (Answers sources.now) indexes.new.items) }
 {
     match e {
-        Resolved::Exists(test) => push_index(alloc, indexes, sources, test, p, steps),
+        Resolved::Exists(test) => push_index(alloc, indexes, places, sources, test, p, steps),
         Resolved::Membership { operand, .. } => {
-            push_indexes(alloc, indexes, sources, operand, p, steps)
+            push_indexes(alloc, indexes, places, sources, operand, p, steps)
         }
         Resolved::Apply { args, .. } => {
             for arg in args {
-                push_indexes(alloc, indexes, sources, arg, p, steps)?;
+                push_indexes(alloc, indexes, places, sources, arg, p, steps)?;
             }
             Ok(())
         }
         Resolved::Choose { branches, .. } => {
             for branch in branches {
-                push_indexes(alloc, indexes, sources, &branch.condition, p, steps)?;
-                push_indexes(alloc, indexes, sources, &branch.value, p, steps)?;
+                push_indexes(alloc, indexes, places, sources, &branch.condition, p, steps)?;
+                push_indexes(alloc, indexes, places, sources, &branch.value, p, steps)?;
             }
             Ok(())
         }
@@ -113,6 +122,7 @@ impl<'a> Partners<'a> {
         Partners {
             sources,
             indexes: Vec::new(alloc),
+            places: TestPlaces::new(alloc),
         }
     }
 
@@ -129,10 +139,19 @@ impl<'a> Partners<'a> {
         requires { IsLawful (base_held p.now self.held) }
         ensures { IfOk result (λ x. x ≡ self.entry) }
     {
-        let Partners { sources, indexes } = self;
+        let Partners {
+            sources,
+            indexes,
+            places,
+        } = self;
         let mut indexes = indexes;
-        push_indexes(alloc, &mut indexes, sources, e, p, steps)?;
-        Ok(Partners { sources, indexes })
+        let mut places = places;
+        push_indexes(alloc, &mut indexes, &mut places, sources, e, p, steps)?;
+        Ok(Partners {
+            sources,
+            indexes,
+            places,
+        })
     }
 
     /// The sources.
@@ -154,8 +173,9 @@ impl<'a> Partners<'a> {
         requires { length front.now + 1 ≡ length self.now.sources }
         ensures { IfSome result (λ b. b ≡ has_partner p.now (rows_held self.now.held) test.now.table test.now.ties.items (combined (parts_of self.now.sources) (with_number front.now last))) }
     {
-        for i in 0..self.indexes.len() {
-            let index = &self.indexes[i];
+        let place = self.places.place(test)?;
+        if place < self.indexes.len() {
+            let index = &self.indexes[place];
             if index.is_for(test, p) {
                 return Some(index.has(front, last));
             }

@@ -4,44 +4,42 @@
 // look-up by place and the table that is made at the end.
 ghost use Rattle.std.specs.List.{AllByRecursion};
 ghost use Rattle.std.specs.Option.{option_map};
-ghost use Rattle.std.specs.Prelude.{◌≡◌, ◌+◌, ◌<◌, ◌≤◌, ◌^◌, ◌++◌, ◌∷◌, [], length, map, slice_get, Some, IfOk, IfSome, OnOk};
+ghost use Rattle.std.specs.Prelude.{◌≡◌, ◌+◌, ◌<◌, ◌≤◌, ◌^◌, ◌++◌, ◌∷◌, [], length, map, slice_get, unwrap_or, Some, IfOk, IfSome, OnOk};
 ghost use Rattle.vtl_cell.specs.Row.{column_of};
 ghost use Rattle.vtl_cell.specs.declared.cell.Cell.TheVariants.{Null};
 ghost use Rattle.vtl_rows.specs.Places.{row_at};
 ghost use Rattle.vtl_rows.specs.Tables.{listed};
-ghost use Rattle.sql_check_parts.specs.Scopes.{found, placed};
+ghost use Rattle.sql_check_parts.specs.Scopes.{found, numbered, placed, value_among};
 ghost use Rattle.sql_check_laws.specs.Selects.{IsSourceTyped};
 ghost use Rattle.sql_meaning.specs.Tables.{column_entry};
 ghost use Rattle.sql_from.specs.Columns.{columns_below, line_feed, source_columns};
-ghost use Rattle.sql_from.specs.Held.{IsHeld, rows_held, tables_held};
+ghost use Rattle.sql_from.specs.Held.{IsHeld, columns_held, rows_held, tables_held};
 ghost use Rattle.sql_from.specs.Joins.{marks_of};
 ghost use Rattle.sql_from.specs.Keys.{IsSpot, last_of, spot_of};
 ghost use Rattle.sql_from.specs.Partners.{IsPickOf};
 ghost use Rattle.sql_from.specs.Rows.{combined, picks_at, picks_from, width_of};
 ghost use Rattle.sql_from.specs.Sources.{IsWide, parts_of, scope_held, table_named};
 
-use crate::columns::{ColumnAt, columns_by_name, place_of};
+use crate::columns::ColumnAt;
+use crate::{HeldTable, HeldTables};
 use sql_eval::Names;
 use sql_tree::{Column, Source};
 use std::alloc::{AllocError, Global};
 use std::marker::Model;
 use vtl_cell::{Cell, Kind};
-use vtl_rows::{Column as TableColumn, Pick, Table, Tables};
+use vtl_rows::{Column as TableColumn, Pick, Table};
 use vtl_text::{ByName, Txt, concat};
 
-// A table that is a source, and its columns by name.
+// A table that is a source, and where the cell of its first column stands in a row of FROM.
 pub(crate) struct SourceTable<'a> {
-    pub(crate) table: &'a Table,
-    pub(crate) columns: ByName<ColumnAt>,
+    pub(crate) table: &'a HeldTable,
+    pub(crate) first: usize,
 }
 
 // Written out, so that a proof sees one call and not the drop of each part.
 impl Drop for SourceTable<'_> {
     fn drop(self) {
-        let SourceTable {
-            table: _,
-            columns: _columns,
-        } = self;
+        let SourceTable { table: _, first: _ } = self;
     }
 }
 
@@ -49,7 +47,7 @@ impl Drop for SourceTable<'_> {
 /// the cell of each column stands is worked out once for a select. A contract sees the tables by name, and the sources
 /// by alias.
 pub struct Sources<'a> {
-    held: &'a Tables,
+    held: &'a HeldTables,
     sources: ByName<SourceTable<'a>>,
     picks: Vec<Pick>,
     null: Cell,
@@ -115,7 +113,7 @@ fn push_columns(
 
 impl<'a> Sources<'a> {
     /// No sources, over the tables that the program holds.
-    pub fn over(alloc: Global, held: &'a Tables) -> Sources<'a>
+    pub fn over(alloc: Global, held: &'a HeldTables) -> Sources<'a>
         ensures held { result.held ≡ held.now }
         ensures sources { result.sources ≡ [] }
     {
@@ -142,10 +140,10 @@ impl<'a> Sources<'a> {
         } = self;
         let mut sources = sources;
         let mut picks = picks;
-        let table = held.get(&source.table).unwrap();
-        let columns = columns_by_name(alloc, table.columns(), picks.len())?;
-        push_picks(&mut picks, sources.len(), table.columns().len())?;
-        sources.put(source.alias.share()?, SourceTable { table, columns })?;
+        let table = held.held(&source.table).unwrap();
+        let first = picks.len();
+        push_picks(&mut picks, sources.len(), table.table().columns().len())?;
+        sources.put(source.alias.share()?, SourceTable { table, first })?;
         Ok(Sources {
             held,
             sources,
@@ -155,7 +153,7 @@ impl<'a> Sources<'a> {
     }
 
     /// The tables that the program holds.
-    pub fn held(&self) -> &'a Tables
+    pub fn held(&self) -> &'a HeldTables
         ensures { result.now ≡ self.now.held }
     {
         self.held
@@ -175,7 +173,7 @@ impl<'a> Sources<'a> {
         ensures held { IsHeld self.now.held (listed result.now) }
     {
         let (_, source) = self.sources.at(i);
-        source.table
+        source.table.table()
     }
 
     // How many rows the table of a source has.
@@ -233,7 +231,8 @@ impl<'a> Sources<'a> {
         let mut columns = Vec::with_capacity(alloc, self.picks.len())?;
         for i in 0..self.len() {
             let (alias, source) = self.sources.at(i);
-            push_columns(alloc, &mut columns, alias, source.table.columns())?;
+            let own = source.table.table().columns();
+            push_columns(alloc, &mut columns, alias, own)?;
         }
         Ok(columns)
     }
@@ -244,7 +243,11 @@ impl<'a> Sources<'a> {
         ensures place { option_map (λ c. c.place) result ≡ found (placed (scope_held self.now.sources)) column.now }
     {
         let source = self.sources.get(&column.source)?;
-        source.columns.get(&column.name).copied()
+        let own = source.table.column(&column.name)?;
+        Some(ColumnAt {
+            place: source.first + own.place,
+            kind: own.kind,
+        })
     }
 
     // Where the cell of a column stands: the place of its source, and that of the column in its table.
@@ -289,6 +292,16 @@ impl<'a> Sources<'a> {
     }
 }
 
+// The place of a column in a table; another one where it has no such column.
+fn place_or(table: &HeldTable, name: &Txt, other: usize) -> usize
+    ensures { result ≡ unwrap_or (value_among (numbered 0 (columns_held table.now)) name.now) other }
+{
+    match table.column(name) {
+        Some(known) => known.place,
+        None => other,
+    }
+}
+
 // The cell of a column in a row of a table; the null that is lent where it has no such row.
 fn cell_of<'r>(table: &'r Table, number: usize, column: usize, null: &'r Cell) -> &'r Cell
     requires { null.now ≡ Null }
@@ -324,13 +337,14 @@ impl<'a> Names for Sources<'a> {
     }
 
     fn inner_place(&self, source: &Source, column: &Column) -> usize {
-        let Some(table) = self.held.get(&source.table) else {
+        let Some(table) = self.held.held(&source.table) else {
             return 0;
         };
+        let wide = table.table().columns().len();
         if column.source == source.alias {
-            place_of(table.columns(), &column.name)
+            place_or(table, &column.name, wide)
         } else {
-            table.columns().len()
+            wide
         }
     }
 }

@@ -1,33 +1,60 @@
--- Cells of keys: their kinds, and that rows are grouped in a table of their keys as they are.
-use Rattle.std.proofs.Common.{◌≡◌, ℕ, ◌+◌, ◌<◌, Bool, true, not, cond, ◌&&◌, List, [], ◌∷◌, length, map, refl, sym, ap, ◌∙◌, None}
+-- Columns of keys: their places and kinds, and that rows are grouped in a table of their keys as they are.
+use Rattle.std.proofs.Common.{◌≡◌, inl, inr, ℕ, ◌+◌, ◌<◌, Bool, true, false, not, cond, List, [], ◌∷◌, All, get_or, length, map, refl, sym, ap, ◌∙◌, subst, arith, Option, None, Some}
+use Rattle.std.specs.Prelude.{IsSome, option_map, unwrap_or}
 use Rattle.std.specs.List.{AllByRecursion, position_or_len, range_with_len}
-use Rattle.std.proofs.lemmas.List.{length-map}
+use Rattle.std.proofs.lemmas.Bool.{cases_lt}
+use Rattle.std.proofs.lemmas.List.{get_or_past, length-map}
+use Rattle.std.proofs.lemmas.List.Elements.{All-from_recursion}
 use Rattle.vtl_cell.specs.Row.{Row, column_of, same_row}
 use Rattle.vtl_decimal.specs.Settings.{Settings}
 use Rattle.vtl_cell.specs.declared.cell.Cell.TheVariants as c
-use Rattle.vtl_rows.specs.Places.{row_at}
-use Rattle.vtl_rows.specs.Tables.{cells_at, column_kinds, fits, fits_kinds}
-use Rattle.vtl_rows.specs.declared.column.Column.{Column as TableColumn}
+use Rattle.vtl_cell.specs.declared.kind.Kind.{Kind}
+use Rattle.vtl_cell.specs.declared.kind.Kind.TheVariants as k
+use Rattle.vtl_rows.specs.Tables.{cells_at}
 use Rattle.vtl_index.proofs.Ranges.{all_indexed}
 use Rattle.vtl_index.specs.Leads.{leads_of}
 use Rattle.sql_tree.specs.declared.parts.Column.{Column}
-use Rattle.sql_check_parts.specs.Scopes.{Scope, column_kind, found, row_of}
+use Rattle.sql_check_parts.proofs.Places.{found_placed}
+use Rattle.sql_check_parts.specs.Scopes.{Scope, column_kind, found, or_null, placed, row_of}
 use Rattle.sql_check_laws.specs.Fits.{IsSeen}
-use Rattle.sql_meaning.specs.Tables.{RowsFit}
 use Rattle.sql_meaning.specs.Values.{place_in}
 use Rattle.sql_meaning.specs.Groups.{keys_by}
 use Rattle.sql_meaning.specs.Profiles.{AreOfProfile, IsRowOfProfile}
-use Rattle.sql_meaning.proofs.Lists.{all_at, all_once}
+use Rattle.sql_meaning.proofs.Lists.{all_once}
 use Rattle.sql_meaning.proofs.Profiled.{cell_is}
-use Rattle.sql_meaning.proofs.OperatorKinds.{some_of}
-use Rattle.sql_meaning.proofs.SourceKinds.{column_fits}
+use Rattle.sql_from.specs.Columns.{kinds_at}
 
--- ---- kinds
+-- ---- places and kinds
 
--- the cells of columns of GROUP BY have their kinds
-pub key_fits : (scope : Scope) (r : Row) → fits_kinds (row_of scope) r ≡ true → (group : List Column) → AllByRecursion (IsSeen scope None) group → fits_kinds (map (column_kind scope) group) (cells_at (map (place_in scope) group) r) ≡ true
-key_fits scope r h [] seen = refl
-key_fits scope r h (x ∷ group) seen = λ n. column_fits scope r x (column_kind scope x) h (some_of (found scope x) seen.0.0) n && key_fits scope r h group seen.1 n
+-- Past the end of the row any kind would stand there, and the column has one.
+pub place_within : (scope : Scope) (x : Column) → IsSome (found scope x) → place_in scope x < length (row_of scope)
+place_within scope x there = go (found (placed scope) x) (found_placed k.Null scope x) (found_placed k.Bool scope x)
+  where
+    go : (o : Option ℕ) → found scope x ≡ option_map (λ i. get_or (row_of scope) i k.Null) o → found scope x ≡ option_map (λ i. get_or (row_of scope) i k.Bool) o → unwrap_or o (length (row_of scope)) < length (row_of scope)
+    go None e g = let never : false ≡ true = subst IsSome e there in cc
+    go (Some i) e g = elim (cases_lt i (length (row_of scope))) [
+      | inl within ↦ within
+      | inr past ↦ let null : found scope x ≡ Some k.Null = e ∙ ap (λ (z : Kind). Some z) (get_or_past (row_of scope) i k.Null past) in let bool : found scope x ≡ Some k.Bool = g ∙ ap (λ (z : Kind). Some z) (get_or_past (row_of scope) i k.Bool past) in let same : Some k.Null ≡ Some k.Bool = sym null ∙ bool in cc
+    ]
+
+pub places_within : (scope : Scope) (group : List Column) → AllByRecursion (IsSeen scope None) group → All (λ i. i < length (row_of scope)) (map (place_in scope) group)
+places_within scope group seen = All-from_recursion (λ i. i < length (row_of scope)) (map (place_in scope) group) (each group seen)
+  where
+    each : (group : List Column) → AllByRecursion (IsSeen scope None) group → AllByRecursion (λ i. i < length (row_of scope)) (map (place_in scope) group)
+    each [] seen = tt
+    each (x ∷ group) seen = (place_within scope x seen.0.0, each group seen.1)
+
+-- the kind of a column stands at its place; past the end of the row that of null
+kind_placed : (scope : Scope) (x : Column) → column_kind scope x ≡ get_or (row_of scope) (place_in scope x) k.Null
+kind_placed scope x = ap or_null (found_placed k.Null scope x) ∙ go (found (placed scope) x)
+  where
+    go : (o : Option ℕ) → or_null (option_map (λ i. get_or (row_of scope) i k.Null) o) ≡ get_or (row_of scope) (unwrap_or o (length (row_of scope))) k.Null
+    go None = sym (get_or_past (row_of scope) (length (row_of scope)) k.Null (omega arith))
+    go (Some i) = refl
+
+pub kinds_placed : (scope : Scope) (group : List Column) → map (column_kind scope) group ≡ kinds_at (map (place_in scope) group) (row_of scope)
+kinds_placed scope [] = refl
+kinds_placed scope (x ∷ group) = λ n. kind_placed scope x n ∷ kinds_placed scope group n
 
 -- ---- integers of keys
 
@@ -73,9 +100,3 @@ module _ (places : List ℕ) (rows : List Row) where
 
   pub leads_stay : leads_of all (map key rows) ≡ leads_of key rows
   leads_stay = map_twice (λ r. position_or_len (λ s. same_row (all s) (all r)) (map key rows)) key rows ∙ λ n. map (λ r. lead_stays r n) rows
-
--- the key of one of the rows
-pub key_row_fits : (scope : Scope) (group : List Column) (rows : List Row) (i : ℕ) (columns : List TableColumn) (key : Row) → AllByRecursion (IsSeen scope None) group → RowsFit (row_of scope) rows → i < length rows → column_kinds columns ≡ map (column_kind scope) group → key ≡ cells_at (map (place_in scope) group) (row_at rows i) → fits columns key ≡ true
-key_row_fits scope group rows i columns key seen all h kinds_are is =
-    (λ n. fits_kinds (kinds_are n) (is n))
-    ∙ key_fits scope (row_at rows i) (all_at (λ q. fits_kinds (row_of scope) q ≡ true) rows i [] h all) group seen

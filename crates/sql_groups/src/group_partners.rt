@@ -7,12 +7,11 @@ ghost use Rattle.sql_meaning.specs.Profiles.{IsLawful};
 use crate::asked::Asked;
 use crate::items::GroupSelect;
 use sql_eval::{Existence, Resolved};
-use sql_from::{KeyPartners, Partners, Sources, TupleRows};
+use sql_from::{HeldTables, KeyPartners, Partners, Sources, TupleRows};
 use std::alloc::{AllocError, Global};
 use std::sync::ledger::Ledger;
 use vtl_decimal::Profile;
 use vtl_index::Steps;
-use vtl_rows::Tables;
 
 /// Look-ups for the EXISTS of a grouped select: for those that are asked at groups, and for those that the operands of
 /// aggregates ask at the rows of FROM.
@@ -34,7 +33,7 @@ impl Drop for GroupPartners<'_> {
 // The look-ups for EXISTS at keys.
 fn key_partners<'a, L: Ledger>(
     alloc: Global,
-    held: &'a Tables,
+    held: &'a HeldTables,
     tests: &[&'a Existence],
     p: &Profile,
     steps: &mut Steps<L>,

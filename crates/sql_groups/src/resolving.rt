@@ -5,8 +5,8 @@ ghost use Rattle.sql_tree.specs.View.{expr_tree, item_tree, value_tree};
 ghost use Rattle.sql_groups.specs.Resolved.{AllStand, HasValueOf, HavingStands, IsResolved, StandsFor, group_sight};
 
 use crate::items::{GroupItem, GroupSelect};
-use sql_eval::{Kinded, Level, Names, Resolved, resolve};
-use sql_tree::{Column, Item, ItemValue, Select, SqlExpr};
+use sql_eval::{GroupColumns, Kinded, Level, Names, Resolved, resolve};
+use sql_tree::{Item, ItemValue, Select, SqlExpr};
 use std::alloc::{AllocError, Global};
 use vtl_cell::{Cell, Kind};
 use vtl_decimal::Profile;
@@ -16,7 +16,7 @@ fn resolved<N: Names>(
     alloc: Global,
     p: &Profile,
     names: &N,
-    group: &[Column],
+    group: &GroupColumns<'_>,
     e: &SqlExpr,
 ) -> Result<Resolved, AllocError>
     ensures { IfOk result (HasValueOf (group_sight p.now (N.tables names.now) (N.scope names.now) group.now) (tree.expression (expr_tree e.now))) }
@@ -32,7 +32,7 @@ fn resolved_value<N: Names>(
     alloc: Global,
     p: &Profile,
     names: &N,
-    group: &[Column],
+    group: &GroupColumns<'_>,
     value: &ItemValue,
 ) -> Result<Resolved, AllocError>
     ensures { IfOk result (HasValueOf (group_sight p.now (N.tables names.now) (N.scope names.now) group.now) (value_tree value.now)) }
@@ -48,7 +48,7 @@ fn resolved_item<N: Names>(
     alloc: Global,
     p: &Profile,
     names: &N,
-    group: &[Column],
+    group: &GroupColumns<'_>,
     item: &Item,
     kind: &Kind,
 ) -> Result<GroupItem, AllocError>
@@ -65,7 +65,7 @@ fn resolved_items<N: Names>(
     alloc: Global,
     p: &Profile,
     names: &N,
-    group: &[Column],
+    group: &GroupColumns<'_>,
     items: &[Item],
     kinds: &[Kind],
 ) -> Result<Vec<GroupItem>, AllocError>
@@ -84,7 +84,7 @@ fn resolved_having<N: Names>(
     alloc: Global,
     p: &Profile,
     names: &N,
-    group: &[Column],
+    group: &GroupColumns<'_>,
     having: &Option<SqlExpr>,
 ) -> Result<Option<Resolved>, AllocError>
     ensures { IfOk result (HavingStands (group_sight p.now (N.tables names.now) (N.scope names.now) group.now) (option_map expr_tree having.now)) }
@@ -106,9 +106,9 @@ pub(crate) fn resolve_groups<N: Names>(
     requires { length kinds.now ≡ length select.now.items }
     ensures { IfOk result (IsResolved (group_sight p.now (N.tables names.now) (N.scope names.now) select.now.group) (zip (map item_tree select.now.items) kinds.now) (option_map expr_tree select.now.having)) }
 {
-    let group = select.group.as_slice();
+    let group = GroupColumns::of(alloc, select.group.as_slice())?;
     Ok(GroupSelect {
-        having: resolved_having(alloc, p, names, group, &select.having)?,
-        items: resolved_items(alloc, p, names, group, select.items.as_slice(), kinds)?,
+        having: resolved_having(alloc, p, names, &group, &select.having)?,
+        items: resolved_items(alloc, p, names, &group, select.items.as_slice(), kinds)?,
     })
 }

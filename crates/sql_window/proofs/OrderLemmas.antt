@@ -10,10 +10,11 @@ use Rattle.std.specs.declared.cmp.Ordering.TheVariants.{Less, Equal, Greater}
 use Rattle.std.proofs.lemmas.List.{map-append}
 use Rattle.vtl_lists.specs.Perm.{chain}
 use Rattle.vtl_cell.specs.Row.{Row, row_cmp, same_row}
-use Rattle.vtl_cell.specs.Sorted.{by_keys, rising, window_cmp}
+use Rattle.vtl_cell.specs.Sorted.{by_keys, in_order, rising, window_cmp}
 use Rattle.vtl_lists.specs.Sorting.{Rises, le_by, sorted_by}
+use Rattle.vtl_cell.proofs.Aggregates.{ratio-Perm}
 use Rattle.vtl_cell.proofs.Keys.{by_keys_total, window_order}
-use Rattle.vtl_lists.proofs.Perms.{Perm-sym}
+use Rattle.vtl_lists.proofs.Perms.{Perm-map, Perm-sym}
 use Rattle.vtl_cell.proofs.Rows.{same_row-is}
 use Rattle.vtl_lists.proofs.Sorts.{Perm-sorted_by, sorted_by-from_sort}
 use Rattle.vtl_rows.specs.Keys.{agree, key_of}
@@ -32,8 +33,9 @@ use Rattle.sql_tree.specs.declared.windows.Over.{Over}
 use Rattle.sql_tree.specs.declared.windows.Window.{Window}
 use Rattle.sql_tree.specs.declared.windows.WindowCall.{WindowCall}
 use Rattle.sql_tree.specs.declared.windows.WindowCall.TheVariants as call
-use Rattle.sql_meaning.specs.Values.{View}
-use Rattle.sql_meaning.specs.Windows.{call_value, keys_of, partition_of, partition_places, stand_in}
+use Rattle.sql_tree.specs.declared.word_groups.ValueFunction.TheVariants as value
+use Rattle.sql_meaning.specs.Values.{View, cell_at}
+use Rattle.sql_meaning.specs.Windows.{call_value, cells_of, keys_of, partition_of, partition_places, stand_in}
 use Rattle.sql_window.specs.Keys.{AreSorted, rising_key, tie_breakers}
 use Rattle.sql_window.specs.Runs.{IsPartition, IsTold, behind, run_values, stand_at, window_at}
 use Rattle.sql_window.proofs.PartitionLemmas.{stand_is}
@@ -145,12 +147,15 @@ module _ (v : View) (o : Over) (partition order : List SortKey) (rows : List Row
     is_partition = record { members = λ i l. Perm-sym (partitions.perm_at pl partition partition_is order columns rows places placed s e cut i l); rises = rises; told = told }
 
   -- ---- values
-  -- a rank is one in any order of the partition
+  -- a rank and a share of the total are one in any order of the partition
   value_is : (c : WindowCall) → IsOrderOf ((partition ++ order) ++ tie_breakers c width) rows places → (i : ℕ) → i < length run
       → call_value v c o (stand_at rows run i) ≡ call_value v c o (stand_in (keys_of v o) (partition_of pl rows (at i)) (at i, behind rows (get_or run i 0)))
   value_is call.Rank placed i l =
       row_rank-Perm v.base.settings (keys_of v o) (at i)
       (Perm-sym (chain (Perm-sorted_by (window_order (keys_of v o) []) (partition_of pl rows (at i))) (partitions.perm_at pl partition partition_is order [] rows places placed s e cut i l)))
+  value_is (call.Value value.RatioToReport x) placed i l =
+      ratio-Perm v.base.settings (cell_at v (at i) x) (cells_of v x (map (row_at rows) run)) (cells_of v x (in_order (keys_of v o) [] (partition_of pl rows (at i))))
+      (Perm-map (λ q. cell_at v q x) (Perm-sym (chain (Perm-sorted_by (window_order (keys_of v o) []) (partition_of pl rows (at i))) (partitions.perm_at pl partition partition_is order [] rows places placed s e cut i l))))
   value_is c placed i l = ap (call_value v c o) (stand_is v o rows run (is_partition placed) i l)
 
 -- the values of a window over one of its partitions, which stands in the listed order

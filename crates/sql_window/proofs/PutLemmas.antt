@@ -29,6 +29,7 @@ use Rattle.vtl_rows.specs.declared.column.SortKey.{SortKey}
 use Rattle.sql_tree.specs.declared.windows.Window.{Window}
 use Rattle.sql_tree.specs.declared.windows.WindowCall.{WindowCall}
 use Rattle.sql_tree.specs.declared.windows.WindowCall.TheVariants as call
+use Rattle.sql_tree.specs.declared.word_groups.ValueFunction.TheVariants as value
 use Rattle.sql_window.specs.Keys.{falls, order_key, partition_key, rising_key, tie_breakers}
 use Rattle.sql_window.specs.Runs.{behind, window_at}
 use Rattle.vtl_frames.proofs.RankLemmas.{below_or_not}
@@ -133,6 +134,7 @@ all_columns a (suc n) w h = (omega (arith, h), all_columns (a + 1) n w (omega (a
 
 breakers_within : (c : WindowCall) (n : ℕ) → AllByRecursion (λ k. k.column < n) (tie_breakers c n)
 breakers_within call.Rank n = tt
+breakers_within (call.Value value.RatioToReport x) n = tt
 breakers_within c n = all_mapped rising_key n (range_with_len 0 n) (all_columns 0 n n (omega arith))
 
 pub keys_within : (scope : Scope) (o : Over) (c : WindowCall) (n : ℕ) → AllByRecursion (λ x. place_in scope x < n) o.partition → AllByRecursion (λ k. place_in scope k.column < n) o.order

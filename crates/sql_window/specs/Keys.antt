@@ -14,6 +14,7 @@ use Rattle.sql_tree.specs.declared.windows.WindowCall.TheVariants as call
 use Rattle.sql_tree.specs.declared.windows.WindowKey.{WindowKey}
 use Rattle.sql_tree.specs.declared.word_groups.Direction.{Direction}
 use Rattle.sql_tree.specs.declared.word_groups.Direction.TheVariants as direction
+use Rattle.sql_tree.specs.declared.word_groups.ValueFunction.TheVariants as value
 use Rattle.sql_check_parts.specs.Scopes.{Scope}
 use Rattle.sql_meaning.specs.Values.{View, place_in}
 use Rattle.sql_meaning.specs.Windows.{keys_of, partition_places}
@@ -31,9 +32,11 @@ partition_key scope x = rising_key (place_in scope x)
 abbrev pub order_key : Scope → WindowKey → SortKey
 order_key scope k = record { column = place_in scope k.column; falling = falls k.direction }
 
--- what is looked at where rows tie by the listed keys: all columns, or nothing for a rank, which is one for rows that tie
+-- what is looked at where rows tie by the listed keys: all columns, or nothing for a rank, which is one for rows that tie, and for a
+-- share of the total, which no order changes
 abbrev pub tie_breakers : WindowCall → ℕ → List SortKey
 tie_breakers call.Rank width = []
+tie_breakers (call.Value value.RatioToReport x) width = []
 tie_breakers other width = map rising_key (range_with_len 0 width)
 
 -- these numbers of rows stand in the order of a window: by the columns of PARTITION BY, the keys of ORDER BY, and what its call looks at where rows tie

@@ -6,7 +6,7 @@ ghost use Rattle.sql_window.specs.Keys.{falls, order_key, partition_key, rising_
 
 use sql_eval::Names;
 use sql_from::Sources;
-use sql_tree::{Column, Direction, WindowCall, WindowKey};
+use sql_tree::{Column, Direction, ValueFunction, WindowCall, WindowKey};
 use std::alloc::{AllocError, Global};
 use vtl_rows::SortKey;
 
@@ -76,7 +76,7 @@ fn push_columns(all: &mut Vec<SortKey>, width: usize) -> Result<(), AllocError>
 }
 
 // Puts behind other keys what is looked at where rows tie by these: all columns, or nothing for a rank, which is one for
-// rows that tie.
+// rows that tie, and for a share of the total, which no order changes.
 fn push_tie_breakers(
     all: &mut Vec<SortKey>,
     call: &WindowCall,
@@ -86,6 +86,10 @@ fn push_tie_breakers(
 {
     match call {
         WindowCall::Rank => Ok(()),
+        WindowCall::Value {
+            function: ValueFunction::RatioToReport,
+            ..
+        } => Ok(()),
         _ => push_columns(all, width),
     }
 }

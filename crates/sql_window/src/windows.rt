@@ -1,8 +1,9 @@
 // Windows over the rows of FROM that WHERE keeps.
 //
 // One sort for a window: the rows are sorted by the columns of PARTITION BY, then by the keys of ORDER BY, then by
-// all columns; a partition is a stretch of the sorted row numbers, and what a call sees is that stretch. A rank sorts
-// by the listed columns alone (`tie_breakers`): rows that tie by these have one rank, whatever order they stand in.
+// all columns; a partition is a stretch of the sorted row numbers, and what a call sees is that stretch. A rank and a
+// share of the total sort by the listed columns alone (`tie_breakers`): rows that tie by these have one rank, and the
+// total is one, whatever order they stand in.
 //
 // Rows that are alike stand by their numbers: the meaning tells them apart by how many of them come behind, so a sort
 // that keeps the order of rows that tie gives each its own place (`told_sorted`).

@@ -14,10 +14,10 @@ use Rattle.sql_engine.proofs.expression_reads.+noted.Goals as goal
 pub note_branches-loop-branch-preserved : goal.note_branches-loop-branch-preserved
 note_branches-loop-branch-preserved t c =
     let p = c.args.place in
-    let a = c.args.last.now.entries in
-    let b = c.loop-branch.last.entries in
-    let d = c.note_expression.new.last.entries in
-    let e = c.note_expression-in-loop-branch.new.last.entries in
+    let a = c.args.last.now in
+    let b = c.loop-branch.last in
+    let d = c.note_expression.new.last in
+    let e = c.note_expression-in-loop-branch.new.last in
     let x = c.branch-item.result in
     let bs = c.args.branches.now in
     let i = c.loop-branch.branch-index in
@@ -28,9 +28,9 @@ pub note_expression-returns-in_ok-note_expression-in-Binary :
     goal.note_expression-returns-in_ok-note_expression-in-Binary
 note_expression-returns-in_ok-note_expression-in-Binary t c =
     let p = c.args.place in
-    let a = c.args.last.now.entries in
-    let b = c.note_expression.new.last.entries in
-    let d = c.note_expression-in-Binary.new.last.entries in
+    let a = c.args.last.now in
+    let b = c.note_expression.new.last in
+    let d = c.note_expression-in-Binary.new.last in
     let l = c.in-Binary.left.value in
     let r = c.in-Binary.right.value in
     let is : expr_tree c.args.expression.now ≡ tree.binary (expr_tree l) c.in-Binary.op (expr_tree r) = ap expr_tree c.in-Binary.is ∙ search (rules, expr.the_lemmas) in
@@ -43,8 +43,8 @@ note_expression-returns-in_ok-note_expression-in-Binary t c =
 pub note_expression-returns-in-Call : goal.note_expression-returns-in-Call
 note_expression-returns-in-Call t c =
     let p = c.args.place in
-    let a = c.args.last.now.entries in
-    let b = c.note_operands.new.last.entries in
+    let a = c.args.last.now in
+    let b = c.note_operands.new.last in
     let is : expr_tree c.args.expression.now ≡ tree.call c.in-Call.function (exps_of (map expr_tree c.in-Call.operands.items)) = ap expr_tree c.in-Call.is ∙ search (rules, expr.the_lemmas) in
     on_ok c.note_operands.result (IsNoted p a b (λ P. EachOfAll P (exps_of (map expr_tree c.deref-in-Call.result.now)))) (IsNoted p a b (λ P. EachRead P (expr_tree c.args.expression.now)))
     (λ one. subst (λ (x : Exp). IsNoted p a b (λ P. EachRead P x)) (sym is) (subst (λ (l : List SqlExpr). IsNoted p a b (λ P. EachOfAll P (exps_of (map expr_tree l)))) c.deref-in-Call.ensures.value one))
@@ -54,9 +54,9 @@ pub note_expression-returns-in_ok-note_branches-in-Case :
     goal.note_expression-returns-in_ok-note_branches-in-Case
 note_expression-returns-in_ok-note_branches-in-Case t c =
     let p = c.args.place in
-    let a = c.args.last.now.entries in
-    let b = c.note_branches.new.last.entries in
-    let d = c.note_expression-in-Case.new.last.entries in
+    let a = c.args.last.now in
+    let b = c.note_branches.new.last in
+    let d = c.note_expression-in-Case.new.last in
     let bs = c.in-Case.branches.items in
     let r = c.in-Case.other.value in
     let is : expr_tree c.args.expression.now ≡ tree.case_when (branches_of (map branch_tree bs)) (expr_tree r) = ap expr_tree c.in-Case.is ∙ search (rules, expr.the_lemmas) in
@@ -69,9 +69,9 @@ note_expression-returns-in_ok-note_branches-in-Case t c =
 pub note_operands-loop-operand-preserved : goal.note_operands-loop-operand-preserved
 note_operands-loop-operand-preserved t c =
     let p = c.args.place in
-    let a = c.args.last.now.entries in
-    let b = c.loop-operand.last.entries in
-    let d = c.note_expression.new.last.entries in
+    let a = c.args.last.now in
+    let b = c.loop-operand.last in
+    let d = c.note_expression.new.last in
     let x = c.operand-item.result in
     let es = c.args.operands.now in
     let i = c.loop-operand.operand-index in

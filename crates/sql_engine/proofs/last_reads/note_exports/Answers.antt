@@ -9,5 +9,5 @@ loop-statement-preserved c =
     let xs = c.args.statements.now in
     let i = c.loop-statement.statement-index in
     let x = c.statement-item.result in
-    one_noted c.args.place c.args.last.now.entries c.loop-statement.last.entries c.note_export.new.last.entries (λ P. EachExported P (statement_tree x ∷ [])) (ExportsLeft xs i) (ExportsLeft xs (i + 1)) (ExportsLeft xs 0)
+    one_noted c.args.place c.args.last.now c.loop-statement.last c.note_export.new.last (λ P. EachExported P (statement_tree x ∷ [])) (ExportsLeft xs i) (ExportsLeft xs (i + 1)) (ExportsLeft xs 0)
     c.loop-statement.invariant c.in_ok-note_export.ensures (export_next xs i x c.loop-statement-test.true c.statement-item.is)

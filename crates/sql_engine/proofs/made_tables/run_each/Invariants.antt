@@ -9,4 +9,4 @@ use Rattle.sql_engine.proofs.made_tables.run_each.Given as goal
 
 abbrev pub invariant-loop-place : goal.invariant-loop-place
 invariant-loop-place g l =
-    Running l.p l.inputs l.last.entries (fold after nothing (map statement_tree l.statements)) (statements_made l.p (rows_given l.inputs) nothing_made (map statement_tree l.statements)) l.place (map statement_tree (drop l.place l.statements)) l.tables
+    Running l.p l.inputs l.last (fold after nothing (map statement_tree l.statements)) (statements_made l.p (rows_given l.inputs) nothing_made (map statement_tree l.statements)) l.place (map statement_tree (drop l.place l.statements)) l.tables

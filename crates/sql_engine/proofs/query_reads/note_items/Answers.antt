@@ -9,5 +9,5 @@ loop-item-preserved c =
     let xs = c.args.items.now in
     let i = c.loop-item.item-index in
     let x = c.item-item.result in
-    one_noted c.args.place c.args.last.now.entries c.loop-item.last.entries c.note_item.new.last.entries (λ P. EachOfItem P (item_tree x)) (AllLeft item_tree EachOfItem xs i) (AllLeft item_tree EachOfItem xs (i + 1)) (AllLeft item_tree EachOfItem xs 0)
+    one_noted c.args.place c.args.last.now c.loop-item.last c.note_item.new.last (λ P. EachOfItem P (item_tree x)) (AllLeft item_tree EachOfItem xs i) (AllLeft item_tree EachOfItem xs (i + 1)) (AllLeft item_tree EachOfItem xs 0)
     c.loop-item.invariant c.in_ok-note_item.ensures (next_left item_tree EachOfItem xs i x c.loop-item-test.true c.item-item.is)

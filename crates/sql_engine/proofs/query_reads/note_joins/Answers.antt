@@ -9,5 +9,5 @@ loop-join-preserved c =
     let xs = c.args.joins.now in
     let i = c.loop-join.join-index in
     let x = c.join-item.result in
-    one_noted c.args.place c.args.last.now.entries c.loop-join.last.entries c.note_join.new.last.entries (λ P. EachOfJoin P (join_tree x)) (AllLeft join_tree EachOfJoin xs i) (AllLeft join_tree EachOfJoin xs (i + 1)) (AllLeft join_tree EachOfJoin xs 0)
+    one_noted c.args.place c.args.last.now c.loop-join.last c.note_join.new.last (λ P. EachOfJoin P (join_tree x)) (AllLeft join_tree EachOfJoin xs i) (AllLeft join_tree EachOfJoin xs (i + 1)) (AllLeft join_tree EachOfJoin xs 0)
     c.loop-join.invariant c.in_ok-note_join.ensures (next_left join_tree EachOfJoin xs i x c.loop-join-test.true c.join-item.is)

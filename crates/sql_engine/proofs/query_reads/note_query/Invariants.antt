@@ -4,4 +4,4 @@ use Rattle.sql_engine.proofs.Noting.{AllLeft, NotedBut}
 use Rattle.sql_engine.proofs.query_reads.note_query.Given as goal
 
 abbrev pub invariant-loop-select : goal.invariant-loop-select
-invariant-loop-select l = NotedBut l.place l.initial.last.entries l.last.entries (AllLeft select_tree EachOfSelect l.select-items l.select-index) (AllLeft select_tree EachOfSelect l.select-items 0)
+invariant-loop-select l = NotedBut l.place l.initial.last l.last (AllLeft select_tree EachOfSelect l.select-items l.select-index) (AllLeft select_tree EachOfSelect l.select-items 0)

@@ -13,9 +13,9 @@ pub returns : goal.returns
 returns c =
     let s = c.args.input.now in
     let before = c.args.tables.now in
-    let now = c.put_shared.new.self in
-    let t = c.in_ok-share-in-Some-2.field-0 in
-    let there : table_of s.name c.args.inputs.now ≡ Some t = sym c.shared.ensures ∙ ap option_copied c.in-Some.is ∙ ap Some (sym c.in_ok-share-in-Some-2.ensures) in
-    on_ok c.put_shared.result (now ≡ before ++ (c.in_ok-share-in-Some.field-0, t) ∷ []) (IsPut s.name (input_columns s) (Ok (rows_of (table_of s.name c.args.inputs.now))) before now)
-    (λ put. input_put s.name (input_columns s) c.args.inputs.now before now t there c.requires.there (put ∙ ap (λ (n : Text). before ++ (n, t) ∷ []) c.in_ok-share-in-Some.ensures))
-    c.put_shared.ensures.put
+    let now = c.put.new.self in
+    let t = c.in_ok-held-in-Some.held in
+    let there : table_of s.name c.args.inputs.now ≡ Some t = sym c.shared.ensures ∙ ap option_copied c.in-Some.is ∙ ap Some (sym (c.in_ok-held-in-Some.ensures ∙ c.in_ok-share-in-Some.ensures)) in
+    on_ok c.put.result (now ≡ before ++ (c.in_ok-share-in-Some-2.field-0, t) ∷ []) (IsPut s.name (input_columns s) (Ok (rows_of (table_of s.name c.args.inputs.now))) before now)
+    (λ put. input_put s.name (input_columns s) c.args.inputs.now before now t there c.requires.there (put ∙ ap (λ (n : Text). before ++ (n, t) ∷ []) c.in_ok-share-in-Some-2.ensures))
+    c.put.ensures.put

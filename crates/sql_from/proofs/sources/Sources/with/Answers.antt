@@ -2,30 +2,29 @@ use Rattle.std.proofs.Common.{◌≡◌, ◌∙◌, ◌++◌, ◌∷◌, [], ◌
 use Rattle.std.specs.Borrow.{Bor}
 use Rattle.std.specs.List.{AllByRecursion, list_any}
 use Rattle.std.specs.Map.{keys_of}
-use Rattle.std.specs.Option.{option_map}
+use Rattle.std.specs.Option.{option_copied}
 use Rattle.std.proofs.lemmas.List.{length-map, map-append}
 use Rattle.vtl_text.specs.Texts.{same_text}
 use Rattle.vtl_rows.specs.Named.{table_of}
 use Rattle.vtl_rows.specs.declared.gather.Pick.{Pick}
-use Rattle.vtl_rows.specs.declared.column.Column.{Column}
-use Rattle.vtl_rows.specs.Tables.{Listed, Tabled, listed}
-use Rattle.sql_meaning.specs.Tables.{column_entry, rows_of}
-use Rattle.sql_from.specs.Held.{IsHeld, columns_held}
+use Rattle.vtl_rows.specs.Tables.{Listed}
+use Rattle.sql_meaning.specs.Tables.{rows_of}
+use Rattle.sql_from.specs.Held.{IsHeld}
 use Rattle.sql_from.specs.Rows.{picks_from, picks_at, width_of}
-use Rattle.sql_from.specs.Sources.{AreFound, AreSited, IsWide, parts_of, scope_held, source_of, table_named}
+use Rattle.sql_from.specs.Sources.{AreSited, IsWide, parts_of, scope_held, source_of, table_named}
 use Rattle.sql_from.specs.declared.sources.SourceTable.{SourceTable}
 use Rattle.sql_from.proofs.Parted.{length-picks_from, picks_last}
 use Rattle.sql_from.proofs.Sited.{all_last, keys_are, sited_last, table_there}
 use Rattle.sql_from.proofs.sources.Sources.with.Goals as goal
 
-some_of : (o : Option (Bor Tabled)) (x : Listed) → option_map (λ (t : Bor Tabled). listed t.now) o ≡ Some x → IsSome o
+some_of : (o : Option (Bor Listed)) (x : Listed) → option_copied o ≡ Some x → IsSome o
 some_of None x e = cc
 some_of (Some y) x e = refl
 
 pub unwrap-table-requires : goal.unwrap-table-requires
 unwrap-table-requires c =
     let name = c.args.source.now.table in
-    some_of c.get.result (table_named c.args.self.held name) (c.get.ensures ∙ ap (λ s. table_of name s.held) c.self.view_is ∙ table_there c.args.self.held name c.requires.0)
+    some_of c.held.result (table_named c.args.self.held name) (c.held.ensures ∙ ap (λ s. table_of name s.held) c.self.view_is ∙ table_there c.args.self.held name c.requires.0)
 
 pub put-requires : goal.put-requires
 put-requires c =
@@ -38,25 +37,24 @@ invariant_of-result c =
     let table = c.unwrap-table.result in
     let alias = c.in_ok-share.field-0 in
     let held = c.self.inside.held.now in
-    let there : Some (listed table.now) ≡ table_of c.args.source.now.table held = ap (option_map (λ (t : Bor Tabled). listed t.now)) (sym c.unwrap-table.ensures) ∙ c.get.ensures in
-    let now : SourceTable = record { table = table; columns = c.in_ok-columns.columns } in
+    let there : Some table.now ≡ table_of c.args.source.now.table held = ap option_copied (sym c.unwrap-table.ensures) ∙ c.held.ensures in
+    let now : SourceTable = record { table = table; first = c.len-first.result } in
     let parts = parts_of (map source_of ss) in
     let made : c.put.new.self ≡ ss ++ (alias, now) ∷ [] = c.in_ok-put.ensures.put in
-    let shown : parts_of (map source_of (ss ++ (alias, now) ∷ [])) ≡ parts ++ (listed table.now) ∷ [] = ap parts_of (map-append source_of ss ((alias, now) ∷ [])) ∙ map-append (λ s. s.1) (map source_of ss) ((alias, (listed table.now)) ∷ []) in
+    let shown : parts_of (map source_of (ss ++ (alias, now) ∷ [])) ≡ parts ++ table.now ∷ [] = ap parts_of (map-append source_of ss ((alias, now) ∷ [])) ∙ map-append (λ s. s.1) (map source_of ss) ((alias, table.now) ∷ []) in
     let wide : length c.self.inside.picks.items ≡ width_of parts = ap (λ (l : List Pick). length l) c.self.invariant.picked ∙ length-picks_from 0 parts in
-    let first : c.len.result ≡ 0 + width_of parts = omega (arith, wide, c.len.ensures, c.self.inside.picks.ok) in
+    let first : c.len-first.result ≡ 0 + width_of parts = omega (arith, wide, c.len-first.ensures, c.self.inside.picks.ok) in
     let many : length parts ≡ length ss = length-map (map source_of ss) (λ s. s.1) ∙ length-map ss source_of in
-    let place : c.len-2.result ≡ 0 + length parts = omega (arith, many, c.len-2.ensures) in
-    let found : AreFound (0 + width_of parts) (columns_held (listed table.now)) c.in_ok-columns.columns =
-    subst (λ n. AreFound n (columns_held (listed table.now)) c.in_ok-columns.columns) first (subst (λ (cs : List Column). AreFound c.len.result (map column_entry cs) c.in_ok-columns.columns) c.columns.ensures.columns c.in_ok-columns.ensures) in
-    let picked : c.push_picks.new.picks.items ≡ picks_from 0 (parts ++ (listed table.now) ∷ []) =
-    c.in_ok-push_picks.ensures ∙ (λ i. c.self.invariant.picked i ++ picks_at (place i) (length (c.columns-2.ensures.columns i))) ∙ sym (picks_last 0 parts (listed table.now)) in
-    let sited : AreSited 0 (ss ++ (alias, now) ∷ []) = sited_last 0 ss alias now c.self.invariant.sited found in
-    let rows : AllByRecursion IsWide (parts ++ (listed table.now) ∷ []) = all_last IsWide parts (listed table.now) c.self.invariant.wide c.columns.ensures.wide in
+    let place : c.len.result ≡ 0 + length parts = omega (arith, many, c.len.ensures) in
+    let listed_is = c.table.ensures in
+    let picked : c.push_picks.new.picks.items ≡ picks_from 0 (parts ++ table.now ∷ []) =
+    c.in_ok-push_picks.ensures ∙ (λ i. c.self.invariant.picked i ++ picks_at (place i) (length ((c.columns.ensures.columns ∙ ap (λ t. t.columns) listed_is) i))) ∙ sym (picks_last 0 parts table.now) in
+    let sited : AreSited 0 (ss ++ (alias, now) ∷ []) = sited_last 0 ss alias now c.self.invariant.sited first in
+    let rows : AllByRecursion IsWide (parts ++ table.now ∷ []) = all_last IsWide parts table.now c.self.invariant.wide (subst IsWide listed_is c.columns.ensures.wide) in
     record {
       sited = subst (AreSited 0) (sym made) sited;
       picked = picked ∙ ap (picks_from 0) (sym shown) ∙ ap (λ l. picks_from 0 (parts_of (map source_of l))) (sym made);
       wide = subst (λ l. AllByRecursion IsWide (parts_of (map source_of l))) (sym made) (subst (AllByRecursion IsWide) (sym shown) rows);
-      among = subst (λ l. AllByRecursion (IsHeld held) (parts_of (map source_of l))) (sym made) (subst (AllByRecursion (IsHeld held)) (sym shown) (all_last (IsHeld held) parts (listed table.now) c.self.invariant.among (c.args.source.now.table, ap rows_of there)));
+      among = subst (λ l. AllByRecursion (IsHeld held) (parts_of (map source_of l))) (sym made) (subst (AllByRecursion (IsHeld held)) (sym shown) (all_last (IsHeld held) parts table.now c.self.invariant.among (c.args.source.now.table, ap rows_of there)));
       null = c.self.invariant.null;
     }

@@ -1,0 +1,7 @@
+use Rattle.std.proofs.Common.{◌∙◌, ap}
+use Rattle.vtl_rows.specs.Named.{table_of}
+use Rattle.vtl_rows.proofs.NamedLemmas.{lookup_is}
+use Rattle.sql_from.proofs.held_tables.HeldTables.replace.Goals as goal
+
+pub returns-clause-before : goal.returns-clause-before
+returns-clause-before c = c.replace.ensures.before ∙ lookup_is c.args.name.now c.self.inside.named ∙ ap (table_of c.args.name.now) c.self.view_is
