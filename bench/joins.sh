@@ -125,3 +125,17 @@ echo 'total <- union(left, other);' | job 'union of 1,000,000 with 1,000,000 poi
 peers 'left other' "SELECT Station, Number, CASE WHEN EXISTS (SELECT 1 FROM other o WHERE l.Station = o.Station AND l.Number = o.Number) THEN 'true' ELSE 'false' END AS bool_var FROM left l ORDER BY Station, Number;" \
     "left.merge(other[keys], on=keys, how='left', indicator=True).assign(bool_var=lambda both: (both._merge == 'both').map({True: 'true', False: 'false'}))[['Station', 'Number', 'bool_var']]" "$keys"
 echo 'total <- exists_in(left, other);' | job 'exists_in of 1,000,000 in 1,000,000 points' total
+
+# Ages and classes of ages: a cross join of which one point in six hundred is kept.
+cat >>"$made/structures.csv" <<'END'
+ages,Person,identifier,integer,
+ages,Age,measure,integer,
+classes,Class,identifier,integer,
+classes,Low,measure,integer,
+classes,High,measure,integer,
+END
+for points in 25000 50000; do
+    awk -v count="$points" 'BEGIN { print "Person,Age"; for (i = 0; i < count; i++) printf "%d,%d\n", (i * 7001) % count, (i * 611953) % 60000 }' >"$made/in/ages.csv"
+    awk 'BEGIN { print "Class,Low,High"; for (i = 0; i < 600; i++) printf "%d,%d,%d\n", i, i * 100, i * 100 + 99 }' >"$made/in/classes.csv"
+    echo 'total <- cross_join(ages, classes filter Low <= Age and Age <= High);' | job "cross_join of $points ages with 600 classes, one of them kept" total
+done

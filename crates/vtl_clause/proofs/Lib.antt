@@ -1,1 +1,2 @@
 pub mod SubLemmas
+pub mod WalkLemmas

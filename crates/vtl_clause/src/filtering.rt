@@ -4,7 +4,7 @@ ghost use Rattle.vtl_cell.specs.Outcome.{fault_in, join};
 ghost use Rattle.vtl_cell.specs.Outcomes.{is_true};
 ghost use Rattle.vtl_rows.specs.Tables.{fits, listed};
 ghost use Rattle.vtl_scalar.specs.Answers.{Answers, AnswersBy};
-ghost use Rattle.vtl_tree.specs.Clauses.{filter_of};
+ghost use Rattle.vtl_tree.specs.Clauses.{filter_of, kept as kept_of};
 ghost use Rattle.vtl_tree.specs.Value.{value};
 ghost use Rattle.vtl_tree.specs.View.{comp_exp_of};
 ghost use Rattle.vtl_sets.specs.DataSets.{with_structure};
@@ -12,6 +12,7 @@ ghost use Rattle.vtl_meaning.specs.Made.{IsFiltered};
 ghost use Rattle.vtl_sets.specs.TableOf.{IsTableOf};
 ghost use Rattle.vtl_expr.specs.Prepared.{prepared_exp};
 ghost use Rattle.vtl_scalar.specs.Seen.{seen_of};
+ghost use Rattle.vtl_clause.specs.Walks.{fault_over};
 
 use std::alloc::Global;
 use vtl_cell::Cell;
@@ -59,6 +60,31 @@ fn keep(
     }
 }
 
+/// Puts copies of the rows of a table at which a condition is true behind those that are kept, in their order, below the
+/// same columns. It gives the fault seen so far with that of the condition at each row, kept or not; it fails only if
+/// memory runs out.
+pub fn keep_rows(
+    alloc: Global,
+    kept: &mut Table,
+    before: Seen,
+    condition: &Prepared,
+    rows: &Table,
+    p: &Profile,
+) -> Result<Seen, ScalarErr>
+    requires { rows.now.columns ≡ kept.old.columns }
+    ensures columns { kept.new.columns ≡ kept.old.columns }
+    ensures rows { IfOk result (λ _. kept.new.rows ≡ kept.old.rows ++ kept_of p.now (prepared_exp condition.now) rows.now.rows) }
+    ensures seen { IfOk result (λ s. seen_of s ≡ join (seen_of before) (fault_over p.now (prepared_exp condition.now) rows.now.rows)) }
+    ensures err { IfErr result (λ e. e ≡ ScalarErr.OutOfMemory) }
+{
+    let mut room = Vec::with_capacity(alloc, rows.columns().len())?;
+    let mut seen = before;
+    for i in 0..rows.len() {
+        seen = keep(alloc, kept, &mut room, seen, condition, rows.row(i), p)?;
+    }
+    Ok(seen)
+}
+
 fn kept_table(
     alloc: Global,
     a: &DataSet,
@@ -73,19 +99,7 @@ fn kept_table(
     let prepared = prepare(alloc, condition)?;
     let table = a.table();
     let mut kept = new_table(alloc, made)?;
-    let mut room = Vec::with_capacity(alloc, table.columns().len())?;
-    let mut seen = Seen::Nothing;
-    for i in 0..table.len() {
-        seen = keep(
-            alloc,
-            &mut kept,
-            &mut room,
-            seen,
-            &prepared,
-            table.row(i),
-            p,
-        )?;
-    }
+    let seen = keep_rows(alloc, &mut kept, Seen::Nothing, &prepared, table, p)?;
     seen.unless(kept)
 }
 

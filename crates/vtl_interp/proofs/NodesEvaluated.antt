@@ -16,7 +16,11 @@ use Rattle.vtl_tree.specs.Environment.{DataSet, Environment, data_of, known_in}
 use Rattle.vtl_tree.specs.Structure.{same_name}
 use Rattle.vtl_tree.specs.declared.structure.Structure.{Structure}
 use Rattle.vtl_tree.specs.Trees as nodes
-use Rattle.vtl_tree.specs.Trees.{FormTree, NodeTree, OperandTree, nodes_of, operands_of, structure_of}
+use Rattle.vtl_tree.specs.Trees.{FormTree, NodeTree, OperandTree, OperandTrees, nodes_of, operands_of, structure_of}
+use Rattle.vtl_tree.specs.Clauses.{filter_of}
+use Rattle.vtl_tree.specs.CompExp.{CompExp}
+use Rattle.vtl_tree.specs.View.{comp_exp_of}
+use Rattle.vtl_tree.specs.declared.expression.CompExpr.{CompExpr}
 use Rattle.vtl_tree.specs.NodeView.{agg_tree, analytic_tree, form_tree, item_tree, measure_tree, node_tree, operand_tree, point_rules_tree}
 use Rattle.vtl_tree.specs.declared.clauses.CalcItem.{CalcItem}
 use Rattle.vtl_tree.specs.declared.clauses.SubItem.{SubItem}
@@ -43,8 +47,8 @@ use Rattle.vtl_syntax.specs.declared.word_groups.Mode.{Mode}
 use Rattle.vtl_syntax.specs.declared.word_groups.Retain.{Retain}
 use Rattle.vtl_meaning.specs.AggregateShapes.{IsAggregated}
 use Rattle.vtl_sets.specs.DataSets.{data_set, with_structure}
-use Rattle.vtl_meaning.specs.Joined.{structures_of}
-use Rattle.vtl_meaning.specs.Made.{AreCombined, IsChoice, IsJoined, IsMeasured, IsWindowed}
+use Rattle.vtl_meaning.specs.Joined.{join_of, structures_of}
+use Rattle.vtl_meaning.specs.Made.{AreCombined, IsChoice, IsFiltered, IsJoined, IsMeasured, IsWindowed}
 use Rattle.vtl_scripts.specs.Made.{IsMade, IsMadeForm, node_structures}
 use Rattle.vtl_scripts.specs.Meaning.{form_value, maybe_value, node_value, nodes_value, operands_value, with_operand}
 use Rattle.vtl_meaning.specs.Operators.{choice_of, pair_of}
@@ -75,6 +79,9 @@ form_tree-Choose c a b = search (rules, forms.the_lemmas)
 
 pub form_tree-Member : (a : Box Node Global) (m : Txt) → form_tree (form.Member a m) ≡ nodes.member (node_tree a.value) m
 form_tree-Member a m = search (rules, forms.the_lemmas)
+
+pub form_tree-Filter : (a : Box Node Global) (c : CompExpr) → form_tree (form.Filter a c) ≡ nodes.filter (node_tree a.value) (comp_exp_of c)
+form_tree-Filter a c = search (rules, forms.the_lemmas)
 
 pub form_tree-Calc : (a : Box Node Global) (items : List CalcItem) → form_tree (form.Calc a items) ≡ nodes.calc (node_tree a.value) (map item_tree items)
 form_tree-Calc a items = search (rules, forms.the_lemmas)
@@ -234,6 +241,51 @@ renamed view p env n a pairs d r e g h =
     let t = nodes.rename (node_tree a.value) pairs in
     subst (λ (u : NodeTree). Evaluates view p env u r) (sym (tree_with n (form.Rename a pairs) t e (form_tree-Rename a pairs)))
     (applied view p env (nodes.node n.structure t) (Ok d.points) r g.points h)
+
+-- a filter, from what becomes of its operand
+pub filter_fits : (p : Settings) (env : Environment) (n : Node) (a : Box Node Global) (c : CompExpr) → n.form ≡ form.Filter a c → IsMade p (known_in env) (node_tree n)
+    → IsMade p (known_in env) (node_tree a.value) × IsFiltered p (comp_exp_of c) (structure_of (node_tree a.value)) n.structure
+filter_fits p env n a c is made = made_form p env n (form.Filter a c) (nodes.filter (node_tree a.value) (comp_exp_of c)) is (form_tree-Filter a c) made
+
+pub filter_gives : {A : Type 0} (view : A → DataSet) (p : Settings) (env : Environment) (n : Node) (a : Box Node Global) (c : CompExpr) (r : Result A ScalarErr)
+    → n.form ≡ form.Filter a c → AnswersBy view r (with_structure n.structure (after (node_value p env (node_tree a.value)) (filter_of p (comp_exp_of c)))) → Evaluates view p env (node_tree n) r
+filter_gives view p env n a c r is h =
+    let t = nodes.filter (node_tree a.value) (comp_exp_of c) in
+    subst (λ (u : NodeTree). Evaluates view p env u r) (sym (tree_with n (form.Filter a c) t is (form_tree-Filter a c)))
+    (applied view p env (nodes.node n.structure t) (after (node_value p env (node_tree a.value)) (filter_of p (comp_exp_of c))) r refl h)
+
+module _ (p : Settings) (env : Environment) (a : NodeTree) (e : CompExp) (s : Structure) where
+  pub filter_after : {A : Type 0} (view : A → DataSet) (d : DataSet) (r : Result A ScalarErr) → Gives p env a d → AnswersBy view r (with_structure s (filter_of p e d.points)) → AnswersBy view r (with_structure s (after (node_value p env a) (filter_of p e)))
+  filter_after view d r g h = subst (λ (m : Outcome (List Row)). AnswersBy view r (with_structure s (after m (filter_of p e)))) (sym g.points) h
+
+  pub filter_stops : {A B : Type 0} (view : A → DataSet) (other : B → DataSet) (f : ScalarErr) → Evaluates view p env a (Err f) → AnswersBy other (Err f) (with_structure s (after (node_value p env a) (filter_of p e)))
+  filter_stops view other err.DivZero h = ap (λ (m : Outcome (List Row)). with_structure s (after m (filter_of p e))) h
+  filter_stops view other err.Range h = ap (λ (m : Outcome (List Row)). with_structure s (after m (filter_of p e))) h
+  filter_stops view other err.OutOfMemory h = tt
+
+-- a filter of a join, from what its operands give
+pub joined_structure : (n : Node) → structure_of (node_tree n) ≡ n.structure
+joined_structure n = ap structure_of (node_tree-is n)
+
+module _ (p : Settings) (env : Environment) (n : Node) (os : Vec JoinOperand Global) (spec : JoinSpec) (is : n.form ≡ form.Join os spec) (e : CompExp) (s : Structure) where
+  abbrev trees : OperandTrees
+  trees = operands_of (map operand_tree os.items)
+
+  join_is : node_value p env (node_tree n) ≡ after (operands_value p env trees) (λ ds. Ok (join_of spec.kind ds))
+  join_is = ap (node_value p env) (tree_with n (form.Join os spec) (nodes.join trees spec) is (form_tree-Join os spec))
+
+  filtered_is : with_structure s (after (node_value p env (node_tree n)) (filter_of p e)) ≡ with_structure s (after (after (operands_value p env trees) (λ ds. Ok (join_of spec.kind ds))) (filter_of p e))
+  filtered_is = ap (λ (m : Outcome (List Row)). with_structure s (after m (filter_of p e))) join_is
+
+  pub filter_joined : {A : Type 0} (view : A → DataSet) (ds : List DataSet) (r : Result A ScalarErr) → operands_value p env trees ≡ Ok ds → AnswersBy view r (with_structure s (filter_of p e (join_of spec.kind ds))) → AnswersBy view r (with_structure s (after (node_value p env (node_tree n)) (filter_of p e)))
+  filter_joined view ds r g h =
+      subst (λ (m : Outcome DataSet). AnswersBy view r m)
+      (sym (filtered_is ∙ ap (λ (m : Outcome (List DataSet)). with_structure s (after (after m (λ ds. Ok (join_of spec.kind ds))) (filter_of p e))) g)) h
+
+  pub filter_operands_stop : {A B : Type 0} (views : A → List DataSet) (other : B → DataSet) (f : ScalarErr) → AnswersBy views (Err f) (operands_value p env trees) → AnswersBy other (Err f) (with_structure s (after (node_value p env (node_tree n)) (filter_of p e)))
+  filter_operands_stop views other err.DivZero h = filtered_is ∙ ap (λ (m : Outcome (List DataSet)). with_structure s (after (after m (λ ds. Ok (join_of spec.kind ds))) (filter_of p e))) h
+  filter_operands_stop views other err.Range h = filtered_is ∙ ap (λ (m : Outcome (List DataSet)). with_structure s (after (after m (λ ds. Ok (join_of spec.kind ds))) (filter_of p e))) h
+  filter_operands_stop views other err.OutOfMemory h = tt
 
 -- an operator on two
 pub two_operands : {A : Type 0} (view : A → DataSet) (p : Settings) (env : Environment) (n : Node) (f : NodeForm) (t : FormTree) (a b : NodeTree) (d e : DataSet) (op : DataSet → DataSet → Outcome (List Row)) (r : Result A ScalarErr)

@@ -10,7 +10,7 @@ ghost use Rattle.vtl_interp.specs.Values.{value_view};
 
 use crate::value::Value;
 use std::alloc::{AllocError, Global};
-use vtl_clause::{calc, filter, rename, sub};
+use vtl_clause::{calc, rename, sub};
 use vtl_combine::{exists_in, pivot, setdiff, symdiff, unpivot};
 use vtl_decimal::Profile;
 use vtl_expr::{keep_columns, map_measures, pair_measures};
@@ -39,7 +39,6 @@ fn made_of_one(alloc: Global, node: &Node, a: DataSet, p: &Profile) -> Result<Da
         NodeForm::Member { .. } => answered(keep_columns(alloc, a, made)),
         NodeForm::Keep { .. } => answered(keep_columns(alloc, a, made)),
         NodeForm::DropNamed { .. } => answered(keep_columns(alloc, a, made)),
-        NodeForm::Filter { c, .. } => filter(alloc, &a, c, made, p),
         NodeForm::Calc { items, .. } => calc(alloc, &a, items.as_slice(), made, p),
         NodeForm::Rename { .. } => answered(rename(alloc, &a, made)),
         NodeForm::Sub { values, .. } => answered(sub(alloc, &a, values.as_slice(), made)),

@@ -1,11 +1,13 @@
-// Operators on three data sets or on any number of them: `if`, joins, `union` and `intersect`.
+// Operators on three data sets or on any number of them: `if`, joins, also those with a filter, `union` and `intersect`.
 ghost use Rattle.std.specs.Prelude.{◌≡◌, ◌<◌, IfOk, Ok, length, map};
 ghost use Rattle.std.specs.Option.{IfSome};
 ghost use Rattle.vtl_scalar.specs.Answers.{AnswersBy};
 ghost use Rattle.vtl_tree.specs.Shown.{shown};
-ghost use Rattle.vtl_sets.specs.DataSets.{data_set};
+ghost use Rattle.vtl_sets.specs.DataSets.{data_set, with_structure};
+ghost use Rattle.vtl_tree.specs.Clauses.{filter_of};
+ghost use Rattle.vtl_tree.specs.View.{comp_exp_of};
 ghost use Rattle.vtl_meaning.specs.Joined.{join_of, structures_of};
-ghost use Rattle.vtl_meaning.specs.Made.{AreCombined, IsChoice, IsJoined};
+ghost use Rattle.vtl_meaning.specs.Made.{AreCombined, IsChoice, IsFiltered, IsJoined};
 ghost use Rattle.vtl_meaning.specs.Operators.{choice_of};
 ghost use Rattle.vtl_meaning.specs.Shapes.{IsJoinedFrom};
 ghost use Rattle.vtl_meaning.specs.Sets.{intersection_of, union_of};
@@ -14,11 +16,13 @@ ghost use Rattle.vtl_interp.specs.Values.{under_aliases, value_view};
 
 use crate::value::Value;
 use std::alloc::{AllocError, Global};
+use vtl_decimal::Profile;
 use vtl_join::Joined;
+use vtl_join_filter::filter_joined;
 use vtl_scalar::ScalarErr;
 use vtl_sets::DataSet;
 use vtl_syntax::JoinKind;
-use vtl_tree::{JoinOperand, Structure};
+use vtl_tree::{CompExpr, JoinOperand, Structure};
 
 // The data sets, lent.
 fn lent<'v, 'a>(alloc: Global, values: &'v [Value<'a>]) -> Result<Vec<&'v DataSet>, AllocError>
@@ -66,6 +70,42 @@ pub fn join<'a>(
 {
     let joined = joined(alloc, kind, values, operands)?;
     Ok(Value::Made(vtl_join::close(alloc, kind, joined, made)?))
+}
+
+/// A filter of a join of operands, each under its alias: `made` is the structure of the join.
+pub fn filter_join<'a>(
+    alloc: Global,
+    kind: JoinKind,
+    values: &[Value<'a>],
+    operands: &[JoinOperand],
+    made: &Structure,
+    condition: &CompExpr,
+    filtered: &Structure,
+    p: &Profile,
+) -> Result<Value<'a>, ScalarErr>
+    requires named { length values.now ≡ length operands.now }
+    requires joined { IsJoined kind (structures_of (map value_view values.now)) made.now }
+    requires from { IsJoinedFrom kind (under_aliases (map (λ o. o.alias) operands.now) (structures_of (map value_view values.now))) made.now }
+    requires filtered { IsFiltered p.now (comp_exp_of condition.now) made.now filtered.now }
+    ensures { AnswersBy value_view result (with_structure filtered.now (filter_of p.now (comp_exp_of condition.now) (join_of kind (map value_view values.now)))) }
+{
+    let joined = joined(alloc, kind, values, operands)?;
+    let set = filter_joined(alloc, kind, joined, made, condition, filtered, p)?;
+    Ok(Value::Made(set))
+}
+
+/// `filter`
+pub fn filter<'a>(
+    alloc: Global,
+    a: Value<'a>,
+    condition: &CompExpr,
+    made: &Structure,
+    p: &Profile,
+) -> Result<Value<'a>, ScalarErr>
+    requires { IsFiltered p.now (comp_exp_of condition.now) (value_view a).structure made.now }
+    ensures { AnswersBy value_view result (with_structure made.now (filter_of p.now (comp_exp_of condition.now) (value_view a.entry).points)) }
+{
+    Ok(Value::Made(vtl_clause::filter(alloc, a.data(), condition, made, p)?))
 }
 
 /// `union`

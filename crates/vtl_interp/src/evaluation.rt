@@ -1,23 +1,28 @@
 // The evaluation of expressions on data sets.
 ghost use Rattle.std.specs.Prelude.{map};
-ghost use Rattle.vtl_tree.specs.Trees.{nodes_of, operands_of};
+ghost use Rattle.vtl_cell.specs.Outcome.{after};
+ghost use Rattle.vtl_sets.specs.DataSets.{with_structure};
+ghost use Rattle.vtl_tree.specs.Clauses.{filter_of};
+ghost use Rattle.vtl_tree.specs.Trees.{nodes_of, operands_of, structure_of};
+ghost use Rattle.vtl_tree.specs.View.{comp_exp_of};
+ghost use Rattle.vtl_meaning.specs.Made.{IsFiltered};
 ghost use Rattle.vtl_tree.specs.NodeView.{node_tree, operand_tree};
 ghost use Rattle.vtl_scalar.specs.Answers.{AnswersBy};
 ghost use Rattle.vtl_scripts.specs.Made.{AreMade, AreMadeOperands, IsMade, IsMadeMaybe};
-ghost use Rattle.vtl_scripts.specs.Meaning.{maybe_value, nodes_value, operands_value};
+ghost use Rattle.vtl_scripts.specs.Meaning.{maybe_value, node_value, nodes_value, operands_value};
 ghost use Rattle.vtl_tree.specs.Environment.{known_in};
 ghost use Rattle.vtl_interp.specs.Evaluated.{Evaluates};
 ghost use Rattle.vtl_interp.specs.Values.{imbalance_tree, maybe_view, value_view, values_view};
 
 use crate::applied::{apply_to_one, apply_to_two};
 use crate::checks::check;
-use crate::combinations::{choose, intersect, join, union};
+use crate::combinations::{choose, filter, filter_join, intersect, join, union};
 use crate::held::Known;
 use crate::value::Value;
 use std::alloc::Global;
 use vtl_decimal::Profile;
 use vtl_scalar::ScalarErr;
-use vtl_tree::{JoinOperand, Node, NodeForm};
+use vtl_tree::{CompExpr, JoinOperand, Node, NodeForm, Structure};
 
 /// The data set of an expression, or the fault of the first of its parts that has one: operands before operators, from
 /// left to right. It is made over the data sets that are held.
@@ -38,7 +43,6 @@ pub fn evaluate<'a>(
         },
         NodeForm::Measures { a, .. }
         | NodeForm::Member { a, .. }
-        | NodeForm::Filter { a, .. }
         | NodeForm::Calc { a, .. }
         | NodeForm::Keep { a, .. }
         | NodeForm::DropNamed { a, .. }
@@ -53,6 +57,7 @@ pub fn evaluate<'a>(
         | NodeForm::Hierarchy { a, .. } => {
             apply_to_one(alloc, node, evaluate(alloc, known, a, p)?, p)
         }
+        NodeForm::Filter { a, c } => evaluate_filter(alloc, known, a, c, &node.structure, p),
         NodeForm::Pair { a, b, .. }
         | NodeForm::SetDiff { a, b }
         | NodeForm::SymDiff { a, b }
@@ -83,6 +88,41 @@ pub fn evaluate<'a>(
             let tested = evaluate(alloc, known, a, p)?;
             let other = evaluate_imbalance(alloc, known, imbalance, p)?;
             check(alloc, tested, other, spec, p, &node.structure)
+        }
+    }
+}
+
+// A filter of an expression. Of a join the condition is asked as its points are made.
+#[cycle(evaluated)]
+fn evaluate_filter<'a>(
+    alloc: Global,
+    known: &'a Known,
+    a: &Node,
+    condition: &CompExpr,
+    made: &Structure,
+    p: &Profile,
+) -> Result<Value<'a>, ScalarErr>
+    requires made { IsMade p.now (known_in known.now.entries) (node_tree a.now) }
+    requires filtered { IsFiltered p.now (comp_exp_of condition.now) (structure_of (node_tree a.now)) made.now }
+    ensures { AnswersBy value_view result (with_structure made.now (after (node_value p.now known.now.entries (node_tree a.now)) (filter_of p.now (comp_exp_of condition.now)))) }
+{
+    match &a.form {
+        NodeForm::Join { operands, spec } => {
+            let sets = evaluate_operands(alloc, known, operands, p)?;
+            filter_join(
+                alloc,
+                spec.kind,
+                &sets,
+                operands,
+                &a.structure,
+                condition,
+                made,
+                p,
+            )
+        }
+        _ => {
+            let set = evaluate(alloc, known, a, p)?;
+            filter(alloc, set, condition, made, p)
         }
     }
 }

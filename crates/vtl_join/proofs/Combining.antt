@@ -27,7 +27,7 @@ nothing : (ns : List ℕ) → flat_map (λ n. map (λ t. n ∷ t) []) ns ≡ []
 nothing [] = refl
 nothing (n ∷ ns) = nothing ns
 
-no_combinations : (counts : List ℕ) → list_any (λ n. nat_eq n 0) counts ≡ true → combinations (map up_to counts) ≡ []
+pub no_combinations : (counts : List ℕ) → list_any (λ n. nat_eq n 0) counts ≡ true → combinations (map up_to counts) ≡ []
 no_combinations [] e = absurd (true≢false (sym e))
 no_combinations (zero ∷ counts) e = refl
 no_combinations (suc n ∷ counts) e =

@@ -17,7 +17,7 @@ use Rattle.vtl_meaning.proofs.Agreements.{own_values}
 use Rattle.vtl_meaning.proofs.JoinKept.{IsCombination, IsOperandPoint, combinations_are}
 use Rattle.vtl_meaning.proofs.JoinParts.{AreSets}
 use Rattle.vtl_meaning.proofs.Places.{all_append, all_map, all_more}
-use Rattle.vtl_join.specs.Crossing.{all_combinations, row_numbers, up_to}
+use Rattle.vtl_join.specs.Crossing.{all_combinations, row_counts, row_numbers, tuples_behind, up_to}
 use Rattle.vtl_join.specs.Picks.{joined_rows, picks_behind, picks_from, table_of}
 use Rattle.vtl_join.proofs.Picked.{parts_at, picked_behind, picked_identifiers, values_of}
 use Rattle.vtl_join.proofs.Pieced.{every, items_by_places, pieces_of_tuples}
@@ -78,12 +78,13 @@ module _ (lead : Listed) (ds : List DataSet) (all : AreSets ds) where
   long : AllByRecursion (λ t. length t ≡ length ds) C
   long = let l = length-map ds row_numbers in all_more (λ t. length t ≡ length (map row_numbers ds)) (λ t. length t ≡ length ds) (λ t e. e ∙ l) C (as_long (map row_numbers ds))
 
-  pub cross_rows : joined_rows lead ds (picks_from role.Identifier 1 (structures_of ds)) (all_combinations ds) ≡ map tuple_point (cross_tuples ds)
-  cross_rows =
+  tuples_are : tuples_behind (0 ∷ []) (row_counts ds) ≡ map (λ t. 0 ∷ t) C
+  tuples_are = ap (λ nss. map (λ t. 0 ∷ t) (combinations nss)) (counted ds)
+
+  pub cross_points : map row (tuples_behind (0 ∷ []) (row_counts ds)) ≡ map tuple_point (cross_tuples ds)
+  cross_points =
       let D = combinations (map operand_points ds) in
-      ap (λ nss. map row (pieces (length ds + 1) (flat_map (λ t. (0 ∷ []) ++ t) (combinations nss)))) (counted ds)
-      ∙ ap (map row) (pieces_of_tuples (λ t. true) (λ t. 0 ∷ t) (length ds + 1) C (omega arith) (all_more (λ t. length t ≡ length ds) (λ t. length (0 ∷ t) ≡ length ds + 1) (λ t e. omega (arith, e)) C long))
-      ∙ ap (λ l. map row (map (λ t. 0 ∷ t) l)) (every C)
+      ap (map row) tuples_are
       ∙ map-map row (λ t. 0 ∷ t) C
       ∙ map_same (λ t. row (0 ∷ t)) (λ t. point_of_parts (parts_at ds t)) C (all_more (λ t. length t ≡ length ds) (λ t. row (0 ∷ t) ≡ point_of_parts (parts_at ds t)) one_row C long)
       ∙ sym (map-map point_of_parts (parts_at ds) C) ∙ ap (map point_of_parts) (numbers_are ds) ∙ map-map point_of_parts (map present) D
@@ -91,3 +92,10 @@ module _ (lead : Listed) (ds : List DataSet) (all : AreSets ds) where
       (all_more (IsCombination (structures_of ds)) (λ xs. point_of_parts (map present xs) ≡ tuple_point (crossed xs))
       (λ xs c. ap (λ k. k ++ flat_map measures_in (map present xs) ++ flat_map attributes_in (map present xs)) (keys_are xs c.points)) D (combinations_are ds all))
       ∙ sym (map-map tuple_point crossed D)
+
+  pub cross_rows : joined_rows lead ds (picks_from role.Identifier 1 (structures_of ds)) (all_combinations ds) ≡ map tuple_point (cross_tuples ds)
+  cross_rows =
+      ap (λ nss. map row (pieces (length ds + 1) (flat_map (λ t. (0 ∷ []) ++ t) (combinations nss)))) (counted ds)
+      ∙ ap (map row) (pieces_of_tuples (λ t. true) (λ t. 0 ∷ t) (length ds + 1) C (omega arith) (all_more (λ t. length t ≡ length ds) (λ t. length (0 ∷ t) ≡ length ds + 1) (λ t e. omega (arith, e)) C long))
+      ∙ ap (λ l. map row (map (λ t. 0 ∷ t) l)) (every C)
+      ∙ ap (map row) (sym tuples_are) ∙ cross_points

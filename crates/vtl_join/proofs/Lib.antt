@@ -10,3 +10,4 @@ pub mod Combining
 pub mod KeyTables
 pub mod Referring
 pub mod Closed
+pub mod Gatherings

@@ -145,22 +145,6 @@ within_all n ids os picks e all is =
     let these : AllByRecursion P ids = all_recursion n ids (λ k d h. let b = all k d h in omega (arith, b, e)) in
     subst (All P) (sym is) (all_below n (ids ++ ms ++ xs) (all_append P (ids ++ ms) xs (all_append P ids ms these (from_below role.Measure n 1 ss count)) (from_below role.Attribute n 1 ss count)))
 
-pub parts_many : (parts : List (Bor Tabled)) (lead : Listed) (os : List Operand) → map (λ t. listed t.now) parts ≡ lead ∷ map table_of (sets_of os) → length parts ≡ length os + 1
-parts_many parts lead os e =
-    let l = length-map parts (λ t. listed t.now) in
-    let m = ap length e in
-    let n = length-map (sets_of os) table_of in
-    let o = length-map os (λ x. x.set) in
-    omega (arith, l, m, n, o)
-
-pub rows_gathered : (parts : List (Bor Tabled)) (lead : Listed) (os : List Operand) (ids picks : List Pick) (tuples : List ℕ) → map (λ t. listed t.now) parts ≡ lead ∷ map table_of (sets_of os) → picks ≡ picks_behind ids (structures_of (sets_of os))
-    → map (picked (map (λ t. listed t.now) parts) picks) (pieces (length parts) tuples) ≡ joined_rows lead (sets_of os) ids tuples
-rows_gathered parts lead os ids picks tuples e is =
-    let ds = sets_of os in
-    let count : length parts ≡ length ds + 1 = let l = parts_many parts lead os e in let m = length-map os (λ x. x.set) in omega (arith, l, m) in
-    ap (λ ts. map (picked ts picks) (pieces (length parts) tuples)) e ∙ ap (λ ps. map (picked (lead ∷ map table_of ds) ps) (pieces (length parts) tuples)) is
-    ∙ ap (λ n. map (picked (lead ∷ map table_of ds) (picks_behind ids (structures_of ds))) (pieces n tuples)) count
-
 -- ---- results
 pub if_ok : {T E : Type 0} (P Q : T → Type 0) (r : Result T E) → ((t : T) → P t → Q t) → IfOk r P → IfOk r Q
 if_ok P Q (Ok t) f h = f t h

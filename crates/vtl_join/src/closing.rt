@@ -1,21 +1,26 @@
 // The joined set.
-ghost use Rattle.std.specs.Prelude.{◌≡◌, ◌<◌, cond, map, slice_get, Some, IfOk};
+ghost use Rattle.std.specs.Prelude.{◌≡◌, ◌+◌, ◌<◌, ◌∷◌, [], cond, length, map, slice_get, Some, IfOk};
 ghost use Rattle.std.specs.List.{AllByRecursion};
 ghost use Rattle.std.specs.Option.{IfSome};
+ghost use Rattle.vtl_rows.specs.Tables.{listed};
 ghost use Rattle.vtl_sets.specs.DataSets.{data_set};
 ghost use Rattle.vtl_sets.specs.TableOf.{table_columns};
+ghost use Rattle.vtl_tree.specs.DataSet.{IsDataSet};
 ghost use Rattle.vtl_tree.specs.Structure.{columns_of};
+ghost use Rattle.vtl_tree.specs.declared.structure.Role.TheVariants as role;
 ghost use Rattle.vtl_tree.specs.Columns.{identifiers_of};
 ghost use Rattle.vtl_meaning.specs.Joined.{cross_tuples, full_tuples, inner_tuples, join_of, left_tuples, structures_of, tuple_point};
 ghost use Rattle.vtl_meaning.specs.Made.{AreAmong, HasIdentifiers, IsJoined};
 ghost use Rattle.vtl_meaning.specs.Shapes.{IsJoinedFrom};
+ghost use Rattle.vtl_join.specs.Crossing.{row_counts, tuples_behind};
 ghost use Rattle.vtl_join.specs.Finding.{wants_all};
+ghost use Rattle.vtl_join.specs.Gatherings.{gathers, point_of, width_of};
 ghost use Rattle.vtl_join.specs.Joining.{sets_of, typed_operands};
-ghost use Rattle.vtl_join.specs.Picks.{picks_at};
+ghost use Rattle.vtl_join.specs.Picks.{picks_at, picks_from};
 
 use crate::columns::places_of;
 use crate::crossing::combinations;
-use crate::gathering::{gathered, operands_are_sets, push_picks, push_role};
+use crate::gathering::{Gathering, gathered, operands_are_sets, push_picks, push_role};
 use crate::joined::{Joined, Operand};
 use crate::keys::lead_of_keys;
 use crate::reference::reference_place;
@@ -100,7 +105,23 @@ fn full_table<L: Ledger>(
     gathered(alloc, &lead, operands, picks, &tuples, made)
 }
 
-// The table of a cross join. A table leads of which nothing is asked.
+// What the points of a cross join are gathered from. A table leads of which nothing is asked.
+fn cross_gathering<'a>(
+    alloc: Global,
+    operands: &'a [Operand],
+    lead: &'a Table,
+    made: &'a Structure,
+) -> Result<Gathering<'a>, AllocError>
+    requires made { IsJoined JoinKind.Cross (structures_of (sets_of operands.now)) made.now }
+    ensures { IfOk result (λ g. g ≡ gathers (listed lead.now) (sets_of operands.now) (picks_from role.Identifier 1 (structures_of (sets_of operands.now))) made.now) }
+{
+    operands_are_sets(operands);
+    let mut identifiers = Vec::new(alloc);
+    push_role(alloc, &mut identifiers, Role::Identifier, operands)?;
+    Gathering::of(alloc, lead, operands, identifiers, made)
+}
+
+// The table of a cross join.
 fn cross_table(
     alloc: Global,
     operands: &[Operand],
@@ -112,10 +133,26 @@ fn cross_table(
     ensures rows { IfOk result (λ t. t.rows ≡ map tuple_point (cross_tuples (sets_of operands.now))) }
 {
     operands_are_sets(operands);
-    let tuples = combinations(alloc, operands)?;
-    let mut identifiers = Vec::new(alloc);
-    push_role(alloc, &mut identifiers, Role::Identifier, operands)?;
-    gathered(alloc, lead, operands, identifiers, &tuples, made)
+    let gathering = cross_gathering(alloc, operands, lead, made)?;
+    gathering.points(alloc, &combinations(alloc, operands)?)
+}
+
+/// What the points of a cross join are gathered from: its tuples are 0 and a row number of each operand. The structure is
+/// that which typing gives. It fails only if memory runs out.
+pub fn product<'a>(
+    alloc: Global,
+    j: &'a Joined,
+    made: &'a Structure,
+) -> Result<Gathering<'a>, AllocError>
+    requires made { IsJoined JoinKind.Cross (structures_of (sets_of j.now.operands)) made.now }
+    ensures columns { IfOk result (λ g. g.columns ≡ table_columns made.now) }
+    ensures width { IfOk result (λ g. width_of g ≡ length j.now.operands + 1) }
+    ensures points { IfOk result (λ g. map (point_of g) (tuples_behind (0 ∷ []) (row_counts (sets_of j.now.operands))) ≡ join_of JoinKind.Cross (sets_of j.now.operands)) }
+    ensures set { IsDataSet made.now (join_of JoinKind.Cross (sets_of j.now.operands)) }
+{
+    let operands = j.operands.as_slice();
+    operands_are_sets(operands);
+    cross_gathering(alloc, operands, operands[0].set.table(), made)
 }
 
 // The table of the joined set.

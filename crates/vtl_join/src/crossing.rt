@@ -1,20 +1,29 @@
 // Combinations of row numbers, one of each operand.
-ghost use Rattle.std.specs.Prelude.{◌≡◌, ◌++◌, length, map, IfOk, OnOk};
-ghost use Rattle.vtl_join.specs.Crossing.{all_combinations, combined};
+ghost use Rattle.std.specs.Prelude.{◌≡◌, ◌++◌, IfOk, OnOk};
+ghost use Rattle.vtl_join.specs.Crossing.{all_combinations, combined, row_counts};
 ghost use Rattle.vtl_join.specs.Joining.{sets_of};
 
-use crate::joined::Operand;
+use crate::joined::{Joined, Operand};
 use std::alloc::{AllocError, Global};
 
 // How many rows each operand has.
 fn counts(alloc: Global, operands: &[Operand]) -> Result<Vec<usize>, AllocError>
-    ensures { IfOk result (λ v. v.items ≡ map (λ d. length d.points) (sets_of operands.now)) }
+    ensures { IfOk result (λ v. v.items ≡ row_counts (sets_of operands.now)) }
 {
     let mut counts = Vec::with_capacity(alloc, operands.len())?;
     for operand in operands {
         counts.push(operand.set.table().len())?;
     }
     Ok(counts)
+}
+
+impl Joined {
+    /// How many rows each operand has. It fails only if memory runs out.
+    pub fn counts(&self, alloc: Global) -> Result<Vec<usize>, AllocError>
+        ensures { IfOk result (λ v. v.items ≡ row_counts (sets_of self.now.operands)) }
+    {
+        counts(alloc, &self.operands)
+    }
 }
 
 // Adds every combination of numbers below these counts, each behind what stands in front of it; the first numbers are

@@ -9,12 +9,14 @@ ghost use Rattle.vtl_tree.specs.Structure.{IsStructure};
 ghost use Rattle.vtl_tree.specs.Columns.{identifiers_of, measures_of};
 ghost use Rattle.vtl_meaning.specs.Joined.{structures_of};
 ghost use Rattle.vtl_meaning.specs.Made.{attributes_of, component_kinds, kinds_of_all};
+ghost use Rattle.vtl_join.specs.Gatherings.{gathers, points_of};
 ghost use Rattle.vtl_join.specs.Joining.{sets_of};
 ghost use Rattle.vtl_join.specs.Picks.{joined_rows, picks_at, picks_behind, picks_from, table_of};
 
 use crate::columns::places_of;
 use crate::joined::Operand;
 use std::alloc::{AllocError, Global};
+use std::marker::Model;
 use vtl_rows::{Pick, Table, gather_beside};
 use vtl_sets::table_columns;
 use vtl_tree::{Role, Structure};
@@ -91,6 +93,69 @@ fn picks_behind(
     Ok(picks)
 }
 
+/// What the points of a join are gathered from: a table that leads and those of the operands, and the cells that make a
+/// point. A tuple has a row number for each of these tables, one after the other. A contract sees the tables, the cells
+/// and the columns of the points.
+pub struct Gathering<'a> {
+    parts: Vec<&'a Table>,
+    picks: Vec<Pick>,
+    made: &'a Structure,
+}
+
+// Written out, so that a proof sees one call and not the drop of each part.
+impl Drop for Gathering<'_> {
+    fn drop(self) {
+        let Gathering {
+            parts: _parts,
+            picks: _picks,
+            made: _,
+        } = self;
+    }
+}
+
+impl<'a> Model for Gathering<'a> {
+    ghost use Rattle.vtl_join.specs.Gatherings.{Gathers, IsGathering, gathers_of};
+
+    ghost Value = { Gathers };
+
+    ghost view = { λ g. gathers_of g.parts.items g.picks.items g.made.now };
+
+    ghost invariant = { λ g. IsGathering (gathers_of g.parts.items g.picks.items g.made.now) };
+}
+
+impl<'a> Gathering<'a> {
+    // That of a lead and of operands: the cells of identifiers, and then those of the measures and the attributes of
+    // the operands.
+    pub(crate) fn of(
+        alloc: Global,
+        lead: &'a Table,
+        operands: &'a [Operand],
+        identifiers: Vec<Pick>,
+        made: &'a Structure,
+    ) -> Result<Gathering<'a>, AllocError>
+        requires within { All (λ p. p.part < length operands.now + 1) identifiers.items }
+        requires identifiers { map (picked_kind (listed lead.now ∷ map table_of (sets_of operands.now))) identifiers.items ≡ component_kinds (identifiers_of made.now) }
+        requires well_formed { IsStructure made.now }
+        requires measures { component_kinds (measures_of made.now) ≡ kinds_of_all measures_of (structures_of (sets_of operands.now)) }
+        requires attributes { component_kinds (attributes_of made.now) ≡ kinds_of_all attributes_of (structures_of (sets_of operands.now)) }
+        ensures { IfOk result (λ g. g ≡ gathers (listed lead.now) (sets_of operands.now) identifiers.items made.now) }
+    {
+        operands_are_sets(operands);
+        let parts = parts_behind(alloc, lead, operands)?;
+        let picks = picks_behind(alloc, identifiers, operands)?;
+        Ok(Gathering { parts, picks, made })
+    }
+
+    /// The points of tuples that stand one after the other, in their order. It fails only if memory runs out.
+    pub fn points(&self, alloc: Global, tuples: &[usize]) -> Result<Table, AllocError>
+        ensures columns { IfOk result (λ t. t.columns ≡ self.now.columns) }
+        ensures rows { IfOk result (λ t. t.rows ≡ points_of self.now tuples.now) }
+    {
+        let columns = table_columns(alloc, self.made)?;
+        gather_beside(alloc, &self.parts, tuples, &self.picks, columns)
+    }
+}
+
 // The table of the joined set: for each tuple of row numbers, that of the lead and those of the operands, the cells of
 // its identifiers, and then those of the measures and the attributes of the operands.
 pub(crate) fn gathered(
@@ -109,8 +174,6 @@ pub(crate) fn gathered(
     ensures columns { IfOk result (λ t. t.columns ≡ table_columns made.now) }
     ensures rows { IfOk result (λ t. t.rows ≡ joined_rows (listed lead.now) (sets_of operands.now) identifiers.items tuples.now) }
 {
-    operands_are_sets(operands);
-    let parts = parts_behind(alloc, lead, operands)?;
-    let picks = picks_behind(alloc, identifiers, operands)?;
-    gather_beside(alloc, &parts, tuples, &picks, table_columns(alloc, made)?)
+    let gathering = Gathering::of(alloc, lead, operands, identifiers, made)?;
+    gathering.points(alloc, tuples)
 }

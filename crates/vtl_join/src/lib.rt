@@ -9,7 +9,8 @@
 //! A join is evaluated on row numbers: each operand is found by one look-up a row of the reference, a number past the
 //! last row is a missing part, and each cell of the result is copied once. A full join first makes the table of all
 //! identifiers, with a spare column, so that operands without identifiers are no case of their own. `step` only
-//! collects, so that no product larger than the result is made whatever the order of the operands.
+//! collects, so that no product larger than the result is made whatever the order of the operands. Who wants the points
+//! of a cross join a few at a time makes the tuples, and gathers their points (`product`).
 #![tactic(auto)]
 
 mod closing;
@@ -23,5 +24,6 @@ mod reference;
 mod sources;
 mod tuples;
 
-pub use closing::close;
+pub use closing::{close, product};
+pub use gathering::Gathering;
 pub use joined::{Joined, Operand, open, step};

@@ -1,6 +1,7 @@
-use Rattle.std.proofs.Common.{◌≡◌, length, map, take}
+use Rattle.std.proofs.Common.{◌≡◌, take}
+use Rattle.vtl_join.specs.Crossing.{row_counts}
 use Rattle.vtl_join.specs.Joining.{sets_of}
 use Rattle.vtl_join.proofs.crossing.counts.Given as goal
 
 abbrev pub invariant-loop-operand : goal.invariant-loop-operand
-invariant-loop-operand l = l.counts.items ≡ map (λ d. length d.points) (sets_of (take l.operand-index l.operands))
+invariant-loop-operand l = l.counts.items ≡ row_counts (sets_of (take l.operand-index l.operands))

@@ -1,0 +1,2 @@
+pub mod Sifts
+pub mod Combined
