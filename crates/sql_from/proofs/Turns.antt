@@ -21,10 +21,10 @@ use Rattle.sql_from.specs.declared.key_lookup.KeyLookup.{KeyLookup}
 use Rattle.sql_from.proofs.Conjunctions.{last_and}
 
 -- one condition, and then another one where it is true
-abbrev then_tried : Outcome Cell → Outcome Cell → Outcome Cell
+abbrev pub then_tried : Outcome Cell → Outcome Cell → Outcome Cell
 then_tried m n = after m (λ v. cond (is_true (Ok v)) n (Ok v))
 
-turn_true : (m n : Outcome Cell) → is_true (then_tried m n) ≡ (is_true m && is_true n)
+pub turn_true : (m n : Outcome Cell) → is_true (then_tried m n) ≡ (is_true m && is_true n)
 turn_true (Err f) n = refl
 turn_true (Ok v) n = go (is_true (Ok v)) refl
   where
@@ -32,7 +32,7 @@ turn_true (Ok v) n = go (is_true (Ok v)) refl
     go true e = refl
     go false e = e
 
-turn_fault : (m n : Outcome Cell) → fault_in (then_tried m n) ≡ join (fault_in m) (cond (is_true m) (fault_in n) None)
+pub turn_fault : (m n : Outcome Cell) → fault_in (then_tried m n) ≡ join (fault_in m) (cond (is_true m) (fault_in n) None)
 turn_fault (Err DivZero) n = refl
 turn_fault (Err Range) n = refl
 turn_fault (Ok v) n = go (is_true (Ok v))
