@@ -168,7 +168,14 @@ module _ (f g : Test) (x : List ℕ) where
         marked = subst (λ (l : List ℕ). AreMarked l m m) (ap (λ d. cond d (j ∷ []) []) t.0) (marked_nothing m);
       }
 
--- rows of which all are pairs
+-- rows that are tried in the place of others, where the same ones are pairs
+pub tries_as : (f g : Test) (x js ks : List ℕ) (a b : Walked) (m n : List Bool) → filter (passes f x) js ≡ filter (passes f x) ks → faults_by (fault_of f x) js ≡ faults_by (fault_of f x) ks → Tries f g x js a b m n → Tries f g x ks a b m n
+tries_as f g x js ks a b m n same fault tries = record {
+  gains = gains_as g (faults_by (fault_of f x) js) (faults_by (fault_of f x) ks) (map (with_number x) (filter (passes f x) js)) (map (with_number x) (filter (passes f x) ks)) a b fault (ap (map (with_number x)) same) tries.gains;
+  marked = subst (λ (l : List ℕ). AreMarked l m n) same tries.marked;
+}
+
+-- all of which are pairs
 pub tries_found : (f g : Test) (x found ks : List ℕ) (a b : Walked) (m n : List Bool) → found ≡ filter (passes f x) ks → faults_by (fault_of f x) ks ≡ None → Gains g None (map (with_number x) found) a b → AreMarked found m n → Tries f g x ks a b m n
 tries_found f g x found ks a b m n same fault gains marked = record {
   gains = gains_as g None (faults_by (fault_of f x) ks) (map (with_number x) found) (map (with_number x) (filter (passes f x) ks)) a b (sym fault) (ap (map (with_number x)) same) gains;

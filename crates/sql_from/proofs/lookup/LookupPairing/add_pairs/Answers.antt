@@ -3,23 +3,26 @@ use Rattle.std.specs.Prelude.{◌==◌}
 use Rattle.std.specs.List.{filter}
 use Rattle.sql_from.specs.Joins.{fault_of, numbers_to, passes}
 use Rattle.sql_from.proofs.Found.{any_kept, no_faults}
-use Rattle.sql_from.proofs.Gained.{tries_found}
+use Rattle.sql_from.proofs.Gained.{tries_as, tries_found}
 use Rattle.sql_from.proofs.lookup.LookupPairing.add_pairs.Goals as goal
 
-pub returns-clause-met : goal.returns-clause-met
-returns-clause-met g c =
+-- of a whole look-up: all that is found is a pair
+pub returns-then-is_whole-clause-met : goal.returns-then-is_whole-clause-met
+returns-then-is_whole-clause-met g c =
     let f = g.C.Condition.value c.args.self.now.condition.now in
     let x = c.args.front.now in
-    let all = numbers_to c.args.self.now.keys.now.count in
-    let is : c.found-found.result.now ≡ filter (passes f x) all = c.found-found.ensures ∙ c.requires.sound.finds.found x (c.requires.front ∙ sym c.requires.width) in
+    let all = numbers_to c.args.self.now.rows.now.keys.count in
+    let is : c.found-found.result.now ≡ filter (passes f x) all = c.found-found.ensures ∙ c.requires.sound.finds.whole c.if-is_whole.true x (c.requires.front ∙ sym c.requires.width) in
     ap not (c.is_empty.ensures ∙ ap (λ l. length l == 0) is) ∙ sym (any_kept (passes f x) all)
 
-pub returns-clause-tries : goal.returns-clause-tries
-returns-clause-tries g c =
+pub returns-then-is_whole-clause-tries : goal.returns-then-is_whole-clause-tries
+returns-then-is_whole-clause-tries g c =
     let f = g.C.Condition.value c.args.self.now.condition.now in
     let h = g.F.Condition.value c.args.self.now.filter.now in
     let x = c.args.front.now in
-    let all = numbers_to c.args.self.now.keys.now.count in
+    let all = numbers_to c.args.self.now.rows.now.keys.count in
     let whole = c.requires.front ∙ sym c.requires.width in
-    tries_found f h x c.found-found.result.now all c.args.so_far.now c.add_found.new.so_far c.args.met.now.items c.add_found.new.met.items (c.found-found.ensures ∙ c.requires.sound.finds.found x whole)
+    tries_found f h x c.found-found.result.now all c.args.so_far.now c.add_found.new.so_far c.args.met.now.items c.add_found.new.met.items (c.found-found.ensures ∙ c.requires.sound.finds.whole c.if-is_whole.true x whole)
     (no_faults (fault_of f x) (λ j. c.requires.sound.finds.sound x j whole) all) c.in_ok-add_found.ensures.gains c.in_ok-add_found.ensures.marked
+
+-- The other return: `tries_as` by the clause found of the look-up and `no_faults` twice, and for met `any_kept` on both lists.
