@@ -1,5 +1,5 @@
 -- Conditions of a select that are tried in turn.
-use Rattle.std.proofs.Common.{◌≡◌, ℕ, Bool, true, false, cond, ◌&&◌, List, [], ◌∷◌, ◌++◌, map, Option, None, refl, sym, ap, ◌∙◌}
+use Rattle.std.proofs.Common.{◌≡◌, ℕ, Bool, true, false, cond, ◌&&◌, List, [], ◌∷◌, ◌++◌, map, Option, None, refl, sym, ap, ◌∙◌, subst}
 use Rattle.std.specs.List.{AllByRecursion, filter, list_all}
 use Rattle.std.proofs.lemmas.List.Elements.{filter-append}
 use Rattle.std.proofs.lemmas.List.Folds.{list_all-append}
@@ -8,14 +8,18 @@ use Rattle.vtl_cell.specs.Outcome.{fault_in, faults_by, join}
 use Rattle.vtl_cell.specs.Outcomes.{is_true}
 use Rattle.vtl_decimal.specs.Settings.{Settings}
 use Rattle.sql_tree.specs.Trees.{Exp}
+use Rattle.sql_tree.specs.declared.word_groups.JoinKind.{JoinKind}
 use Rattle.sql_tree.specs.declared.word_groups.JoinKind.TheVariants as joining
 use Rattle.sql_meaning.specs.From.{partners}
 use Rattle.sql_meaning.proofs.Lists.{all_parted}
 use Rattle.sql_from.specs.Conditions.{conditions_at}
-use Rattle.sql_from.specs.Joins.{Test, fault_of, joined_tuples, kept_fault, kept_tuples, numbers_to, pairs_fault, passes, with_number}
+use Rattle.sql_from.specs.Joins.{Test, fault_of, in_turn, joined_tuples, kept_fault, kept_tuples, numbers_to, pairs_fault, passes, with_number}
 use Rattle.sql_from.specs.Sources.{Sourced}
 use Rattle.sql_from.specs.Standing.{condition_at}
-use Rattle.sql_from.proofs.Turns.{turn_fault, turn_true}
+use Rattle.sql_from.specs.Gains.{IsJoined}
+use Rattle.sql_from.specs.declared.pairs.Walked.{Walked}
+use Rattle.vtl_scalar.specs.Seen.{seen_of}
+use Rattle.sql_from.proofs.Turns.{all_kept, no_fault_kept, turn_fault, turn_true}
 
 none_by : {X : Type 0} (f : X → Option Fault) → ((x : X) → f x ≡ None) → (xs : List X) → faults_by f xs ≡ None
 none_by f h [] = refl
@@ -35,6 +39,11 @@ turns_sound p s (e ∷ es) x all =
 pub turns_true : (p : Settings) (s : Sourced) (es : List Exp) (x : List ℕ) → is_true (conditions_at p s es x) ≡ list_all (λ e. is_true (condition_at p s e x)) es
 turns_true p s [] x = refl
 turns_true p s (e ∷ es) x = turn_true (condition_at p s e x) (conditions_at p s es x) ∙ ap (λ b. is_true (condition_at p s e x) && b) (turns_true p s es x)
+
+-- a join by tests that are written otherwise
+pub joined_as : (kind : JoinKind) (f f' g g' : Test) (marks : List ℕ) (count count' : ℕ) (a b : Walked) → f ≡ f' → g ≡ g' → count ≡ count' → IsJoined kind f g marks count a b → IsJoined kind f' g' marks count' a b
+joined_as kind f f' g g' marks count count' a b on filtered many made =
+    subst (λ (n : ℕ). IsJoined kind f' g' marks n a b) many (subst (λ (h : Test). IsJoined kind f' h marks count a b) filtered (subst (λ (h : Test). IsJoined kind h g marks count a b) on made))
 
 -- ---- conditions of a join and then a filter, of an INNER join
 
@@ -83,3 +92,17 @@ module _ (p : Settings) (s : Sourced) (es ds : List Exp) where
 
     pub no_fault_of_all : (count : ℕ) (xs : List (List ℕ)) → pairs_fault all count xs ≡ None
     no_fault_of_all count xs = none_by (λ x. faults_by (fault_of all x) (numbers_to count)) (λ x. none_by (fault_of all x) (λ j. turns_sound p s (es ++ ds) (with_number x j) (sound (with_number x j))) (numbers_to count)) xs
+
+    -- a join by both, of which all is kept, is one by the first with the others as a filter
+    pub together : (marks : List ℕ) (count : ℕ) (before behind : Walked) → IsJoined joining.Inner all (in_turn []) marks count before behind → IsJoined joining.Inner on kept marks count before behind
+    together marks count before behind made =
+        let xs = before.rows.tuples in
+        let by_all = joined_tuples joining.Inner all marks count xs in
+        record {
+          width = made.width;
+          rows = made.rows ∙ all_kept by_all ∙ inner_kept marks count xs;
+          seen =
+              made.seen
+              ∙ ap (join (seen_of before.seen))
+              ((λ i. join (no_fault_of_all count xs i) (no_fault_kept by_all i)) ∙ (λ i. join (sym (no_pairs_fault count xs) i) (sym (no_kept_fault (joined_tuples joining.Inner on marks count xs)) i)));
+        }

@@ -74,6 +74,17 @@ fn all_tied<R: OuterRow>(
     Ok(true)
 }
 
+// The row of a table of this number; no cells where it has no such row.
+fn row_of(table: &Table, number: usize) -> &[Cell]
+    ensures { result.now ≡ row_at table.now.rows number }
+{
+    if number < table.len() {
+        table.row(number)
+    } else {
+        &[]
+    }
+}
+
 /// Whether one of the rows of these numbers of a table makes every equality with a row true. It fails only if memory runs
 /// out.
 pub(crate) fn is_among<R: OuterRow>(
@@ -87,12 +98,7 @@ pub(crate) fn is_among<R: OuterRow>(
     ensures { IfOk result (λ b. b ≡ list_any (λ n. list_all (is_tied p.now (R.lends outer.now) (row_at table.now.rows n)) ties.now) numbers.now) }
 {
     for number in numbers {
-        let row = if *number < table.len() {
-            table.row(*number)
-        } else {
-            &[]
-        };
-        if all_tied(alloc, ties, row, outer, p)? {
+        if all_tied(alloc, ties, row_of(table, *number), outer, p)? {
             return Ok(true);
         }
     }

@@ -2,13 +2,18 @@
 ghost use Rattle.std.specs.List.{AllByRecursion};
 ghost use Rattle.std.specs.Prelude.{◌≡◌, ◌+◌, ◌<◌, true, IfOk, IfSome, length};
 ghost use Rattle.sql_meaning.specs.Profiles.{IsLawful};
-ghost use Rattle.sql_from.specs.Held.{base_held};
+ghost use Rattle.sql_eval.specs.Placed.{has_partner};
+ghost use Rattle.sql_from.specs.Held.{base_held, rows_held};
+ghost use Rattle.sql_from.specs.Joins.{with_number};
 ghost use Rattle.sql_from.specs.Partners.{Answers, partners_at};
+ghost use Rattle.sql_from.specs.Rows.{combined};
+ghost use Rattle.sql_from.specs.Sources.{parts_of};
 
-use crate::Sources;
+use crate::existence::is_among;
 use crate::key_lookup::{KeyLookup, keyed};
 use crate::test_places::copied;
 use crate::ties::{are_same_ties, lead_of_ties, tied_columns};
+use crate::{Sources, TupleRow};
 use sql_eval::{Existence, Tie};
 use std::alloc::{AllocError, Global};
 use std::sync::ledger::Ledger;
@@ -84,8 +89,8 @@ impl<'a> PartnerIndex<'a> {
             && is_same_profile(&self.p, p)
     }
 
-    /// The rows of the table that are found for a tuple, rising. It takes no memory.
-    pub(crate) fn found(&self, front: &[usize], last: usize) -> &[usize]
+    // The rows of the table that are found for a tuple, rising. It takes no memory.
+    fn found(&self, front: &[usize], last: usize) -> &[usize]
         requires { self.now.keys.lead < length front.now + 1 }
         ensures { result.now ≡ partners_at self.now front.now last }
     {
@@ -96,6 +101,18 @@ impl<'a> PartnerIndex<'a> {
             last
         };
         self.keys.matches.rows(number)
+    }
+
+    /// Whether a row of the table makes each equality true, at a row of FROM. It fails only if memory runs out.
+    pub(crate) fn has(&self, alloc: Global, row: &TupleRow<'_>) -> Result<bool, AllocError>
+        requires { Answers row.now.sources.now self.now }
+        ensures { IfOk result (λ b. b ≡ has_partner self.now.p (rows_held row.now.sources.now.held) self.now.table self.now.ties.items (combined (parts_of row.now.sources.now.sources) (with_number row.now.front.now row.now.last))) }
+    {
+        let found = self.found(row.front, row.last);
+        if self.is_whole {
+            return Ok(!found.is_empty());
+        }
+        is_among(alloc, self.rows, found, &self.ties, row, &self.p)
     }
 }
 

@@ -12,7 +12,6 @@ ghost use Rattle.sql_from.specs.Partners.{Answers};
 ghost use Rattle.sql_from.specs.Rows.{combined};
 ghost use Rattle.sql_from.specs.Sources.{parts_of};
 
-use crate::existence::is_among;
 use crate::partner_index::PartnerIndex;
 use crate::test_places::TestPlaces;
 use crate::{Sources, TupleRow};
@@ -174,15 +173,13 @@ impl<'a> Partners<'a> {
         requires { row.now.sources.now ≡ self.now }
         ensures { IfOk result (λ o. IfSome o (λ b. b ≡ has_partner p.now (rows_held self.now.held) test.now.table test.now.ties.items (combined (parts_of self.now.sources) (with_number row.now.front.now row.now.last)))) }
     {
-        let place = self.places.place(test)?;
+        let Some(place) = self.places.place(test) else {
+            return Ok(None);
+        };
         if place < self.indexes.len() {
             let index = &self.indexes[place];
             if index.is_for(test, p) {
-                let found = index.found(row.front, row.last);
-                if index.is_whole {
-                    return Ok(Some(!found.is_empty()));
-                }
-                return Ok(Some(is_among(alloc, index.rows, found, &test.ties, row, p)?));
+                return Ok(Some(index.has(alloc, row)?));
             }
         }
         Ok(None)

@@ -17,10 +17,10 @@ ghost use Rattle.sql_from.specs.Conditions.{AreSound, conditions_at, filtered, k
 ghost use Rattle.sql_from.specs.Held.{base_held, tables_held};
 ghost use Rattle.sql_from.specs.Keys.{AreLinked, last_of, linked_count};
 ghost use Rattle.sql_from.specs.Lookups.{Finds};
-ghost use Rattle.sql_from.specs.Joins.{joined_tuples, kept_fault, kept_tuples, pairs_fault};
+ghost use Rattle.sql_from.specs.Joins.{joined_tuples, kept_fault, kept_tuples};
 ghost use Rattle.sql_from.specs.Sources.{scope_held, table_named};
 ghost use Rattle.sql_from.specs.Standing.{MayLookUp, StandsFor, rows_for, sight_of};
-ghost use Rattle.sql_from.specs.Together.{breadth, tested};
+ghost use Rattle.sql_from.specs.Together.{IsJoinedBy};
 ghost use Rattle.sql_from.specs.Steps.{IsPlainJoin, JoinsTwo, is_listed, most_steps, two_counts};
 
 use crate::conditions::Conditions;
@@ -80,8 +80,39 @@ fn both<'e>(
     Ok(all)
 }
 
-// An INNER join whose ON gives no look-up, by one of ON and of parts of WHERE together, where there is one: a tuple that is not
-// found is not kept, and nothing can have a fault.
+// Joins the tuples with the rows of a further source, which is the last one, by a look-up for conditions on all sources, where
+// it is wanted and there is one, and keeps the tuples at which parts of WHERE are true. It takes a step for each row of both
+// sources of the look-up and for each row that is found of a tuple.
+fn found_by_on<L: Ledger>(
+    alloc: Global,
+    kind: JoinKind,
+    conditions: &[&SqlExpr],
+    parts: &[&SqlExpr],
+    by_index: bool,
+    sources: &Sources<'_>,
+    left: &Walked,
+    marks: &[usize],
+    p: &Profile,
+    steps: &mut Steps<L>,
+) -> Result<Option<Walked>, ScalarErr>
+    requires width { length sources.now.sources ≡ left.now.rows.width + 1 }
+    requires marks { length marks.now ≡ left.now.rows.width }
+    requires lawful { by_index ≡ true → IsLawful (base_held p.now sources.now.held) }
+    ensures joined { IfOk result (λ o. IfSome o (IsJoinedBy p.now sources.now kind (trees_of conditions.now) (trees_of parts.now) marks.now left.now)) }
+    ensures some { by_index ≡ true → (lead : ℕ) → AreLinked sources.now lead (trees_of conditions.now) → IfOk result IsSome }
+    ensures steps { by_index ≡ true → AllByRecursion (λ e. asks e ≡ false) (trees_of parts.now) → (lead : ℕ) → AreLinked sources.now lead (trees_of conditions.now) → steps.new ≤ steps.old + linked_count sources.now lead + length (joined_tuples kind (conditions_at p.now sources.now (trees_of conditions.now)) marks.now (length (last_of sources.now).rows) left.now.rows.tuples) }
+    ensures err { IfErr result (λ e. e ≡ ScalarErr.OutOfMemory) }
+{
+    let Some(rows) = wanted_lookup(alloc, by_index, sources, conditions, p, steps)? else {
+        return Ok(None);
+    };
+    let on = Conditions::of(alloc, sources, conditions, by_index, p, steps)?;
+    let filter = Conditions::of(alloc, sources, parts, by_index, p, steps)?;
+    Ok(Some(join_found(alloc, kind, &on, &filter, &rows, left, marks, steps)?))
+}
+
+// The same for an INNER join, by a look-up for ON and parts of WHERE together: a tuple that is not found is not kept, and
+// nothing can have a fault.
 fn found_by_all<L: Ledger>(
     alloc: Global,
     conditions: &[&SqlExpr],
@@ -96,9 +127,7 @@ fn found_by_all<L: Ledger>(
     requires width { length sources.now.sources ≡ left.now.rows.width + 1 }
     requires marks { length marks.now ≡ left.now.rows.width }
     requires lawful { by_index ≡ true → IsLawful (base_held p.now sources.now.held) }
-    ensures width { IfOk result (λ o. IfSome o (λ w. w.rows.width ≡ left.now.rows.width + 1)) }
-    ensures rows { IfOk result (λ o. IfSome o (λ w. w.rows.tuples ≡ kept_tuples (conditions_at p.now sources.now (trees_of parts.now)) (joined_tuples JoinKind.Inner (conditions_at p.now sources.now (trees_of conditions.now)) marks.now (length (last_of sources.now).rows) left.now.rows.tuples))) }
-    ensures seen { IfOk result (λ o. IfSome o (λ w. seen_of w.seen ≡ join (seen_of left.now.seen) (join (pairs_fault (conditions_at p.now sources.now (trees_of conditions.now)) (length (last_of sources.now).rows) left.now.rows.tuples) (kept_fault (conditions_at p.now sources.now (trees_of parts.now)) (joined_tuples JoinKind.Inner (conditions_at p.now sources.now (trees_of conditions.now)) marks.now (length (last_of sources.now).rows) left.now.rows.tuples))))) }
+    ensures joined { IfOk result (λ o. IfSome o (IsJoinedBy p.now sources.now JoinKind.Inner (trees_of conditions.now) (trees_of parts.now) marks.now left.now)) }
     ensures err { IfErr result (λ e. e ≡ ScalarErr.OutOfMemory) }
 {
     let all = both(alloc, conditions, parts)?;
@@ -111,35 +140,34 @@ fn found_by_all<L: Ledger>(
     Ok(Some(join_found(alloc, kind, &on, &none, &rows, left, marks, steps)?))
 }
 
-// Joins the tuples with the rows of a further source, which is the last one, by conditions on all sources of which each pair
-// is tried, and keeps the tuples at which the filter is true. It takes a step for each pair.
+// The same for any join, where each pair is tried. It takes a step for each.
 fn each_joined<L: Ledger>(
     alloc: Global,
     kind: JoinKind,
-    on: &Conditions<'_>,
-    filter: &Conditions<'_>,
+    conditions: &[&SqlExpr],
+    parts: &[&SqlExpr],
+    by_index: bool,
     sources: &Sources<'_>,
     left: &Walked,
     marks: &[usize],
+    p: &Profile,
     steps: &mut Steps<L>,
 ) -> Result<Walked, ScalarErr>
     requires width { length sources.now.sources ≡ left.now.rows.width + 1 }
-    requires on { breadth on.now ≡ length sources.now.sources }
-    requires filter { breadth filter.now ≡ length sources.now.sources }
     requires marks { length marks.now ≡ left.now.rows.width }
-    ensures width { IfOk result (λ w. w.rows.width ≡ left.now.rows.width + 1) }
-    ensures rows { IfOk result (λ w. w.rows.tuples ≡ kept_tuples (tested filter.now) (joined_tuples kind (tested on.now) marks.now (length (last_of sources.now).rows) left.now.rows.tuples)) }
-    ensures seen { IfOk result (λ w. seen_of w.seen ≡ join (seen_of left.now.seen) (join (pairs_fault (tested on.now) (length (last_of sources.now).rows) left.now.rows.tuples) (kept_fault (tested filter.now) (joined_tuples kind (tested on.now) marks.now (length (last_of sources.now).rows) left.now.rows.tuples)))) }
+    requires lawful { by_index ≡ true → IsLawful (base_held p.now sources.now.held) }
+    ensures joined { IfOk result (IsJoinedBy p.now sources.now kind (trees_of conditions.now) (trees_of parts.now) marks.now left.now) }
     ensures err { IfErr result (λ e. e ≡ ScalarErr.OutOfMemory) }
 {
+    let on = Conditions::of(alloc, sources, conditions, by_index, p, steps)?;
+    let filter = Conditions::of(alloc, sources, parts, by_index, p, steps)?;
     let count = sources.last_count();
     count_pairs(left.rows.len(), count, steps);
-    join_each(alloc, kind, on, filter, left, marks, count)
+    Ok(join_each(alloc, kind, &on, &filter, left, marks, count)?)
 }
 
 // Joins the tuples with the rows of a further source, which is the last one, by conditions on all sources, and keeps those
-// at which parts of WHERE are true. Rows are looked up where that is wanted and they can be. It takes a step for each row
-// of both sources of a look-up and for each row that is found of a tuple, or for each pair that is tried.
+// at which parts of WHERE are true. Rows are looked up where that is wanted and they can be.
 fn joined_with<L: Ledger>(
     alloc: Global,
     kind: JoinKind,
@@ -155,26 +183,27 @@ fn joined_with<L: Ledger>(
     requires width { length sources.now.sources ≡ left.now.rows.width + 1 }
     requires marks { length marks.now ≡ left.now.rows.width }
     requires lawful { by_index ≡ true → IsLawful (base_held p.now sources.now.held) }
-    ensures width { IfOk result (λ w. w.rows.width ≡ left.now.rows.width + 1) }
-    ensures rows { IfOk result (λ w. w.rows.tuples ≡ kept_tuples (conditions_at p.now sources.now (trees_of parts.now)) (joined_tuples kind (conditions_at p.now sources.now (trees_of conditions.now)) marks.now (length (last_of sources.now).rows) left.now.rows.tuples)) }
-    ensures seen { IfOk result (λ w. seen_of w.seen ≡ join (seen_of left.now.seen) (join (pairs_fault (conditions_at p.now sources.now (trees_of conditions.now)) (length (last_of sources.now).rows) left.now.rows.tuples) (kept_fault (conditions_at p.now sources.now (trees_of parts.now)) (joined_tuples kind (conditions_at p.now sources.now (trees_of conditions.now)) marks.now (length (last_of sources.now).rows) left.now.rows.tuples)))) }
+    ensures joined { IfOk result (IsJoinedBy p.now sources.now kind (trees_of conditions.now) (trees_of parts.now) marks.now left.now) }
     ensures steps { by_index ≡ true → AllByRecursion (λ e. asks e ≡ false) (trees_of parts.now) → (lead : ℕ) → AreLinked sources.now lead (trees_of conditions.now) → steps.new ≤ steps.old + linked_count sources.now lead + length (joined_tuples kind (conditions_at p.now sources.now (trees_of conditions.now)) marks.now (length (last_of sources.now).rows) left.now.rows.tuples) }
     ensures err { IfErr result (λ e. e ≡ ScalarErr.OutOfMemory) }
 {
-    let on = Conditions::of(alloc, sources, conditions, by_index, p, steps)?;
-    let filter = Conditions::of(alloc, sources, parts, by_index, p, steps)?;
-    if let Some(rows) = wanted_lookup(alloc, by_index, sources, conditions, p, steps)? {
-        return join_found(alloc, kind, &on, &filter, &rows, left, marks, steps);
+    let found = found_by_on(
+        alloc, kind, conditions, parts, by_index, sources, left, marks, p, steps,
+    )?;
+    if let Some(joined) = found {
+        return Ok(joined);
     }
     if let JoinKind::Inner = kind {
         let found = found_by_all(
             alloc, conditions, parts, by_index, sources, left, marks, p, steps,
         )?;
-        if let Some(found) = found {
-            return Ok(found);
+        if let Some(joined) = found {
+            return Ok(joined);
         }
     }
-    each_joined(alloc, kind, &on, &filter, sources, left, marks, steps)
+    each_joined(
+        alloc, kind, conditions, parts, by_index, sources, left, marks, p, steps,
+    )
 }
 
 // The tuples at which conditions are true.

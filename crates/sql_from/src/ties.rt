@@ -1,5 +1,5 @@
 // Equalities of EXISTS: whether two lists are the same, and which columns they equate.
-ghost use Rattle.std.specs.Prelude.{◌≡◌, ◌<◌, true, IfOk, IfSome, length};
+ghost use Rattle.std.specs.Prelude.{◌≡◌, ◌<◌, ◌++◌, ◌∷◌, [], List, true, IfOk, IfSome, length};
 ghost use Rattle.sql_from.specs.Partners.{AreTiedBy, AreTiesImplying, IsTiedBy};
 
 use crate::Sources;
@@ -65,6 +65,26 @@ fn tie_pair(sources: &Sources<'_>, lead: usize, tie: Tie) -> Option<KeyPair>
     }
 }
 
+// Puts the columns that an equality ties behind those of others, if it ties a column of the table of EXISTS and one of the
+// source that leads, and tells whether it does.
+fn push_tie(
+    keys: &mut Vec<KeyPair>,
+    sources: &Sources<'_>,
+    lead: usize,
+    tie: Tie,
+) -> Result<bool, AllocError>
+    ensures implied { IfOk result (λ _. (ties : List Tie) → AreTiesImplying sources.now lead ties keys.old.items → AreTiesImplying sources.now lead (ties ++ tie ∷ []) keys.new.items) }
+    ensures tied { IfOk result (λ b. b ≡ true → (ties : List Tie) → AreTiedBy sources.now lead ties keys.old.items → AreTiedBy sources.now lead (ties ++ tie ∷ []) keys.new.items) }
+{
+    match tie_pair(sources, lead, tie) {
+        Some(pair) => {
+            keys.push(pair)?;
+            Ok(true)
+        }
+        None => Ok(false),
+    }
+}
+
 /// The columns that equalities tie, of those that tie a column of the table of EXISTS and one of the source that leads, and
 /// whether all do. It fails only if memory runs out.
 pub(crate) fn tied_columns(
@@ -79,10 +99,8 @@ pub(crate) fn tied_columns(
     let mut keys = Vec::new(alloc);
     let mut is_whole = true;
     for tie in ties {
-        match tie_pair(sources, lead, *tie) {
-            Some(pair) => keys.push(pair)?,
-            None => is_whole = false,
-        }
+        let here = push_tie(&mut keys, sources, lead, *tie)?;
+        is_whole = is_whole && here;
     }
     Ok((keys, is_whole))
 }

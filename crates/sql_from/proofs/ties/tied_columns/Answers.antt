@@ -1,12 +1,6 @@
-use Rattle.std.proofs.Common.{List, subst}
-use Rattle.std.proofs.lemmas.List.{get_or_default, take_all}
+use Rattle.std.proofs.Common.{◌≡◌, ◌∙◌, ◌++◌, ◌∷◌, [], List, ap, sym, subst, take}
+use Rattle.std.proofs.lemmas.List.{get_or_default, take_all, take_more}
 use Rattle.sql_eval.specs.declared.resolved.Tie.{Tie}
-use Rattle.sql_from.specs.Partners.{AreTiedBy}
-use Rattle.sql_from.proofs.Tied.{tied_more}
+use Rattle.sql_from.specs.Partners.{AreTiedBy, AreTiesImplying}
+use Rattle.sql_from.proofs.Tied.{none_implied, none_tied}
 use Rattle.sql_from.proofs.ties.tied_columns.Goals as goal
-
-pub loop-tie-preserved : goal.loop-tie-preserved
-loop-tie-preserved c = tied_more c.args.sources.now c.args.lead c.args.ties.now c.loop-tie.tie-index _ c.loop-tie.keys.items c.push.new.self.items c.in-Some.pair c.loop-tie-test.true (get_or_default c.args.ties.now c.loop-tie.tie-index _ _ c.loop-tie-test.true) c.loop-tie.invariant c.in-Some.ensures c.in_ok-push-in-Some.ensures.items
-
-pub returns : goal.returns
-returns c = subst (λ (ties : List Tie). AreTiedBy c.args.sources.now c.args.lead ties c.loop-tie.keys.items) (take_all c.loop-tie.tie-index c.args.ties.now c.loop-tie-test.false) c.loop-tie.invariant
