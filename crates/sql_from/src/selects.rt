@@ -409,9 +409,9 @@ fn joined<'a, L: Ledger>(
 /// Where joins are listed, by their places, a join goes by a look-up, in time for the rows of both and the pairs that are found,
 /// if its ON can have no fault and one of its parts is an equality of a column of its own source and one of another one; ON is
 /// tried on what is found. So does an INNER or CROSS join by an equality of ON or of what WHERE has tried behind it, if
-/// none of both can have a fault. So does an EXISTS of an ON or of WHERE whose equalities each tie a column of its table and
-/// one of a source, the same for all. Every other join tries each pair, and every other EXISTS walks over its table; so do all
-/// of them where no list is given.
+/// none of both can have a fault. So does an EXISTS of an ON or of WHERE one of whose equalities ties a column of its table and
+/// one of a source; the others are tried on what is found. Every other join tries each pair, and every other EXISTS walks over
+/// its table; so do all of them where no list is given.
 ///
 /// Each part of WHERE that is listed to be tried early is tried before its join too, one after the other: the join sees
 /// the rows at which it is true, and its fault is told beside the others. WHERE is tried whole at the end. All of them are
