@@ -27,3 +27,5 @@ pub mod TwoSources
 pub mod Fewer
 pub mod Counted
 pub mod KeyFound
+pub mod PlacedLists
+pub mod Dues
