@@ -5,7 +5,7 @@ ghost use Rattle.vtl_cell.specs.declared.operator.ScalarOp.TheVariants as op;
 ghost use Rattle.sql_tree.specs.Trees as tree;
 ghost use Rattle.sql_tree.specs.View.{expr_tree};
 ghost use Rattle.sql_meaning.specs.Plans.{conjuncts};
-ghost use Rattle.sql_from.specs.Keys.{ArePaired, IsLinked, IsPairOf, are_linked, asked_columns, is_link, own_columns};
+ghost use Rattle.sql_from.specs.Keys.{AreImplied, ArePaired, IsLinked, IsPairOf, are_linked, asked_columns, is_link, own_columns};
 
 use crate::Sources;
 use sql_tree::{Column, SqlExpr};
