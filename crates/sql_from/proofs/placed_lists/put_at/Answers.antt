@@ -10,4 +10,4 @@ pub returns : goal.returns
 returns g c =
     let lists = c.args.lists.now in
     one_put c.args.place c.args.item lists c.push.new.self c.if-place-lists.false
-    (λ other. c.in_ok-push.ensures.items ∙ ap (λ v. v.items ++ c.args.item ∷ []) (c.index-lists-place.is ∙ get_or_default lists c.args.place c.index-lists-place.result other c.if-place-lists.false))
+    (λ other. c.in_ok-push.ensures.items ∙ ap (λ v. v.items ++ c.args.item ∷ []) (get_or_default lists c.args.place c.index-lists-place.result other c.if-place-lists.false))
