@@ -1,4 +1,4 @@
-use Rattle.std.proofs.Common.{◌≡◌, ◌≤◌, ◌+◌, ◌∷◌, [], ℕ, List, Option, None, Some, Result, Ok, Err, IfOk, IfSome, IsSome, ap, length, refl, subst, sym}
+use Rattle.std.proofs.Common.{◌≡◌, ◌≤◌, ◌+◌, ◌∷◌, [], ℕ, List, Option, None, Some, Result, Ok, Err, IfOk, IfSome, IsSome, length, refl, subst, sym}
 use Rattle.std.specs.Borrow.{Bor}
 use Rattle.sql_tree.specs.Trees.{Exp}
 use Rattle.sql_tree.specs.View.{expr_tree}
@@ -29,7 +29,7 @@ pub returns-in-len1-clause-finds : goal.returns-in-len1-clause-finds
 returns-in-len1-clause-finds g c =
     let s = c.args.sources.now in
     let x : Bor SqlExpr = c.condition-item.result in
-    let one : trees_of c.args.conditions.now ≡ expr_tree x.now ∷ [] = one_tree c.args.conditions.now x.now c.in-len1.len_is (ap (λ (y : Bor SqlExpr). y.now) c.condition-item.is) in
+    let one : trees_of c.args.conditions.now ≡ expr_tree x.now ∷ [] = one_tree c.args.conditions.now x c.in-len1.len_is c.condition-item.is in
     subst (λ (es : List Exp). IfOk c.lookup_of.result (λ o. IfSome o (Finds (length s.sources) (conditions_at c.args.p.now s es)))) (sym one)
     (found_in_turn (length s.sources) _ c.lookup_of.result c.lookup_of.ensures.finds)
 
@@ -37,12 +37,12 @@ pub returns-in-len1-clause-some : goal.returns-in-len1-clause-some
 returns-in-len1-clause-some g c by lead =
     let s = c.args.sources.now in
     let x : Bor SqlExpr = c.condition-item.result in
-    let one : trees_of c.args.conditions.now ≡ expr_tree x.now ∷ [] = one_tree c.args.conditions.now x.now c.in-len1.len_is (ap (λ (y : Bor SqlExpr). y.now) c.condition-item.is) in
+    let one : trees_of c.args.conditions.now ≡ expr_tree x.now ∷ [] = one_tree c.args.conditions.now x c.in-len1.len_is c.condition-item.is in
     subst (λ (es : List Exp). AreLinked s lead es → IfOk c.lookup_of.result IsSome) (sym one) (c.lookup_of.ensures.some lead)
 
 pub returns-in-len1-clause-steps : goal.returns-in-len1-clause-steps
 returns-in-len1-clause-steps g c by lead =
     let s = c.args.sources.now in
     let x : Bor SqlExpr = c.condition-item.result in
-    let one : trees_of c.args.conditions.now ≡ expr_tree x.now ∷ [] = one_tree c.args.conditions.now x.now c.in-len1.len_is (ap (λ (y : Bor SqlExpr). y.now) c.condition-item.is) in
+    let one : trees_of c.args.conditions.now ≡ expr_tree x.now ∷ [] = one_tree c.args.conditions.now x c.in-len1.len_is c.condition-item.is in
     subst (λ (es : List Exp). AreLinked s lead es → c.lookup_of.new.steps ≤ c.args.steps.now + linked_count s lead) (sym one) (c.lookup_of.ensures.steps lead)
