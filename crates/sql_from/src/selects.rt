@@ -57,8 +57,11 @@ fn wanted_lookup<'a, L: Ledger>(
     ensures steps { by_index ≡ true → (lead : ℕ) → AreLinked sources.now lead (trees_of conditions.now) → steps.new ≤ steps.old + linked_count sources.now lead }
     ensures finds { IfOk result (λ o. IfSome o (Finds (length sources.now.sources) (conditions_at p.now sources.now (trees_of conditions.now)))) }
 {
+    if !by_index {
+        return Ok(None);
+    }
     match conditions {
-        [condition] if by_index => lookup_of(alloc, sources, condition, p, steps),
+        [condition] => lookup_of(alloc, sources, condition, p, steps),
         _ => Ok(None),
     }
 }
