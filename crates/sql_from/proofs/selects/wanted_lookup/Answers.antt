@@ -1,4 +1,4 @@
-use Rattle.std.proofs.Common.{◌≡◌, ◌≤◌, ◌+◌, ◌∷◌, [], ℕ, List, Option, None, Some, Result, Ok, Err, IfOk, IfSome, IsSome, length, refl, subst, sym}
+use Rattle.std.proofs.Common.{◌≡◌, ◌≤◌, ◌+◌, ◌∷◌, [], ℕ, List, Option, None, Some, Result, Ok, Err, IfOk, IfSome, IsSome, arith, length, subst, sym}
 use Rattle.std.specs.Borrow.{Bor}
 use Rattle.sql_tree.specs.Trees.{Exp}
 use Rattle.sql_tree.specs.View.{expr_tree}
@@ -7,7 +7,6 @@ use Rattle.sql_from.specs.Conditions.{conditions_at, trees_of}
 use Rattle.sql_from.specs.Joins.{Test, in_turn}
 use Rattle.sql_from.specs.Keys.{AreLinked, linked_count}
 use Rattle.sql_from.specs.Lookups.{Finds}
-use Rattle.sql_from.specs.Sources.{Sourced}
 use Rattle.sql_from.specs.declared.key_lookup.KeyLookup.{KeyLookup}
 use Rattle.sql_from.proofs.Conditioned.{one_tree}
 use Rattle.sql_from.proofs.Turns.{finds_one}
@@ -19,17 +18,11 @@ found_in_turn width f (Ok None) h = tt
 found_in_turn width f (Ok (Some l)) h = finds_one width f l h
 found_in_turn width f (Err e) h = tt
 
--- only one condition can link two sources
-not_linked : (s : Sourced) (lead : ℕ) (es : List (Bor SqlExpr)) → (length es ≡ 1 → ⊥) → AreLinked s lead (trees_of es) → ⊥
-not_linked s lead [] many h = h
-not_linked s lead (x ∷ []) many h = many refl
-not_linked s lead (x ∷ y ∷ es) many h = h
-
 pub returns-in-len1-clause-finds : goal.returns-in-len1-clause-finds
 returns-in-len1-clause-finds g c =
     let s = c.args.sources.now in
     let x : Bor SqlExpr = c.condition-item.result in
-    let one : trees_of c.args.conditions.now ≡ expr_tree x.now ∷ [] = one_tree c.args.conditions.now x c.in-len1.len_is c.condition-item.is in
+    let one : trees_of c.args.conditions.now ≡ expr_tree x.now ∷ [] = one_tree c.args.conditions.now x (omega (arith, c.in-len1.len_at_least, c.in-len1.len_below)) c.condition-item.is in
     subst (λ (es : List Exp). IfOk c.lookup_of.result (λ o. IfSome o (Finds (length s.sources) (conditions_at c.args.p.now s es)))) (sym one)
     (found_in_turn (length s.sources) _ c.lookup_of.result c.lookup_of.ensures.finds)
 
@@ -37,12 +30,12 @@ pub returns-in-len1-clause-some : goal.returns-in-len1-clause-some
 returns-in-len1-clause-some g c by lead =
     let s = c.args.sources.now in
     let x : Bor SqlExpr = c.condition-item.result in
-    let one : trees_of c.args.conditions.now ≡ expr_tree x.now ∷ [] = one_tree c.args.conditions.now x c.in-len1.len_is c.condition-item.is in
+    let one : trees_of c.args.conditions.now ≡ expr_tree x.now ∷ [] = one_tree c.args.conditions.now x (omega (arith, c.in-len1.len_at_least, c.in-len1.len_below)) c.condition-item.is in
     subst (λ (es : List Exp). AreLinked s lead es → IfOk c.lookup_of.result IsSome) (sym one) (c.lookup_of.ensures.some lead)
 
 pub returns-in-len1-clause-steps : goal.returns-in-len1-clause-steps
 returns-in-len1-clause-steps g c by lead =
     let s = c.args.sources.now in
     let x : Bor SqlExpr = c.condition-item.result in
-    let one : trees_of c.args.conditions.now ≡ expr_tree x.now ∷ [] = one_tree c.args.conditions.now x c.in-len1.len_is c.condition-item.is in
+    let one : trees_of c.args.conditions.now ≡ expr_tree x.now ∷ [] = one_tree c.args.conditions.now x (omega (arith, c.in-len1.len_at_least, c.in-len1.len_below)) c.condition-item.is in
     subst (λ (es : List Exp). AreLinked s lead es → c.lookup_of.new.steps ≤ c.args.steps.now + linked_count s lead) (sym one) (c.lookup_of.ensures.steps lead)
