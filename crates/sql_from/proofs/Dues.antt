@@ -53,7 +53,7 @@ module _ {A : Type 0} (xs : List A) (early : List Early) (i : ℕ) (e : Early) (
         ∙ sym (more n ∙ ap (λ l. parts_at xs (take i early) n ++ (if e.join == n then l else [])) (none_taken xs e.conjunct none) ∙ ap (λ l. parts_at xs (take i early) n ++ l) (neither (e.join == n)) ∙ append-nil (parts_at xs (take i early) n));
   }
     where
-      neither : (b : Bool) → cond b [] [] ≡ []
+      neither : (b : Bool) → cond {A = List A} b [] [] ≡ []
       neither true = refl
       neither false = refl
 

@@ -87,7 +87,7 @@ one_true f x = turn_true (f x) (Ok (cell.Bool true)) ∙ sym (last_and (is_true 
 pub one_fault : (f : Test) (x : List ℕ) → fault_in (in_turn (f ∷ []) x) ≡ fault_in (f x)
 one_fault f x = turn_fault (f x) (Ok (cell.Bool true)) ∙ ap (join (fault_in (f x))) (neither (is_true (f x))) ∙ join_none (fault_in (f x))
   where
-    neither : (b : Bool) → cond b None None ≡ None
+    neither : (b : Bool) → cond {A = Option Fault} b None None ≡ None
     neither true = refl
     neither false = refl
 

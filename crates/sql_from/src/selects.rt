@@ -393,9 +393,11 @@ fn joined<'a, L: Ledger>(
     let parts = conjuncts_of(alloc, &select.condition)?;
     let due = due_parts(alloc, select, &parts, early)?;
     let first = first_source(alloc, &select.from, tables)?;
-    let mut so_far = first.with_parts(alloc, &due[0], looks_up, p, steps)?;
+    let begun = &due[0];
+    let mut so_far = first.with_parts(alloc, begun, looks_up, p, steps)?;
     for place in 0..joins.len() {
-        so_far = so_far.with_join(alloc, &joins[place], &due[place + 1], looks_up, p, steps)?;
+        let next = &due[place + 1];
+        so_far = so_far.with_join(alloc, &joins[place], next, looks_up, p, steps)?;
     }
     Ok(so_far)
 }

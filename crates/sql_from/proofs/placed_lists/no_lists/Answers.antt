@@ -1,4 +1,4 @@
-use Rattle.std.proofs.Common.{◌≡◌, [], ◌∷◌, ◌++◌, length, length-append, sym, subst, ap, ◌∙◌, arith}
+use Rattle.std.proofs.Common.{◌≡◌, [], ◌∷◌, ◌++◌, ◌+◌, length, length-append, sym, subst, ap, ◌∙◌, arith}
 use Rattle.sql_from.specs.PlacedLists.{AreLists}
 use Rattle.sql_from.proofs.PlacedLists.{lists_grow}
 use Rattle.sql_from.proofs.placed_lists.no_lists.Goals as goal
@@ -6,7 +6,7 @@ use Rattle.sql_from.proofs.placed_lists.no_lists.Goals as goal
 pub loop-preserved : goal.loop-preserved
 loop-preserved g c =
     let lists = c.loop.lists.items in
-    let n = c.loop.index in
+    let n = c.loop.counter in
     let v = c.new.result in
     record {
       many = omega (arith, ap length c.in_ok-push.ensures.items, length-append lists (v ∷ []), c.loop.invariant.many);

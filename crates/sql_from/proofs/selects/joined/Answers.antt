@@ -1,4 +1,6 @@
 use Rattle.std.proofs.Common.{◌≡◌, ◌∙◌, ◌+◌, ◌<◌, ◌≤◌, ◌∷◌, [], ℕ, List, Option, add-one, arith, refl, ap, drop, false, get_or, length, map, subst, sym, suc}
+use Rattle.std.specs.Borrow.{Bor}
+use Rattle.std.specs.Global.{Vec}
 use Rattle.std.specs.List.{AllByRecursion}
 use Rattle.std.specs.Prelude.{fold}
 use Rattle.std.proofs.lemmas.List.{drop_all, drop_more, length-map}
@@ -6,6 +8,7 @@ use Rattle.vtl_rows.specs.Named.{NamedTables}
 use Rattle.sql_tree.specs.Trees.{Exp, JoinTree, SelectTree}
 use Rattle.sql_tree.specs.declared.statements.Join.{Join}
 use Rattle.sql_tree.specs.View.{join_tree, select_tree}
+use Rattle.sql_tree.specs.declared.expressions.SqlExpr.{SqlExpr}
 use Rattle.sql_meaning.specs.Profiles.{IsLawful}
 use Rattle.sql_meaning.specs.From.{Joined, first_of, with_join}
 use Rattle.sql_meaning.specs.Plans.{try_early}
@@ -44,7 +47,8 @@ loop-place-init g c =
     let j = c.in_ok-so_far.so_far in
     let stands = c.in_ok-first.ensures.stands p in
     let f : Joined = first_of b s.source in
-    let due : trees_of c.deref-2.result.now ≡ due_at s early 0 = ap trees_of c.deref-2.ensures.value ∙ c.in_ok-begun.ensures in
+    let list = c.index-begun.result.now in
+    let due : trees_of c.deref-2.result.now ≡ due_at s early 0 = ap trees_of c.deref-2.ensures.value ∙ ap (λ (v : Vec (Bor SqlExpr)). trees_of v.items) c.index-begun.ensures ∙ c.in_ok-due.ensures.due.at 0 list (omega arith) in
     let tried : StandsFor (tried_at b s early 0 f) j.sources j.walked.rows (seen_of j.walked.seen) =
     subst (λ (z : Sourced). StandsFor (tried_at b s early 0 f) z j.walked.rows (seen_of j.walked.seen)) (sym c.in_ok-so_far.ensures.sources)
     (restated p held first.sources f (trees_of c.deref-2.result.now) (due_at s early 0) j.walked.rows (seen_of j.walked.seen) c.in_ok-first.ensures.held due (c.in_ok-so_far.ensures.stands f stands)) in
@@ -77,19 +81,19 @@ loop-place-preserved g c =
     let js = map join_tree (drop (i + 1) joins) in
     let items = c.as_slice-joins.result.now in
     let same : items ≡ joins = c.as_slice-joins.ensures in
+    let many = length-map joins join_tree in
+    let all = ap (λ (l : List Join). length l) same in
+    let within : i < length s.joins = omega (arith, many, all, c.loop-place-test.true) in
     let next = next_joins joins items i x same c.loop-place-test.true c.index-joins-place.is in
     let left : Left b s early i (join_tree x ∷ js) old.sources old.walked.rows (seen_of old.walked.seen) =
     subst (λ (l : List JoinTree). Left b s early i l old.sources old.walked.rows (seen_of old.walked.seen)) next c.loop-place.invariant.left in
     let f : Joined = tried_at b s early i left.so_far in
-    let due : trees_of c.deref-in-loop-place-2.result.now ≡ due_at s early (suc i) = ap trees_of c.deref-in-loop-place-2.ensures.value ∙ c.in_ok-due.ensures ∙ ap (due_at s early) (add-one i) in
+    let due : trees_of c.deref-in-loop-place-2.result.now ≡ due_at s early (suc i) = ap trees_of c.deref-in-loop-place-2.ensures.value ∙ ap (λ (v : Vec (Bor SqlExpr)). trees_of v.items) c.index-next.ensures ∙ c.in_ok-due.ensures.due.at (i + 1) c.index-next.result.now (omega (arith, within)) ∙ ap (due_at s early) (add-one i) in
     let new_held : new.sources.held ≡ held = c.in_ok-so_far-2.ensures.held ∙ c.loop-place.invariant.held in
     let stands : StandsFor (tried_at b s early (suc i) (with_join b f (join_tree x))) new.sources new.walked.rows (seen_of new.walked.seen) =
     restated p held new.sources (with_join b f (join_tree x)) (trees_of c.deref-in-loop-place-2.result.now) (due_at s early (suc i)) new.walked.rows (seen_of new.walked.seen) new_held due
     (subst (λ (h : NamedTables). StandsFor (fold (try_early (sight_of p new.sources)) (with_join (base_held p h) f (join_tree x)) (trees_of c.deref-in-loop-place-2.result.now)) new.sources new.walked.rows (seen_of new.walked.seen)) c.loop-place.invariant.held
     (c.in_ok-so_far-2.ensures.stands f left.stands)) in
-    let many = length-map joins join_tree in
-    let all = ap (λ (l : List Join). length l) same in
-    let within : i < length s.joins = omega (arith, many, all, c.loop-place-test.true) in
     record {
       held = new_held;
       left = subst (λ (n : ℕ). Left b s early n js new.sources new.walked.rows (seen_of new.walked.seen)) (sym (add-one i))
