@@ -41,14 +41,14 @@ returns-in_default-clause-steps g c by silent lead linked = let made = c.wanted_
 pub returns-in_err-on-clause-steps : goal.returns-in_err-on-clause-steps
 returns-in_err-on-clause-steps g c by silent lead linked =
     let made = c.wanted_lookup.ensures.steps by lead linked in
-    let none = c.of-on.ensures.steps (linked_asks c.args.sources.now lead (trees_of c.args.conditions.now) linked) in
+    let none = c.of.ensures.steps (linked_asks c.args.sources.now lead (trees_of c.args.conditions.now) linked) in
     omega (arith, none, made)
 
 pub returns-in_err-filter-clause-steps : goal.returns-in_err-filter-clause-steps
 returns-in_err-filter-clause-steps g c by silent lead linked =
     let made = c.wanted_lookup.ensures.steps by lead linked in
-    let none = c.of-on.ensures.steps (linked_asks c.args.sources.now lead (trees_of c.args.conditions.now) linked) in
-    let quiet = c.of-filter.ensures.steps silent in
+    let none = c.of.ensures.steps (linked_asks c.args.sources.now lead (trees_of c.args.conditions.now) linked) in
+    let quiet = c.of-2.ensures.steps silent in
     omega (arith, none, quiet, made)
 
 pub returns-in_err-join_found-clause-steps : goal.returns-in_err-join_found-clause-steps
@@ -58,8 +58,8 @@ returns-in_err-join_found-clause-steps g c by silent lead linked =
     let f = conditions_at c.args.p.now s (trees_of c.args.conditions.now) in
     let count = subst (λ (o : Option JoinLookup). IfSome o (λ l. l.keys.count ≡ length (last_of s).rows)) c.in-Some.is c.in_ok-wanted_lookup.ensures.rows in
     let whole = subst (λ (o : Option JoinLookup). IfSome o (λ l. l.is_whole ≡ true)) c.in-Some.is (c.in_ok-wanted_lookup.ensures.whole lead linked) in
-    let none = c.of-on.ensures.steps (linked_asks s lead (trees_of c.args.conditions.now) linked) in
-    let quiet = c.of-filter.ensures.steps silent in
+    let none = c.of.ensures.steps (linked_asks s lead (trees_of c.args.conditions.now) linked) in
+    let quiet = c.of-2.ensures.steps silent in
     let made = c.wanted_lookup.ensures.steps by lead linked in
     let found = c.join_found.ensures.steps whole in
     let same : length (flat_map (pairs_with (tested c.in_ok-on.on) c.in-Some.rows.keys.count) t) ≡ length (flat_map (pairs_with f (length (last_of s).rows)) t) = λ i. length (flat_map (pairs_with (c.in_ok-on.ensures.test i) (count i)) t) in
@@ -73,8 +73,8 @@ returns-clause-steps g c by silent lead linked =
     let f = conditions_at c.args.p.now s (trees_of c.args.conditions.now) in
     let count = subst (λ (o : Option JoinLookup). IfSome o (λ l. l.keys.count ≡ length (last_of s).rows)) c.in-Some.is c.in_ok-wanted_lookup.ensures.rows in
     let whole = subst (λ (o : Option JoinLookup). IfSome o (λ l. l.is_whole ≡ true)) c.in-Some.is (c.in_ok-wanted_lookup.ensures.whole lead linked) in
-    let none = c.of-on.ensures.steps (linked_asks s lead (trees_of c.args.conditions.now) linked) in
-    let quiet = c.of-filter.ensures.steps silent in
+    let none = c.of.ensures.steps (linked_asks s lead (trees_of c.args.conditions.now) linked) in
+    let quiet = c.of-2.ensures.steps silent in
     let made = c.wanted_lookup.ensures.steps by lead linked in
     let found = c.join_found.ensures.steps whole in
     let same : length (flat_map (pairs_with (tested c.in_ok-on.on) c.in-Some.rows.keys.count) t) ≡ length (flat_map (pairs_with f (length (last_of s).rows)) t) = λ i. length (flat_map (pairs_with (c.in_ok-on.ensures.test i) (count i)) t) in
