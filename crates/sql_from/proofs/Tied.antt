@@ -1,5 +1,6 @@
 -- Equalities of EXISTS, one more.
-use Rattle.std.proofs.Common.{◌≡◌, ℕ, ◌&&◌, true, List, [], ◌∷◌, ◌++◌, sym, ap, ◌∙◌}
+use Rattle.std.proofs.Common.{◌≡◌, ℕ, ◌+◌, ◌<◌, ◌&&◌, true, List, [], ◌∷◌, ◌++◌, get_or, length, take, subst, sym, ap, ◌∙◌}
+use Rattle.std.proofs.lemmas.List.{take_more}
 use Rattle.std.specs.List.{list_all}
 use Rattle.std.proofs.lemmas.Bool.{and_parts}
 use Rattle.std.proofs.lemmas.List.Folds.{list_all-append}
@@ -54,3 +55,14 @@ none_tied s lead keys none p inner front last whole = sym (ap (all_paired p inne
 
 pub none_implied : (s : Sourced) (lead : ℕ) (keys : List KeyPair) → keys ≡ [] → AreTiesImplying s lead [] keys
 none_implied s lead keys none p inner front last whole h = ap (all_paired p inner (row_in s lead (with_number front last))) none
+
+-- the first equalities, one more
+pub implied_step : (s : Sourced) (lead : ℕ) (ties : List Tie) (i : ℕ) (t : Tie) (keys keys' : List KeyPair) → i < length ties → t ≡ get_or ties i t → AreTiesImplying s lead (take i ties) keys
+    → ((ts : List Tie) → AreTiesImplying s lead ts keys → AreTiesImplying s lead (ts ++ t ∷ []) keys') → AreTiesImplying s lead (take (i + 1) ties) keys'
+implied_step s lead ties i t keys keys' h at before more =
+    subst (λ (ts : List Tie). AreTiesImplying s lead ts keys') (sym (take_more ties i t h ∙ ap (λ u. take i ties ++ u ∷ []) (sym at))) (more (take i ties) before)
+
+pub tied_step : (s : Sourced) (lead : ℕ) (ties : List Tie) (i : ℕ) (t : Tie) (keys keys' : List KeyPair) → i < length ties → t ≡ get_or ties i t → AreTiedBy s lead (take i ties) keys
+    → ((ts : List Tie) → AreTiedBy s lead ts keys → AreTiedBy s lead (ts ++ t ∷ []) keys') → AreTiedBy s lead (take (i + 1) ties) keys'
+tied_step s lead ties i t keys keys' h at before more =
+    subst (λ (ts : List Tie). AreTiedBy s lead ts keys') (sym (take_more ties i t h ∙ ap (λ u. take i ties ++ u ∷ []) (sym at))) (more (take i ties) before)
