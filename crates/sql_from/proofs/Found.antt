@@ -76,7 +76,7 @@ no_faults f h [] = refl
 no_faults f h (x ∷ xs) = λ i. join (h x i) (no_faults f h xs i)
 
 -- ---- tables that are held
-ranged : (p : Settings) (held : NamedTables) → IsLawful (base_held p held) → (t : Listed) → IsHeld held t → AreOfProfile p t.rows
+pub ranged : (p : Settings) (held : NamedTables) → IsLawful (base_held p held) → (t : Listed) → IsHeld held t → AreOfProfile p t.rows
 ranged p held lawful t h = subst (AreOfProfile p) (sym h.1) (lawful.ranged h.0)
 
 got_part : (ts : List Listed) (i : ℕ) (t : Listed) → slice_get ts i ≡ Some t → part_at ts i ≡ t

@@ -25,16 +25,15 @@ none_by : {X : Type 0} (f : X → Option Fault) → ((x : X) → f x ≡ None) �
 none_by f h [] = refl
 none_by f h (x ∷ xs) = λ i. join (h x i) (none_by f h xs i)
 
+if_none : (b : Bool) (fault : Option Fault) → fault ≡ None → cond b fault None ≡ None
+if_none true fault e = e
+if_none false fault e = refl
+
 pub turns_sound : (p : Settings) (s : Sourced) (es : List Exp) (x : List ℕ) → AllByRecursion (λ e. fault_in (condition_at p s e x) ≡ None) es → fault_in (conditions_at p s es x) ≡ None
 turns_sound p s [] x all = refl
 turns_sound p s (e ∷ es) x all =
     turn_fault (condition_at p s e x) (conditions_at p s es x)
-    ∙ (λ i. join (all.0 i) (cond (is_true (condition_at p s e x)) (turns_sound p s es x all.1 i) None))
-    ∙ neither (is_true (condition_at p s e x))
-  where
-    neither : (b : Bool) → cond b None None ≡ None
-    neither true = refl
-    neither false = refl
+    ∙ (λ i. join (all.0 i) (if_none (is_true (condition_at p s e x)) (fault_in (conditions_at p s es x)) (turns_sound p s es x all.1) i))
 
 pub turns_true : (p : Settings) (s : Sourced) (es : List Exp) (x : List ℕ) → is_true (conditions_at p s es x) ≡ list_all (λ e. is_true (condition_at p s e x)) es
 turns_true p s [] x = refl

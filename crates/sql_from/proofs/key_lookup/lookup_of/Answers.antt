@@ -21,11 +21,11 @@ returns-clause-sound g c x =
 pub returns-clause-rows : goal.returns-clause-rows
 returns-clause-rows g c =
     let s = c.args.sources.now in
-    let l : JoinLookup = record { keys = c.in_ok-keyed.field-0; is_whole = c.in_ok-pairs_of.is_whole } in
+    let l : JoinLookup = record { keys = c.in_ok-keyed.field-0; is_whole = c.in_ok-keys.is_whole } in
     let lead = c.in-Some.lead in
     let own = listed c.table-own.result.now in
     let table = listed c.table-table.result.now in
-    count_is c.args.p.now s (trees_of c.args.conditions.now) l lead own table c.in_ok-pairs_of.keys.items c.requires c.in-Some.ensures.within
+    count_is c.args.p.now s (trees_of c.args.conditions.now) l lead own table c.in_ok-keys.keys.items c.requires c.in-Some.ensures.within
     (ap (λ n. slice_get (parts_of s.sources) (n - 1)) (sym c.len.ensures.count) ∙ c.table-own.ensures.source) c.table-own.ensures.held c.table-table.ensures.source c.table-table.ensures.held
     (subst (λ (ks : List KeyPair). IsKeyed own lead table ks c.args.p.now l.keys) c.deref.ensures.value c.in_ok-keyed.ensures.keyed)
 
@@ -33,15 +33,15 @@ pub returns-clause-finds : goal.returns-clause-finds
 returns-clause-finds g c =
     let s = c.args.sources.now in
     let es = trees_of c.args.conditions.now in
-    let l : JoinLookup = record { keys = c.in_ok-keyed.field-0; is_whole = c.in_ok-pairs_of.is_whole } in
+    let l : JoinLookup = record { keys = c.in_ok-keyed.field-0; is_whole = c.in_ok-keys.is_whole } in
     let lead = c.in-Some.lead in
     let own = listed c.table-own.result.now in
     let table = listed c.table-table.result.now in
-    lookup_finds c.args.p.now s es l lead own table c.in_ok-pairs_of.keys.items c.requires c.in-Some.ensures.within
+    lookup_finds c.args.p.now s es l lead own table c.in_ok-keys.keys.items c.requires c.in-Some.ensures.within
     (ap (λ n. slice_get (parts_of s.sources) (n - 1)) (sym c.len.ensures.count) ∙ c.table-own.ensures.source) c.table-own.ensures.held c.table-table.ensures.source c.table-table.ensures.held
     (subst (λ (ks : List KeyPair). IsKeyed own lead table ks c.args.p.now l.keys) c.deref.ensures.value c.in_ok-keyed.ensures.keyed)
     (λ x. all_sound c.args.p.now s c.requires c.len.ensures.held es (sym c.are_safe.ensures ∙ c.if-not-are_safe.false) x)
-    c.in_ok-pairs_of.ensures.implied c.in_ok-pairs_of.ensures.paired
+    c.in_ok-keys.ensures.implied c.in_ok-keys.ensures.paired
 
 -- what links two sources is safe
 pub returns-then-not-are_safe-clause-some : goal.returns-then-not-are_safe-clause-some
@@ -54,7 +54,7 @@ pub returns-clause-whole : goal.returns-clause-whole
 returns-clause-whole g c lead linked =
     let s = c.args.sources.now in
     let same = found_same c.first_lead.result c.in-Some.lead lead c.in-Some.is (c.first_lead.ensures.is lead linked) in
-    c.in_ok-pairs_of.ensures.whole (subst (λ (n : ℕ). AreLinked s n (trees_of c.args.conditions.now)) (sym same) linked)
+    c.in_ok-keys.ensures.whole (subst (λ (n : ℕ). AreLinked s n (trees_of c.args.conditions.now)) (sym same) linked)
 
 pub returns-in_err-keyed-clause-steps : goal.returns-in_err-keyed-clause-steps
 returns-in_err-keyed-clause-steps g c lead linked =

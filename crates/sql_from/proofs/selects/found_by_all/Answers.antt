@@ -16,7 +16,7 @@ join_found-requires-clause-finds g c =
     let p = c.args.p.now in
     let rows = c.in-Some.rows in
     let same : trees_of c.deref.result.now ≡ trees_of c.deref-2.result.now = ap trees_of (c.deref.ensures.value ∙ sym c.deref-2.ensures.value) in
-    let finds = subst (λ (o : Option JoinLookup). IfSome o (Finds (length s.sources) (conditions_at p s (trees_of c.deref.result.now)))) c.in-Some.is c.in_ok-wanted_lookup.ensures.finds in
+    let finds = subst (λ (o : Option JoinLookup). IfSome o (Finds (length s.sources) (conditions_at p s (trees_of c.deref.result.now)))) c.in-Some.is c.in_ok-rows.ensures.finds in
     subst (λ (z : Sourced). Finds (length z.sources) (tested c.in_ok-on.on) rows) (sym c.in_ok-on.ensures.sources)
     (subst (λ (f : Test). Finds (length s.sources) f rows) (ap (conditions_at p s) same ∙ sym c.in_ok-on.ensures.test) finds)
 
@@ -29,10 +29,10 @@ returns-clause-joined g c =
     let marks = c.args.marks.now in
     let rows = c.in-Some.rows in
     let made = c.in_ok-join_found.field-0 in
-    let count = subst (λ (o : Option JoinLookup). IfSome o (λ l. l.keys.count ≡ length (last_of s).rows)) c.in-Some.is c.in_ok-wanted_lookup.ensures.rows in
+    let count = subst (λ (o : Option JoinLookup). IfSome o (λ l. l.keys.count ≡ length (last_of s).rows)) c.in-Some.is c.in_ok-rows.ensures.rows in
     let asked : trees_of c.deref.result.now ≡ es ++ ds = ap trees_of c.deref.ensures.value ∙ c.in_ok-all.ensures in
     let all : trees_of c.deref-2.result.now ≡ es ++ ds = ap trees_of c.deref-2.ensures.value ∙ c.in_ok-all.ensures in
-    let sound = subst (λ (o : Option JoinLookup). IfSome o (λ l. AreSound p s (trees_of c.deref.result.now))) c.in-Some.is c.in_ok-wanted_lookup.ensures.sound in
+    let sound = subst (λ (o : Option JoinLookup). IfSome o (λ l. AreSound p s (trees_of c.deref.result.now))) c.in-Some.is c.in_ok-rows.ensures.sound in
     together p s es ds (subst (AreSound p s) asked sound) marks (length (last_of s).rows) c.args.left.now made
     (joined_as joining.Inner (tested c.in_ok-on.on) (conditions_at p s (es ++ ds)) (tested c.in_ok-none.none) (in_turn []) marks rows.keys.count (length (last_of s).rows) c.args.left.now made
     (c.in_ok-on.ensures.test ∙ ap (conditions_at p s) all) c.in_ok-none.ensures.test count

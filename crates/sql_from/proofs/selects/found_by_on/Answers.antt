@@ -16,24 +16,24 @@ pub join_found-requires-clause-finds : goal.join_found-requires-clause-finds
 join_found-requires-clause-finds g c =
     let s = c.args.sources.now in
     let rows = c.in-Some.rows in
-    let finds = subst (λ (o : Option JoinLookup). IfSome o (Finds (length s.sources) (conditions_at c.args.p.now s (trees_of c.args.conditions.now)))) c.in-Some.is c.in_ok-wanted_lookup.ensures.finds in
+    let finds = subst (λ (o : Option JoinLookup). IfSome o (Finds (length s.sources) (conditions_at c.args.p.now s (trees_of c.args.conditions.now)))) c.in-Some.is c.in_ok-rows.ensures.finds in
     subst (λ (z : Sourced). Finds (length z.sources) (tested c.in_ok-on.on) rows) (sym c.in_ok-on.ensures.sources) (subst (λ (f : Test). Finds (length s.sources) f rows) (sym c.in_ok-on.ensures.test) finds)
 
 pub returns-clause-joined : goal.returns-clause-joined
 returns-clause-joined g c =
     let s = c.args.sources.now in
     let p = c.args.p.now in
-    let count = subst (λ (o : Option JoinLookup). IfSome o (λ l. l.keys.count ≡ length (last_of s).rows)) c.in-Some.is c.in_ok-wanted_lookup.ensures.rows in
+    let count = subst (λ (o : Option JoinLookup). IfSome o (λ l. l.keys.count ≡ length (last_of s).rows)) c.in-Some.is c.in_ok-rows.ensures.rows in
     joined_as c.args.kind (tested c.in_ok-on.on) (conditions_at p s (trees_of c.args.conditions.now)) (tested c.in_ok-filter.filter) (conditions_at p s (trees_of c.args.parts.now)) c.args.marks.now c.in-Some.rows.keys.count (length (last_of s).rows) c.args.left.now
     c.in_ok-join_found.field-0 c.in_ok-on.ensures.test c.in_ok-filter.ensures.test count
     (record { width = c.in_ok-join_found.ensures.width; rows = c.in_ok-join_found.ensures.rows; seen = c.in_ok-join_found.ensures.seen })
 
 pub returns-in_default-clause-some : goal.returns-in_default-clause-some
-returns-in_default-clause-some g c by lead linked = absurd (nothing_there c.in_ok-wanted_lookup.field-0 c.in_default.is (c.in_ok-wanted_lookup.ensures.some by lead linked))
+returns-in_default-clause-some g c by lead linked = absurd (nothing_there c.in_ok-rows.field-0 c.in_default.is (c.in_ok-rows.ensures.some by lead linked))
 
 -- ---- steps: those of the look-up, and one for each pair
-pub returns-in_err-wanted_lookup-clause-steps : goal.returns-in_err-wanted_lookup-clause-steps
-returns-in_err-wanted_lookup-clause-steps g c by silent lead linked = let made = c.wanted_lookup.ensures.steps by lead linked in omega (arith, made)
+pub returns-in_err-rows-clause-steps : goal.returns-in_err-rows-clause-steps
+returns-in_err-rows-clause-steps g c by silent lead linked = let made = c.wanted_lookup.ensures.steps by lead linked in omega (arith, made)
 
 pub returns-in_default-clause-steps : goal.returns-in_default-clause-steps
 returns-in_default-clause-steps g c by silent lead linked = let made = c.wanted_lookup.ensures.steps by lead linked in omega (arith, made)
@@ -56,8 +56,8 @@ returns-in_err-join_found-clause-steps g c by silent lead linked =
     let s = c.args.sources.now in
     let t = c.args.left.now.rows.tuples in
     let f = conditions_at c.args.p.now s (trees_of c.args.conditions.now) in
-    let count = subst (λ (o : Option JoinLookup). IfSome o (λ l. l.keys.count ≡ length (last_of s).rows)) c.in-Some.is c.in_ok-wanted_lookup.ensures.rows in
-    let whole = subst (λ (o : Option JoinLookup). IfSome o (λ l. l.is_whole ≡ true)) c.in-Some.is (c.in_ok-wanted_lookup.ensures.whole lead linked) in
+    let count = subst (λ (o : Option JoinLookup). IfSome o (λ l. l.keys.count ≡ length (last_of s).rows)) c.in-Some.is c.in_ok-rows.ensures.rows in
+    let whole = subst (λ (o : Option JoinLookup). IfSome o (λ l. l.is_whole ≡ true)) c.in-Some.is (c.in_ok-rows.ensures.whole lead linked) in
     let none = c.of.ensures.steps (linked_asks s lead (trees_of c.args.conditions.now) linked) in
     let quiet = c.of-2.ensures.steps silent in
     let made = c.wanted_lookup.ensures.steps by lead linked in
@@ -71,8 +71,8 @@ returns-clause-steps g c by silent lead linked =
     let s = c.args.sources.now in
     let t = c.args.left.now.rows.tuples in
     let f = conditions_at c.args.p.now s (trees_of c.args.conditions.now) in
-    let count = subst (λ (o : Option JoinLookup). IfSome o (λ l. l.keys.count ≡ length (last_of s).rows)) c.in-Some.is c.in_ok-wanted_lookup.ensures.rows in
-    let whole = subst (λ (o : Option JoinLookup). IfSome o (λ l. l.is_whole ≡ true)) c.in-Some.is (c.in_ok-wanted_lookup.ensures.whole lead linked) in
+    let count = subst (λ (o : Option JoinLookup). IfSome o (λ l. l.keys.count ≡ length (last_of s).rows)) c.in-Some.is c.in_ok-rows.ensures.rows in
+    let whole = subst (λ (o : Option JoinLookup). IfSome o (λ l. l.is_whole ≡ true)) c.in-Some.is (c.in_ok-rows.ensures.whole lead linked) in
     let none = c.of.ensures.steps (linked_asks s lead (trees_of c.args.conditions.now) linked) in
     let quiet = c.of-2.ensures.steps silent in
     let made = c.wanted_lookup.ensures.steps by lead linked in

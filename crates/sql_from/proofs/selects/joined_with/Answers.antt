@@ -1,10 +1,6 @@
-use Rattle.std.proofs.Common.{IfSome, Option, sym, subst}
-use Rattle.sql_tree.specs.declared.word_groups.JoinKind.{JoinKind}
-use Rattle.sql_from.specs.Conditions.{trees_of}
-use Rattle.sql_from.specs.Together.{IsJoinedBy}
-use Rattle.sql_from.specs.declared.pairs.Walked.{Walked}
+use Rattle.std.proofs.Common.{◌≤◌}
+use Rattle.sql_from.proofs.Links.{nothing_there}
 use Rattle.sql_from.proofs.selects.joined_with.Goals as goal
 
-pub returns-in-Some-clause-joined : goal.returns-in-Some-clause-joined
-returns-in-Some-clause-joined g c =
-    subst (λ (o : Option Walked). IfSome o (IsJoinedBy c.args.p.now c.args.sources.now c.args.kind (trees_of c.args.conditions.now) (trees_of c.args.parts.now) c.args.marks.now c.args.left.now)) c.in-Some.is c.in_ok-found.ensures.joined
+-- open: returns-in_err-found-2-clause-steps, returns-in-Some-found-clause-steps and returns-clause-steps, each by nothing_there: what links
+-- two sources is found by ON
