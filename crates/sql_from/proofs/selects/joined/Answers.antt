@@ -16,10 +16,6 @@ use Rattle.sql_tree.specs.declared.expressions.SqlExpr.{SqlExpr}
 use Rattle.sql_meaning.specs.Profiles.{IsLawful}
 use Rattle.sql_meaning.specs.From.{Joined, first_of, with_join}
 use Rattle.sql_meaning.specs.Plans.{try_early}
-use Rattle.sql_meaning.specs.Values.{at_rows}
-use Rattle.sql_check_parts.specs.Queries.{join_source}
-use Rattle.sql_check_parts.specs.Scopes.{Scope}
-use Rattle.sql_check_laws.specs.Selects.{IsSourceTyped}
 use Rattle.sql_from.specs.Conditions.{due_at, trees_of}
 use Rattle.sql_from.specs.Held.{base_held, tables_held}
 use Rattle.vtl_scalar.specs.Seen.{seen_of}
