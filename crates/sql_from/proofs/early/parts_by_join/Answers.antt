@@ -26,24 +26,24 @@ loop-entry-preserved c =
     let known = c.loop-entry.invariant in
     elim c.match-get.branch [
       | in-Some+in_ok-put_at w ↦
-        let x : Bor SqlExpr = w.in-Some.part.now in
-        let now : List (Vec (Bor SqlExpr)) = w.put_at.new.lists in
-        let got : slice_get parts e.conjunct ≡ Some x = got_at parts e.conjunct x w.in-Some.ensures.lookup.3.0 w.in-Some.ensures.lookup.1 in
-        let put : IsPutAt e.join x before now = subst (λ (l : List (Vec (Bor SqlExpr))). IsPutAt e.join x l now) w.deref_mut.ensures.value w.in_ok-put_at.ensures in
-        let kept : length now ≡ length before = omega (arith, w.put_at.auto.lists, ap (λ (l : List (Vec (Bor SqlExpr))). length l) w.deref_mut.ensures.value) in
-        let all = part_put parts early i e count within is x before now known.many got known.lists put in
-        let long : length now ≡ c.loop-entry.lists.len = omega (arith, kept, c.loop-entry.lists.ok.0) in
-        let same : c.match-get.lists.items ≡ now = ap (λ (v : Vec (Vec (Bor SqlExpr))). v.items) w.lists-is ∙ with_items_is c.loop-entry.lists now long in
-        record {
-          many = ap (λ (l : List (Vec (Bor SqlExpr))). length l) same ∙ kept ∙ known.many;
-          lists = subst (AreLists (parts_at parts (take (i + 1) early)) count) (sym same) all;
-        }
+          let x : Bor SqlExpr = w.in-Some.part.now in
+          let now : List (Vec (Bor SqlExpr)) = w.put_at.new.lists in
+          let got : slice_get parts e.conjunct ≡ Some x = got_at parts e.conjunct x w.in-Some.ensures.lookup.3.0 w.in-Some.ensures.lookup.1 in
+          let put : IsPutAt e.join x before now = subst (λ (l : List (Vec (Bor SqlExpr))). IsPutAt e.join x l now) w.deref_mut.ensures.value w.in_ok-put_at.ensures in
+          let kept : length now ≡ length before = omega (arith, w.put_at.auto.lists, ap (λ (l : List (Vec (Bor SqlExpr))). length l) w.deref_mut.ensures.value) in
+          let all = part_put parts early i e count within is x before now known.many got known.lists put in
+          let long : length now ≡ c.loop-entry.lists.len = omega (arith, kept, c.loop-entry.lists.ok.0) in
+          let same : c.match-get.lists.items ≡ now = ap (λ (v : Vec (Vec (Bor SqlExpr))). v.items) w.lists-is ∙ with_items_is c.loop-entry.lists now long in
+          record {
+            many = ap (λ (l : List (Vec (Bor SqlExpr))). length l) same ∙ kept ∙ known.many;
+            lists = subst (AreLists (parts_at parts (take (i + 1) early)) count) (sym same) all;
+          }
       | in_default w ↦
-        let missing : slice_get parts e.conjunct ≡ None = got_past parts e.conjunct w.in_default.ensures.lookup.3 in
-        let all = part_missing parts early i e count within is before missing known.lists in
-        let same : c.match-get.lists.items ≡ before = ap (λ (v : Vec (Vec (Bor SqlExpr))). v.items) w.lists-is in
-        record {
-          many = ap (λ (l : List (Vec (Bor SqlExpr))). length l) same ∙ known.many;
-          lists = subst (AreLists (parts_at parts (take (i + 1) early)) count) (sym same) all;
-        }
+          let missing : slice_get parts e.conjunct ≡ None = got_past parts e.conjunct w.in_default.ensures.lookup.3 in
+          let all = part_missing parts early i e count within is before missing known.lists in
+          let same : c.match-get.lists.items ≡ before = ap (λ (v : Vec (Vec (Bor SqlExpr))). v.items) w.lists-is in
+          record {
+            many = ap (λ (l : List (Vec (Bor SqlExpr))). length l) same ∙ known.many;
+            lists = subst (AreLists (parts_at parts (take (i + 1) early)) count) (sym same) all;
+          }
     ]

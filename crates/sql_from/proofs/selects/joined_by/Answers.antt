@@ -1,4 +1,4 @@
-use Rattle.std.proofs.Common.{◌≡◌, ◌∙◌, ℕ, IfOk, IfSome, Option, ap, arith, length, subst, sym}
+use Rattle.std.proofs.Common.{◌≡◌, ℕ, IfOk, IfSome, Option, arith, length, subst, sym}
 use Rattle.std.specs.List.{flat_map}
 use Rattle.vtl_cell.specs.Outcome.{join}
 use Rattle.vtl_scalar.specs.Seen.{seen_of}
