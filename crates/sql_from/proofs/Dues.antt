@@ -1,16 +1,16 @@
 -- The parts of WHERE that are tried before each join, entry by entry.
-use Rattle.std.proofs.Common.{◌≡◌, ◌≢◌, inl, inr, ◌∙◌, ℕ, zero, suc, ◌+◌, ◌<◌, ◌≤◌, ◌++◌, Bool, true, false, cond, List, [], ◌∷◌, get_or, length, take, drop, Option, Some, None, refl, ap, sym, subst, arith}
+use Rattle.std.proofs.Common.{◌≡◌, ◌≢◌, inl, inr, ◌∙◌, ℕ, zero, suc, ◌+◌, ◌<◌, ◌≤◌, ◌++◌, Bool, true, false, cond, List, [], ◌∷◌, get_or, length, take, drop, Some, None, refl, ap, sym, subst, arith}
 use Rattle.std.specs.Borrow.{Bor}
 use Rattle.std.specs.Global.{Vec}
 use Rattle.std.specs.Prelude.{◌==◌, if◌then◌else◌, slice_get}
 use Rattle.std.proofs.lemmas.Bool.{cases_eq}
 use Rattle.std.proofs.lemmas.List.{append-nil, get_or_append_left, get_or_push, map-append}
-use Rattle.sql_tree.specs.Trees.{Exp, SelectTree}
+use Rattle.sql_tree.specs.Trees.{SelectTree}
 use Rattle.sql_tree.specs.View.{expr_tree}
 use Rattle.sql_tree.specs.declared.expressions.SqlExpr.{SqlExpr}
 use Rattle.sql_meaning.specs.Plans.{conjuncts_of}
 use Rattle.sql_meaning.specs.declared.plan.Early.{Early}
-use Rattle.sql_from.specs.Conditions.{AreDue, all_of, due_at, parts_at, trees_of}
+use Rattle.sql_from.specs.Conditions.{AreDue, all_of, parts_at, trees_of}
 use Rattle.sql_from.specs.PlacedLists.{AreLists, IsPutAt}
 use Rattle.sql_from.proofs.Marks.{other_number, same_number}
 use Rattle.sql_from.proofs.Walks.{flat_more}

@@ -1,4 +1,4 @@
-use Rattle.std.proofs.Common.{◌≡◌, ◌∙◌, ◌∷◌, [], List, ℕ, Bool, None, false, cond, not, get_or, ap, subst, sym}
+use Rattle.std.proofs.Common.{◌∙◌, ◌∷◌, [], List, ℕ, Bool, None, false, cond, not, get_or, ap, subst, sym}
 use Rattle.sql_from.specs.Gains.{Gains}
 use Rattle.sql_from.specs.Joins.{with_number}
 use Rattle.sql_from.specs.declared.pairs.Walked.{Walked}

@@ -1,4 +1,4 @@
-use Rattle.std.proofs.Common.{◌≡◌, [], ◌∷◌, ◌++◌, ◌+◌, length, length-append, sym, subst, ap, ◌∙◌, arith}
+use Rattle.std.proofs.Common.{[], ◌∷◌, ◌+◌, length, length-append, sym, subst, ap, arith}
 use Rattle.sql_from.specs.PlacedLists.{AreLists}
 use Rattle.sql_from.proofs.PlacedLists.{lists_grow}
 use Rattle.sql_from.proofs.placed_lists.no_lists.Goals as goal

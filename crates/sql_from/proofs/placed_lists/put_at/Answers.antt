@@ -1,4 +1,4 @@
-use Rattle.std.proofs.Common.{◌∙◌, ◌++◌, ◌∷◌, [], ap, arith}
+use Rattle.std.proofs.Common.{◌∙◌, ◌++◌, ◌∷◌, [], ap}
 use Rattle.std.proofs.lemmas.List.{get_or_default}
 use Rattle.sql_from.proofs.PlacedLists.{none_put, one_put}
 use Rattle.sql_from.proofs.placed_lists.put_at.Goals as goal

@@ -1,4 +1,4 @@
-use Rattle.std.proofs.Common.{◌≡◌, ◌+◌, ◌<◌, ◌++◌, ◌∷◌, [], ℕ, List, Bool, Err, Ok, ap, get_or, length, rules, subst, ◌∙◌}
+use Rattle.std.proofs.Common.{◌≡◌, ◌<◌, ◌++◌, ◌∷◌, [], List, Bool, Err, Ok, ap, get_or, length, rules, subst, ◌∙◌}
 use Rattle.sql_from.specs.Tried.{value_of}
 use Rattle.sql_from.specs.declared.source_condition.SourceCondition.{SourceCondition}
 use Rattle.sql_from.proofs.Turns.{turns_error, turns_false, turns_on}
