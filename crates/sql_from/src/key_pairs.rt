@@ -53,6 +53,7 @@ fn push_pair(
     right: &SqlExpr,
 ) -> Result<bool, AllocError>
     requires { lead + 1 < length sources.now.sources }
+    ensures implied { IfOk result (λ _. AreImplied sources.now lead (tree.binary (expr_tree left.now) op.Equal (expr_tree right.now)) keys.old.items keys.new.items) }
     ensures paired { IfOk result (λ b. b ≡ true → ArePaired sources.now lead (tree.binary (expr_tree left.now) op.Equal (expr_tree right.now)) keys.old.items keys.new.items) }
     ensures whole { IfOk result (λ b. are_linked sources.now lead (expr_tree left.now) (expr_tree right.now) ≡ true → b ≡ true) }
 {
@@ -110,10 +111,11 @@ fn linked_source(sources: &Sources<'_>, left: &SqlExpr, right: &SqlExpr) -> Opti
         (SqlExpr::Column(x), SqlExpr::Column(y)) => {
             let a = sources.spot(x)?;
             let b = sources.spot(y)?;
-            let lead = a.part.min(b.part);
-            let own = a.part.max(b.part);
-            if lead < own && own + 1 == sources.len() {
-                Some(lead)
+            let last = sources.len() - 1;
+            if a.part == last && b.part < last {
+                Some(b.part)
+            } else if b.part == last && a.part < last {
+                Some(a.part)
             } else {
                 None
             }

@@ -1,4 +1,5 @@
 use Rattle.std.proofs.Common.{◌≡◌, ◌∙◌, ◌+◌, ◌++◌, ◌∷◌, [], List, true, false, true≢false, subst, sym, take}
+use Rattle.std.proofs.lemmas.List.{take_all}
 use Rattle.std.specs.Borrow.{Bor}
 use Rattle.sql_tree.specs.Trees.{Exp}
 use Rattle.sql_tree.specs.View.{expr_tree}
@@ -36,3 +37,11 @@ loop-condition-preserved c =
             | else-is_whole w ↦ absurd (true≢false (sym (c.loop-condition.invariant.whole linked) ∙ w.if-is_whole.false))
           ];
     }
+
+pub returns-clause-implied : goal.returns-clause-implied
+returns-clause-implied c =
+    subst (λ (cs : List (Bor SqlExpr)). AllImplied c.args.sources.now c.args.lead (trees_of cs) c.loop-condition.keys.items) (take_all c.loop-condition.condition-index c.args.conditions.now c.loop-condition-test.false) c.loop-condition.invariant.implied
+
+pub returns-clause-paired : goal.returns-clause-paired
+returns-clause-paired c e =
+    subst (λ (cs : List (Bor SqlExpr)). AllPaired c.args.sources.now c.args.lead (trees_of cs) c.loop-condition.keys.items) (take_all c.loop-condition.condition-index c.args.conditions.now c.loop-condition-test.false) (c.loop-condition.invariant.paired e)
