@@ -1,9 +1,8 @@
 -- Equalities that link two sources.
-use Rattle.std.proofs.Common.{◌≡◌, ◌∙◌, ◌<◌, ◌⊎◌, inl, inr, ℕ, zero, suc, true, false, ◌&&◌, ◌||◌, List, [], ◌∷◌, get_or, length, Option, None, Some, IsSome, arith, refl, subst, sym}
+use Rattle.std.proofs.Common.{◌≡◌, ◌∙◌, ◌<◌, ℕ, zero, suc, true, false, ◌&&◌, ◌||◌, List, [], ◌∷◌, get_or, length, Option, None, Some, IsSome, arith, refl, subst, sym}
 use Rattle.std.specs.Borrow.{Bor}
 use Rattle.std.specs.List.{AllByRecursion, list_all}
-use Rattle.std.specs.Prelude.{◌==◌}
-use Rattle.std.proofs.lemmas.Bool.{and_parts, eqb-true, or_cases}
+use Rattle.std.proofs.lemmas.Bool.{and_parts}
 use Rattle.std.proofs.lemmas.List.Folds.{list_all-append}
 use Rattle.vtl_cell.specs.declared.operator.ScalarOp.TheVariants as op
 use Rattle.sql_tree.specs.Trees as tree
@@ -73,25 +72,3 @@ one_linked s lead (d ∷ e ∷ cs) i c h at linked = absurd linked
 pub linked_some : (s : Sourced) (lead : ℕ) (cs : List (Bor SqlExpr)) → AreLinked s lead (trees_of cs) → 0 < length cs
 linked_some s lead [] linked = absurd linked
 linked_some s lead (c ∷ cs) linked = omega arith
-
--- the source that a link asks, by where its two columns stand
-pub second_leads : (last lead a b : ℕ) → lead < last → a ≡ last → ((a == last && b == lead) || (b == last && a == lead)) ≡ true → b ≡ lead
-second_leads last lead a b h own links =
-    elim (or_cases (a == last && b == lead) (b == last && a == lead) links) [
-      | inl one ↦ eqb-true b lead (and_parts (a == last) (b == lead) one).1
-      | inr two ↦ absurd (omega (arith, h, own, eqb-true a lead (and_parts (b == last) (a == lead) two).1))
-    ]
-
-pub first_leads : (last lead a b : ℕ) → lead < last → b ≡ last → ((a == last && b == lead) || (b == last && a == lead)) ≡ true → a ≡ lead
-first_leads last lead a b h own links =
-    elim (or_cases (a == last && b == lead) (b == last && a == lead) links) [
-      | inl one ↦ absurd (omega (arith, h, own, eqb-true b lead (and_parts (a == last) (b == lead) one).1))
-      | inr two ↦ eqb-true a lead (and_parts (b == last) (a == lead) two).1
-    ]
-
-pub one_leads : (last lead a b : ℕ) → lead < last → ((a == last && b == lead) || (b == last && a == lead)) ≡ true → ((a ≡ last) × (b < last)) ⊎ ((b ≡ last) × (a < last))
-one_leads last lead a b h links =
-    elim (or_cases (a == last && b == lead) (b == last && a == lead) links) [
-      | inl one ↦ let both = and_parts (a == last) (b == lead) one in inl (eqb-true a last both.0, omega (arith, h, eqb-true b lead both.1))
-      | inr two ↦ let both = and_parts (b == last) (a == lead) two in inr (eqb-true b last both.0, omega (arith, h, eqb-true a lead both.1))
-    ]

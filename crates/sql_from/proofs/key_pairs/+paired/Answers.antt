@@ -19,13 +19,13 @@ returns-then-left_whole-clause-implied t c =
     let n = c.args.lead in
     let before = c.args.keys.now.items in
     let between = c.push_pairs.new.keys.items in
-    let behind = c.push_pairs-2.new.keys.items in
+    let behind = c.push_pairs-in-Binary-default-And-default.new.keys.items in
     let x = c.in-Binary-default-And-default in
     let l = x.left.value in
     let r = x.right.value in
     let is : expr_tree c.args.condition.now ≡ tree.binary (expr_tree l) op.And (expr_tree r) = ap expr_tree x.is ∙ search (rules, expr.the_lemmas) in
-    let one : AreImplied s n (expr_tree l) before between = subst (λ (z : SqlExpr). AreImplied s n (expr_tree z) before between) c.deref.ensures c.in_ok-left_whole.ensures.implied in
-    let two : AreImplied s n (expr_tree r) between behind = subst (λ (z : SqlExpr). AreImplied s n (expr_tree z) between behind) c.deref-2.ensures c.in_ok-right_whole.ensures.implied in
+    let one : AreImplied s n (expr_tree l) before between = subst (λ (z : SqlExpr). AreImplied s n (expr_tree z) before between) c.deref.ensures c.in_ok-left_whole-in-Binary-default-And-default.ensures.implied in
+    let two : AreImplied s n (expr_tree r) between behind = subst (λ (z : SqlExpr). AreImplied s n (expr_tree z) between behind) c.deref-in-Binary-default-And-default.ensures c.in_ok-right_whole-in-Binary-default-And-default.ensures.implied in
     subst (λ (z : Exp). AreImplied s n z before behind) (sym is) (conjunction_implied s n (expr_tree l) (expr_tree r) before between behind one two)
 
 pub returns-else-left_whole-clause-implied : goal.returns-else-left_whole-clause-implied
@@ -34,13 +34,13 @@ returns-else-left_whole-clause-implied t c =
     let n = c.args.lead in
     let before = c.args.keys.now.items in
     let between = c.push_pairs.new.keys.items in
-    let behind = c.push_pairs-2.new.keys.items in
+    let behind = c.push_pairs-in-Binary-default-And-default.new.keys.items in
     let x = c.in-Binary-default-And-default in
     let l = x.left.value in
     let r = x.right.value in
     let is : expr_tree c.args.condition.now ≡ tree.binary (expr_tree l) op.And (expr_tree r) = ap expr_tree x.is ∙ search (rules, expr.the_lemmas) in
-    let one : AreImplied s n (expr_tree l) before between = subst (λ (z : SqlExpr). AreImplied s n (expr_tree z) before between) c.deref.ensures c.in_ok-left_whole.ensures.implied in
-    let two : AreImplied s n (expr_tree r) between behind = subst (λ (z : SqlExpr). AreImplied s n (expr_tree z) between behind) c.deref-2.ensures c.in_ok-right_whole.ensures.implied in
+    let one : AreImplied s n (expr_tree l) before between = subst (λ (z : SqlExpr). AreImplied s n (expr_tree z) before between) c.deref.ensures c.in_ok-left_whole-in-Binary-default-And-default.ensures.implied in
+    let two : AreImplied s n (expr_tree r) between behind = subst (λ (z : SqlExpr). AreImplied s n (expr_tree z) between behind) c.deref-in-Binary-default-And-default.ensures c.in_ok-right_whole-in-Binary-default-And-default.ensures.implied in
     subst (λ (z : Exp). AreImplied s n z before behind) (sym is) (conjunction_implied s n (expr_tree l) (expr_tree r) before between behind one two)
 
 pub returns-then-left_whole-clause-paired : goal.returns-then-left_whole-clause-paired
@@ -49,13 +49,13 @@ returns-then-left_whole-clause-paired t c e =
     let n = c.args.lead in
     let before = c.args.keys.now.items in
     let between = c.push_pairs.new.keys.items in
-    let behind = c.push_pairs-2.new.keys.items in
+    let behind = c.push_pairs-in-Binary-default-And-default.new.keys.items in
     let x = c.in-Binary-default-And-default in
     let l = x.left.value in
     let r = x.right.value in
     let is : expr_tree c.args.condition.now ≡ tree.binary (expr_tree l) op.And (expr_tree r) = ap expr_tree x.is ∙ search (rules, expr.the_lemmas) in
-    let one : ArePaired s n (expr_tree l) before between = subst (λ (z : SqlExpr). ArePaired s n (expr_tree z) before between) c.deref.ensures (c.in_ok-left_whole.ensures.paired c.if-left_whole.true) in
-    let two : ArePaired s n (expr_tree r) between behind = subst (λ (z : SqlExpr). ArePaired s n (expr_tree z) between behind) c.deref-2.ensures (c.in_ok-right_whole.ensures.paired e) in
+    let one : ArePaired s n (expr_tree l) before between = subst (λ (z : SqlExpr). ArePaired s n (expr_tree z) before between) c.deref.ensures (c.in_ok-left_whole-in-Binary-default-And-default.ensures.paired c.if-left_whole.true) in
+    let two : ArePaired s n (expr_tree r) between behind = subst (λ (z : SqlExpr). ArePaired s n (expr_tree z) between behind) c.deref-in-Binary-default-And-default.ensures (c.in_ok-right_whole-in-Binary-default-And-default.ensures.paired e) in
     subst (λ (z : Exp). ArePaired s n z before behind) (sym is) (conjunction_paired s n (expr_tree l) (expr_tree r) before between behind one two)
 
 pub returns-then-left_whole-clause-whole : goal.returns-then-left_whole-clause-whole
@@ -67,7 +67,7 @@ returns-then-left_whole-clause-whole t c h =
     let r = x.right.value in
     let is : expr_tree c.args.condition.now ≡ tree.binary (expr_tree l) op.And (expr_tree r) = ap expr_tree x.is ∙ search (rules, expr.the_lemmas) in
     let both = links_parted s n (expr_tree l) (expr_tree r) (subst (λ (z : Exp). list_all (is_link s n) (conjuncts z) ≡ true) is h) in
-    c.in_ok-right_whole.ensures.whole (subst (λ (z : SqlExpr). list_all (is_link s n) (conjuncts (expr_tree z)) ≡ true) (sym c.deref-2.ensures) both.1)
+    c.in_ok-right_whole-in-Binary-default-And-default.ensures.whole (subst (λ (z : SqlExpr). list_all (is_link s n) (conjuncts (expr_tree z)) ≡ true) (sym c.deref-in-Binary-default-And-default.ensures) both.1)
 
 pub returns-else-left_whole-clause-whole : goal.returns-else-left_whole-clause-whole
 returns-else-left_whole-clause-whole t c h =
@@ -78,7 +78,7 @@ returns-else-left_whole-clause-whole t c h =
     let r = x.right.value in
     let is : expr_tree c.args.condition.now ≡ tree.binary (expr_tree l) op.And (expr_tree r) = ap expr_tree x.is ∙ search (rules, expr.the_lemmas) in
     let both = links_parted s n (expr_tree l) (expr_tree r) (subst (λ (z : Exp). list_all (is_link s n) (conjuncts z) ≡ true) is h) in
-    sym c.if-left_whole.false ∙ c.in_ok-left_whole.ensures.whole (subst (λ (z : SqlExpr). list_all (is_link s n) (conjuncts (expr_tree z)) ≡ true) (sym c.deref.ensures) both.0)
+    c.in_ok-left_whole-in-Binary-default-And-default.ensures.whole (subst (λ (z : SqlExpr). list_all (is_link s n) (conjuncts (expr_tree z)) ≡ true) (sym c.deref.ensures) both.0)
 
 -- ---- an equality
 pub returns-in-Binary-default-Equal-default-clause-implied : goal.returns-in-Binary-default-Equal-default-clause-implied
