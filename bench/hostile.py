@@ -435,6 +435,43 @@ def star_of_joins(folder, count):
     joins(folder, count, lambda i: f'"t{i}"."id" = "t0"."id"')
 
 
+def looked_up(folder, count, start, condition):
+    """Joins that take each pair of rows where they are not looked up."""
+    one_table(folder, count, f'SELECT COUNT(*) AS "n" {start} {condition}')
+
+
+def equality_and_more(folder, count):
+    looked_up(folder, count, JOINED, 'AND "b"."v" > 0')
+
+
+def equality_and_where(folder, count):
+    looked_up(folder, count, JOINED, 'WHERE "b"."v" > 0')
+
+
+def product_with_an_equality(folder, count):
+    looked_up(folder, count, 'FROM "T" AS "a" CROSS JOIN "T" AS "b"', 'WHERE "b"."id" = "a"."id"')
+
+
+def equality_alone(folder, count):
+    looked_up(folder, count, JOINED, '')
+
+
+def third_of_two_sources(folder, count):
+    looked_up(folder, count, JOINED, 'INNER JOIN "T" AS "c" ON "c"."id" = "a"."id" AND "c"."v" = "b"."v"')
+
+
+def third_of_one_source(folder, count):
+    looked_up(folder, count, JOINED, 'INNER JOIN "T" AS "c" ON "c"."id" = "a"."id" AND "c"."v" = "a"."v"')
+
+
+def exists_of_two_sources(folder, count):
+    looked_up(folder, count, JOINED, 'WHERE EXISTS (SELECT 1 FROM "T" AS "t" WHERE "t"."id" = "a"."id" AND "t"."v" = "b"."v")')
+
+
+def exists_of_one_source(folder, count):
+    looked_up(folder, count, JOINED, 'WHERE EXISTS (SELECT 1 FROM "T" AS "t" WHERE "t"."id" = "a"."id" AND "t"."v" = "a"."v")')
+
+
 # the case, its plain counterpart, how many rows, and what reads it
 CASES = [
     (chosen_names, plain_names, 20164, 'vtl'),
@@ -460,6 +497,10 @@ CASES = [
     (selects_of_a_wide_table, selects_of_a_narrow_table, 1000, 'engine'),
     (all_columns_of_groups, first_column_of_groups, 16000, 'engine'),
     (chain_of_joins, star_of_joins, 2000, 'engine'),
+    (equality_and_more, equality_and_where, 200000, 'engine'),
+    (product_with_an_equality, equality_alone, 200000, 'engine'),
+    (third_of_two_sources, third_of_one_source, 200000, 'engine'),
+    (exists_of_two_sources, exists_of_one_source, 200000, 'engine'),
 ]
 
 

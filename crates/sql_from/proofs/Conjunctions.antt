@@ -1,6 +1,8 @@
 -- The truth of AND and of an equality.
 use Rattle.std.proofs.Common.{◌≡◌, ℕ, Bool, true, false, ◌&&◌, List, [], ◌∷◌, ◌++◌, Option, Some, None, Ok, Err, refl, sym, ap, ◌∙◌}
 use Rattle.std.specs.Ordering.{is_eq}
+use Rattle.std.specs.List.{list_all}
+use Rattle.std.proofs.lemmas.Bool.{and_parts}
 use Rattle.std.proofs.lemmas.List.Folds.{list_all-append}
 use Rattle.vtl_cell.specs.Conversion.{as_kind}
 use Rattle.vtl_cell.specs.Logic.{and_of}
@@ -22,7 +24,7 @@ use Rattle.sql_tree.specs.declared.parts.Column.{Column}
 use Rattle.sql_meaning.specs.Outcomes.{operated}
 use Rattle.sql_meaning.specs.Values.{place_in}
 use Rattle.sql_from.specs.Joins.{with_number}
-use Rattle.sql_from.specs.Keys.{ArePaired, IsPairOf, all_paired, is_paired, last_of, row_in}
+use Rattle.sql_from.specs.Keys.{AllImplied, AllPaired, AreImplied, ArePaired, IsPairOf, all_paired, is_paired, last_of, row_in}
 use Rattle.sql_from.specs.Rows.{combined}
 use Rattle.sql_from.specs.Sources.{Sourced, parts_of, scope_held}
 use Rattle.sql_from.specs.Standing.{condition_at}
@@ -92,6 +94,40 @@ conjunction_paired s lead a b first mid all h g p front last whole =
 pub last_and : (b : Bool) → b ≡ (b && true)
 last_and true = refl
 last_and false = refl
+
+-- what is true on both sides
+and_true : (p : Settings) (kind : Kind) (m n : Outcome Cell) → is_true (operated p kind (m ∷ n ∷ []) op.And) ≡ true → (is_true m ≡ true) × (is_true n ≡ true)
+and_true p kind (Ok u) (Ok v) h = and_parts (is_true (Ok u)) (is_true (Ok v)) (sym (ap is_true (both_stay p kind (truth_in u) (truth_in v)) ∙ both_true u v) ∙ h)
+and_true p kind (Ok u) (Err g) h = cc
+and_true p kind (Err g) n h = cc
+
+pub conjunction_implied : (s : Sourced) (lead : ℕ) (a b : Exp) (first mid all : List KeyPair) → AreImplied s lead a first mid → AreImplied s lead b mid all → AreImplied s lead (tree.binary a op.And b) first all
+conjunction_implied s lead a b first mid all h g p front last whole t before =
+    let both = and_true p _ (condition_at p s a (with_number front last)) (condition_at p s b (with_number front last)) t in
+    g p front last whole both.1 (h p front last whole both.0 before)
+
+pub paired_implied : (s : Sourced) (lead : ℕ) (e : Exp) (first all : List KeyPair) → ArePaired s lead e first all → AreImplied s lead e first all
+paired_implied s lead e first all h p front last whole t before = sym (h p front last whole).same ∙ (λ i. before i && t i)
+
+-- where no pair is added
+pub nothing_implied : (s : Sourced) (lead : ℕ) (e : Exp) (first all : List KeyPair) → all ≡ first → AreImplied s lead e first all
+nothing_implied s lead e first all same p front last whole t before = ap (all_paired p (row_at (last_of s).rows last) (row_in s lead front)) same ∙ before
+
+-- one condition more
+pub all_implied_more : (s : Sourced) (lead : ℕ) (es : List Exp) (e : Exp) (keys more : List KeyPair) → AllImplied s lead es keys → AreImplied s lead e keys more → AllImplied s lead (es ++ e ∷ []) more
+all_implied_more s lead es e keys more before here p front last whole t =
+    let x = with_number front last in
+    let true_at : Exp → Bool = λ d. is_true (condition_at p s d x) in
+    let both = and_parts (list_all true_at es) (true_at e && true) (sym (list_all-append true_at es (e ∷ [])) ∙ t) in
+    here p front last whole (last_and (true_at e) ∙ both.1) (before p front last whole both.0)
+
+pub all_paired_more : (s : Sourced) (lead : ℕ) (es : List Exp) (e : Exp) (keys more : List KeyPair) → AllPaired s lead es keys → ArePaired s lead e keys more → AllPaired s lead (es ++ e ∷ []) more
+all_paired_more s lead es e keys more before here p front last whole =
+    let x = with_number front last in
+    let true_at : Exp → Bool = λ d. is_true (condition_at p s d x) in
+    list_all-append true_at es (e ∷ [])
+    ∙ (λ i. before p front last whole i && sym (last_and (true_at e)) i)
+    ∙ (here p front last whole).same
 
 pub equality_paired : (s : Sourced) (lead : ℕ) (x y : Column) (first all : List KeyPair) (pair : KeyPair) → IsPairOf s lead x y pair → all ≡ first ++ pair ∷ [] → ArePaired s lead (tree.binary (tree.column x) op.Equal (tree.column y)) first all
 equality_paired s lead x y first all pair is more p front last whole =

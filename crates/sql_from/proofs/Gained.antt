@@ -168,7 +168,20 @@ module _ (f g : Test) (x : List ℕ) where
         marked = subst (λ (l : List ℕ). AreMarked l m m) (ap (λ d. cond d (j ∷ []) []) t.0) (marked_nothing m);
       }
 
--- rows of which all are pairs
+-- listed rows, one more
+pub found_tried : (f g : Test) (x found : List ℕ) (i number : ℕ) (a b d : Walked) (m n o : List Bool) → i < length found → number ≡ get_or found i number
+    → Tries f g x (take i found) a b m n → Tries f g x (number ∷ []) b d n o → Tries f g x (take (i + 1) found) a d m o
+found_tried f g x found i number a b d m n o h at one two =
+    subst (λ (js : List ℕ). Tries f g x js a d m o) (sym (take_more found i number h ∙ ap (λ j. take i found ++ j ∷ []) (sym at))) (tries_both f g x (take i found) (number ∷ []) a b d m n o one two)
+
+-- rows that are tried in the place of others, where the same ones are pairs
+pub tries_as : (f g : Test) (x js ks : List ℕ) (a b : Walked) (m n : List Bool) → filter (passes f x) js ≡ filter (passes f x) ks → faults_by (fault_of f x) js ≡ faults_by (fault_of f x) ks → Tries f g x js a b m n → Tries f g x ks a b m n
+tries_as f g x js ks a b m n same fault tries = record {
+  gains = gains_as g (faults_by (fault_of f x) js) (faults_by (fault_of f x) ks) (map (with_number x) (filter (passes f x) js)) (map (with_number x) (filter (passes f x) ks)) a b fault (ap (map (with_number x)) same) tries.gains;
+  marked = subst (λ (l : List ℕ). AreMarked l m n) same tries.marked;
+}
+
+-- all of which are pairs
 pub tries_found : (f g : Test) (x found ks : List ℕ) (a b : Walked) (m n : List Bool) → found ≡ filter (passes f x) ks → faults_by (fault_of f x) ks ≡ None → Gains g None (map (with_number x) found) a b → AreMarked found m n → Tries f g x ks a b m n
 tries_found f g x found ks a b m n same fault gains marked = record {
   gains = gains_as g None (faults_by (fault_of f x) ks) (map (with_number x) found) (map (with_number x) (filter (passes f x) ks)) a b (sym fault) (ap (map (with_number x)) same) gains;

@@ -5,6 +5,8 @@ pub mod Gained
 pub mod Stepped
 pub mod Conditioned
 pub mod Turns
+pub mod Turned
+pub mod Safe
 pub mod Marks
 pub mod Named
 pub mod Parted

@@ -16,15 +16,13 @@ use Rattle.sql_tree.specs.declared.word_groups.JoinKind.{JoinKind}
 use Rattle.sql_tree.specs.declared.word_groups.JoinKind.TheVariants as joining
 use Rattle.sql_meaning.specs.From.{joined_by}
 use Rattle.sql_from.specs.Joins.{Test, crossed_tuples, fault_of, in_turn, joined_tuples, kept_fault, kept_tuples, numbers_to, pairs_fault, told, with_number}
-use Rattle.sql_from.specs.Lookups.{Finds}
-use Rattle.sql_from.specs.declared.key_lookup.KeyLookup.{KeyLookup}
 use Rattle.sql_from.proofs.Conjunctions.{last_and}
 
 -- one condition, and then another one where it is true
-abbrev then_tried : Outcome Cell → Outcome Cell → Outcome Cell
+abbrev pub then_tried : Outcome Cell → Outcome Cell → Outcome Cell
 then_tried m n = after m (λ v. cond (is_true (Ok v)) n (Ok v))
 
-turn_true : (m n : Outcome Cell) → is_true (then_tried m n) ≡ (is_true m && is_true n)
+pub turn_true : (m n : Outcome Cell) → is_true (then_tried m n) ≡ (is_true m && is_true n)
 turn_true (Err f) n = refl
 turn_true (Ok v) n = go (is_true (Ok v)) refl
   where
@@ -32,7 +30,7 @@ turn_true (Ok v) n = go (is_true (Ok v)) refl
     go true e = refl
     go false e = e
 
-turn_fault : (m n : Outcome Cell) → fault_in (then_tried m n) ≡ join (fault_in m) (cond (is_true m) (fault_in n) None)
+pub turn_fault : (m n : Outcome Cell) → fault_in (then_tried m n) ≡ join (fault_in m) (cond (is_true m) (fault_in n) None)
 turn_fault (Err DivZero) n = refl
 turn_fault (Err Range) n = refl
 turn_fault (Ok v) n = go (is_true (Ok v))
@@ -154,11 +152,3 @@ pairs_none count (x ∷ xs) = λ i. join (none (numbers_to count) i) (pairs_none
     none : (js : List ℕ) → faults_by (fault_of (in_turn []) x) js ≡ None
     none [] = refl
     none (j ∷ js) = none js
-
--- a look-up for one condition
-pub finds_one : (width : ℕ) (f : Test) (l : KeyLookup) → Finds width f l → Finds width (in_turn (f ∷ [])) l
-finds_one width f l finds = record {
-  lead = finds.lead;
-  sound = λ front last whole. one_fault f (with_number front last) ∙ finds.sound front last whole;
-  found = λ front whole. finds.found front whole ∙ ap (λ (t : ℕ → Bool). filter t (numbers_to l.count)) (λ i j. sym (one_true f (with_number front j)) i);
-}

@@ -2,7 +2,8 @@
 use Rattle.std.specs.Borrow.{Bor}
 use Rattle.std.specs.Global.{Vec}
 use Rattle.std.specs.Prelude.{◌≡◌, ◌==◌, ◌≤◌, ℕ, List, get_or, [], ◌∷◌, map, drop, fold, length, take, Option, Some, None, if◌then◌else◌}
-use Rattle.std.specs.List.{flat_map}
+use Rattle.std.specs.List.{AllByRecursion, flat_map}
+use Rattle.vtl_cell.specs.Outcome.{fault_in}
 use Rattle.vtl_decimal.specs.Settings.{Settings}
 use Rattle.sql_tree.specs.Trees as tree
 use Rattle.sql_tree.specs.Trees.{Exp, JoinTree, SelectTree}
@@ -26,6 +27,10 @@ trees_of es = map (λ e. expr_tree e.now) es
 -- conditions at tuples, each tried where all before it are true
 abbrev pub conditions_at : Settings → Sourced → List Exp → Test
 conditions_at p s es = in_turn (map (condition_at p s) es)
+
+-- at no tuple they have a fault
+abbrev pub AreSound : Settings → Sourced → List Exp → Type 0
+AreSound p s es = (x : List ℕ) → AllByRecursion (λ e. fault_in (condition_at p s e x) ≡ None) es
 
 -- ---- joins
 

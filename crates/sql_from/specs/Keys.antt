@@ -107,6 +107,21 @@ pub record IsPaired (p : Settings) (s : Sourced) (lead : ℕ) (e : Exp) (first a
 abbrev pub ArePaired : Sourced → ℕ → Exp → List KeyPair → List KeyPair → Type 0
 ArePaired s lead e first all = (p : Settings) (front : List ℕ) (last : ℕ) → length front + 1 ≡ length s.sources → IsPaired p s lead e first all front last
 
+-- where a condition is true of a pair of a tuple and a row, the first pairs of columns come to all
+abbrev pub AreImplied : Sourced → ℕ → Exp → List KeyPair → List KeyPair → Type 0
+AreImplied s lead e first all = (p : Settings) (front : List ℕ) (last : ℕ) → length front + 1 ≡ length s.sources → is_true (condition_at p s e (with_number front last)) ≡ true
+    → all_paired p (row_at (last_of s).rows last) (row_in s lead front) first ≡ true → all_paired p (row_at (last_of s).rows last) (row_in s lead front) all ≡ true
+
+-- where conditions are true of a pair of a tuple and a row, so are all pairs of columns
+abbrev pub AllImplied : Sourced → ℕ → List Exp → List KeyPair → Type 0
+AllImplied s lead es keys = (p : Settings) (front : List ℕ) (last : ℕ) → length front + 1 ≡ length s.sources → list_all (λ e. is_true (condition_at p s e (with_number front last))) es ≡ true
+    → all_paired p (row_at (last_of s).rows last) (row_in s lead front) keys ≡ true
+
+-- and the other way round
+abbrev pub AllPaired : Sourced → ℕ → List Exp → List KeyPair → Type 0
+AllPaired s lead es keys = (p : Settings) (front : List ℕ) (last : ℕ) → length front + 1 ≡ length s.sources
+    → list_all (λ e. is_true (condition_at p s e (with_number front last))) es ≡ all_paired p (row_at (last_of s).rows last) (row_in s lead front) keys
+
 -- ---- keys
 
 -- the columns of keys, each as a number where it is an integer

@@ -1,9 +1,10 @@
 -- EXISTS by a look-up, which is made once for a select.
-use Rattle.std.specs.Prelude.{◌≡◌, ℕ, ◌+◌, ◌<◌, ◌==◌, not, List, length, slice_index}
-use Rattle.std.specs.List.{list_all}
+use Rattle.std.specs.Prelude.{◌≡◌, ℕ, ◌+◌, ◌<◌, ◌==◌, Bool, not, true, List, length, slice_index}
+use Rattle.std.specs.List.{list_all, list_any}
 use Rattle.vtl_cell.specs.Row.{Row, column_of}
 use Rattle.vtl_decimal.specs.Settings.{Settings}
 use Rattle.vtl_rows.specs.Gathered.{picked_cell}
+use Rattle.vtl_rows.specs.Places.{row_at}
 use Rattle.vtl_rows.specs.declared.gather.Pick.{Pick}
 use Rattle.vtl_index.specs.Matches.{matched}
 use Rattle.sql_eval.specs.Placed.{has_partner, is_tied}
@@ -25,12 +26,29 @@ pub record IsPickOf (s : Sourced) (place : ℕ) (pick : Pick) : Type 0 where
 pub record IsTiedBy (s : Sourced) (lead : ℕ) (tie : Tie) (k : KeyPair) : Type 0 where
   pub same : (p : Settings) (inner : Row) (front : List ℕ) (last : ℕ) → length front + 1 ≡ length s.sources → is_tied p (combined (parts_of s.sources) (with_number front last)) inner tie ≡ is_paired p inner (row_in s lead (with_number front last)) k
 
+-- where equalities of EXISTS are true, so are pairs of columns
+abbrev pub AreTiesImplying : Sourced → ℕ → List Tie → List KeyPair → Type 0
+AreTiesImplying s lead ties keys = (p : Settings) (inner : Row) (front : List ℕ) (last : ℕ) → length front + 1 ≡ length s.sources
+    → list_all (is_tied p (combined (parts_of s.sources) (with_number front last)) inner) ties ≡ true → all_paired p inner (row_in s lead (with_number front last)) keys ≡ true
+
+-- and the other way round
 abbrev pub AreTiedBy : Sourced → ℕ → List Tie → List KeyPair → Type 0
 AreTiedBy s lead ties keys = (p : Settings) (inner : Row) (front : List ℕ) (last : ℕ) → length front + 1 ≡ length s.sources
     → list_all (is_tied p (combined (parts_of s.sources) (with_number front last)) inner) ties ≡ all_paired p inner (row_in s lead (with_number front last)) keys
 
--- at each row of FROM a look-up finds whether EXISTS is true
+-- the rows that are found for a row of FROM
+abbrev pub partners_at : PartnerIndex → List ℕ → ℕ → List ℕ
+partners_at x front last = matched x.keys.matches (slice_index (with_number front last) x.keys.lead)
+
+-- a row of the table makes each equality true
+abbrev pub is_partner : Sourced → PartnerIndex → List ℕ → ℕ → ℕ → Bool
+is_partner s x front last n = list_all (is_tied x.p (combined (parts_of s.sources) (with_number front last)) (row_at x.rows.now.rows n)) x.ties.items
+
+-- At each row of FROM EXISTS is true where one of the rows found makes each equality true; of a whole look-up each row that is found
+-- does.
 pub record Answers (s : Sourced) (x : PartnerIndex) : Type 0 where
   pub lead : x.keys.lead < length s.sources
   pub has : (front : List ℕ) (last : ℕ) → length front + 1 ≡ length s.sources
-      → has_partner x.p (rows_held s.held) x.table x.ties.items (combined (parts_of s.sources) (with_number front last)) ≡ not (length (matched x.keys.matches (slice_index (with_number front last) x.keys.lead)) == 0)
+      → has_partner x.p (rows_held s.held) x.table x.ties.items (combined (parts_of s.sources) (with_number front last)) ≡ list_any (is_partner s x front last) (partners_at x front last)
+  pub whole : x.is_whole ≡ true → (front : List ℕ) (last : ℕ) → length front + 1 ≡ length s.sources
+      → has_partner x.p (rows_held s.held) x.table x.ties.items (combined (parts_of s.sources) (with_number front last)) ≡ not (length (partners_at x front last) == 0)

@@ -2,9 +2,10 @@
 //
 // EXISTS in an ON goes by look-ups of its own, made for the join over the sources up to it: they are wanted wherever
 // the select may look up at all, and an ON that is listed has no EXISTS.
-ghost use Rattle.std.specs.List.{list_all};
+ghost use Rattle.std.specs.List.{list_all, list_any};
 ghost use Rattle.std.specs.Prelude.{◌≡◌, IfOk};
 ghost use Rattle.vtl_cell.specs.declared.cell.Cell.TheVariants.{Null};
+ghost use Rattle.vtl_rows.specs.Places.{row_at};
 ghost use Rattle.sql_eval.specs.Placed.{has_partner, is_tied, side_cell};
 ghost use Rattle.sql_from.specs.Held.{rows_held};
 
@@ -13,6 +14,7 @@ use sql_eval::{Existence, Side, Tie};
 use std::alloc::{AllocError, Global};
 use vtl_cell::{Cell, ScalarOp};
 use vtl_decimal::Profile;
+use vtl_rows::Table;
 use vtl_scalar::{ScalarErr, apply_two};
 
 // The cell on a side of an equality; past the last one of the inner row the null that is lent.
@@ -70,6 +72,37 @@ fn all_tied<R: OuterRow>(
         }
     }
     Ok(true)
+}
+
+// The row of a table of this number; no cells where it has no such row.
+fn row_of(table: &Table, number: usize) -> &[Cell]
+    ensures { result.now ≡ row_at table.now.rows number }
+{
+    if number < table.len() {
+        table.row(number)
+    } else {
+        &[]
+    }
+}
+
+/// Whether one of the rows of these numbers of a table makes every equality with a row true. It fails only if memory runs
+/// out.
+pub(crate) fn is_among<R: OuterRow>(
+    alloc: Global,
+    table: &Table,
+    numbers: &[usize],
+    ties: &[Tie],
+    outer: &R,
+    p: &Profile,
+) -> Result<bool, AllocError>
+    ensures { IfOk result (λ b. b ≡ list_any (λ n. list_all (is_tied p.now (R.lends outer.now) (row_at table.now.rows n)) ties.now) numbers.now) }
+{
+    for number in numbers {
+        if all_tied(alloc, ties, row_of(table, *number), outer, p)? {
+            return Ok(true);
+        }
+    }
+    Ok(false)
 }
 
 /// Whether some row of the table of EXISTS makes every equality with a row true, by a walk over its rows. It fails only if

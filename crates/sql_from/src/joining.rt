@@ -3,7 +3,7 @@
 // FULL marks the rows that are met as pairs are made, before the filter is tried, so that what is kept of the pairs
 // decides nothing about which rows stand alone.
 ghost use Rattle.std.specs.List.{flat_map};
-ghost use Rattle.std.specs.Prelude.{◌≡◌, ◌+◌, false, length, replicate, None, IfErr, IfOk, if◌then◌else◌};
+ghost use Rattle.std.specs.Prelude.{◌≡◌, ◌+◌, false, length, true, replicate, None, IfErr, IfOk, if◌then◌else◌};
 ghost use Rattle.vtl_cell.specs.Outcome.{join};
 ghost use Rattle.sql_from.specs.Gains.{Gains};
 ghost use Rattle.sql_from.specs.Joins.{joined_tuples, keeps_left, keeps_right, kept_fault, kept_tuples, pairs_fault, pairs_with, unmarked};
@@ -12,7 +12,7 @@ ghost use Rattle.vtl_scalar.specs.Seen.{seen_of};
 
 use crate::Tuples;
 use crate::condition::Condition;
-use crate::key_lookup::KeyLookup;
+use crate::key_lookup::JoinLookup;
 use crate::lookup::Lookup;
 use crate::pairing::Pairing;
 use crate::pairs::{EachRow, Walked, keep_tuple, left_rows};
@@ -120,25 +120,25 @@ pub(crate) fn join_found<C: Condition, F: Condition, L: Ledger>(
     kind: JoinKind,
     condition: &C,
     filter: &F,
-    keys: &KeyLookup<'_>,
+    rows: &JoinLookup<'_>,
     left: &Walked,
     marks: &[usize],
     steps: &mut Steps<L>,
 ) -> Result<Walked, ScalarErr>
-    requires finds { Finds (C.width condition.now) (C.value condition.now) keys.now }
+    requires finds { Finds (C.width condition.now) (C.value condition.now) rows.now }
     requires width { C.width condition.now ≡ left.now.rows.width + 1 }
     requires filter { F.width filter.now ≡ C.width condition.now }
     requires marks { length marks.now ≡ left.now.rows.width }
     ensures width { IfOk result (λ w. w.rows.width ≡ left.now.rows.width + 1) }
-    ensures rows { IfOk result (λ w. w.rows.tuples ≡ kept_tuples (F.value filter.now) (joined_tuples kind (C.value condition.now) marks.now keys.now.count left.now.rows.tuples)) }
-    ensures seen { IfOk result (λ w. seen_of w.seen ≡ join (seen_of left.now.seen) (join (pairs_fault (C.value condition.now) keys.now.count left.now.rows.tuples) (kept_fault (F.value filter.now) (joined_tuples kind (C.value condition.now) marks.now keys.now.count left.now.rows.tuples)))) }
-    ensures steps { steps.new ≡ steps.old + length (flat_map (pairs_with (C.value condition.now) keys.now.count) left.now.rows.tuples) }
+    ensures rows { IfOk result (λ w. w.rows.tuples ≡ kept_tuples (F.value filter.now) (joined_tuples kind (C.value condition.now) marks.now rows.now.keys.count left.now.rows.tuples)) }
+    ensures seen { IfOk result (λ w. seen_of w.seen ≡ join (seen_of left.now.seen) (join (pairs_fault (C.value condition.now) rows.now.keys.count left.now.rows.tuples) (kept_fault (F.value filter.now) (joined_tuples kind (C.value condition.now) marks.now rows.now.keys.count left.now.rows.tuples)))) }
+    ensures steps { rows.now.is_whole ≡ true → steps.new ≡ steps.old + length (flat_map (pairs_with (C.value condition.now) rows.now.keys.count) left.now.rows.tuples) }
     ensures err { IfErr result (λ e. e ≡ ScalarErr.OutOfMemory) }
 {
     let found = Lookup {
         condition,
         filter,
-        keys,
+        rows,
     };
     found.count_found(&left.rows, steps);
     join_step(alloc, kind, &found, left, marks)

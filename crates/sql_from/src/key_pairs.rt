@@ -5,7 +5,7 @@ ghost use Rattle.vtl_cell.specs.declared.operator.ScalarOp.TheVariants as op;
 ghost use Rattle.sql_tree.specs.Trees as tree;
 ghost use Rattle.sql_tree.specs.View.{expr_tree};
 ghost use Rattle.sql_meaning.specs.Plans.{conjuncts};
-ghost use Rattle.sql_from.specs.Keys.{ArePaired, IsLinked, IsPairOf, are_linked, asked_columns, is_link, own_columns};
+ghost use Rattle.sql_from.specs.Keys.{AreImplied, ArePaired, IsLinked, IsPairOf, are_linked, asked_columns, is_link, own_columns};
 
 use crate::Sources;
 use sql_tree::{Column, SqlExpr};
@@ -53,6 +53,7 @@ fn push_pair(
     right: &SqlExpr,
 ) -> Result<bool, AllocError>
     requires { lead + 1 < length sources.now.sources }
+    ensures implied { IfOk result (λ _. AreImplied sources.now lead (tree.binary (expr_tree left.now) op.Equal (expr_tree right.now)) keys.old.items keys.new.items) }
     ensures paired { IfOk result (λ b. b ≡ true → ArePaired sources.now lead (tree.binary (expr_tree left.now) op.Equal (expr_tree right.now)) keys.old.items keys.new.items) }
     ensures whole { IfOk result (λ b. are_linked sources.now lead (expr_tree left.now) (expr_tree right.now) ≡ true → b ≡ true) }
 {
@@ -68,8 +69,8 @@ fn push_pair(
     }
 }
 
-/// Puts the pairs of columns that a condition equates behind others, and tells whether it is a conjunction of such
-/// equalities alone. It fails only if memory runs out.
+/// Puts the pairs of columns that parts of a conjunction equate behind others, and tells whether all its parts are such
+/// equalities. It fails only if memory runs out.
 #[cycle(paired)]
 pub(crate) fn push_pairs(
     keys: &mut Vec<KeyPair>,
@@ -78,6 +79,7 @@ pub(crate) fn push_pairs(
     condition: &SqlExpr,
 ) -> Result<bool, AllocError>
     requires { lead + 1 < length sources.now.sources }
+    ensures implied { IfOk result (λ _. AreImplied sources.now lead (expr_tree condition.now) keys.old.items keys.new.items) }
     ensures paired { IfOk result (λ b. b ≡ true → ArePaired sources.now lead (expr_tree condition.now) keys.old.items keys.new.items) }
     ensures whole { IfOk result (λ b. list_all (is_link sources.now lead) (conjuncts (expr_tree condition.now)) ≡ true → b ≡ true) }
 {
@@ -86,7 +88,11 @@ pub(crate) fn push_pairs(
             left,
             op: ScalarOp::And,
             right,
-        } => Ok(push_pairs(keys, sources, lead, left)? && push_pairs(keys, sources, lead, right)?),
+        } => {
+            let left_whole = push_pairs(keys, sources, lead, left)?;
+            let right_whole = push_pairs(keys, sources, lead, right)?;
+            Ok(left_whole && right_whole)
+        }
         SqlExpr::Binary {
             left,
             op: ScalarOp::Equal,
@@ -96,38 +102,49 @@ pub(crate) fn push_pairs(
     }
 }
 
-// The lesser of the places of the sources of two columns.
-fn first_source(sources: &Sources<'_>, left: &SqlExpr, right: &SqlExpr) -> Option<usize>
-    ensures within { IfSome result (λ n. n < length sources.now.sources) }
+// The source before the last one that an equality of a column of each asks for a cell.
+fn linked_source(sources: &Sources<'_>, left: &SqlExpr, right: &SqlExpr) -> Option<usize>
+    ensures within { IfSome result (λ n. n + 1 < length sources.now.sources) }
     ensures is { (lead : ℕ) → lead + 1 < length sources.now.sources → are_linked sources.now lead (expr_tree left.now) (expr_tree right.now) ≡ true → result ≡ Some lead }
 {
     match (left, right) {
         (SqlExpr::Column(x), SqlExpr::Column(y)) => {
             let a = sources.spot(x)?;
             let b = sources.spot(y)?;
-            Some(a.part.min(b.part))
+            let last = sources.len() - 1;
+            if a.part == last && b.part < last {
+                Some(b.part)
+            } else if b.part == last && a.part < last {
+                Some(a.part)
+            } else {
+                None
+            }
         }
         _ => None,
     }
 }
 
-/// The source that the first equality of a conjunction asks for a cell, if there is one.
+/// The source that the first equality of a column of the last source and one of another one asks for a cell, if there is
+/// one among the parts of a conjunction.
 #[cycle(leads)]
 pub(crate) fn lead_of(sources: &Sources<'_>, condition: &SqlExpr) -> Option<usize>
-    ensures within { IfSome result (λ n. n < length sources.now.sources) }
+    ensures within { IfSome result (λ n. n + 1 < length sources.now.sources) }
     ensures is { (lead : ℕ) → IsLinked sources.now lead (expr_tree condition.now) → result ≡ Some lead }
 {
     match condition {
         SqlExpr::Binary {
             left,
             op: ScalarOp::And,
-            ..
-        } => lead_of(sources, left),
+            right,
+        } => match lead_of(sources, left) {
+            Some(lead) => Some(lead),
+            None => lead_of(sources, right),
+        },
         SqlExpr::Binary {
             left,
             op: ScalarOp::Equal,
             right,
-        } => first_source(sources, left, right),
+        } => linked_source(sources, left, right),
         _ => None,
     }
 }

@@ -3,9 +3,9 @@
 //! `HeldTables` has the tables by name, and the columns of each by name. A row of FROM is kept as a tuple of row numbers, one for each source, and no cell of it is copied: `TupleRow` lends
 //! the cells to the evaluator (`sql_eval`), and `Sources` says where those of each column stand, worked out once for a
 //! select. Where the rows are those of the only source, each once and in order, its table is lent (`lent_table.rt`).
-//! How the rows are found that go together with a tuple is left to the trait `Pairing`: each row is tried, or, for
-//! joins that the caller lists, rows are looked up by the cells that ON equates. Parts of WHERE that the caller lists are
-//! tried before a join too. `Partners` holds look-ups for the EXISTS of a select, made once for all its rows, and
+//! How the rows are found that go together with a tuple is left to the trait `Pairing`: each row is tried, or, where the
+//! caller gives a list of joins, rows are looked up by cells that ON or WHERE equates. Parts of WHERE that the caller lists
+//! are tried before a join too. `Partners` holds look-ups for the EXISTS of a select, made once for all its rows, and
 //! `PartneredRow` asks them; `KeyPartners` holds those that are asked with a list of cells, as the key of a group is. The fault
 //! is that of every ON, of these parts and of WHERE.
 //! It knows no groups, items or windows, no statement, nothing of how joins and parts are chosen, and nothing of VTL.

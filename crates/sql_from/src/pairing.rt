@@ -1,7 +1,7 @@
 // How the rows are found that go together with a tuple, and which tuples of the join are kept.
 //
 // Pairs are found through one trait (`Pairing`), whose contract says nothing of how: each row is tried (`EachRow`),
-// or rows are looked up (`Lookup`). What is known of a look-up, that it finds the rows with which ON is true and that
+// or rows are looked up (`Lookup`). What is known of a look-up, that it finds each row with which ON is true and that
 // ON has no fault (`Finds`), is a ghost member of the trait that each caller is asked for.
 // A filter is tried on each tuple as it is made, so that no tuple is held which WHERE does not keep.
 ghost use Rattle.std.specs.List.{list_any};

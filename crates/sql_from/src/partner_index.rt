@@ -1,29 +1,36 @@
 // Partners of a row of FROM in the table of EXISTS, by a look-up.
 ghost use Rattle.std.specs.List.{AllByRecursion};
-ghost use Rattle.std.specs.Prelude.{◌≡◌, ◌+◌, ◌<◌, ◌==◌, not, true, IfOk, IfSome, length, slice_index};
-ghost use Rattle.vtl_index.specs.Matches.{matched};
+ghost use Rattle.std.specs.Prelude.{◌≡◌, ◌+◌, ◌<◌, true, IfOk, IfSome, length};
 ghost use Rattle.sql_meaning.specs.Profiles.{IsLawful};
-ghost use Rattle.sql_from.specs.Held.{base_held};
+ghost use Rattle.sql_eval.specs.Placed.{has_partner};
+ghost use Rattle.sql_from.specs.Held.{base_held, rows_held};
 ghost use Rattle.sql_from.specs.Joins.{with_number};
-ghost use Rattle.sql_from.specs.Partners.{Answers};
+ghost use Rattle.sql_from.specs.Partners.{Answers, partners_at};
+ghost use Rattle.sql_from.specs.Rows.{combined};
+ghost use Rattle.sql_from.specs.Sources.{parts_of};
 
-use crate::Sources;
+use crate::existence::is_among;
 use crate::key_lookup::{KeyLookup, keyed};
 use crate::test_places::copied;
-use crate::ties::{are_same_ties, lead_of_tie, tied_columns};
+use crate::ties::{are_same_ties, lead_of_ties, tied_columns};
+use crate::{Sources, TupleRow};
 use sql_eval::{Existence, Tie};
 use std::alloc::{AllocError, Global};
 use std::sync::ledger::Ledger;
 use vtl_decimal::Profile;
 use vtl_index::Steps;
+use vtl_rows::Table;
 use vtl_text::Txt;
 
-/// What an EXISTS asks, and an index of the rows of its table.
+/// What an EXISTS asks, its table, and an index of the table's rows by the equalities that ask one source. Where all ask this
+/// source, the index is whole; else the others are tried on the rows that are found.
 pub(crate) struct PartnerIndex<'a> {
     pub(crate) table: Txt,
     pub(crate) ties: Vec<Tie>,
     pub(crate) p: Profile,
+    pub(crate) rows: &'a Table,
     pub(crate) keys: KeyLookup<'a>,
+    pub(crate) is_whole: bool,
 }
 
 // Written out, so that a proof sees one call and not the drop of each part.
@@ -33,14 +40,16 @@ impl Drop for PartnerIndex<'_> {
             table: _table,
             ties: _ties,
             p: _,
+            rows: _,
             keys: _keys,
+            is_whole: _,
         } = self;
     }
 }
 
 impl<'a> PartnerIndex<'a> {
-    /// The index for an EXISTS, where each of its equalities ties a column of its table and one of a source, which is the
-    /// same for all of them; else none. It takes a step for each row of both tables. It fails only if memory runs out.
+    /// The index for an EXISTS, where one of its equalities ties a column of its table and one of a source; else none. It
+    /// takes a step for each row of both tables. It fails only if memory runs out.
     pub(crate) fn of<L: Ledger>(
         alloc: Global,
         sources: &Sources<'a>,
@@ -51,27 +60,22 @@ impl<'a> PartnerIndex<'a> {
         requires { IsLawful (base_held p.now sources.now.held) }
         ensures { IfOk result (λ o. IfSome o (Answers sources.now)) }
     {
-        let Some(tie) = test.ties.first() else {
+        let Some(lead) = lead_of_ties(sources, &test.ties) else {
             return Ok(None);
         };
-        let Some(lead) = lead_of_tie(sources, *tie) else {
+        let Some(rows) = sources.held().get(&test.table) else {
             return Ok(None);
         };
-        let Some(own) = sources.held().get(&test.table) else {
-            return Ok(None);
-        };
-        match tied_columns(alloc, sources, lead, &test.ties)? {
-            Some(keys) => {
-                let table = sources.table(lead);
-                Ok(Some(PartnerIndex {
-                    table: test.table.share()?,
-                    ties: copied(alloc, &test.ties)?,
-                    p: *p,
-                    keys: keyed(alloc, own, lead, table, &keys, p, steps)?,
-                }))
-            }
-            None => Ok(None),
-        }
+        let (keys, is_whole) = tied_columns(alloc, sources, lead, &test.ties)?;
+        let table = sources.table(lead);
+        Ok(Some(PartnerIndex {
+            table: test.table.share()?,
+            ties: copied(alloc, &test.ties)?,
+            p: *p,
+            rows,
+            keys: keyed(alloc, rows, lead, table, &keys, p, steps)?,
+            is_whole,
+        }))
     }
 
     /// Whether it is known to be the index for an EXISTS.
@@ -85,10 +89,10 @@ impl<'a> PartnerIndex<'a> {
             && is_same_profile(&self.p, p)
     }
 
-    /// Whether a row of the table is found for a tuple. It takes no memory.
-    pub(crate) fn has(&self, front: &[usize], last: usize) -> bool
+    // The rows of the table that are found for a tuple, rising. It takes no memory.
+    fn found(&self, front: &[usize], last: usize) -> &[usize]
         requires { self.now.keys.lead < length front.now + 1 }
-        ensures { result ≡ not (length (matched self.now.keys.matches (slice_index (with_number front.now last) self.now.keys.lead)) == 0) }
+        ensures { result.now ≡ partners_at self.now front.now last }
     {
         let lead = self.keys.lead;
         let number = if lead < front.len() {
@@ -96,7 +100,19 @@ impl<'a> PartnerIndex<'a> {
         } else {
             last
         };
-        !self.keys.matches.rows(number).is_empty()
+        self.keys.matches.rows(number)
+    }
+
+    /// Whether a row of the table makes each equality true, at a row of FROM. It fails only if memory runs out.
+    pub(crate) fn has(&self, alloc: Global, row: &TupleRow<'_>) -> Result<bool, AllocError>
+        requires { Answers row.now.sources.now self.now }
+        ensures { IfOk result (λ b. b ≡ has_partner self.now.p (rows_held row.now.sources.now.held) self.now.table self.now.ties.items (combined (parts_of row.now.sources.now.sources) (with_number row.now.front.now row.now.last))) }
+    {
+        let found = self.found(row.front, row.last);
+        if self.is_whole {
+            return Ok(!found.is_empty());
+        }
+        is_among(alloc, self.rows, found, &self.ties, row, &self.p)
     }
 }
 

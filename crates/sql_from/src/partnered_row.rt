@@ -55,7 +55,7 @@ impl<'a> Cells for PartneredRow<'a> {
     }
 
     fn is_there(&self, alloc: Global, test: &Existence, p: &Profile) -> Result<bool, AllocError> {
-        match self.partners.answer(test, self.row.front, self.row.last, p) {
+        match self.partners.answer(alloc, test, &self.row, p)? {
             Some(found) => Ok(found),
             None => self.row.is_there(alloc, test, p),
         }

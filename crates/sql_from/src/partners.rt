@@ -12,9 +12,9 @@ ghost use Rattle.sql_from.specs.Partners.{Answers};
 ghost use Rattle.sql_from.specs.Rows.{combined};
 ghost use Rattle.sql_from.specs.Sources.{parts_of};
 
-use crate::Sources;
 use crate::partner_index::PartnerIndex;
 use crate::test_places::TestPlaces;
+use crate::{Sources, TupleRow};
 use sql_eval::{Existence, Resolved};
 use std::alloc::{AllocError, Global};
 use std::marker::Model;
@@ -126,8 +126,8 @@ impl<'a> Partners<'a> {
         }
     }
 
-    /// With look-ups for the EXISTS of an expression: one for each whose equalities each tie a column of its table and
-    /// one of a source, which is the same for all of them. Each takes a step for each row of its table and of the source.
+    /// With look-ups for the EXISTS of an expression: one for each of which an equality ties a column of its table and one
+    /// of a source. Each takes a step for each row of its table and of the source.
     /// It fails only if memory runs out.
     pub fn with<L: Ledger>(
         self,
@@ -161,25 +161,27 @@ impl<'a> Partners<'a> {
         self.sources
     }
 
-    /// Whether a row of the table of EXISTS makes each of its equalities true, at the row of FROM of a tuple whose last
-    /// number is given apart; none where there is no look-up for it. It takes no memory.
+    /// Whether a row of the table of EXISTS makes each of its equalities true, at a row of FROM over the sources; none where
+    /// there is no look-up for it. It fails only if memory runs out.
     pub(crate) fn answer(
         &self,
+        alloc: Global,
         test: &Existence,
-        front: &[usize],
-        last: usize,
+        row: &TupleRow<'_>,
         p: &Profile,
-    ) -> Option<bool>
-        requires { length front.now + 1 ≡ length self.now.sources }
-        ensures { IfSome result (λ b. b ≡ has_partner p.now (rows_held self.now.held) test.now.table test.now.ties.items (combined (parts_of self.now.sources) (with_number front.now last))) }
+    ) -> Result<Option<bool>, AllocError>
+        requires { row.now.sources.now ≡ self.now }
+        ensures { IfOk result (λ o. IfSome o (λ b. b ≡ has_partner p.now (rows_held self.now.held) test.now.table test.now.ties.items (combined (parts_of self.now.sources) (with_number row.now.front.now row.now.last)))) }
     {
-        let place = self.places.place(test)?;
+        let Some(place) = self.places.place(test) else {
+            return Ok(None);
+        };
         if place < self.indexes.len() {
             let index = &self.indexes[place];
             if index.is_for(test, p) {
-                return Some(index.has(front, last));
+                return Ok(Some(index.has(alloc, row)?));
             }
         }
-        None
+        Ok(None)
     }
 }

@@ -13,21 +13,21 @@ ghost use Rattle.sql_meaning.specs.From.{Joined, first_of, source_rows, with_joi
 ghost use Rattle.sql_meaning.specs.Plans.{planned_source_rows, try_early};
 ghost use Rattle.sql_from.specs.Asking.{asks};
 ghost use Rattle.sql_from.specs.Columns.{source_columns};
-ghost use Rattle.sql_from.specs.Conditions.{conditions_at, filtered, kind_of, on_of, trees_of};
+ghost use Rattle.sql_from.specs.Conditions.{AreSound, conditions_at, filtered, kind_of, on_of, trees_of};
 ghost use Rattle.sql_from.specs.Held.{base_held, tables_held};
 ghost use Rattle.sql_from.specs.Keys.{AreLinked, last_of, linked_count};
 ghost use Rattle.sql_from.specs.Lookups.{Finds};
-ghost use Rattle.sql_from.specs.Joins.{joined_tuples, kept_fault, kept_tuples, pairs_fault};
+ghost use Rattle.sql_from.specs.Joins.{joined_tuples, kept_fault, kept_tuples};
 ghost use Rattle.sql_from.specs.Sources.{scope_held, table_named};
 ghost use Rattle.sql_from.specs.Standing.{MayLookUp, StandsFor, rows_for, sight_of};
-ghost use Rattle.sql_from.specs.Together.{breadth, tested};
+ghost use Rattle.sql_from.specs.Together.{IsJoinedBy};
 ghost use Rattle.sql_from.specs.Steps.{IsPlainJoin, JoinsTwo, is_listed, most_steps, two_counts};
 
 use crate::conditions::Conditions;
 use crate::counting::count_pairs;
 use crate::early::{conjuncts_of, due_parts};
 use crate::joining::{join_each, join_found, keep};
-use crate::key_lookup::{KeyLookup, lookup_of};
+use crate::key_lookup::{JoinLookup, lookup_of};
 use crate::pairs::Walked;
 use crate::{HeldTables, Sources, TupleRows, Tuples};
 use sql_meaning::Early;
@@ -50,30 +50,102 @@ fn wanted_lookup<'a, L: Ledger>(
     conditions: &[&SqlExpr],
     p: &Profile,
     steps: &mut Steps<L>,
-) -> Result<Option<KeyLookup<'a>>, AllocError>
+) -> Result<Option<JoinLookup<'a>>, AllocError>
     requires { by_index ≡ true → IsLawful (base_held p.now sources.now.held) }
-    ensures rows { IfOk result (λ o. IfSome o (λ l. l.count ≡ length (last_of sources.now).rows)) }
+    ensures rows { IfOk result (λ o. IfSome o (λ l. l.keys.count ≡ length (last_of sources.now).rows)) }
     ensures some { by_index ≡ true → (lead : ℕ) → AreLinked sources.now lead (trees_of conditions.now) → IfOk result IsSome }
+    ensures whole { (lead : ℕ) → AreLinked sources.now lead (trees_of conditions.now) → IfOk result (λ o. IfSome o (λ l. l.is_whole ≡ true)) }
     ensures steps { by_index ≡ true → (lead : ℕ) → AreLinked sources.now lead (trees_of conditions.now) → steps.new ≤ steps.old + linked_count sources.now lead }
+    ensures sound { IfOk result (λ o. IfSome o (λ l. AreSound p.now sources.now (trees_of conditions.now))) }
     ensures finds { IfOk result (λ o. IfSome o (Finds (length sources.now.sources) (conditions_at p.now sources.now (trees_of conditions.now)))) }
 {
-    if !by_index {
-        return Ok(None);
-    }
-    match conditions {
-        [condition] => lookup_of(alloc, sources, condition, p, steps),
-        _ => Ok(None),
+    if by_index {
+        lookup_of(alloc, sources, conditions, p, steps)
+    } else {
+        Ok(None)
     }
 }
 
-// Joins the tuples with the rows of a further source, which is the last one, by conditions on all sources, and keeps what
-// the filter keeps. Rows are looked up where that is wanted and they can be. It takes a step for each row of both sources
-// of a look-up and for each row that is found of a tuple, or for each pair that is tried.
-fn joined_by<L: Ledger>(
+// These conditions, and then these.
+fn both<'e>(
+    alloc: Global,
+    conditions: &[&'e SqlExpr],
+    parts: &[&'e SqlExpr],
+) -> Result<Vec<&'e SqlExpr>, AllocError>
+    ensures { IfOk result (λ v. trees_of v.items ≡ trees_of conditions.now ++ trees_of parts.now) }
+{
+    let mut all = Vec::with_capacity(alloc, conditions.len())?;
+    all.extend_from_slice(conditions)?;
+    all.extend_from_slice(parts)?;
+    Ok(all)
+}
+
+// Joins the tuples with the rows of a further source, which is the last one, by a look-up for conditions on all sources, where
+// it is wanted and there is one, and keeps the tuples at which parts of WHERE are true. It takes a step for each row of both
+// sources of the look-up and for each row that is found of a tuple.
+fn found_by_on<L: Ledger>(
     alloc: Global,
     kind: JoinKind,
     conditions: &[&SqlExpr],
-    filter: &Conditions<'_>,
+    parts: &[&SqlExpr],
+    by_index: bool,
+    sources: &Sources<'_>,
+    left: &Walked,
+    marks: &[usize],
+    p: &Profile,
+    steps: &mut Steps<L>,
+) -> Result<Option<Walked>, ScalarErr>
+    requires width { length sources.now.sources ≡ left.now.rows.width + 1 }
+    requires marks { length marks.now ≡ left.now.rows.width }
+    requires lawful { by_index ≡ true → IsLawful (base_held p.now sources.now.held) }
+    ensures joined { IfOk result (λ o. IfSome o (IsJoinedBy p.now sources.now kind (trees_of conditions.now) (trees_of parts.now) marks.now left.now)) }
+    ensures some { by_index ≡ true → (lead : ℕ) → AreLinked sources.now lead (trees_of conditions.now) → IfOk result IsSome }
+    ensures steps { by_index ≡ true → AllByRecursion (λ e. asks e ≡ false) (trees_of parts.now) → (lead : ℕ) → AreLinked sources.now lead (trees_of conditions.now) → steps.new ≤ steps.old + linked_count sources.now lead + length (joined_tuples kind (conditions_at p.now sources.now (trees_of conditions.now)) marks.now (length (last_of sources.now).rows) left.now.rows.tuples) }
+    ensures err { IfErr result (λ e. e ≡ ScalarErr.OutOfMemory) }
+{
+    let Some(rows) = wanted_lookup(alloc, by_index, sources, conditions, p, steps)? else {
+        return Ok(None);
+    };
+    let on = Conditions::of(alloc, sources, conditions, by_index, p, steps)?;
+    let filter = Conditions::of(alloc, sources, parts, by_index, p, steps)?;
+    Ok(Some(join_found(alloc, kind, &on, &filter, &rows, left, marks, steps)?))
+}
+
+// The same for an INNER join, by a look-up for ON and parts of WHERE together: a tuple that is not found is not kept, and
+// nothing can have a fault.
+fn found_by_all<L: Ledger>(
+    alloc: Global,
+    conditions: &[&SqlExpr],
+    parts: &[&SqlExpr],
+    by_index: bool,
+    sources: &Sources<'_>,
+    left: &Walked,
+    marks: &[usize],
+    p: &Profile,
+    steps: &mut Steps<L>,
+) -> Result<Option<Walked>, ScalarErr>
+    requires width { length sources.now.sources ≡ left.now.rows.width + 1 }
+    requires marks { length marks.now ≡ left.now.rows.width }
+    requires lawful { by_index ≡ true → IsLawful (base_held p.now sources.now.held) }
+    ensures joined { IfOk result (λ o. IfSome o (IsJoinedBy p.now sources.now JoinKind.Inner (trees_of conditions.now) (trees_of parts.now) marks.now left.now)) }
+    ensures err { IfErr result (λ e. e ≡ ScalarErr.OutOfMemory) }
+{
+    let all = both(alloc, conditions, parts)?;
+    let Some(rows) = wanted_lookup(alloc, by_index, sources, &all, p, steps)? else {
+        return Ok(None);
+    };
+    let on = Conditions::of(alloc, sources, &all, by_index, p, steps)?;
+    let none = Conditions::of(alloc, sources, &[], by_index, p, steps)?;
+    let kind = JoinKind::Inner;
+    Ok(Some(join_found(alloc, kind, &on, &none, &rows, left, marks, steps)?))
+}
+
+// The same for any join, where each pair is tried. It takes a step for each.
+fn each_joined<L: Ledger>(
+    alloc: Global,
+    kind: JoinKind,
+    conditions: &[&SqlExpr],
+    parts: &[&SqlExpr],
     by_index: bool,
     sources: &Sources<'_>,
     left: &Walked,
@@ -82,27 +154,20 @@ fn joined_by<L: Ledger>(
     steps: &mut Steps<L>,
 ) -> Result<Walked, ScalarErr>
     requires width { length sources.now.sources ≡ left.now.rows.width + 1 }
-    requires filter { breadth filter.now ≡ length sources.now.sources }
     requires marks { length marks.now ≡ left.now.rows.width }
     requires lawful { by_index ≡ true → IsLawful (base_held p.now sources.now.held) }
-    ensures width { IfOk result (λ w. w.rows.width ≡ left.now.rows.width + 1) }
-    ensures rows { IfOk result (λ w. w.rows.tuples ≡ kept_tuples (tested filter.now) (joined_tuples kind (conditions_at p.now sources.now (trees_of conditions.now)) marks.now (length (last_of sources.now).rows) left.now.rows.tuples)) }
-    ensures seen { IfOk result (λ w. seen_of w.seen ≡ join (seen_of left.now.seen) (join (pairs_fault (conditions_at p.now sources.now (trees_of conditions.now)) (length (last_of sources.now).rows) left.now.rows.tuples) (kept_fault (tested filter.now) (joined_tuples kind (conditions_at p.now sources.now (trees_of conditions.now)) marks.now (length (last_of sources.now).rows) left.now.rows.tuples)))) }
-    ensures steps { by_index ≡ true → (lead : ℕ) → AreLinked sources.now lead (trees_of conditions.now) → steps.new ≤ steps.old + linked_count sources.now lead + length (joined_tuples kind (conditions_at p.now sources.now (trees_of conditions.now)) marks.now (length (last_of sources.now).rows) left.now.rows.tuples) }
+    ensures joined { IfOk result (IsJoinedBy p.now sources.now kind (trees_of conditions.now) (trees_of parts.now) marks.now left.now) }
     ensures err { IfErr result (λ e. e ≡ ScalarErr.OutOfMemory) }
 {
     let on = Conditions::of(alloc, sources, conditions, by_index, p, steps)?;
-    match wanted_lookup(alloc, by_index, sources, conditions, p, steps)? {
-        Some(keys) => join_found(alloc, kind, &on, filter, &keys, left, marks, steps),
-        None => {
-            let count = sources.last_count();
-            count_pairs(left.rows.len(), count, steps);
-            join_each(alloc, kind, &on, filter, left, marks, count)
-        }
-    }
+    let filter = Conditions::of(alloc, sources, parts, by_index, p, steps)?;
+    let count = sources.last_count();
+    count_pairs(left.rows.len(), count, steps);
+    Ok(join_each(alloc, kind, &on, &filter, left, marks, count)?)
 }
 
-// The same, where the filter is that of these parts of WHERE.
+// Joins the tuples with the rows of a further source, which is the last one, by conditions on all sources, and keeps those
+// at which parts of WHERE are true. Rows are looked up where that is wanted and they can be.
 fn joined_with<L: Ledger>(
     alloc: Global,
     kind: JoinKind,
@@ -118,15 +183,26 @@ fn joined_with<L: Ledger>(
     requires width { length sources.now.sources ≡ left.now.rows.width + 1 }
     requires marks { length marks.now ≡ left.now.rows.width }
     requires lawful { by_index ≡ true → IsLawful (base_held p.now sources.now.held) }
-    ensures width { IfOk result (λ w. w.rows.width ≡ left.now.rows.width + 1) }
-    ensures rows { IfOk result (λ w. w.rows.tuples ≡ kept_tuples (conditions_at p.now sources.now (trees_of parts.now)) (joined_tuples kind (conditions_at p.now sources.now (trees_of conditions.now)) marks.now (length (last_of sources.now).rows) left.now.rows.tuples)) }
-    ensures seen { IfOk result (λ w. seen_of w.seen ≡ join (seen_of left.now.seen) (join (pairs_fault (conditions_at p.now sources.now (trees_of conditions.now)) (length (last_of sources.now).rows) left.now.rows.tuples) (kept_fault (conditions_at p.now sources.now (trees_of parts.now)) (joined_tuples kind (conditions_at p.now sources.now (trees_of conditions.now)) marks.now (length (last_of sources.now).rows) left.now.rows.tuples)))) }
+    ensures joined { IfOk result (IsJoinedBy p.now sources.now kind (trees_of conditions.now) (trees_of parts.now) marks.now left.now) }
     ensures steps { by_index ≡ true → AllByRecursion (λ e. asks e ≡ false) (trees_of parts.now) → (lead : ℕ) → AreLinked sources.now lead (trees_of conditions.now) → steps.new ≤ steps.old + linked_count sources.now lead + length (joined_tuples kind (conditions_at p.now sources.now (trees_of conditions.now)) marks.now (length (last_of sources.now).rows) left.now.rows.tuples) }
     ensures err { IfErr result (λ e. e ≡ ScalarErr.OutOfMemory) }
 {
-    let filter = Conditions::of(alloc, sources, parts, by_index, p, steps)?;
-    joined_by(
-        alloc, kind, conditions, &filter, by_index, sources, left, marks, p, steps,
+    let found = found_by_on(
+        alloc, kind, conditions, parts, by_index, sources, left, marks, p, steps,
+    )?;
+    if let Some(joined) = found {
+        return Ok(joined);
+    }
+    if let JoinKind::Inner = kind {
+        let found = found_by_all(
+            alloc, conditions, parts, by_index, sources, left, marks, p, steps,
+        )?;
+        if let Some(joined) = found {
+            return Ok(joined);
+        }
+    }
+    each_joined(
+        alloc, kind, conditions, parts, by_index, sources, left, marks, p, steps,
     )
 }
 
@@ -331,10 +407,12 @@ fn joined<'a, L: Ledger>(
 /// each pair that it is tried on, and of WHERE, at each row of FROM: a division by zero, wherever it comes, and then
 /// what is out of range. It takes memory for the tuples, and copies no cell.
 ///
-/// Where joins are listed, by their places, a join whose ON is a conjunction of equalities of a column of its own source and
-/// one of one other source goes by a look-up, in time for the rows of both and the pairs that are found, and so does an
-/// EXISTS of an ON or of WHERE whose equalities each tie a column of its table and one of a source, the same for all. Every
-/// other join tries each pair, and every other EXISTS walks over its table; so do all of them where no list is given.
+/// Where joins are listed, by their places, a join goes by a look-up, in time for the rows of both and the pairs that are found,
+/// if its ON can have no fault and one of its parts is an equality of a column of its own source and one of another one; ON is
+/// tried on what is found. So does an INNER or CROSS join by an equality of ON or of what WHERE has tried behind it, if
+/// none of both can have a fault. So does an EXISTS of an ON or of WHERE one of whose equalities ties a column of its table and
+/// one of a source; the others are tried on what is found. Every other join tries each pair, and every other EXISTS walks over
+/// its table; so do all of them where no list is given.
 ///
 /// Each part of WHERE that is listed to be tried early is tried before its join too, one after the other: the join sees
 /// the rows at which it is true, and its fault is told beside the others. WHERE is tried whole at the end. All of them are

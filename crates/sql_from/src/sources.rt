@@ -161,7 +161,8 @@ impl<'a> Sources<'a> {
 
     /// How many sources there are.
     pub fn len(&self) -> usize
-        ensures { result ≡ length self.now.sources }
+        ensures count { result ≡ length self.now.sources }
+        ensures held { AllByRecursion (IsHeld self.now.held) (parts_of self.now.sources) }
     {
         self.sources.len()
     }

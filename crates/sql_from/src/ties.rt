@@ -1,6 +1,6 @@
 // Equalities of EXISTS: whether two lists are the same, and which columns they equate.
-ghost use Rattle.std.specs.Prelude.{◌≡◌, ◌<◌, true, IfOk, IfSome, length};
-ghost use Rattle.sql_from.specs.Partners.{AreTiedBy, IsTiedBy};
+ghost use Rattle.std.specs.Prelude.{◌≡◌, ◌<◌, ◌++◌, ◌∷◌, [], List, true, IfOk, IfSome, length};
+ghost use Rattle.sql_from.specs.Partners.{AreTiedBy, AreTiesImplying, IsTiedBy};
 
 use crate::Sources;
 use crate::key_pairs::KeyPair;
@@ -65,37 +65,65 @@ fn tie_pair(sources: &Sources<'_>, lead: usize, tie: Tie) -> Option<KeyPair>
     }
 }
 
-/// The columns that equalities tie, if each ties a column of the table of EXISTS and one of the source that leads. It
-/// fails only if memory runs out.
+// Puts the columns that an equality ties behind those of others, if it ties a column of the table of EXISTS and one of the
+// source that leads, and tells whether it does.
+fn push_tie(
+    keys: &mut Vec<KeyPair>,
+    sources: &Sources<'_>,
+    lead: usize,
+    tie: Tie,
+) -> Result<bool, AllocError>
+    ensures implied { IfOk result (λ _. (ties : List Tie) → AreTiesImplying sources.now lead ties keys.old.items → AreTiesImplying sources.now lead (ties ++ tie ∷ []) keys.new.items) }
+    ensures tied { IfOk result (λ b. b ≡ true → (ties : List Tie) → AreTiedBy sources.now lead ties keys.old.items → AreTiedBy sources.now lead (ties ++ tie ∷ []) keys.new.items) }
+{
+    match tie_pair(sources, lead, tie) {
+        Some(pair) => {
+            keys.push(pair)?;
+            Ok(true)
+        }
+        None => Ok(false),
+    }
+}
+
+/// The columns that equalities tie, of those that tie a column of the table of EXISTS and one of the source that leads, and
+/// whether all do. It fails only if memory runs out.
 pub(crate) fn tied_columns(
     alloc: Global,
     sources: &Sources<'_>,
     lead: usize,
     ties: &[Tie],
-) -> Result<Option<Vec<KeyPair>>, AllocError>
-    ensures { IfOk result (λ o. IfSome o (λ v. AreTiedBy sources.now lead ties.now v.items)) }
+) -> Result<(Vec<KeyPair>, bool), AllocError>
+    ensures implied { IfOk result (λ r. AreTiesImplying sources.now lead ties.now r.0.items) }
+    ensures tied { IfOk result (λ r. r.1 ≡ true → AreTiedBy sources.now lead ties.now r.0.items) }
 {
     let mut keys = Vec::new(alloc);
+    let mut is_whole = true;
     for tie in ties {
-        match tie_pair(sources, lead, *tie) {
-            Some(pair) => keys.push(pair)?,
-            None => return Ok(None),
-        }
+        let here = push_tie(&mut keys, sources, lead, *tie)?;
+        is_whole = is_whole && here;
     }
-    Ok(Some(keys))
+    Ok((keys, is_whole))
 }
 
-/// The source whose cell an equality asks for, if there is one.
-pub(crate) fn lead_of_tie(sources: &Sources<'_>, tie: Tie) -> Option<usize>
+// The source whose cell an equality asks for beside one of the table of EXISTS, if it is such a one.
+fn lead_of_tie(sources: &Sources<'_>, tie: Tie) -> Option<usize>
     ensures { IfSome result (λ n. n < length sources.now.sources) }
 {
-    let place = match tie.left {
-        Side::Outer(place) => place,
-        Side::Inner(_) => match tie.right {
-            Side::Outer(place) => place,
-            Side::Inner(_) => return None,
-        },
-    };
-    let pick = sources.pick(place)?;
-    Some(pick.part)
+    match (tie.left, tie.right) {
+        (Side::Inner(_), Side::Outer(place)) => Some(sources.pick(place)?.part),
+        (Side::Outer(place), Side::Inner(_)) => Some(sources.pick(place)?.part),
+        _ => None,
+    }
+}
+
+/// The source whose cell the first such equality asks for, if there is one.
+pub(crate) fn lead_of_ties(sources: &Sources<'_>, ties: &[Tie]) -> Option<usize>
+    ensures { IfSome result (λ n. n < length sources.now.sources) }
+{
+    for tie in ties {
+        if let Some(lead) = lead_of_tie(sources, *tie) {
+            return Some(lead);
+        }
+    }
+    None
 }

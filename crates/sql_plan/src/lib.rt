@@ -17,3 +17,4 @@ mod safety;
 mod standing;
 
 pub use planning::plan;
+pub use safety::is_safe;

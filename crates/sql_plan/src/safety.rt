@@ -27,10 +27,10 @@ fn may_fault(op: ScalarOp) -> bool
     }
 }
 
-// Whether an expression holds no operator that may have a fault, and no aggregate.
+/// Whether an expression holds no operator that may have a fault, and no aggregate. It takes no memory.
 #[cycle(safe)]
 #[tactic(auto, using(crate::proofs::Views::views))]
-fn is_safe(expression: &SqlExpr) -> bool
+pub fn is_safe(expression: &SqlExpr) -> bool
     ensures { result ≡ is_safe (expr_tree expression.now) }
 {
     match expression {

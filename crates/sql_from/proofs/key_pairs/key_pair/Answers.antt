@@ -5,8 +5,8 @@ use Rattle.sql_from.proofs.key_pairs.key_pair.Goals as goal
 
 pub returns-then-b-lead-clause-pair : goal.returns-then-b-lead-clause-pair
 returns-then-b-lead-clause-pair c =
-    own_first c.args.sources.now c.args.lead c.requires c.args.x.now c.args.y.now c.in_ok-a.a c.in_ok-b.b c.in_ok-a.ensures.cell c.in_ok-b.ensures.cell (c.if-a-last.true ∙ ap (λ n. n - 1) c.len-last.ensures) c.if-b-lead.true
+    own_first c.args.sources.now c.args.lead c.requires c.args.x.now c.args.y.now c.in_ok-a.a c.in_ok-b.b c.in_ok-a.ensures.cell c.in_ok-b.ensures.cell (c.if-a-last.true ∙ ap (λ n. n - 1) c.len-last.ensures.count) c.if-b-lead.true
 
 pub returns-then-a-lead-clause-pair : goal.returns-then-a-lead-clause-pair
 returns-then-a-lead-clause-pair c =
-    own_second c.args.sources.now c.args.lead c.requires c.args.x.now c.args.y.now c.in_ok-a.a c.in_ok-b.b c.in_ok-a.ensures.cell c.in_ok-b.ensures.cell (c.if-b-last.true ∙ ap (λ n. n - 1) c.len-last.ensures) c.if-a-lead.true
+    own_second c.args.sources.now c.args.lead c.requires c.args.x.now c.args.y.now c.in_ok-a.a c.in_ok-b.b c.in_ok-a.ensures.cell c.in_ok-b.ensures.cell (c.if-b-last.true ∙ ap (λ n. n - 1) c.len-last.ensures.count) c.if-a-lead.true

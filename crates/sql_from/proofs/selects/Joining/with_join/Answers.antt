@@ -33,9 +33,9 @@ returns-clause-stands g c =
     let kind : c.kind_of.result ≡ kind_of j = c.kind_of.ensures in
     let on : trees_of c.deref.result.now ≡ on_of j = ap trees_of c.deref.ensures.value ∙ c.in_ok-conditions.ensures in
     λ f before.
-    join_tried s j c.requires.source p t (seen_of c.args.self.walked.seen) f before es marks walked.rows (seen_of walked.seen) new is (c.deref-2.ensures.value ∙ c.in_ok-marks.ensures) c.in_ok-walked.ensures.width c.in_ok-sources.ensures.wide
-    (c.in_ok-walked.ensures.rows ∙ (λ i. kept_tuples (conditions_at p new es) (joined_tuples (kind i) (conditions_at p new (on i)) marks count t.tuples)))
-    (c.in_ok-walked.ensures.seen ∙ (λ i. join (seen_of c.args.self.walked.seen) (join (pairs_fault (conditions_at p new (on i)) count t.tuples) (kept_fault (conditions_at p new es) (joined_tuples (kind i) (conditions_at p new (on i)) marks count t.tuples)))))
+    join_tried s j c.requires.source p t (seen_of c.args.self.walked.seen) f before es marks walked.rows (seen_of walked.seen) new is (c.deref-2.ensures.value ∙ c.in_ok-marks.ensures) c.in_ok-walked.ensures.joined.width c.in_ok-sources.ensures.wide
+    (c.in_ok-walked.ensures.joined.rows ∙ (λ i. kept_tuples (conditions_at p new es) (joined_tuples (kind i) (conditions_at p new (on i)) marks count t.tuples)))
+    (c.in_ok-walked.ensures.joined.seen ∙ (λ i. join (seen_of c.args.self.walked.seen) (join (pairs_fault (conditions_at p new (on i)) count t.tuples) (kept_fault (conditions_at p new es) (joined_tuples (kind i) (conditions_at p new (on i)) marks count t.tuples)))))
 
 pub joined_with-requires-clause-lawful : goal.joined_with-requires-clause-lawful
 joined_with-requires-clause-lawful g c e = subst (λ (h : NamedTables). IsLawful (base_held c.args.p.now h)) (sym c.in_ok-sources.ensures.held) (c.requires.lawful e)

@@ -1,0 +1,9 @@
+SET SCALE 2 ROUNDING HALF_UP;
+INPUT "T" ("id" INTEGER, "k" INTEGER, "v" INTEGER) KEY ("id");
+INPUT "S" ("id" INTEGER, "k" INTEGER, "w" TEXT) KEY ("id");
+INPUT "R" ("id" INTEGER, "k" INTEGER) KEY ("id");
+CREATE TABLE "U" AS
+  SELECT "t"."id" AS "a", "s"."id" AS "b"
+  FROM "T" AS "t"
+  LEFT JOIN "S" AS "s" ON "t"."k" = "s"."k" AND EXISTS (SELECT 1 FROM "R" AS "r" WHERE "s"."id" = "r"."id" AND "r"."k" = "t"."k");
+EXPORT "U";

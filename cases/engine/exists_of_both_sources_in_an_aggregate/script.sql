@@ -1,0 +1,8 @@
+SET SCALE 2 ROUNDING HALF_UP;
+INPUT "T" ("id" INTEGER, "k" INTEGER, "v" INTEGER) KEY ("id");
+INPUT "S" ("id" INTEGER, "k" INTEGER, "w" TEXT) KEY ("id");
+CREATE TABLE "U" AS
+  SELECT SUM(CASE WHEN EXISTS (SELECT 1 FROM "S" AS "s" WHERE "s"."k" = "t"."k" AND "s"."id" = "u"."id") THEN 1 ELSE 0 END) AS "n"
+  FROM "T" AS "t"
+  CROSS JOIN "T" AS "u";
+EXPORT "U";

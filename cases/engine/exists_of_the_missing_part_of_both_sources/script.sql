@@ -1,0 +1,10 @@
+SET SCALE 2 ROUNDING HALF_UP;
+INPUT "T" ("id" INTEGER, "k" INTEGER, "v" INTEGER) KEY ("id");
+INPUT "S" ("id" INTEGER, "k" INTEGER, "w" TEXT) KEY ("id");
+INPUT "R" ("id" INTEGER, "k" INTEGER) KEY ("id");
+CREATE TABLE "U" AS
+  SELECT "t"."id" AS "a", "s"."id" AS "b"
+  FROM "T" AS "t"
+  LEFT JOIN "S" AS "s" ON "s"."k" = "t"."k"
+  WHERE NOT EXISTS (SELECT 1 FROM "R" AS "r" WHERE "r"."k" = "t"."k" AND "r"."id" = "s"."id");
+EXPORT "U";
