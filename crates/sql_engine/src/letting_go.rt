@@ -12,7 +12,7 @@ ghost use Rattle.sql_engine.specs.LastReads.{is_read_from};
 
 use crate::expression_reads::LastReads;
 use crate::last_reads::is_read_from;
-use sql_from::{HeldTable, HeldTables};
+use sql_from::{HeldTable, HeldTables, no_lists};
 use sql_tree::Statement;
 use std::alloc::{AllocError, Global};
 use vtl_rows::{Column, Table};
@@ -40,23 +40,12 @@ pub(crate) fn read_last(
 ) -> Result<Vec<Vec<Txt>>, AllocError>
     ensures { IfOk result (λ v. length v.items ≡ count) }
 {
-    let mut names = none_each(alloc, count)?;
+    let mut names = no_lists(alloc, count)?;
     for i in 0..last.len() {
         let (name, place) = last.at(i);
         if *place < count {
             names[*place].push(name.share()?)?;
         }
-    }
-    Ok(names)
-}
-
-// So many lists of nothing.
-fn none_each(alloc: Global, count: usize) -> Result<Vec<Vec<Txt>>, AllocError>
-    ensures { IfOk result (λ v. length v.items ≡ count) }
-{
-    let mut names = Vec::with_capacity(alloc, count)?;
-    for _ in 0..count {
-        names.push(Vec::new(alloc))?;
     }
     Ok(names)
 }

@@ -4,5 +4,4 @@ pub mod ItemCells
 pub mod Items
 pub mod Outputs
 pub mod Parts
-pub mod Planned
 pub mod SimpleItems

@@ -2,10 +2,11 @@
 //
 // A plan lists entries in any order, so each is put to its select once: a query then takes no time with the product of
 // its selects and of what is listed.
-ghost use Rattle.std.specs.Prelude.{◌≡◌, ◌==◌, ◌<◌, [], filter, length, map, IfOk, OnOk};
+ghost use Rattle.std.specs.Prelude.{◌≡◌, ◌<◌, length, map, IfOk};
 ghost use Rattle.sql_meaning.specs.Plans.{early_in, indexed_in};
-ghost use Rattle.sql_exec.specs.Planned.{AreLists, IsPutAt};
+ghost use Rattle.sql_from.specs.PlacedLists.{AreLists};
 
+use sql_from::{no_lists, put_at};
 use sql_meaning::{Early, Plan};
 use std::alloc::{AllocError, Global};
 
@@ -23,29 +24,6 @@ impl Drop for PlannedSelects {
             early: _early,
         } = self;
     }
-}
-
-// So many lists of nothing.
-fn no_lists<T: Drop>(alloc: Global, count: usize) -> Result<Vec<Vec<T>>, AllocError>
-    ensures many { IfOk result (λ v. length v.items ≡ count) }
-    ensures none { IfOk result (λ v. AreLists (λ _. []) count v.items) }
-{
-    let mut lists = Vec::with_capacity(alloc, count)?;
-    for _ in 0..count {
-        lists.push(Vec::new(alloc))?;
-    }
-    Ok(lists)
-}
-
-// Puts an item behind the others of the list at a place, where there is such a list.
-fn put_at<T: Drop>(lists: &mut [Vec<T>], place: usize, item: T) -> Result<(), AllocError>
-    ensures { OnOk result (IsPutAt place item lists.old lists.new) }
-{
-    if place >= lists.len() {
-        return Ok(());
-    }
-    lists[place].push(item)?;
-    Ok(())
 }
 
 // The joins that go by an index, for each select.

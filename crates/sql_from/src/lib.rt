@@ -52,6 +52,7 @@ pub use key_partners::KeyPartners;
 pub use outer_row::OuterRow;
 pub use partnered_row::PartneredRow;
 pub use partners::Partners;
+pub use placed_lists::{no_lists, put_at};
 pub use selects::{ExecErr, source_rows, source_tuples};
 pub use sources::Sources;
 pub use tuple_row::TupleRow;

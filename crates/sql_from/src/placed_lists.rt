@@ -5,7 +5,7 @@ ghost use Rattle.sql_from.specs.PlacedLists.{AreLists, IsPutAt};
 use std::alloc::{AllocError, Global};
 
 /// So many lists of nothing. It fails only if memory runs out.
-pub(crate) fn no_lists<T: Drop>(alloc: Global, count: usize) -> Result<Vec<Vec<T>>, AllocError>
+pub fn no_lists<T: Drop>(alloc: Global, count: usize) -> Result<Vec<Vec<T>>, AllocError>
     ensures many { IfOk result (λ v. length v.items ≡ count) }
     ensures none { IfOk result (λ v. AreLists (λ _. []) count v.items) }
 {
@@ -17,7 +17,7 @@ pub(crate) fn no_lists<T: Drop>(alloc: Global, count: usize) -> Result<Vec<Vec<T
 }
 
 /// Puts an item behind the others of the list at a place, where there is such a list. It fails only if memory runs out.
-pub(crate) fn put_at<T: Drop>(lists: &mut [Vec<T>], place: usize, item: T) -> Result<(), AllocError>
+pub fn put_at<T: Drop>(lists: &mut [Vec<T>], place: usize, item: T) -> Result<(), AllocError>
     ensures { OnOk result (IsPutAt place item lists.old lists.new) }
 {
     if place >= lists.len() {

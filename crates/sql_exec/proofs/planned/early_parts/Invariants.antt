@@ -1,6 +1,6 @@
 use Rattle.std.proofs.Common.{◌≡◌, length, take}
 use Rattle.std.specs.Prelude.{◌==◌, filter}
-use Rattle.sql_exec.specs.Planned.{AreLists}
+use Rattle.sql_from.specs.PlacedLists.{AreLists}
 use Rattle.sql_exec.proofs.planned.early_parts.Given as goal
 
 abbrev pub invariant-loop-entry : goal.invariant-loop-entry
