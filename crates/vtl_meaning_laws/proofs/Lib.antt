@@ -1,0 +1,9 @@
+pub mod Codes
+pub mod Combined
+pub mod Examples
+pub mod Existence
+pub mod JoinTuples
+pub mod Regrouped
+pub mod Stands
+pub mod TupleLists
+pub mod Twice
