@@ -79,7 +79,7 @@ own_group n d apart = all_more (λ q. find (λ r. same_key n r q) d ≡ Some q) 
     turned r q e = ap (same_row (take n q)) (same_row-is (take n r) (take n q) e) ∙ same_row-refl (take n q)
 
     found : AllByRecursion (λ q. find (λ r. same_key n r q) d ≡ Some q) d
-    found = own_found (λ q. Unit {0}) (same_key n) (λ q r. same_key n r q) (λ q u. same_row-refl (take n q)) (λ q r u v e. turned r q e) d any apart
+    found = own_found (λ q. Unit {0}) (same_key n) (λ q r. same_key n r q) (λ q u. same_row-refl (take n q)) (λ q r u v e. e) d any apart
 
     one : (q : Row) → find (λ r. same_key n r q) d ≡ Some q → filter (λ r. same_row (take n r) (take n q)) d ≡ q ∷ []
     one q e =

@@ -1,5 +1,5 @@
 -- Why the laws are said as they are.
-use Rattle.std.proofs.Common.{◌≡◌, ℕ, ◌*◌, pos, negsuc, List, [], ◌∷◌, None, Ok, Err, refl, arith}
+use Rattle.std.proofs.Common.{◌≡◌, ℕ, ◌*◌, pos, negsuc, List, [], ◌∷◌, None, Some, Ok, Err, refl, arith}
 use Rattle.std.specs.Prelude.{codes}
 use Rattle.vtl_cell.specs.Groups.{group_value}
 use Rattle.vtl_decimal.specs.declared.number.Fault.TheVariants.{Range}
@@ -10,11 +10,15 @@ use Rattle.vtl_cell.specs.declared.cell.Cell.{Cell}
 use Rattle.vtl_cell.specs.declared.cell.Cell.TheVariants.{Int, Null, Num}
 use Rattle.vtl_cell.specs.declared.operator.AggKind.{AggKind}
 use Rattle.vtl_cell.specs.declared.operator.AggKind.TheVariants.{Avg, Count, Median, Min, Sum}
+use Rattle.vtl_cell.specs.declared.operator.ScalarOp.TheVariants as op
 use Rattle.vtl_cell.specs.declared.kind.Kind.TheVariants as k
 use Rattle.vtl_decimal.specs.declared.settings.Rounding.TheVariants.{HalfUp}
+use Rattle.vtl_tree.specs.Clauses.{filter_of}
+use Rattle.vtl_tree.specs.CompExp.{CompExp, aggregate, call, column, comp_exp, const, no_comp_exps}
 use Rattle.vtl_tree.specs.DataSet.{IsDataSet}
 use Rattle.vtl_tree.specs.Environment.{DataSet}
 use Rattle.vtl_tree.specs.Measures.{made}
+use Rattle.vtl_tree.specs.declared.specifications.AggTarget.{AggTarget}
 use Rattle.vtl_tree.specs.declared.structure.Component.{Component}
 use Rattle.vtl_tree.specs.declared.structure.Role.TheVariants as role
 use Rattle.vtl_tree.specs.declared.structure.Structure.{Structure}
@@ -22,9 +26,11 @@ use Rattle.vtl_meaning.specs.Aggregates.{aggregate_of}
 use Rattle.vtl_meaning.specs.AggregateShapes.{IsAggregated}
 use Rattle.vtl_meaning.specs.Operators.{left_of}
 use Rattle.vtl_meaning.specs.Points.{with_points}
+use Rattle.vtl_aggregate_laws.specs.Filters.{IsFilterOf, targets_where}
 use Rattle.vtl_aggregate_laws.specs.Parts.{grouped, of_column, of_groups}
 use Rattle.vtl_aggregate_laws.specs.Targets.{of_all_measures, of_own_targets}
 use Rattle.vtl_aggregate_laws.proofs.ByIdentifiers.{by_identifiers, least_keeps}
+use Rattle.vtl_aggregate_laws.proofs.Having.{having_is_filter}
 use Rattle.vtl_aggregate_laws.proofs.OwnTargets.{as_targets}
 
 abbrev scale_six : Settings
@@ -148,3 +154,38 @@ by_all = record {
 
 least_are_own : aggregate_of scale_six (grouped Min (codes "year" ∷ codes "place" ∷ [])) sales (of_components (year ∷ place ∷ sold ∷ [])) ≡ Ok (left_of sales (of_components (year ∷ place ∷ sold ∷ [])))
 least_are_own = by_identifiers scale_six Min sales (of_components (year ∷ place ∷ sold ∷ [])) (least_keeps scale_six) by_all sales_are
+
+-- ---- `having sum(sold) > 10` beside `[filter total > 10]`, where `total` is that sum
+abbrev totals : List AggTarget
+totals = record { role = None; target = codes "total"; call = record { kind = Sum; component = Some (codes "sold") } } ∷ []
+
+abbrev with_totals : Structure
+with_totals = of_components (year ∷ made (codes "total") role.Measure k.Int ∷ [])
+
+totals_are : IsAggregated (targets_where totals (codes "year" ∷ []) None) sales.structure with_totals
+totals_are = record {
+  well_formed = record { some = omega arith; few = omega arith; distinct = refl };
+  grouping = refl;
+  identifiers = (refl, tt);
+  columns = (refl, tt);
+  shape = refl;
+}
+
+abbrev above_ten : CompExp → CompExp
+above_ten e = call op.Greater k.Bool (comp_exp e (comp_exp (const (int 10)) no_comp_exps))
+
+abbrev sum_above_ten : CompExp
+sum_above_ten = above_ten (aggregate (record { kind = Sum; component = Some (codes "sold") }) k.Int)
+
+abbrev total_above_ten : CompExp
+total_above_ten = above_ten (column 1 (codes "total") k.Int)
+
+is_filter : IsFilterOf totals with_totals sum_above_ten total_above_ten
+is_filter = (
+  comp_exp (column 1 (codes "total") k.Int) (comp_exp (const (int 10)) no_comp_exps),
+  refl,
+  ((codes "total", record { call = refl; no_identifier = refl; other = refl }, refl), (refl, tt)),
+)
+
+kept_by_having : aggregate_of scale_six (targets_where totals (codes "year" ∷ []) (Some sum_above_ten)) sales with_totals ≡ filter_of scale_six total_above_ten ((int 1 ∷ int 12 ∷ []) ∷ (int 2 ∷ Null ∷ []) ∷ [])
+kept_by_having = having_is_filter scale_six totals (codes "year" ∷ []) sum_above_ten total_above_ten sales with_totals totals_are is_filter sales_are

@@ -4,6 +4,7 @@ pub mod Counts
 pub mod Evaluated
 pub mod Examples
 pub mod Firsts
+pub mod Having
 pub mod Nested
 pub mod OtherGroups
 pub mod OwnTargets

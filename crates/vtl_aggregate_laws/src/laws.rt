@@ -1,5 +1,5 @@
 // What the groups of points give together.
-ghost use Rattle.std.specs.Prelude.{◌≡◌, ◌<◌, ℕ, IfOk, List, Ok, Option, Some, length};
+ghost use Rattle.std.specs.Prelude.{◌≡◌, ◌<◌, ℕ, IfOk, List, None, Ok, Option, Some, length};
 ghost use Rattle.std.specs.List.{flat_map};
 ghost use Rattle.vtl_cell.specs.Groups.{count_of_points, group_value};
 ghost use Rattle.vtl_cell.specs.Outcome.{after};
@@ -9,18 +9,21 @@ ghost use Rattle.vtl_decimal.specs.Settings.{Settings};
 ghost use Rattle.vtl_cell.specs.declared.operator.AggKind.{AggKind};
 ghost use Rattle.vtl_cell.specs.declared.operator.AggKind.TheVariants.{Count, Max, Min, Sum};
 ghost use Rattle.vtl_tree.specs.Choices.{chosen};
+ghost use Rattle.vtl_tree.specs.Clauses.{filter_of};
 ghost use Rattle.vtl_tree.specs.Columns.{identifiers_of};
 ghost use Rattle.vtl_tree.specs.CompExp.{CompExp};
 ghost use Rattle.vtl_tree.specs.DataSet.{IsDataSet};
 ghost use Rattle.vtl_tree.specs.Environment.{DataSet};
 ghost use Rattle.vtl_tree.specs.Structure.{names_of};
 ghost use Rattle.vtl_tree.specs.declared.choices.Choice.TheVariants as choice;
+ghost use Rattle.vtl_tree.specs.declared.specifications.AggTarget.{AggTarget};
 ghost use Rattle.vtl_tree.specs.declared.structure.Component.{Component};
 ghost use Rattle.vtl_tree.specs.declared.structure.Structure.{Structure};
 ghost use Rattle.vtl_meaning.specs.Aggregates.{aggregate_of};
 ghost use Rattle.vtl_meaning.specs.Groups.{keys_by, points_with};
 ghost use Rattle.vtl_meaning.specs.AggregateShapes.{IsAggregated};
 ghost use Rattle.vtl_meaning.specs.Operators.{left_of};
+ghost use Rattle.vtl_aggregate_laws.specs.Filters.{IsFilterOf, targets_where};
 ghost use Rattle.vtl_aggregate_laws.specs.Parts.{gathered_by, grouped, of_column, of_groups};
 ghost use Rattle.vtl_aggregate_laws.specs.Targets.{of_all_measures, of_own_targets};
 
@@ -73,4 +76,11 @@ pub fn aggregates_by_all_identifiers_keep_points()
 /// `group except` some identifiers is `group by` the others.
 pub fn grouping_except_is_grouping_by_the_others()
     ensures { (names : List (List ℕ)) (xs : List Component) → chosen choice.By (names_of (chosen choice.Except names xs)) xs ≡ chosen choice.Except names xs }
+{}
+
+/// `having c` is a filter of the same aggregates: where they have no fault, `ds[aggr .. group by g having c]` gives the
+/// points, or the fault, that `ds[aggr .. group by g][filter c]` gives, where each aggregate in `c` is one of the targets
+/// and is written there by its name.
+pub fn having_is_a_filter()
+    ensures { (p : Settings) (targets : List AggTarget) (names : List (List ℕ)) (condition filter : CompExp) (d : DataSet) (s : Structure) → IsAggregated (targets_where targets names None) d.structure s → IsFilterOf targets s condition filter → IsDataSet d.structure d.points → IfOk (aggregate_of p (targets_where targets names None) d s) (λ out. aggregate_of p (targets_where targets names (Some condition)) d s ≡ filter_of p filter out) }
 {}

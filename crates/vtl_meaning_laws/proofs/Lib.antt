@@ -1,9 +1,12 @@
-pub mod Codes
 pub mod Combined
 pub mod Examples
 pub mod Existence
 pub mod JoinTuples
+pub mod KeptCodes
 pub mod Regrouped
 pub mod Stands
+pub mod Swapped
 pub mod TupleLists
 pub mod Twice
+pub mod Unpivoted
+pub mod WholeGroups

@@ -1,12 +1,13 @@
 // What joins satisfy.
-ghost use Rattle.std.specs.Prelude.{◌≡◌, [], ◌∷◌, List, filter, map};
+ghost use Rattle.std.specs.Prelude.{◌≡◌, [], ◌∷◌, List, filter, map, reverse};
 ghost use Rattle.std.specs.List.{AllByRecursion, Contains};
+ghost use Rattle.vtl_lists.specs.Perm.{Perm};
 ghost use Rattle.vtl_syntax.specs.declared.word_groups.JoinKind.TheVariants as join;
 ghost use Rattle.vtl_tree.specs.Columns.{identifiers_of};
 ghost use Rattle.vtl_tree.specs.DataSet.{IsDataSet};
 ghost use Rattle.vtl_tree.specs.Environment.{DataSet};
 ghost use Rattle.vtl_tree.specs.declared.structure.Structure.{Structure};
-ghost use Rattle.vtl_meaning.specs.Joined.{Tuple, full_tuples, is_whole, join_of, left_tuples, reference_place, structures_of, tuple_point, tuples_of};
+ghost use Rattle.vtl_meaning.specs.Joined.{Tuple, agreeing, full_tuples, is_whole, join_of, left_tuples, reference_place, structures_of, tuple_point, tuples_of};
 ghost use Rattle.vtl_meaning.specs.Made.{IsJoined};
 ghost use Rattle.vtl_meaning_laws.specs.Found.{IsFullTuple, IsLeftTuple, begins_whole};
 
@@ -39,4 +40,10 @@ pub fn inner_joins_are_whole_left_joins()
 /// where all operands have the same identifiers. The tuples stand in the same order.
 pub fn left_joins_are_full_joins_of_first_points()
     ensures { (first : DataSet) (others : List DataSet) (s : Structure) → IsJoined join.Full (structures_of (first ∷ others)) s → AllByRecursion (λ d. IsDataSet d.structure d.points) (first ∷ others) → filter begins_whole (full_tuples first (first ∷ others)) ≡ left_tuples first (first ∷ others) }
+{}
+
+/// An inner join of two data sets puts the same points together, whichever stands first: its pairs are those of the other
+/// order, turned. So the results differ in their columns alone.
+pub fn inner_joins_do_not_see_which_stands_first()
+    ensures { (a b : DataSet) → Perm (map reverse (agreeing (a ∷ b ∷ []))) (agreeing (b ∷ a ∷ [])) }
 {}

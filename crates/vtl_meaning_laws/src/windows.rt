@@ -1,22 +1,33 @@
 // What windows satisfy.
-ghost use Rattle.std.specs.Prelude.{◌≡◌, ◌≤◌, ◌<◌, ◌+◌, ℕ, suc, [], ◌∷◌, List, Ok, length, map, pos, slice_index_or};
+ghost use Rattle.std.specs.Prelude.{◌≡◌, ◌≤◌, ◌<◌, ◌+◌, ℕ, suc, [], ◌∷◌, ◌++◌, IfOk, List, Ok, Some, drop, length, map, option_map, pos, slice_index_or};
 ghost use Rattle.std.specs.List.{AllByRecursion, Contains};
 ghost use Rattle.std.specs.declared.cmp.Ordering.TheVariants.{Equal};
 ghost use Rattle.vtl_decimal.specs.Range.{fit_integer};
 ghost use Rattle.vtl_decimal.specs.Settings.{Settings};
 ghost use Rattle.vtl_cell.specs.Groups.{group_value};
+ghost use Rattle.vtl_cell.specs.Outcome.{fault_in};
 ghost use Rattle.vtl_cell.specs.Row.{Row};
 ghost use Rattle.vtl_cell.specs.ScalarArithmetic.{integer};
 ghost use Rattle.vtl_cell.specs.Sorted.{by_keys};
 ghost use Rattle.vtl_cell.specs.declared.cell.Cell.{Cell};
 ghost use Rattle.vtl_cell.specs.declared.operator.AggKind.{AggKind};
-ghost use Rattle.vtl_tree.specs.DataSet.{IsDataSet};
+ghost use Rattle.vtl_rows.specs.Tables.{cells_at};
+ghost use Rattle.vtl_tree.specs.DataSet.{IsDataSet, look};
 ghost use Rattle.vtl_tree.specs.Environment.{DataSet};
-ghost use Rattle.vtl_tree.specs.Structure.{columns_of};
+ghost use Rattle.vtl_tree.specs.Structure.{columns_of, key_width};
+ghost use Rattle.vtl_tree.specs.declared.calls.AnalyticOp.{AnalyticOp};
 ghost use Rattle.vtl_tree.specs.declared.calls.AnalyticOp.TheVariants as op;
 ghost use Rattle.vtl_tree.specs.declared.calls.Window.{Window};
 ghost use Rattle.vtl_tree.specs.declared.structure.Component.{Component};
+ghost use Rattle.vtl_tree.specs.declared.structure.Structure.{Structure};
+ghost use Rattle.vtl_meaning.specs.Agreement.{key_of};
+ghost use Rattle.vtl_meaning.specs.Aggregates.{aggregate_of};
+ghost use Rattle.vtl_meaning.specs.AggregateShapes.{IsAggregated};
+ghost use Rattle.vtl_meaning.specs.AnalyticShapes.{IsAnalyzed};
+ghost use Rattle.vtl_meaning.specs.Analytics.{analytic_of};
+ghost use Rattle.vtl_meaning.specs.Groups.{places_named};
 ghost use Rattle.vtl_meaning.specs.Windows.{frame_in, keys_in, op_value, partition_of, seen, stand_of};
+ghost use Rattle.vtl_meaning_laws.specs.Overs.{by_groups, over_of, over_partitions};
 ghost use Rattle.vtl_meaning_laws.specs.Frames.{from_first_to_current, of_current_alone};
 
 /// Each point of a data set stands at its place in its partition in order.
@@ -60,4 +71,12 @@ pub fn lag_and_lead_are_inverse()
 pub fn ranks_without_ties_are_places()
     ensures places { (p : Settings) (d : DataSet) (w : Window) (at : Row → Cell) (r : Row) → AllByRecursion (λ q. by_keys (keys_in (columns_of d.structure) w) q r ≡ Equal → q ≡ r) (partition_of d w r) → op_value p (columns_of d.structure) w at op.Rank (stand_of d w r) ≡ integer (fit_integer p.scale (pos ((stand_of d w r).place + 1))) }
     ensures ties { (p : Settings) (d : DataSet) (w : Window) (at : Row → Cell) (r q : Row) → partition_of d w q ≡ partition_of d w r → by_keys (keys_in (columns_of d.structure) w) q r ≡ Equal → op_value p (columns_of d.structure) w at op.Rank (stand_of d w q) ≡ op_value p (columns_of d.structure) w at op.Rank (stand_of d w r) }
+{}
+
+/// An aggregate over whole partitions is that of the groups, on data sets: `sum(ds over (partition by area))` has at each
+/// point, behind its identifiers, the measures that `sum(ds group by area)` has at the point's area. The one has a fault
+/// exactly where the other has it. So for `sum`, `avg`, `min` and `max`.
+pub fn partitions_give_what_groups_give()
+    ensures values { (p : Settings) (f : AggKind) (o : AnalyticOp) (names : List (List ℕ)) (d : DataSet) (s t : Structure) → over_of f ≡ Some o → IsAnalyzed p (over_partitions o names) d.structure s → IsAggregated (by_groups f names) d.structure t → IsDataSet d.structure d.points → IfOk (analytic_of p (over_partitions o names) d s) (λ out. IfOk (aggregate_of p (by_groups f names) d t) (λ groups. AllByRecursion (λ r. look (key_width s) out (key_of d.structure r) ≡ option_map (λ q. key_of d.structure r ++ drop (key_width t) q) (look (key_width t) groups (cells_at (places_named names (columns_of d.structure)) r))) d.points)) }
+    ensures faults { (p : Settings) (f : AggKind) (o : AnalyticOp) (names : List (List ℕ)) (d : DataSet) (s t : Structure) → over_of f ≡ Some o → IsAnalyzed p (over_partitions o names) d.structure s → IsAggregated (by_groups f names) d.structure t → IsDataSet d.structure d.points → fault_in (analytic_of p (over_partitions o names) d s) ≡ fault_in (aggregate_of p (by_groups f names) d t) }
 {}

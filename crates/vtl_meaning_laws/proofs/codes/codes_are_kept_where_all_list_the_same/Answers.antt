@@ -1,4 +1,4 @@
-use Rattle.vtl_meaning_laws.proofs.Codes.{agreed_kept, agreed_lost, choice_identifiers, existence_identifiers, paired_identifiers}
+use Rattle.vtl_meaning_laws.proofs.KeptCodes.{agreed_kept, agreed_lost, choice_identifiers, existence_identifiers, paired_identifiers}
 use Rattle.vtl_meaning_laws.proofs.Combined.{combined_identifiers}
 use Rattle.vtl_meaning_laws.proofs.codes.codes_are_kept_where_all_list_the_same.Goals as goal
 

@@ -1,4 +1,4 @@
-use Rattle.vtl_meaning_laws.proofs.Codes.{measured_identifiers, pivoted_identifiers, unpivoted_identifiers}
+use Rattle.vtl_meaning_laws.proofs.KeptCodes.{measured_identifiers, pivoted_identifiers, unpivoted_identifiers}
 use Rattle.vtl_meaning_laws.proofs.codes.operators_on_one_data_set_keep_codes.Goals as goal
 
 pub returns-clause-measures : goal.returns-clause-measures

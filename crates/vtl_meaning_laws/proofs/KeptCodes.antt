@@ -33,7 +33,7 @@ use Rattle.vtl_meaning_laws.proofs.Combined.{agreed_roles, combined_identifiers}
 use Rattle.vtl_meaning_laws.proofs.Twice.{none_left}
 
 -- ---- identifiers before other components
-abbrev AreIdentifiers : List Component → Type 0
+abbrev pub AreIdentifiers : List Component → Type 0
 AreIdentifiers xs = AllByRecursion (λ x. is_identifier x ≡ true) xs
 
 abbrev AreOthers : List Component → Type 0
@@ -56,7 +56,7 @@ given outcome.All f others xs = all_map (given_measure f others) (λ x. is_ident
 given outcome.Truth f others xs = (refl, tt)
 given outcome.Count f others xs = (refl, tt)
 
-left_ones : (names : List (List ℕ)) (xs : List Component) → AreIdentifiers (chosen choice.Except names xs)
+pub left_ones : (names : List (List ℕ)) (xs : List Component) → AreIdentifiers (chosen choice.Except names xs)
 left_ones names xs = all_more (λ x. is_chosen choice.Except names x ≡ true) (λ x. is_identifier x ≡ true) (λ x e. first (is_identifier x) (not (is_among x.name names)) e) (chosen choice.Except names xs) (all_filtered (is_chosen choice.Except names) xs)
   where
     first : (a b : Bool) → (a && b) ≡ true → a ≡ true
