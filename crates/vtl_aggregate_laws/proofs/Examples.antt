@@ -29,7 +29,7 @@ use Rattle.vtl_meaning.specs.Points.{with_points}
 use Rattle.vtl_aggregate_laws.specs.Filters.{IsFilterOf, targets_where}
 use Rattle.vtl_aggregate_laws.specs.Parts.{grouped, of_column, of_groups}
 use Rattle.vtl_aggregate_laws.specs.Targets.{of_all_measures, of_own_targets}
-use Rattle.vtl_aggregate_laws.proofs.ByIdentifiers.{by_identifiers, least_keeps}
+use Rattle.vtl_aggregate_laws.proofs.ByIdentifiers.{least_by_identifiers}
 use Rattle.vtl_aggregate_laws.proofs.Having.{having_is_filter}
 use Rattle.vtl_aggregate_laws.proofs.OwnTargets.{as_targets}
 
@@ -153,7 +153,7 @@ by_all = record {
 }
 
 least_are_own : aggregate_of scale_six (grouped Min (codes "year" ∷ codes "place" ∷ [])) sales (of_components (year ∷ place ∷ sold ∷ [])) ≡ Ok (left_of sales (of_components (year ∷ place ∷ sold ∷ [])))
-least_are_own = by_identifiers scale_six Min sales (of_components (year ∷ place ∷ sold ∷ [])) (least_keeps scale_six) by_all sales_are
+least_are_own = least_by_identifiers scale_six sales (of_components (year ∷ place ∷ sold ∷ [])) by_all sales_are
 
 -- ---- `having sum(sold) > 10` beside `[filter total > 10]`, where `total` is that sum
 abbrev totals : List AggTarget

@@ -67,9 +67,10 @@ pub fn aggregates_of_data_sets_are_aggr()
 {}
 
 /// By all identifiers each point is a group of its own: the least and the greatest value of each measure are its values,
-/// so the operand comes back without its attributes.
+/// so the operand comes back without its attributes. So does the sum, unless a value of its own is out of range.
 pub fn aggregates_by_all_identifiers_keep_points()
     ensures least { (p : Settings) (d : DataSet) (s : Structure) → IsAggregated (grouped Min (names_of (identifiers_of d.structure))) d.structure s → IsDataSet d.structure d.points → aggregate_of p (grouped Min (names_of (identifiers_of d.structure))) d s ≡ Ok (left_of d s) }
+    ensures sum { (p : Settings) (d : DataSet) (s : Structure) → IsAggregated (grouped Sum (names_of (identifiers_of d.structure))) d.structure s → IsDataSet d.structure d.points → IfOk (aggregate_of p (grouped Sum (names_of (identifiers_of d.structure))) d s) (λ out. out ≡ left_of d s) }
     ensures greatest { (p : Settings) (d : DataSet) (s : Structure) → IsAggregated (grouped Max (names_of (identifiers_of d.structure))) d.structure s → IsDataSet d.structure d.points → aggregate_of p (grouped Max (names_of (identifiers_of d.structure))) d s ≡ Ok (left_of d s) }
 {}
 
