@@ -32,7 +32,7 @@ agreed_role bs x = go (list_all (λ b. is_coded_alike x b.components) bs)
     go true = refl
     go false = refl
 
-agreed_roles : (r : Role) (bs : List Structure) (xs : List Component) → AllByRecursion (λ x. same_role x.role r ≡ same_role role.Identifier r) (agreed_identifiers bs xs)
+pub agreed_roles : (r : Role) (bs : List Structure) (xs : List Component) → AllByRecursion (λ x. same_role x.role r ≡ same_role role.Identifier r) (agreed_identifiers bs xs)
 agreed_roles r bs xs =
     all_map (agreed bs) (λ x. same_role x.role r ≡ same_role role.Identifier r) (filter is_identifier xs)
     (all_more (λ x. is_identifier x ≡ true) (λ x. same_role (agreed bs x).role r ≡ same_role role.Identifier r) (λ x e. ap (λ t. same_role t r) (agreed_role bs x ∙ identifier_role x.role e)) (filter is_identifier xs) (all_filtered is_identifier xs))

@@ -1,3 +1,4 @@
+pub mod BracketCodes
 pub mod Combined
 pub mod Examples
 pub mod Existence

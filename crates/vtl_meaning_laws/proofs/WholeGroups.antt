@@ -333,7 +333,7 @@ module _ (p : Settings) (f : AggKind) (o : AnalyticOp) (names : List (List ℕ))
       let n = key_width a in
       all_more (λ r. find (λ q. same_key n q r) d.points ≡ Some r) (λ r. look n d.points (take n r) ≡ Some r)
       (λ r e. sym (found_by_key n (take n) d.points (take n r) (each (λ q. take n q ≡ take n q) (λ q. refl) d.points)) ∙ e) d.points
-      (own_found (λ q. Unit {0}) (same_key n) (λ r q. same_key n q r) (λ q u. same_row-refl (take n q)) (λ q r u v e. ap (same_row (take n q)) (same_row-is (take n r) (take n q) e) ∙ same_row-refl (take n q)) d.points (each (λ q. Unit {0}) (λ q. tt) d.points) h.distinct)
+      (own_found (λ q. Unit {0}) (same_key n) (λ r q. same_key n q r) (λ q u. same_row-refl (take n q)) (λ q r u v e. e) d.points (each (λ q. Unit {0}) (λ q. tt) d.points) h.distinct)
 
   abbrev Beside : List Row → List Row → Row → Type 0
   Beside out groups r = look (key_width s) out (key_of a r) ≡ option_map (λ q. key_of a r ++ drop (key_width t) q) (look (key_width t) groups (key r))

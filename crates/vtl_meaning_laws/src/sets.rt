@@ -5,7 +5,7 @@ ghost use Rattle.vtl_cell.specs.Row.{Row};
 ghost use Rattle.vtl_syntax.specs.declared.word_groups.Retain.TheVariants as retain;
 ghost use Rattle.vtl_tree.specs.DataSet.{Distinct, IsDataSet};
 ghost use Rattle.vtl_tree.specs.Environment.{DataSet};
-ghost use Rattle.vtl_tree.specs.Structure.{columns_of, key_width, names_of};
+ghost use Rattle.vtl_tree.specs.Structure.{IsStructure, columns_of, key_width, names_of};
 ghost use Rattle.vtl_tree.specs.declared.structure.Structure.{Structure};
 ghost use Rattle.vtl_meaning.specs.Made.{IsCombined};
 ghost use Rattle.vtl_meaning.specs.Operators.{left_of};
@@ -43,9 +43,11 @@ pub fn existence_is_intersection_or_difference()
 ///
 /// - `lists`: on lists of points.
 /// - `sets`: `t` and `u` are the structures of the unions inside, `s` and `r` those of the whole ones.
+/// - `structures`: these two are equal, so codes are kept alike.
 pub fn unions_are_associative()
     ensures lists { (n : ℕ) (a b c : List Row) → united n (united n (a ∷ b ∷ []) ∷ c ∷ []) ≡ united n (a ∷ united n (b ∷ c ∷ []) ∷ []) }
     ensures sets { (a b c : DataSet) (t u s r : Structure) → IsCombined a.structure (b.structure ∷ []) t → IsCombined b.structure (c.structure ∷ []) u → IsCombined t (c.structure ∷ []) s → IsCombined a.structure (u ∷ []) r → IsDataSet a.structure a.points → IsDataSet b.structure b.points → IsDataSet c.structure c.points → union_of (with_points t (union_of (a ∷ b ∷ []) t) ∷ c ∷ []) s ≡ union_of (a ∷ with_points u (union_of (b ∷ c ∷ []) u) ∷ []) r }
+    ensures structures { (a b c t u s r : Structure) → IsCombined a (b ∷ []) t → IsCombined b (c ∷ []) u → IsCombined t (c ∷ []) s → IsCombined a (u ∷ []) r → IsStructure b → IsStructure c → s ≡ r }
 {}
 
 /// The symmetric difference is the union of the two differences, point by point in the same order. `s` and `t` are the
