@@ -99,10 +99,10 @@ module _ (p : Settings) (ts : List AggTarget) (names : List (List ℕ)) (d : Dat
 
   module _ (key : Row) (long : length key ≡ length (identifiers_of s)) (all : IsWhole key) where
     target_cell : (name : List ℕ) → is_among name (names_of (identifiers_of s)) ≡ false → is_among name (names_of (others_of s)) ≡ true → column_of (place_of name (columns_of s)) (point key) ≡ cell_or_null (value_named key name)
-    target_cell name no other =
+    target_cell name lacks other =
         let g : List ℕ → Cell = λ n. cell_or_null (value_named key n) in
         let vs = map (λ y. g y.name) (others_of s) in
-        ap (λ zs. column_of (place_of name zs) (key ++ vs)) (columns_split s) ∙ behind name (identifiers_of s) (others_of s) key vs long no
+        ap (λ zs. column_of (place_of name zs) (key ++ vs)) (columns_split s) ∙ behind name (identifiers_of s) (others_of s) key vs long lacks
         ∙ ap (λ zs. column_of (place_of name zs) vs) (sym (append-nil (others_of s))) ∙ ap (column_of (place_of name (others_of s ++ []))) (sym (append-nil vs)) ∙ by_name g name (others_of s) [] [] other
 
     mutual
@@ -129,13 +129,13 @@ faults_of_map : {X Y : Type 0} (f : Y → Option Fault) (g : X → Y) (xs : List
 faults_of_map f g [] = refl
 faults_of_map f g (x ∷ xs) = ap (join (f (g x))) (faults_of_map f g xs)
 
-whole_group : (made : Made) (ys : List Component) (key : Row) → AllByRecursion (λ y. IsValue (made y key)) ys → group_fault made ys key ≡ None
-whole_group made [] key all = refl
-whole_group made (y ∷ ys) key all = ap (λ m. join (fault_in m) (faults_by (λ z. fault_in (made z key)) ys)) all.0 ∙ whole_group made ys key all.1
+whole_group : (at : Made) (ys : List Component) (key : Row) → AllByRecursion (λ y. IsValue (at y key)) ys → group_fault at ys key ≡ None
+whole_group at [] key all = refl
+whole_group at (y ∷ ys) key all = ap (λ m. join (fault_in m) (faults_by (λ z. fault_in (at z key)) ys)) all.0 ∙ whole_group at ys key all.1
 
-whole_groups : (made : Made) (ys : List Component) (keys : List Row) → AllByRecursion (λ key. AllByRecursion (λ y. IsValue (made y key)) ys) keys → faults_by (group_fault made ys) keys ≡ None
-whole_groups made ys [] all = refl
-whole_groups made ys (key ∷ keys) all = ap (λ m. join m (faults_by (group_fault made ys) keys)) (whole_group made ys key all.0) ∙ whole_groups made ys keys all.1
+whole_groups : (at : Made) (ys : List Component) (keys : List Row) → AllByRecursion (λ key. AllByRecursion (λ y. IsValue (at y key)) ys) keys → faults_by (group_fault at ys) keys ≡ None
+whole_groups at ys [] all = refl
+whole_groups at ys (key ∷ keys) all = ap (λ m. join m (faults_by (group_fault at ys) keys)) (whole_group at ys key all.0) ∙ whole_groups at ys keys all.1
 
 both_all : {X : Type 0} (P Q R : X → Type 0) → ((x : X) → P x → Q x → R x) → (xs : List X) → AllByRecursion P xs → AllByRecursion Q xs → AllByRecursion R xs
 both_all P Q R h [] a b = tt

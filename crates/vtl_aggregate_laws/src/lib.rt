@@ -12,6 +12,7 @@ mod laws;
 
 pub use laws::{
     aggregates_by_all_identifiers_keep_points, aggregates_of_aggregates_are_those_of_all,
-    aggregates_of_data_sets_are_aggr, counts_add_up_to_the_count, grouping_except_is_grouping_by_the_others, groups_part_the_points,
-    having_is_a_filter,     least_and_greatest_of_groups_are_those_of_all, sums_add_up_to_the_sum,
+    aggregates_of_data_sets_are_aggr, counts_add_up_to_the_count,
+    grouping_except_is_grouping_by_the_others, groups_part_the_points, having_is_a_filter,
+    least_and_greatest_of_groups_are_those_of_all, sums_add_up_to_the_sum,
 };
