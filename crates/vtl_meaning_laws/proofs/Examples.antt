@@ -1,5 +1,5 @@
 -- Each law on data sets that its premises fit.
-use Rattle.std.specs.Prelude.{codes, count_by, false}
+use Rattle.std.specs.Prelude.{codes, count_by, false, reverse}
 use Rattle.std.specs.List.{AllByRecursion, Contains}
 use Rattle.std.specs.Ordering.{is_lt}
 use Rattle.std.proofs.Common.{◌≡◌, ℕ, zero, suc, pos, List, [], ◌∷◌, Some, None, Ok, map, take, ap, refl, arith}
@@ -36,9 +36,10 @@ use Rattle.vtl_meaning.specs.Analytics.{analytic_of}
 use Rattle.vtl_meaning.specs.Turned.{pivot_of, unpivot_of}
 use Rattle.vtl_meaning.specs.Windows.{keys_in, op_value, partition_of, seen, stand_of}
 use Rattle.vtl_meaning_laws.specs.Found.{IsFullTuple, IsLeftTuple}
-use Rattle.vtl_meaning_laws.specs.Frames.{of_current_alone}
+use Rattle.vtl_meaning_laws.specs.Frames.{of_current_alone, turned_round}
 use Rattle.vtl_meaning_laws.specs.Overs.{by_groups, over_partitions}
 use Rattle.vtl_meaning_laws.proofs.Existence.{absent_is_difference, there_is_intersection}
+use Rattle.vtl_meaning_laws.proofs.FallingOrders.{from_its_end}
 use Rattle.vtl_meaning_laws.proofs.JoinTuples.{full_has_all, full_within, left_has_all, left_within}
 use Rattle.vtl_meaning_laws.proofs.Regrouped.{bracketed_sets, two_differences}
 use Rattle.vtl_meaning_laws.proofs.Stands.{lagged, rank_is_place, running_whole, seen_alone}
@@ -323,3 +324,7 @@ twenty_is_back = undone (codes "area") (codes "people") (codes "area") (codes "p
 
 null_is_not : look 2 (unpivot_of (with_points pivoted (pivot_of by_area (codes "area") (codes "people")))) (int 2 ∷ text 97 ∷ []) ≡ None
 null_is_not = undone (codes "area") (codes "people") (codes "area") (codes "people") by_area pivoted back pivoted_is back_to_points by_area_is (int 2 ∷ []) (codes "a") refl
+
+-- ---- `order by people desc`
+falling_people : (stand_of first (turned_round by_people) lower).ordered ≡ reverse (lower ∷ higher ∷ [])
+falling_people = from_its_end first by_people lower (((λ e. refl), ((λ e. cc), tt)), (((λ e. cc), ((λ e. refl), tt)), tt))

@@ -2,6 +2,7 @@ pub mod BracketCodes
 pub mod Combined
 pub mod Examples
 pub mod Existence
+pub mod FallingOrders
 pub mod JoinTuples
 pub mod KeptCodes
 pub mod Regrouped

@@ -16,8 +16,8 @@ mod windows;
 pub use codes::{codes_are_kept_where_all_list_the_same, operators_on_one_data_set_keep_codes};
 pub use joins::{
     full_joins_are_sets_of_tuples, inner_joins_are_whole_left_joins,
-    inner_joins_do_not_see_which_stands_first,
-    left_joins_are_full_joins_of_first_points, left_joins_are_sets_of_tuples,
+    inner_joins_do_not_see_which_stands_first, left_joins_are_full_joins_of_first_points,
+    left_joins_are_sets_of_tuples,
 };
 pub use pivots::unpivot_undoes_pivot;
 pub use sets::{
@@ -25,7 +25,7 @@ pub use sets::{
     sets_with_themselves, symmetric_differences_are_two_differences, unions_are_associative,
 };
 pub use windows::{
-    frames_of_the_current_point_hold_it_alone, lag_and_lead_are_inverse,
-    partitions_give_what_groups_give, points_stand_at_their_places, ranks_without_ties_are_places,
-    running_aggregates_end_at_the_group,
+    falling_orders_are_rising_ones_from_their_end, frames_of_the_current_point_hold_it_alone,
+    lag_and_lead_are_inverse, partitions_give_what_groups_give, points_stand_at_their_places,
+    ranks_without_ties_are_places, running_aggregates_end_at_the_group,
 };

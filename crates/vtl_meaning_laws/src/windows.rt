@@ -1,5 +1,5 @@
 // What windows satisfy.
-ghost use Rattle.std.specs.Prelude.{◌≡◌, ◌≤◌, ◌<◌, ◌+◌, ℕ, suc, [], ◌∷◌, ◌++◌, IfOk, List, Ok, Some, drop, length, map, option_map, pos, slice_index_or};
+ghost use Rattle.std.specs.Prelude.{◌≡◌, ◌≤◌, ◌<◌, ◌+◌, ℕ, suc, [], ◌∷◌, ◌++◌, IfOk, List, Ok, Some, drop, length, map, option_map, pos, reverse, slice_index_or};
 ghost use Rattle.std.specs.List.{AllByRecursion, Contains};
 ghost use Rattle.std.specs.declared.cmp.Ordering.TheVariants.{Equal};
 ghost use Rattle.vtl_decimal.specs.Range.{fit_integer};
@@ -28,7 +28,7 @@ ghost use Rattle.vtl_meaning.specs.Analytics.{analytic_of};
 ghost use Rattle.vtl_meaning.specs.Groups.{places_named};
 ghost use Rattle.vtl_meaning.specs.Windows.{frame_in, keys_in, op_value, partition_of, seen, stand_of};
 ghost use Rattle.vtl_meaning_laws.specs.Overs.{by_groups, over_of, over_partitions};
-ghost use Rattle.vtl_meaning_laws.specs.Frames.{from_first_to_current, of_current_alone};
+ghost use Rattle.vtl_meaning_laws.specs.Frames.{from_first_to_current, of_current_alone, turned_round};
 
 /// Each point of a data set stands at its place in its partition in order.
 pub fn points_stand_at_their_places()
@@ -79,4 +79,10 @@ pub fn ranks_without_ties_are_places()
 pub fn partitions_give_what_groups_give()
     ensures values { (p : Settings) (f : AggKind) (o : AnalyticOp) (names : List (List ℕ)) (d : DataSet) (s t : Structure) → over_of f ≡ Some o → IsAnalyzed p (over_partitions o names) d.structure s → IsAggregated (by_groups f names) d.structure t → IsDataSet d.structure d.points → IfOk (analytic_of p (over_partitions o names) d s) (λ out. IfOk (aggregate_of p (by_groups f names) d t) (λ groups. AllByRecursion (λ r. look (key_width s) out (key_of d.structure r) ≡ option_map (λ q. key_of d.structure r ++ drop (key_width t) q) (look (key_width t) groups (cells_at (places_named names (columns_of d.structure)) r))) d.points)) }
     ensures faults { (p : Settings) (f : AggKind) (o : AnalyticOp) (names : List (List ℕ)) (d : DataSet) (s t : Structure) → over_of f ≡ Some o → IsAnalyzed p (over_partitions o names) d.structure s → IsAggregated (by_groups f names) d.structure t → IsDataSet d.structure d.points → fault_in (analytic_of p (over_partitions o names) d s) ≡ fault_in (aggregate_of p (by_groups f names) d t) }
+{}
+
+/// `desc` turns an order round: where no two points of a partition have the same values of the listed components, the
+/// partition in the order that has `desc` for each `asc`, and `asc` for each `desc`, is the partition in order from its end.
+pub fn falling_orders_are_rising_ones_from_their_end()
+    ensures { (d : DataSet) (w : Window) (r : Row) → AllByRecursion (λ x. AllByRecursion (λ y. by_keys (keys_in (columns_of d.structure) w) x y ≡ Equal → x ≡ y) (partition_of d w r)) (partition_of d w r) → (stand_of d (turned_round w) r).ordered ≡ reverse (stand_of d w r).ordered }
 {}
