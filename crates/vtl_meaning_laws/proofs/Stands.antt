@@ -168,7 +168,7 @@ front_ties (k ∷ ks) more x y e = one (key_cmp k x y) e (front_ties ks more x y
     one Greater f ih = cc
 
 -- and so in the whole order of a window
-decided_whole : (keys : List Key) (places : List ℕ) (q r : Row) → (by_keys keys q r ≡ Equal → q ≡ r) → is_lt (window_cmp keys places q r) ≡ is_lt (by_keys keys q r)
+pub decided_whole : (keys : List Key) (places : List ℕ) (q r : Row) → (by_keys keys q r ≡ Equal → q ≡ r) → is_lt (window_cmp keys places q r) ≡ is_lt (by_keys keys q r)
 decided_whole keys places q r only = go (by_keys_then keys places q r) refl ∙ decided keys (map rising places) q r only
   where
     go : (o : Ordering) → by_keys_then keys places q r ≡ o → is_lt (ordering_then o (row_cmp q r)) ≡ is_lt o
