@@ -101,7 +101,7 @@ breaches() {
             bar("files", "vtl_files vtl_status")
             bar("facts values tables read speak", "check files evaluate")
             bar("check", "tables files evaluate")
-            bar("SQL", "read check files evaluate vtl_meaning vtl_rulings vtl_scripts vtl_readings vtl_aggregate_laws")
+            bar("SQL", "read check files evaluate vtl_meaning vtl_rulings vtl_scripts vtl_readings vtl_aggregate_laws vtl_meaning_laws")
             bar("translate", "vtl_expr vtl_clause vtl_join vtl_combine vtl_group vtl_window vtl_interp")
         }
         /^# [a-zA-Z]+: / { layer = substr($2, 1, length($2) - 1) }

@@ -14,7 +14,7 @@ use Rattle.vtl_meaning.specs.Points.{cell_or_null}
 use Rattle.vtl_aggregate_laws.proofs.Pieces.{filter_true}
 
 -- ---- faults
-faults_same : {X : Type 0} (f g : X → Option Fault) (xs : List X) → AllByRecursion (λ x. f x ≡ g x) xs → faults_by f xs ≡ faults_by g xs
+pub faults_same : {X : Type 0} (f g : X → Option Fault) (xs : List X) → AllByRecursion (λ x. f x ≡ g x) xs → faults_by f xs ≡ faults_by g xs
 faults_same f g [] all = refl
 faults_same f g (x ∷ xs) all = λ i. join (all.0 i) (faults_same f g xs all.1 i)
 
@@ -46,7 +46,7 @@ all_values m (x ∷ xs) all = ap (λ o. after o (λ v. after (all_of (map m xs))
 
 -- ---- groups that are all kept
 module _ (at : Condition) (made : Made) (ys : List Component) where
-  all_kept : (keys : List Row) → each_group at None made ys keys ≡ unless (faults_by (group_fault made ys) keys) (map (group_point made ys) keys)
+  pub all_kept : (keys : List Row) → each_group at None made ys keys ≡ unless (faults_by (group_fault made ys) keys) (map (group_point made ys) keys)
   all_kept keys =
       ap (λ kept. unless (join (faults_by (λ k. None) keys) (faults_by (group_fault made ys) kept)) (map (group_point made ys) kept)) (filter_true keys)
       ∙ ap (λ f. unless (join f (faults_by (group_fault made ys) keys)) (map (group_point made ys) keys)) (no_fault keys)

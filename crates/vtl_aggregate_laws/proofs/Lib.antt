@@ -1,9 +1,13 @@
+pub mod ByIdentifiers
 pub mod ColumnCells
 pub mod Counts
 pub mod Evaluated
 pub mod Examples
 pub mod Firsts
+pub mod Having
 pub mod Nested
+pub mod OtherGroups
+pub mod OwnTargets
 pub mod Pieces
 pub mod Structures
 pub mod Sums

@@ -24,7 +24,7 @@ use Rattle.vtl_meaning.proofs.GroupPoints.{all_more}
 use Rattle.vtl_aggregate_laws.specs.Parts.{grouped}
 
 -- ---- names
-both : (P : Component → Type 0) (xs ys : List Component) → AllByRecursion P xs → AllByRecursion P ys → AllByRecursion P (xs ++ ys)
+pub both : (P : Component → Type 0) (xs ys : List Component) → AllByRecursion P xs → AllByRecursion P ys → AllByRecursion P (xs ++ ys)
 both P [] ys h i = i
 both P (x ∷ xs) ys h i = (h.0, both P xs ys h.1 i)
 
@@ -36,7 +36,7 @@ among_more name (x ∷ xs) ys e = go (same_name x.name name) e (among_more name 
     go true f ih = refl
     go false f ih = ih f
 
-own_names : (xs : List Component) → AllByRecursion (λ x. is_among x.name (names_of xs) ≡ true) xs
+pub own_names : (xs : List Component) → AllByRecursion (λ x. is_among x.name (names_of xs) ≡ true) xs
 own_names [] = tt
 own_names (x ∷ xs) = (ap (λ b. b || is_among x.name (names_of xs)) ((bytes_eq-Decides x.name x.name).1 refl), all_more (λ y. is_among y.name (names_of xs) ≡ true) (λ y. is_among y.name (names_of (x ∷ xs)) ≡ true) (λ y e. or_true (same_name x.name y.name) (is_among y.name (names_of xs)) e) xs (own_names xs))
   where
@@ -79,7 +79,7 @@ module _ (p q : Component → Bool) (other : (x : Component) → q x ≡ true �
       go false h false i ih = ih
 
 -- ---- roles
-abbrev IsOther : Component → Type 0
+abbrev pub IsOther : Component → Type 0
 IsOther x = is_identifier x ≡ false
 
 measure_is_other : (x : Component) → same_role x.role role.Measure ≡ true → IsOther x
@@ -111,13 +111,23 @@ pub columns_split : (s : Structure) → columns_of s ≡ identifiers_of s ++ oth
 columns_split s = append_assoc (of_role role.Identifier s) (of_role role.Measure s) (of_role role.Attribute s)
 
 -- what holds of components that are no identifiers holds of the columns behind the identifiers
-of_others : (P : Component → Type 0) (s : Structure) → AllByRecursion (λ x. IsOther x → P x) s.components → AllByRecursion P (others_of s)
+pub of_others : (P : Component → Type 0) (s : Structure) → AllByRecursion (λ x. IsOther x → P x) s.components → AllByRecursion P (others_of s)
 of_others P s all = each (others_of s) (are_others s)
     (both (λ x. IsOther x → P x) (of_role role.Measure s) (of_role role.Attribute s) (AllByRecursion-filter (λ x. IsOther x → P x) (λ x. same_role x.role role.Measure) s.components all) (AllByRecursion-filter (λ x. IsOther x → P x) (λ x. same_role x.role role.Attribute) s.components all))
   where
     each : (xs : List Component) → AllByRecursion IsOther xs → AllByRecursion (λ x. IsOther x → P x) xs → AllByRecursion P xs
     each [] o h = tt
     each (x ∷ xs) o h = (h.0 o.0, each xs o.1 h.1)
+
+-- components that are chosen by the names of identifiers are no others
+pub chosen_other : (P : Component → Type 0) (names : List (List ℕ)) (xs : List Component) → AllByRecursion (λ x. IsOther x → P x) (chosen choice.By names xs)
+chosen_other P names [] = tt
+chosen_other P names (x ∷ xs) = go (is_identifier x) refl (is_among x.name names) (chosen_other P names xs)
+  where
+    go : (b : Bool) → is_identifier x ≡ b → (d : Bool) → AllByRecursion (λ y. IsOther y → P y) (chosen choice.By names xs) → AllByRecursion (λ y. IsOther y → P y) (cond (b && d) (x ∷ chosen choice.By names xs) (chosen choice.By names xs))
+    go true e true ih = (λ o. absurd (true≢false (sym e ∙ o)), ih)
+    go true e false ih = ih
+    go false e d ih = ih
 
 -- ---- identifiers that are found among columns are found among identifiers
 found_other : (name : List ℕ) (xs : List Component) (y : Component) → AllByRecursion IsOther xs → component_of name xs ≡ Some y → IsOther y
@@ -162,15 +172,6 @@ module _ (g : AggKind) (coarse : List (List ℕ)) (middle s : Structure) (i : Is
       zip [] a b = tt
       zip (x ∷ xs) a b = (record { measure = among_more x.name (measures_of middle) (of_role role.Attribute middle) a.0; no_identifier = b.0 }, zip xs a.1 b.1)
 
-  chosen_identify : (names : List (List ℕ)) (xs : List Component) → AllByRecursion (λ x. IsOther x → IsMeasureOf x.name) (chosen choice.By names xs)
-  chosen_identify names [] = tt
-  chosen_identify names (x ∷ xs) = go (is_identifier x) refl (is_among x.name names) (chosen_identify names xs)
-    where
-      go : (b : Bool) → is_identifier x ≡ b → (d : Bool) → AllByRecursion (λ y. IsOther y → IsMeasureOf y.name) (chosen choice.By names xs) → AllByRecursion (λ y. IsOther y → IsMeasureOf y.name) (cond (b && d) (x ∷ chosen choice.By names xs) (chosen choice.By names xs))
-      go true e true ih = (λ o. absurd (true≢false (sym e ∙ o)), ih)
-      go true e false ih = ih
-      go false e d ih = ih
-
   given : (xs : List Component) → AllByRecursion (λ x. IsMeasureOf x.name) xs → AllByRecursion (λ x. IsOther x → IsMeasureOf x.name) (map (given_measure (of_measure g) None) xs)
   given [] all = tt
   given (x ∷ xs) all = (λ o. all.0, given xs all.1)
@@ -179,4 +180,4 @@ module _ (g : AggKind) (coarse : List (List ℕ)) (middle s : Structure) (i : Is
   columns_known w all =
       of_others (λ y. IsMeasureOf y.name) s
       (subst (AllByRecursion (λ y. IsOther y → IsMeasureOf y.name)) (sym (i.shape ∙ ap (λ l. chosen choice.By coarse middle.components ++ l) all))
-      (both (λ y. IsOther y → IsMeasureOf y.name) (chosen choice.By coarse middle.components) (map (given_measure (of_measure g) None) (measures middle.components)) (chosen_identify coarse middle.components) (given (measures_of middle) (measures_are w))))
+      (both (λ y. IsOther y → IsMeasureOf y.name) (chosen choice.By coarse middle.components) (map (given_measure (of_measure g) None) (measures middle.components)) (chosen_other (λ y. IsMeasureOf y.name) coarse middle.components) (given (measures_of middle) (measures_are w))))

@@ -71,14 +71,14 @@ module _ (p : Settings) where
       go = total_is (x ∷ xs)
 
   -- a sum of values tells as much as they do
-  integer_given : (n : ℤ) (v : Cell) → integer (fit_integer p.scale n) ≡ Ok v → c.Int n ≡ v
+  pub integer_given : (n : ℤ) (v : Cell) → integer (fit_integer p.scale n) ≡ Ok v → c.Int n ≡ v
   integer_given n v e = go (nat_lt (unsigned_abs n) (10 ^ (18 - p.scale))) e
     where
       go : (b : Bool) → integer (cond b (Ok n) (Err Range)) ≡ Ok v → c.Int n ≡ v
       go true h = cc
       go false h = cc
 
-  number_given : (k : ℤ) (v : Cell) → number (fit_number k) ≡ Ok v → c.Num k ≡ v
+  pub number_given : (k : ℤ) (v : Cell) → number (fit_number k) ≡ Ok v → c.Num k ≡ v
   number_given k v e = go (nat_lt (unsigned_abs k) (10 ^ 18)) e
     where
       go : (b : Bool) → number (cond b (Ok k) (Err Range)) ≡ Ok v → c.Num k ≡ v

@@ -1,0 +1,14 @@
+pub mod BracketCodes
+pub mod Combined
+pub mod Examples
+pub mod Existence
+pub mod FallingOrders
+pub mod JoinTuples
+pub mod KeptCodes
+pub mod Regrouped
+pub mod Stands
+pub mod Swapped
+pub mod TupleLists
+pub mod Twice
+pub mod Unpivoted
+pub mod WholeGroups
