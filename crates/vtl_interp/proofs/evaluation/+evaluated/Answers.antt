@@ -1,18 +1,24 @@
 use Rattle.std.proofs.Common.{rules, ◌≡◌, List, Ok, Err, ap, length, map, subst, sym, ◌∙◌}
 use Rattle.std.proofs.lemmas.List.{length-map}
+use Rattle.vtl_cell.specs.Outcome.{after}
+use Rattle.vtl_scalar.specs.Answers.{AnswersBy}
+use Rattle.vtl_sets.specs.DataSets.{with_structure}
+use Rattle.vtl_tree.specs.Clauses.{filter_of}
 use Rattle.vtl_tree.specs.Trees as nodes
 use Rattle.vtl_tree.specs.Trees.{nodes_of, operands_of}
 use Rattle.vtl_tree.specs.NodeView.{node_tree, operand_tree}
+use Rattle.vtl_tree.specs.View.{comp_exp_of}
+use Rattle.vtl_tree.specs.declared.structure.Structure.{Structure}
 use Rattle.vtl_tree.specs.declared.nodes.JoinOperand.{JoinOperand}
 use Rattle.vtl_tree.specs.declared.nodes.NodeForm.TheVariants as form
-use Rattle.vtl_meaning.specs.Joined.{structures_of}
-use Rattle.vtl_meaning.specs.Made.{AreCombined, IsJoined}
-use Rattle.vtl_scripts.specs.Meaning.{nodes_value, operands_value}
+use Rattle.vtl_meaning.specs.Joined.{join_of, structures_of}
+use Rattle.vtl_meaning.specs.Made.{AreCombined, IsFiltered, IsJoined}
+use Rattle.vtl_scripts.specs.Meaning.{node_value, nodes_value, operands_value}
 use Rattle.vtl_meaning.specs.Shapes.{IsJoinedFrom}
 use Rattle.vtl_interp.specs.Evaluated.{Evaluates, Gives}
 use Rattle.vtl_interp.specs.Values.{maybe_view, under_aliases, value_view, values_view}
 use Rattle.vtl_interp.proofs.Evaluates.{operands_named, some_given, some_stops}
-use Rattle.vtl_interp.proofs.NodesEvaluated.{check_fits, check_gives, choice_gives, choose_fits, form_tree-Intersect, form_tree-Union, imbalance_stops, join_fits, join_named, name_gives, name_is_held, second_stops, several_fit}
+use Rattle.vtl_interp.proofs.NodesEvaluated.{check_fits, check_gives, choice_gives, choose_fits, filter_after, filter_fits, filter_gives, filter_joined, filter_operands_stop, filter_stops, form_tree-Intersect, form_tree-Union, imbalance_stops, join_fits, join_named, joined_structure, name_gives, name_is_held, second_stops, several_fit}
 use Rattle.vtl_interp.proofs.evaluation.+evaluated.Goals as goal
 
 pub evaluate-unreachable-requires : goal.evaluate-unreachable-requires
@@ -131,3 +137,83 @@ evaluate-returns-in_err-other-in-Check t c =
     rw passed (imbalance_stops maybe_view value_view c.args.p.now env c.args.node.now x.a x.imbalance x.spec d e x.is
     (subst (λ n. Gives c.args.p.now env (node_tree n) d) c.deref-in-Check.ensures c.in_ok-tested-in-Check.ensures)
     c.in_err-other-in-Check.ensures)
+
+pub evaluate-returns-in-Filter : goal.evaluate-returns-in-Filter
+evaluate-returns-in-Filter t c =
+    let p = c.args.p.now in
+    let env = c.args.known.now.entries in
+    let x = c.in-Filter in
+    let s = c.args.node.now.structure in
+    filter_gives value_view p env c.args.node.now x.a x.c c.evaluate_filter.result x.is
+    (subst (λ n. AnswersBy value_view c.evaluate_filter.result (with_structure s (after (node_value p env (node_tree n)) (filter_of p (comp_exp_of x.c))))) c.deref-in-Filter.ensures c.evaluate_filter.ensures)
+
+pub evaluate_filter-filter_join-requires-clause-named : goal.evaluate_filter-filter_join-requires-clause-named
+evaluate_filter-filter_join-requires-clause-named t c =
+    let env = c.args.known.now.entries in
+    let os = c.in-Join.operands in
+    let sets = c.in_ok-sets.sets in
+    ap length c.deref-2.ensures.value
+    ∙ sym (length-map sets.items value_view)
+    ∙ operands_named c.args.p.now env (map operand_tree os.items) (values_view sets)
+    (subst (λ xs. operands_value c.args.p.now env (operands_of (map operand_tree xs)) ≡ Ok (values_view sets)) c.deref.ensures.value c.in_ok-sets.ensures)
+    ∙ length-map os.items operand_tree
+    ∙ sym (ap length c.deref-3.ensures.value)
+
+pub evaluate_filter-filter_join-requires-clause-joined : goal.evaluate_filter-filter_join-requires-clause-joined
+evaluate_filter-filter_join-requires-clause-joined t c =
+    let env = c.args.known.now.entries in
+    let os = c.in-Join.operands in
+    let sets = c.in_ok-sets.sets in
+    subst (λ xs. IsJoined c.in-Join.spec.kind (structures_of (map value_view xs)) c.args.a.now.structure) (sym c.deref-2.ensures.value)
+    (join_fits c.args.p.now env c.args.a.now os c.in-Join.spec (values_view sets) c.in-Join.is c.requires.made
+    (subst (λ xs. operands_value c.args.p.now env (operands_of (map operand_tree xs)) ≡ Ok (values_view sets)) c.deref.ensures.value c.in_ok-sets.ensures))
+
+pub evaluate_filter-filter_join-requires-clause-from : goal.evaluate_filter-filter_join-requires-clause-from
+evaluate_filter-filter_join-requires-clause-from t c =
+    let env = c.args.known.now.entries in
+    let os = c.in-Join.operands in
+    let sets = c.in_ok-sets.sets in
+    subst (λ xs. IsJoinedFrom c.in-Join.spec.kind (under_aliases (map (λ o. o.alias) c.deref-3.result.now) (structures_of (map value_view xs))) c.args.a.now.structure) (sym c.deref-2.ensures.value)
+    (subst (λ (xs : List JoinOperand). IsJoinedFrom c.in-Join.spec.kind (under_aliases (map (λ o. o.alias) xs) (structures_of (values_view sets))) c.args.a.now.structure) (sym c.deref-3.ensures.value)
+    (join_named c.args.p.now env c.args.a.now os c.in-Join.spec (values_view sets) c.in-Join.is c.requires.made
+    (subst (λ xs. operands_value c.args.p.now env (operands_of (map operand_tree xs)) ≡ Ok (values_view sets)) c.deref.ensures.value c.in_ok-sets.ensures)))
+
+pub evaluate_filter-filter_join-requires-clause-filtered : goal.evaluate_filter-filter_join-requires-clause-filtered
+evaluate_filter-filter_join-requires-clause-filtered t c =
+    subst (λ (s : Structure). IsFiltered c.args.p.now (comp_exp_of c.args.condition.now) s c.args.made.now) (joined_structure c.args.a.now) c.requires.filtered
+
+pub evaluate_filter-returns-in_ok-sets : goal.evaluate_filter-returns-in_ok-sets
+evaluate_filter-returns-in_ok-sets t c =
+    let p = c.args.p.now in
+    let env = c.args.known.now.entries in
+    let os = c.in-Join.operands in
+    let e = comp_exp_of c.args.condition.now in
+    let s = c.args.made.now in
+    let sets = c.in_ok-sets.sets in
+    filter_joined p env c.args.a.now os c.in-Join.spec c.in-Join.is e s value_view (values_view sets) c.filter_join.result
+    (subst (λ xs. operands_value p env (operands_of (map operand_tree xs)) ≡ Ok (values_view sets)) c.deref.ensures.value c.in_ok-sets.ensures)
+    (subst (λ xs. AnswersBy value_view c.filter_join.result (with_structure s (filter_of p e (join_of c.in-Join.spec.kind (map value_view xs))))) c.deref-2.ensures.value c.filter_join.ensures)
+
+pub evaluate_filter-returns-in_err-sets : goal.evaluate_filter-returns-in_err-sets
+evaluate_filter-returns-in_err-sets t c =
+    let p = c.args.p.now in
+    let env = c.args.known.now.entries in
+    let os = c.in-Join.operands in
+    let f = c.in_err-sets.field-0.0 in
+    let passed : c.from_residual.result ≡ Err f = search rules in
+    rw passed (filter_operands_stop p env c.args.a.now os c.in-Join.spec c.in-Join.is (comp_exp_of c.args.condition.now) c.args.made.now values_view value_view f
+    (subst (λ xs. AnswersBy values_view (Err f) (operands_value p env (operands_of (map operand_tree xs)))) c.deref.ensures.value c.in_err-sets.ensures))
+
+pub evaluate_filter-filter-requires : goal.evaluate_filter-filter-requires
+evaluate_filter-filter-requires t c =
+    subst (λ (s : Structure). IsFiltered c.args.p.now (comp_exp_of c.args.condition.now) s c.args.made.now) (sym c.in_ok-set.ensures.structure) c.requires.filtered
+
+pub evaluate_filter-returns-in_ok-set : goal.evaluate_filter-returns-in_ok-set
+evaluate_filter-returns-in_ok-set t c =
+    filter_after c.args.p.now c.args.known.now.entries (node_tree c.args.a.now) (comp_exp_of c.args.condition.now) c.args.made.now value_view (value_view c.in_ok-set.set) c.filter.result c.in_ok-set.ensures c.filter.ensures
+
+pub evaluate_filter-returns-in_err-set : goal.evaluate_filter-returns-in_err-set
+evaluate_filter-returns-in_err-set t c =
+    let f = c.in_err-set.field-0.0 in
+    let passed : c.from_residual-in_err-set.result ≡ Err f = search rules in
+    rw passed (filter_stops c.args.p.now c.args.known.now.entries (node_tree c.args.a.now) (comp_exp_of c.args.condition.now) c.args.made.now value_view value_view f c.in_err-set.ensures)
