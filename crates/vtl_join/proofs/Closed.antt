@@ -26,7 +26,7 @@ use Rattle.vtl_meaning.proofs.JoinKept.{reference_is}
 use Rattle.vtl_meaning.proofs.JoinParts.{AreSets}
 use Rattle.vtl_join.specs.declared.joined.Operand.{Operand}
 use Rattle.vtl_join.specs.Finding.{all_numbers, sources_around, wants_all}
-use Rattle.vtl_join.specs.Joining.{sets_of}
+use Rattle.vtl_join.specs.Joining.{IsBeside, sets_of}
 use Rattle.vtl_join.specs.Keys.{key_kinds}
 use Rattle.vtl_join.specs.Picks.{joined_rows, picks_at, picks_from, places_of, table_of}
 use Rattle.vtl_join.proofs.Beside as beside
@@ -127,9 +127,6 @@ pub table_is : (t : Listed) (d : DataSet) → t.columns ≡ table_columns d.stru
 table_is t d columns rows = λ i. record { columns = columns i; rows = rows i }
 
 -- ---- joins by their kinds
-abbrev pub IsBeside : JoinKind → Type 0
-IsBeside kind = (kind ≡ join.Inner) ⊎ (kind ≡ join.Left)
-
 pub beside_identifiers : (kind : JoinKind) (a s : Structure) (ss : List Structure) → IsBeside kind → GoTogether kind a ss s → HasIdentifiers s (identifiers_of a)
 beside_identifiers kind a s ss (inl e) go = (subst (λ k. GoTogether k a ss s) e go).0
 beside_identifiers kind a s ss (inr e) go = (subst (λ k. GoTogether k a ss s) e go).0

@@ -1,6 +1,7 @@
 -- Joins in the making, as contracts see them.
-use Rattle.std.specs.Prelude.{ℕ, List, map, Option}
+use Rattle.std.specs.Prelude.{◌≡◌, ◌⊎◌, ℕ, List, map, Option}
 use Rattle.vtl_syntax.specs.declared.word_groups.JoinKind.{JoinKind}
+use Rattle.vtl_syntax.specs.declared.word_groups.JoinKind.TheVariants as join
 use Rattle.vtl_tree.specs.Environment.{DataSet}
 use Rattle.vtl_tree.specs.declared.joins.Operand as joins
 use Rattle.vtl_join.specs.declared.joined.Operand.{Operand}
@@ -19,3 +20,7 @@ typed_operands os = map (λ o. record { alias = o.alias; structure = o.set.struc
 
 abbrev pub named : DataSet → List ℕ → Operand
 named d alias = record { set = d; alias = alias }
+
+-- joins in which each row of a reference finds a row of each other operand, or none
+abbrev pub IsBeside : JoinKind → Type 0
+IsBeside kind = (kind ≡ join.Inner) ⊎ (kind ≡ join.Left)

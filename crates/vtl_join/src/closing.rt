@@ -14,8 +14,8 @@ ghost use Rattle.vtl_meaning.specs.Made.{AreAmong, HasIdentifiers, IsJoined};
 ghost use Rattle.vtl_meaning.specs.Shapes.{IsJoinedFrom};
 ghost use Rattle.vtl_join.specs.Crossing.{row_counts, tuples_behind};
 ghost use Rattle.vtl_join.specs.Finding.{wants_all};
-ghost use Rattle.vtl_join.specs.Gatherings.{gathers, point_of, width_of};
-ghost use Rattle.vtl_join.specs.Joining.{sets_of, typed_operands};
+ghost use Rattle.vtl_join.specs.Gatherings.{gathers, point_of, points_of, width_of};
+ghost use Rattle.vtl_join.specs.Joining.{IsBeside, sets_of, typed_operands};
 ghost use Rattle.vtl_join.specs.Picks.{picks_at, picks_from};
 
 use crate::columns::places_of;
@@ -51,24 +51,54 @@ fn wants_all(kind: JoinKind) -> bool
     matches!(kind, JoinKind::Inner)
 }
 
-// The table of an inner or a left join. The reference leads, which stands at this place.
-fn beside_table<L: Ledger>(
+/// What the points of an inner or a left join are gathered from, and its tuples, one after the other.
+pub struct BesideParts<'a> {
+    /// The tables and the cells.
+    pub gathering: Gathering<'a>,
+    /// The tuples.
+    pub tuples: Vec<usize>,
+}
+
+// Written out, so that a proof sees one call and not the drop of each part.
+impl Drop for BesideParts<'_> {
+    fn drop(self) {
+        let BesideParts {
+            gathering: _gathering,
+            tuples: _tuples,
+        } = self;
+    }
+}
+
+impl<'a> BesideParts<'a> {
+    /// The tables and the cells, and the tuples.
+    pub fn into_parts(self) -> (Gathering<'a>, Vec<usize>)
+        ensures gathering { result.0 ≡ self.entry.gathering }
+        ensures tuples { result.1 ≡ self.entry.tuples }
+    {
+        let BesideParts { gathering, tuples } = self;
+        (gathering, tuples)
+    }
+}
+
+// Those of an inner or a left join. The reference leads, which stands at this place.
+fn beside_lead<'a, L: Ledger>(
     alloc: Global,
     kind: JoinKind,
-    operands: &[Operand],
+    operands: &'a [Operand],
     place: usize,
-    lead: &DataSet,
-    made: &Structure,
+    lead: &'a DataSet,
+    made: &'a Structure,
     blank: Blank,
-) -> Result<Table, AllocError>
+) -> Result<BesideParts<'a>, AllocError>
     requires name { blank.name ≡ L.name }
     requires parts { blank.parts ≡ L.parts }
     requires some { 0 < L.parts }
     requires lead { slice_get (sets_of operands.now) place ≡ Some lead.now }
     requires made { IsJoined kind (structures_of (sets_of operands.now)) made.now }
     requires identifiers { HasIdentifiers made.now (identifiers_of lead.now.structure) }
-    ensures columns { IfOk result (λ t. t.columns ≡ table_columns made.now) }
-    ensures rows { IfOk result (λ t. t.rows ≡ map tuple_point (cond (wants_all kind) (inner_tuples lead.now (sets_of operands.now)) (left_tuples lead.now (sets_of operands.now)))) }
+    ensures columns { IfOk result (λ b. b.gathering.columns ≡ table_columns made.now) }
+    ensures width { IfOk result (λ b. width_of b.gathering ≡ length operands.now + 1) }
+    ensures points { IfOk result (λ b. points_of b.gathering b.tuples.items ≡ map tuple_point (cond (wants_all kind) (inner_tuples lead.now (sets_of operands.now)) (left_tuples lead.now (sets_of operands.now)))) }
 {
     let mut steps: Steps<L> = Steps::new(blank);
     operands_are_sets(operands);
@@ -76,7 +106,63 @@ fn beside_table<L: Ledger>(
     let tuples = all_tuples(alloc, wants_all(kind), &sources, lead.table(), &mut steps)?;
     let places = places_of(alloc, lead.structure(), Role::Identifier)?;
     let identifiers = lead_picks(alloc, &places)?;
-    gathered(alloc, lead.table(), operands, identifiers, &tuples, made)
+    let gathering = Gathering::of(alloc, lead.table(), operands, identifiers, made)?;
+    Ok(BesideParts { gathering, tuples })
+}
+
+// Those of an inner or a left join of operands.
+fn beside_of<'a>(
+    alloc: Global,
+    kind: JoinKind,
+    operands: &'a [Operand],
+    made: &'a Structure,
+) -> Result<BesideParts<'a>, AllocError>
+    requires beside { IsBeside kind }
+    requires made { IsJoined kind (structures_of (sets_of operands.now)) made.now }
+    ensures columns { IfOk result (λ b. b.gathering.columns ≡ table_columns made.now) }
+    ensures width { IfOk result (λ b. width_of b.gathering ≡ length operands.now + 1) }
+    ensures points { IfOk result (λ b. points_of b.gathering b.tuples.items ≡ join_of kind (sets_of operands.now)) }
+{
+    operands_are_sets(operands);
+    let place = reference_place(kind, operands);
+    let lead = &operands[place].set;
+    beside_lead::<Brand>(alloc, kind, operands, place, lead, made, Blank::new(1))
+}
+
+/// What the points of an inner or a left join are gathered from, with its tuples. The structure is that which typing gives.
+/// It fails only if memory runs out.
+pub fn parts_beside<'a>(
+    alloc: Global,
+    kind: JoinKind,
+    j: &'a Joined,
+    made: &'a Structure,
+) -> Result<BesideParts<'a>, AllocError>
+    requires beside { IsBeside kind }
+    requires made { IsJoined kind (structures_of (sets_of j.now.operands)) made.now }
+    ensures columns { IfOk result (λ b. b.gathering.columns ≡ table_columns made.now) }
+    ensures width { IfOk result (λ b. width_of b.gathering ≡ length j.now.operands + 1) }
+    ensures points { IfOk result (λ b. points_of b.gathering b.tuples.items ≡ join_of kind (sets_of j.now.operands)) }
+    ensures set { IsDataSet made.now (join_of kind (sets_of j.now.operands)) }
+{
+    let operands = j.operands.as_slice();
+    operands_are_sets(operands);
+    beside_of(alloc, kind, operands, made)
+}
+
+// The table of an inner or a left join.
+fn beside_table(
+    alloc: Global,
+    kind: JoinKind,
+    operands: &[Operand],
+    made: &Structure,
+) -> Result<Table, AllocError>
+    requires beside { IsBeside kind }
+    requires made { IsJoined kind (structures_of (sets_of operands.now)) made.now }
+    ensures columns { IfOk result (λ t. t.columns ≡ table_columns made.now) }
+    ensures rows { IfOk result (λ t. t.rows ≡ join_of kind (sets_of operands.now)) }
+{
+    let parts = beside_of(alloc, kind, operands, made)?;
+    parts.gathering.points(alloc, &parts.tuples)
 }
 
 // The table of a full join, whose identifiers are those of a reference. The tuples of identifiers of all operands lead.
@@ -169,12 +255,9 @@ fn joined_table(
     operands_are_sets(operands);
     let place = reference_place(kind, operands);
     let reference = &operands[place].set;
-    let blank = Blank::new(1);
     match kind {
-        JoinKind::Inner | JoinKind::Left => {
-            beside_table::<Brand>(alloc, kind, operands, place, reference, made, blank)
-        }
-        JoinKind::Full => full_table::<Brand>(alloc, operands, reference, made, blank),
+        JoinKind::Inner | JoinKind::Left => beside_table(alloc, kind, operands, made),
+        JoinKind::Full => full_table::<Brand>(alloc, operands, reference, made, Blank::new(1)),
         JoinKind::Cross => cross_table(alloc, operands, reference.table(), made),
     }
 }

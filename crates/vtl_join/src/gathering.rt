@@ -1,7 +1,9 @@
 // The table of a joined set, gathered from a lead and the tables of the operands.
-ghost use Rattle.std.specs.Prelude.{◌≡◌, ◌+◌, ◌<◌, ◌++◌, ◌∷◌, length, map, All, IfOk, OnOk};
+ghost use Rattle.std.specs.Prelude.{◌≡◌, ℕ, ◌+◌, ◌<◌, List, ◌++◌, ◌∷◌, length, map, slice_index, All, IfOk, IfSome, OnOk};
 ghost use Rattle.std.specs.List.{AllByRecursion};
+ghost use Rattle.vtl_cell.specs.Row.{column_of};
 ghost use Rattle.vtl_rows.specs.Gathered.{picked_kind};
+ghost use Rattle.vtl_rows.specs.Places.{row_at};
 ghost use Rattle.vtl_rows.specs.Tables.{listed};
 ghost use Rattle.vtl_sets.specs.TableOf.{table_columns};
 ghost use Rattle.vtl_tree.specs.DataSet.{IsDataSet};
@@ -9,7 +11,7 @@ ghost use Rattle.vtl_tree.specs.Structure.{IsStructure};
 ghost use Rattle.vtl_tree.specs.Columns.{identifiers_of, measures_of};
 ghost use Rattle.vtl_meaning.specs.Joined.{structures_of};
 ghost use Rattle.vtl_meaning.specs.Made.{attributes_of, component_kinds, kinds_of_all};
-ghost use Rattle.vtl_join.specs.Gatherings.{gathers, points_of};
+ghost use Rattle.vtl_join.specs.Gatherings.{gathers, point_of, points_of, width_of};
 ghost use Rattle.vtl_join.specs.Joining.{sets_of};
 ghost use Rattle.vtl_join.specs.Picks.{joined_rows, picks_at, picks_behind, picks_from, table_of};
 
@@ -102,6 +104,17 @@ pub struct Gathering<'a> {
     made: &'a Structure,
 }
 
+/// Where cells of points stand.
+#[derive(Clone, Copy)]
+pub struct Source<'a> {
+    /// The place of the row's number in a tuple.
+    pub part: usize,
+    /// The table.
+    pub table: &'a Table,
+    /// The place of the column there.
+    pub column: usize,
+}
+
 // Written out, so that a proof sees one call and not the drop of each part.
 impl Drop for Gathering<'_> {
     fn drop(self) {
@@ -144,6 +157,29 @@ impl<'a> Gathering<'a> {
         let parts = parts_behind(alloc, lead, operands)?;
         let picks = picks_behind(alloc, identifiers, operands)?;
         Ok(Gathering { parts, picks, made })
+    }
+
+    /// How many numbers a tuple has.
+    pub fn width(&self) -> usize
+        ensures { result ≡ width_of self.now }
+    {
+        self.parts.len()
+    }
+
+    /// Where the cells at a place of the points stand, if the points have cells there.
+    pub fn source_of(&self, place: usize) -> Option<Source<'a>>
+        ensures { IfSome result (λ s. (tuple : List ℕ) → column_of place (point_of self.now tuple) ≡ column_of s.column (row_at s.table.now.rows (slice_index tuple s.part))) }
+    {
+        if place >= self.picks.len() {
+            return None;
+        }
+        let pick = self.picks[place];
+        let table = self.parts[pick.part];
+        Some(Source {
+            part: pick.part,
+            table,
+            column: pick.column,
+        })
     }
 
     /// The points of tuples that stand one after the other, in their order. It fails only if memory runs out.

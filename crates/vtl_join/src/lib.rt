@@ -10,7 +10,8 @@
 //! last row is a missing part, and each cell of the result is copied once. A full join first makes the table of all
 //! identifiers, with a spare column, so that operands without identifiers are no case of their own. `step` only
 //! collects, so that no product larger than the result is made whatever the order of the operands. Who wants the points
-//! of a cross join a few at a time makes the tuples, and gathers their points (`product`).
+//! of a join a few at a time gathers those of some tuples at a time: he makes them for a cross join (`product`), and is given
+//! them for an inner or a left one (`parts_beside`).
 #![tactic(auto)]
 
 mod closing;
@@ -24,6 +25,6 @@ mod reference;
 mod sources;
 mod tuples;
 
-pub use closing::{close, product};
-pub use gathering::Gathering;
+pub use closing::{BesideParts, close, parts_beside, product};
+pub use gathering::{Gathering, Source};
 pub use joined::{Joined, Operand, open, step};

@@ -1,19 +1,30 @@
 -- Points are asked in parts as they are asked at once.
-use Rattle.std.proofs.Common.{◌≡◌, ℕ, suc, ◌+◌, ◌*◌, ◌<◌, List, [], ◌∷◌, ◌++◌, length, length-append, map, Option, None, append_assoc, refl, sym, ap, ◌∙◌, subst, arith}
+use Rattle.std.proofs.Common.{◌≡◌, ℕ, suc, ◌+◌, ◌*◌, ◌<◌, List, [], ◌∷◌, ◌++◌, length, length-append, map, Option, None, Result, append_assoc, refl, sym, ap, ◌∙◌, subst, arith}
+use Rattle.std.specs.Prelude.{IfOk}
 use Rattle.std.proofs.lemmas.List.{append-nil, map-append}
 use Rattle.std.proofs.lemmas.List.Elements.{filter-append}
 use Rattle.vtl_decimal.specs.Settings.{Settings}
 use Rattle.vtl_decimal.specs.declared.number.Fault.{Fault}
-use Rattle.vtl_cell.specs.Outcome.{fault_in, join, unless}
+use Rattle.vtl_cell.specs.Outcome.{Outcome, fault_in, join, unless}
 use Rattle.vtl_cell.specs.Outcomes.{is_true}
 use Rattle.vtl_cell.specs.Row.{Row}
 use Rattle.vtl_rows.specs.Gathered.{pieces}
-use Rattle.vtl_rows.proofs.Gathered.{pieces-none, pieces-push}
+use Rattle.vtl_rows.specs.Tables.{Tabled, listed}
+use Rattle.vtl_rows.specs.declared.column.Column.{Column}
+use Rattle.vtl_rows.proofs.Gathered.{pieces-next, pieces-none, pieces-push}
+use Rattle.vtl_scalar.specs.Answers.{AnswersBy}
 use Rattle.vtl_scalar.specs.Seen.{seen_of}
+use Rattle.vtl_scalar.specs.declared.error.ScalarErr.{ScalarErr}
+use Rattle.vtl_sets.specs.TableOf.{IsTableOf, table_columns}
+use Rattle.vtl_sets.proofs.TableLemmas.{answered_is_table}
 use Rattle.vtl_tree.specs.Clauses.{filter_of, kept}
 use Rattle.vtl_tree.specs.CompExp.{CompExp}
+use Rattle.vtl_tree.specs.DataSet.{IsDataSet}
+use Rattle.vtl_tree.specs.declared.structure.Structure.{Structure}
 use Rattle.vtl_tree.specs.Value.{value}
 use Rattle.vtl_tree.proofs.Faults.{faults_by-append, join_assoc, join_none}
+use Rattle.vtl_meaning.specs.Made.{IsFiltered}
+use Rattle.vtl_meaning.proofs.Kept.{filtered_kept}
 use Rattle.vtl_expr.specs.Prepared.{SameValue, prepared_exp}
 use Rattle.vtl_clause.specs.Walks.{fault_over}
 use Rattle.vtl_clause.proofs.WalkLemmas.{fault_prepared, kept_prepared}
@@ -81,6 +92,16 @@ module _ (a : Asked) (old new : Sieve) where
       let many : length new.waiting.items ≡ 0 * w = omega (arith, l) in
       record { columns = columns ∙ r.columns; some = r.some; whole = (0, many) }
 
+-- ---- tuples that stand one after the other
+module _ (p : Settings) (e : CompExp) (point : List ℕ → Row) (w : ℕ) (all s : Sifted) (xs : List ℕ) (so : sifted p e s (map point (pieces w xs)) ≡ all) where
+  pub each_more : (t : Sifted) (x rest : List ℕ) → 0 < w → xs ≡ x ++ rest → length x ≡ w → t ≡ sifted p e s (point x ∷ []) → sifted p e t (map point (pieces w rest)) ≡ all
+  each_more t x rest some is wide more =
+      ap (λ u. sifted p e u (map point (pieces w rest))) more ∙ sifted_more p e s (point x ∷ []) (map point (pieces w rest))
+      ∙ ap (λ ps. sifted p e s (map point ps)) (sym (ap (pieces w) is ∙ pieces-next w x rest some wide)) ∙ so
+
+  pub each_done : length xs < w → s ≡ all
+  each_done short = sym (sifted_none p e s) ∙ ap (λ ps. sifted p e s (map point ps)) (sym (pieces-none w xs short)) ∙ so
+
 -- ---- the first and the last
 module _ (a : Asked) (s : Sieve) where
   pub all_asked : 0 < width_of a.gathering → s.waiting.items ≡ [] → so_far a s ≡ record { rows = s.kept.rows; fault = seen_of s.seen }
@@ -101,3 +122,17 @@ module _ (a : Asked) (s : Sieve) where
 pub is_filter : (p : Settings) (x e : CompExp) (s : Sifted) (points : List Row) → SameValue x e → s ≡ sifted p x nothing_asked points → unless s.fault s.rows ≡ filter_of p e points
 is_filter p x e s points same h =
     ap (λ (t : Sifted). unless t.fault t.rows) h ∙ ap (unless (fault_over p x points)) (kept_prepared p x e same points) ∙ ap (λ f. unless f (kept p e points)) (fault_prepared p x e same points)
+
+-- what is answered when all points were asked
+module _ (a : Asked) (first last : Sieve) (e : CompExp) (points : List Row) (same : SameValue (prepared_exp a.condition) e) (some : 0 < width_of a.gathering) (empty : IsEmpty first) (found : so_far a last ≡ asked_of a (so_far a first) points) where
+  pub answered : (r : Result Tabled ScalarErr) → AnswersBy (λ t. t.rows) r (unless (so_far a last).fault (so_far a last).rows) → AnswersBy (λ t. t.rows) r (filter_of a.profile.now e points)
+  answered r h =
+      let x = prepared_exp a.condition in
+      let from = found ∙ ap (λ (s : Sifted). asked_of a s points) (nothing_yet a first some empty) in
+      subst (λ (m : Outcome (List Row)). AnswersBy (λ (t : Tabled). t.rows) r m) (is_filter a.profile.now x e (so_far a last) points same from) h
+
+  pub answered_table : (r : Result Tabled ScalarErr) (made s : Structure) → IsFiltered a.profile.now e made s → IsDataSet made points → a.gathering.columns ≡ table_columns made → AnswersBy (λ t. t.rows) r (unless (so_far a last).fault (so_far a last).rows) → IfOk r (λ t. t.columns ≡ a.gathering.columns)
+      → IfOk r (λ t. IsTableOf s (listed t))
+  answered_table r made s fits set columns rows own =
+      answered_is_table s r (filter_of a.profile.now e points) (subst (λ (l : List Column). IfOk r (λ t. t.columns ≡ l)) (columns ∙ ap table_columns (sym fits.same)) own) (answered r rows)
+      (λ out q. filtered_kept a.profile.now e made s points out fits set q)

@@ -10,7 +10,7 @@ ghost use Rattle.vtl_tree.specs.View.{comp_exp_of};
 ghost use Rattle.vtl_meaning.specs.Joined.{join_of, structures_of};
 ghost use Rattle.vtl_meaning.specs.Made.{IsFiltered, IsJoined};
 ghost use Rattle.vtl_meaning.specs.Shapes.{IsJoinedFrom};
-ghost use Rattle.vtl_join.specs.Joining.{sets_of, typed_operands};
+ghost use Rattle.vtl_join.specs.Joining.{IsBeside, sets_of, typed_operands};
 
 use crate::crossing::add_all;
 use crate::sieve::{Asked, Sieve};
@@ -18,7 +18,7 @@ use std::alloc::Global;
 use vtl_clause::filter;
 use vtl_decimal::Profile;
 use vtl_expr::prepare;
-use vtl_join::{Joined, close, product};
+use vtl_join::{Joined, close, parts_beside, product};
 use vtl_rows::Table;
 use vtl_scalar::ScalarErr;
 use vtl_sets::DataSet;
@@ -50,7 +50,35 @@ fn crossed_table(
     sieve.finish(alloc, &asked)
 }
 
-// The points of a join that are kept, where there are at most as many as one operand has.
+// The points of an inner or a left join that are kept.
+fn beside_table(
+    alloc: Global,
+    kind: JoinKind,
+    j: &Joined,
+    made: &Structure,
+    condition: &CompExpr,
+    filtered: &Structure,
+    p: &Profile,
+) -> Result<Table, ScalarErr>
+    requires beside { IsBeside kind }
+    requires made { IsJoined kind (structures_of (sets_of j.now.operands)) made.now }
+    requires filtered { IsFiltered p.now (comp_exp_of condition.now) made.now filtered.now }
+    ensures table { IfOk result (λ t. IsTableOf filtered.now (listed t)) }
+    ensures rows { AnswersBy (λ t. t.rows) result (filter_of p.now (comp_exp_of condition.now) (join_of kind (sets_of j.now.operands))) }
+{
+    let parts = parts_beside(alloc, kind, j, made)?;
+    let (gathering, tuples) = parts.into_parts();
+    let asked = Asked {
+        gathering,
+        condition: prepare(alloc, condition)?,
+        profile: p,
+    };
+    let mut sieve = Sieve::new(alloc, made)?;
+    sieve.add_each(alloc, &asked, &tuples)?;
+    sieve.finish(alloc, &asked)
+}
+
+// The points of a join that are kept, all of which are made first.
 fn closed_and_filtered(
     alloc: Global,
     kind: JoinKind,
@@ -71,8 +99,8 @@ fn closed_and_filtered(
 }
 
 /// The points of the joined set at which the condition is true, as a data set of the filter's structure; `made` is the
-/// structure that typing gives the joined set. The kind is that of the steps; a join of one operand has none. Of a cross
-/// join only the points that are kept are held. The answer is DivZero where the condition divides by zero at any point
+/// structure that typing gives the joined set. The kind is that of the steps; a join of one operand has none. Only
+/// the points that are kept are held, but of a full join, of which all are made first. The answer is DivZero where the condition divides by zero at any point
 /// of the joined set, otherwise Range where it is out of range at any; otherwise it fails only if memory runs out.
 pub fn filter_joined(
     alloc: Global,
@@ -94,7 +122,11 @@ pub fn filter_joined(
             let table = crossed_table(alloc, &j, made, condition, filtered, p);
             DataSet::answered(alloc, filtered, table)
         }
-        JoinKind::Inner | JoinKind::Left | JoinKind::Full => {
+        JoinKind::Inner | JoinKind::Left => {
+            let table = beside_table(alloc, kind, &j, made, condition, filtered, p);
+            DataSet::answered(alloc, filtered, table)
+        }
+        JoinKind::Full => {
             closed_and_filtered(alloc, kind, j, made, condition, filtered, p)
         }
     }

@@ -5,7 +5,7 @@ ghost use Rattle.vtl_scalar.specs.Answers.{AnswersBy};
 ghost use Rattle.vtl_scalar.specs.Seen.{seen_of};
 ghost use Rattle.vtl_sets.specs.TableOf.{table_columns};
 ghost use Rattle.vtl_tree.specs.Structure.{IsStructure};
-ghost use Rattle.vtl_join.specs.Gatherings.{point_of, width_of};
+ghost use Rattle.vtl_join.specs.Gatherings.{point_of, points_of, width_of};
 ghost use Rattle.vtl_join_filter.specs.Sifting.{IsEmpty, IsReady, asked_of, so_far};
 
 use std::alloc::{AllocError, Global};
@@ -111,6 +111,24 @@ impl Sieve {
             return Ok(());
         }
         self.settle(alloc, asked)
+    }
+
+    // Adds tuples that stand one after the other.
+    pub(crate) fn add_each(
+        &mut self,
+        alloc: Global,
+        asked: &Asked<'_>,
+        tuples: &[usize],
+    ) -> Result<(), ScalarErr>
+        requires { IsReady asked.now self.old }
+        ensures ready { OnOk result (IsReady asked.now self.new) }
+        ensures found { OnOk result (so_far asked.now self.new ≡ asked_of asked.now (so_far asked.now self.old) (points_of asked.now.gathering tuples.now)) }
+        ensures err { IfErr result (λ e. e ≡ ScalarErr.OutOfMemory) }
+    {
+        for tuple in tuples.chunks_exact(asked.gathering.width()) {
+            self.add(alloc, asked, tuple)?;
+        }
+        Ok(())
     }
 
     // The points that are kept, or the fault.

@@ -9,29 +9,9 @@ use Rattle.vtl_join.specs.Joining.{sets_of}
 use Rattle.vtl_join.proofs.Closed.{Refers, all_have, beside_identifiers, beside_join, refers}
 use Rattle.vtl_join.proofs.closing.joined_table.Goals as goal
 
-pub beside_table-requires-clause-lead : goal.beside_table-requires-clause-lead
-beside_table-requires-clause-lead c =
-    let ds = sets_of c.args.operands.now in
-    let r = subst (λ (o : Operand). Refers c.args.kind ds c.reference_place-place.result o.set c.args.made.now) c.index-operands-place.is (refers c.args.kind c.args.operands.now c.args.made.now c.reference_place-place.result c.index-operands-place.result c.requires c.operands_are_sets.ensures c.reference_place-place.ensures c.index-operands-place.is) in
-    r.there
-
-pub beside_table-requires-clause-identifiers : goal.beside_table-requires-clause-identifiers
-beside_table-requires-clause-identifiers c =
-    let ds = sets_of c.args.operands.now in
-    let r = subst (λ (o : Operand). Refers c.args.kind ds c.reference_place-place.result o.set c.args.made.now) c.index-operands-place.is (refers c.args.kind c.args.operands.now c.args.made.now c.reference_place-place.result c.index-operands-place.result c.requires c.operands_are_sets.ensures c.reference_place-place.ensures c.index-operands-place.is) in
-    let o = get_or c.args.operands.now c.reference_place-place.result c.index-operands-place.result in
-    beside_identifiers c.args.kind o.set.structure c.args.made.now (structures_of ds) c.in-Inner.is r.together
-
 pub full_table-requires-clause-all : goal.full_table-requires-clause-all
 full_table-requires-clause-all c =
     let ds = sets_of c.args.operands.now in
     let r = subst (λ (o : Operand). Refers c.args.kind ds c.reference_place-place.result o.set c.args.made.now) c.index-operands-place.is (refers c.args.kind c.args.operands.now c.args.made.now c.reference_place-place.result c.index-operands-place.result c.requires c.operands_are_sets.ensures c.reference_place-place.ensures c.index-operands-place.is) in
     let a = (get_or c.args.operands.now c.reference_place-place.result c.index-operands-place.result).set.structure in
     all_have a ds (subst (λ (k : JoinKind). GoTogether k a (structures_of ds) c.args.made.now) c.in-Full.is r.together).1
-
-pub returns-in-Inner-clause-rows : goal.returns-in-Inner-clause-rows
-returns-in-Inner-clause-rows c =
-    let ds = sets_of c.args.operands.now in
-    let r = subst (λ (o : Operand). Refers c.args.kind ds c.reference_place-place.result o.set c.args.made.now) c.index-operands-place.is (refers c.args.kind c.args.operands.now c.args.made.now c.reference_place-place.result c.index-operands-place.result c.requires c.operands_are_sets.ensures c.reference_place-place.ensures c.index-operands-place.is) in
-    let o = get_or c.args.operands.now c.reference_place-place.result c.index-operands-place.result in
-    subst (λ (l : List Row). IfOk c.beside_table.result (λ t. t.rows ≡ l)) (beside_join c.args.kind o.set ds c.in-Inner.is ∙ sym r.join) c.beside_table.ensures.rows

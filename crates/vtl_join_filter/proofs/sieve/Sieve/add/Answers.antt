@@ -19,3 +19,9 @@ returns-clause-found c =
     let now : Sieve = record { kept = old.kept; seen = old.seen; waiting = c.extend_from_slice.new.self } in
     subst (λ (s : Sifted). OnOk c.settle.result (so_far a c.settle.new.self ≡ s))
     (added a old now c.args.tuple.now c.requires.ready c.requires.wide refl refl c.in_ok-extend_from_slice.ensures.items) c.settle.ensures.found
+
+pub returns-then-len-saturating_mul-clause-found : goal.returns-then-len-saturating_mul-clause-found
+returns-then-len-saturating_mul-clause-found c =
+    let old = c.args.self.now in
+    let now : Sieve = record { kept = old.kept; seen = old.seen; waiting = c.extend_from_slice.new.self } in
+    added c.args.asked.now old now c.args.tuple.now c.requires.ready c.requires.wide refl refl c.in_ok-extend_from_slice.ensures.items
