@@ -1,2 +1,5 @@
 pub mod Sifts
 pub mod Combined
+pub mod SureValues
+pub mod Equations
+pub mod Partnered

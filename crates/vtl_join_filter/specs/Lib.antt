@@ -1,1 +1,3 @@
 pub mod Sifting
+pub mod Sure
+pub mod Partners

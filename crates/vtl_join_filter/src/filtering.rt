@@ -13,6 +13,7 @@ ghost use Rattle.vtl_meaning.specs.Shapes.{IsJoinedFrom};
 ghost use Rattle.vtl_join.specs.Joining.{IsBeside, sets_of, typed_operands};
 
 use crate::crossing::add_all;
+use crate::partners::partners;
 use crate::sieve::{Asked, Sieve};
 use std::alloc::Global;
 use vtl_clause::filter;
@@ -45,8 +46,9 @@ fn crossed_table(
         condition: prepare(alloc, condition)?,
         profile: p,
     };
+    let partners = partners(alloc, &asked, condition)?;
     let mut sieve = Sieve::new(alloc, made)?;
-    add_all(alloc, &asked, &mut sieve, &counts)?;
+    add_all(alloc, &asked, &partners, &mut sieve, &counts)?;
     sieve.finish(alloc, &asked)
 }
 
