@@ -79,6 +79,17 @@ formed() {
 # A script that is its own canonical text.
 is_formed() { formed "$1" "$1"; }
 
+# The script of a whole run is so, unless it is none, or its layout is what the case is about.
+is_formed_in() {
+    [ -f "$1/script.vtl" ] && [ ! -e "$1/unformed" ] || return
+    line=
+    [ ! -e "$1/line" ] || read -r line <"$1/line"
+    case $line in
+        'error: syntax '* | 'error: not text: script.vtl' | 'error: too long: script.vtl') ;;
+        *) is_formed "$1/script.vtl" ;;
+    esac
+}
+
 # A call of the program in the folder. What it prints is left in files, but where the case names a device for its standard
 # output. Where the case has a limit, it is killed after so many seconds of processor time.
 called() {
@@ -99,7 +110,7 @@ laid_out() {
     rm -rf "$folder"
     cp -R "$case" "$folder"
     [ -e "$folder/structures.csv" ] || [ ! -e "$case/../structures.csv" ] || cp "$case/../structures.csv" "$folder"
-    (cd "$folder" && rm -rf expected line code told words setup seconds stdout out && mkdir out) || return
+    (cd "$folder" && rm -rf expected line code told words setup seconds stdout unformed out && mkdir out) || return
     if [ -e "$case/setup" ] && ! (cd "$folder" && sh "$case/setup"); then
         fail "$case: setup failed"
         return 1
@@ -492,7 +503,12 @@ for folder in cases/*/; do
     word=$(basename "$folder")
     wanted "$word" || continue
     case $word in
-        run) for case in cases/run/*/; do run_three_ways "$top/${case%/}"; done ;;
+        run)
+            for case in cases/run/*/; do
+                run_three_ways "$top/${case%/}"
+                is_formed_in "$case"
+            done
+            ;;
         engine) for case in cases/engine/*/; do run "$top/${case%/}"; done ;;
         translated) for case in cases/translated/*/; do translated "$top/${case%/}"; done ;;
         explain)
@@ -532,6 +548,23 @@ for folder in cases/*/; do
                 formed "$file" "${file%.vtl}.formed"
                 is_formed "${file%.vtl}.formed"
             done
+            mkdir "$made/blocks"
+            awk -v folder="$made/blocks" '/^```vtl$/ { file = folder "/" ++count ".vtl"; next }
+                /^```$/ { file = "" }
+                file != "" { print >file }' docs/*.md
+            for file in "$made"/blocks/*.vtl; do is_formed "$file"; done
+            # A script of 65,536 bytes, of as many tokens as these can be.
+            awk -v folder="$made" 'BEGIN {
+                printf "R<-union(a" >(folder "/long.vtl")
+                printf "R <- union(\n  a" >(folder "/long.formed")
+                for (i = 0; i < 32762; i++) {
+                    printf ",a" >(folder "/long.vtl")
+                    printf ",\n  a" >(folder "/long.formed")
+                }
+                printf ");" >(folder "/long.vtl")
+                printf "\n);\n" >(folder "/long.formed")
+            }'
+            formed "$made/long.vtl" "$made/long.formed"
             ;;
         types) for file in cases/types/*.csv; do table types cases/types/structures.txt "$file"; done ;;
         depth) for file in cases/depth/*.csv; do nests syntax "$file" 1, 0,0; done ;;
@@ -557,7 +590,7 @@ if wanted examples; then
     for case in examples/*/; do
         run_three_ways "$top/${case%/}"
         [ ! -e "$case/text.sql" ] || printed_in_sql "$case/text.sql"
-        [ ! -e "$case/script.vtl" ] || is_formed "$case/script.vtl"
+        is_formed_in "$case"
     done
 fi
 # The launcher says what differs from a script's canonical text, and puts this into its file.

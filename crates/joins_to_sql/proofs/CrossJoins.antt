@@ -1,11 +1,12 @@
 -- A cross join: a select over all operands, each point with each.
-use Rattle.std.proofs.Common.{◌≡◌, ◌<◌, ◌+◌, ◌^◌, ℕ, suc, true, List, [], ◌∷◌, ◌++◌, length, map, None, Ok, refl, ap, sym, ◌∙◌, subst, arith, append_assoc, append-nil, length-append}
+use Rattle.std.proofs.Common.{◌≡◌, ◌<◌, ◌+◌, ◌^◌, ℕ, suc, true, List, [], ◌∷◌, ◌++◌, length, map, Option, Some, None, Ok, refl, ap, sym, ◌∙◌, subst, arith, append_assoc, append-nil, length-append}
 use Rattle.std.specs.Prelude.{fold, is_some}
 use Rattle.std.specs.List.{AllByRecursion, flat_map}
 use Rattle.std.proofs.lemmas.Grind.{flat_map-append}
 use Rattle.std.proofs.lemmas.List.{get_or_append_left, get_or-append-add, length-map}
 use Rattle.std.proofs.lemmas.List.Folds.{flat_map-map}
 use Rattle.grammar_forms.specs.Written.{Each}
+use Rattle.vtl_cell.specs.Outcome.{Outcome, after}
 use Rattle.vtl_cell.specs.Row.{Row, column_of}
 use Rattle.vtl_decimal.specs.Settings.{Settings}
 use Rattle.vtl_cell.specs.declared.cell.Cell.TheVariants as c
@@ -27,17 +28,20 @@ use Rattle.vtl_meaning.proofs.Agreements.{own_values}
 use Rattle.vtl_meaning.proofs.JoinKept.{IsCombination, IsOperandPoint, combinations_are}
 use Rattle.vtl_meaning.proofs.JoinParts.{AreSets}
 use Rattle.vtl_meaning.proofs.Places.{all_map, all_more, all_of_map, point_append, point_length}
-use Rattle.sql_tree.specs.Formed.{IsJoin}
-use Rattle.sql_tree.specs.Trees.{SelectTree, Text}
+use Rattle.sql_tree.specs.Formed.{IsJoin, IsMaybeExp}
+use Rattle.sql_tree.specs.Trees.{Exp, SelectTree, Text}
+use Rattle.sql_check_laws.specs.Fits.{IsMaybeCondition}
 use Rattle.sql_check_laws.specs.Selects.{AreJoinsTyped}
+use Rattle.sql_check_parts.specs.Expressions.{site}
 use Rattle.sql_check_parts.specs.Queries.{joined_scope, scope_of}
 use Rattle.sql_check_parts.specs.Scopes.{add_source}
 use Rattle.sql_meaning.specs.From.{kept_of, pairs, source_rows, with_join}
 use Rattle.sql_meaning.specs.Scripts.{Data, base_of, tables_in}
-use Rattle.expressions_to_sql.specs.Names.{Names}
+use Rattle.expressions_to_sql.specs.Names.{AreNamesFormed, Names}
 use Rattle.expressions_to_sql.specs.ToSql.{Naming}
 use Rattle.selects_to_sql.specs.Writable.{HaveNames}
-use Rattle.joins_to_sql.specs.Joins.{Placed, cross_query, crosses, joined_exps, of_many, placed_from, width_of}
+use Rattle.joins_to_sql.specs.FilteredJoins.{filtered_by}
+use Rattle.joins_to_sql.specs.Joins.{Placed, cross_query, crosses, joined_exps, of_many, placed_from, where_of, width_of}
 use Rattle.selects_to_sql.specs.Queries.{alias_of, select_of, source_as}
 use Rattle.selects_to_sql.specs.Runs.{printable_depth}
 use Rattle.joins_to_sql.proofs.Chains.{joined_of}
@@ -49,8 +53,9 @@ use Rattle.joins_to_sql.proofs.JoinedColumns.{AllShown, ArePlaced, AreWell, each
 use Rattle.joins_to_sql.proofs.JoinedRows.{from_structures, joined_for, joined_values}
 use Rattle.selects_to_sql.proofs.Loose.{all_loose, loose_formed, loose_names, loose_point}
 use Rattle.joins_to_sql.proofs.ManySources.{alias_is_name, all_columns, many_formed, many_names, many_scope, widths}
-use Rattle.selects_to_sql.proofs.SelectItems.{IsFrom}
-use Rattle.selects_to_sql.proofs.Selects.{IsPointOf, expressions_give}
+use Rattle.joins_to_sql.proofs.ShownColumns.{filter_exactly, joined_columns}
+use Rattle.selects_to_sql.proofs.SelectItems.{AllRows, GivesRows, IsFrom}
+use Rattle.selects_to_sql.proofs.Selects.{IsPointOf, IsTest, expressions_give}
 use Rattle.selects_to_sql.proofs.Unions.{one_exactly}
 
 -- ---- a row of points one behind the other
@@ -193,8 +198,8 @@ module _ (p : Settings) (law : Translates p) (before : Data) (d : DataSet) (ds :
   abbrev naming : Naming
   naming = of_many 0 (map width_of ss)
 
-  abbrev select : SelectTree
-  select = select_of p naming es s (source_as (alias_of 0) x) (crosses 1 xs) None
+  abbrev select : Option Exp → SelectTree
+  select test = select_of p naming es s (source_as (alias_of 0) x) (crosses 1 xs) test
 
   made : AreFor p (all_loose columns) es (columns_of s)
   made =
@@ -203,19 +208,21 @@ module _ (p : Settings) (law : Translates p) (before : Data) (d : DataSet) (ds :
       let there : ArePlaced columns all = subst (λ ys. ArePlaced ys all) (flat_map-map columns_of (λ e. e.structure) (d ∷ ds) ∙ sym (flat_map-map (λ ys. ys) (λ e. columns_of e.structure) (d ∷ ds))) (placed_all [] 0 ss refl) in
       joined_for p columns s all all well well there there (ids ∙ ap (kinds_of_all identifiers_of) (sym same)) (measures ∙ ap (kinds_of_all measures_of) (sym same)) (attributes ∙ ap (kinds_of_all attributes_of) (sym same))
 
-  scope_is : scope_of (tables_in before) select ≡ many_scope 0 yss
-  scope_is =
+  scope_is : (test : Option Exp) → scope_of (tables_in before) (select test) ≡ many_scope 0 yss
+  scope_is test =
       ap (λ z. joined_scope (tables_in before) (add_source [] (alias_of 0) z) (crosses 1 xs)) held.0.known
       ∙ crossed_scope p before ds xs 1 first refl few held.1
       ∙ ap (many_scope 0) (all_done p before ds first)
 
-  rows_given : source_rows (base_of p before) select ≡ Ok (map row_with ts)
-  rows_given =
+  -- the rows behind the joins
+  rows_joined : (test : Option Exp) → source_rows (base_of p before) (select test) ≡ kept_of (base_of p before) test (joined_of (many_scope 0 yss) (map row_with ts) None)
+  rows_joined test =
       let b = base_of p before in
-      ap (λ z. kept_of b None (fold (with_join b) (joined_of (add_source [] (alias_of 0) z) (b.rows x) None) (crosses 1 xs))) held.0.known
-      ∙ ap (λ l. kept_of b None (fold (with_join b) (joined_of (many_scope 0 first) l None) (crosses 1 xs))) (rows_held p before x d held.0 ∙ sym (first_rows d))
-      ∙ ap (kept_of b None) (crossed_joins p before ds xs 1 first (crossed_with ([] ∷ []) (operand_points d)) refl few held.1)
-      ∙ ap (λ l. Ok (map row_with l)) (sym (crossed_each (map operand_points (d ∷ ds))))
+      ap (λ z. kept_of b test (fold (with_join b) (joined_of (add_source [] (alias_of 0) z) (b.rows x) None) (crosses 1 xs))) held.0.known
+      ∙ ap (λ l. kept_of b test (fold (with_join b) (joined_of (many_scope 0 first) l None) (crosses 1 xs))) (rows_held p before x d held.0 ∙ sym (first_rows d))
+      ∙ ap (kept_of b test) (crossed_joins p before ds xs 1 first (crossed_with ([] ∷ []) (operand_points d)) refl few held.1)
+      ∙ ap (λ z. kept_of b test (joined_of (many_scope 0 z) (map row_with (fold crossed_with (crossed_with ([] ∷ []) (operand_points d)) (map operand_points ds))) None)) (all_done p before ds first)
+      ∙ ap (λ l. kept_of b test (joined_of (many_scope 0 yss) (map row_with l) None)) (sym (crossed_each (map operand_points (d ∷ ds))))
 
   are : AllByRecursion (IsCombination ss) ts
   are = combinations_are (d ∷ ds) sets
@@ -228,17 +235,6 @@ module _ (p : Settings) (law : Translates p) (before : Data) (d : DataSet) (ds :
       let same : flat_map columns_of (map (λ y. y.structure) t) ≡ columns = ap (flat_map columns_of) h.structures ∙ flat_map-map columns_of (λ e. e.structure) (d ∷ ds) ∙ sym (flat_map-map (λ ys. ys) (λ e. columns_of e.structure) (d ∷ ds)) in
       loose_point columns (row_with t) (subst (λ ys. is_point ys (row_with t) ≡ true) same (row_typed t h.points))) ts are)
 
-  from_is : IsFrom p before (many_scope 0 yss) select
-  from_is = record {
-    scope = scope_is;
-    source = ((ap is_some held.0.known, refl), (held.0.word, alias_is_name 0 (omega arith)));
-    joins = (
-      subst (λ z. AreJoinsTyped p (tables_in before) (add_source [] (alias_of 0) z) (crosses 1 xs)) (sym held.0.known) (crosses_typed p before ds xs 1 first refl few held.1),
-      crosses_printed p before ds xs 1 few held.1,
-    );
-    condition = (tt, tt);
-  }
-
   point_values : map (point_of p es) (map row_with ts) ≡ map tuple_point (cross_tuples (d ∷ ds))
   point_values =
       map-map (point_of p es) row_with ts
@@ -249,14 +245,46 @@ module _ (p : Settings) (law : Translates p) (before : Data) (d : DataSet) (ds :
       joined_values p (row_with t) all all (map present t) (crossed t) shown shown (keys_shown t h.points)) ts are)
       ∙ sym (map-map tuple_point crossed ts)
 
-  pub cross_exactly : IsExactly p before (cross_query p ss s (x ∷ xs)) s (Ok (map tuple_point (cross_tuples (d ∷ ds))))
-  cross_exactly =
-      let widths_are : widths yss ++ [] ≡ map width_of ss = append-nil (widths yss) ∙ map-map (λ ys. length ys) (λ e. columns_of e.structure) (d ∷ ds) ∙ sym (map-map width_of (λ e. e.structure) (d ∷ ds)) in
+  widths_are : widths yss ++ [] ≡ map width_of ss
+  widths_are = append-nil (widths yss) ∙ map-map (λ ys. length ys) (λ e. columns_of e.structure) (d ∷ ds) ∙ sym (map-map width_of (λ e. e.structure) (d ∷ ds))
+
+  names : Names naming (many_scope 0 yss) (all_loose columns)
+  names =
       let size = length-map (d ∷ ds) (λ e. e.structure) in
       let many = length-map ss width_of in
       let narrow = ap length widths_are in
-      let names = subst (λ l. Names (of_many 0 l) (many_scope 0 yss) columns) widths_are (many_names yss [] (sets_apart (d ∷ ds) sets) (omega (arith, few, size, many, narrow))) in
-      let formed = many_formed 0 (map width_of ss) columns (omega (arith, few, size, many)) (all_named (d ∷ ds) named) in
-      exactly_same p before (select ∷ []) s (each_point p es (map row_with ts)) (Ok (map tuple_point (cross_tuples (d ∷ ds)))) (each_plain p es (map row_with ts) (joined_plain p all all) ∙ ap Ok point_values)
-      (one_exactly p before s given select (each_point p es (map row_with ts))
-      (expressions_give p law naming (all_loose columns) (loose_formed naming columns formed) (many_scope 0 yss) (loose_names naming (many_scope 0 yss) columns names) before es s made (plain_written p es (joined_plain p all all)) given (source_as (alias_of 0) x) (crosses 1 xs) None from_is (Ok (map row_with ts)) rows_given all_typed))
+      loose_names naming (many_scope 0 yss) columns (subst (λ l. Names (of_many 0 l) (many_scope 0 yss) columns) widths_are (many_names yss [] (sets_apart (d ∷ ds) sets) (omega (arith, few, size, many, narrow))))
+
+  formed : AreNamesFormed naming (all_loose columns)
+  formed =
+      let size = length-map (d ∷ ds) (λ e. e.structure) in
+      let many = length-map ss width_of in
+      loose_formed naming columns (many_formed 0 (map width_of ss) columns (omega (arith, few, size, many)) (all_named (d ∷ ds) named))
+
+  -- ---- with a condition of WHERE, and what it leaves of the rows
+
+  module _ (test : Option Exp) (left : Outcome (List Row)) (kept : kept_of (base_of p before) test (joined_of (many_scope 0 yss) (map row_with ts) None) ≡ left) (fits : IsMaybeCondition (site p (tables_in before) (many_scope 0 yss)) None test) (printed : IsMaybeExp printable_depth test) (typed : AllRows (IsPointOf (all_loose columns)) left) where
+    from_is : IsFrom p before (many_scope 0 yss) (select test)
+    from_is = record {
+      scope = scope_is test;
+      source = ((ap is_some held.0.known, refl), (held.0.word, alias_is_name 0 (omega arith)));
+      joins = (
+        subst (λ z. AreJoinsTyped p (tables_in before) (add_source [] (alias_of 0) z) (crosses 1 xs)) (sym held.0.known) (crosses_typed p before ds xs 1 first refl few held.1),
+        crosses_printed p before ds xs 1 few held.1,
+      );
+      condition = (fits, printed);
+    }
+
+    tested_gives : GivesRows p before s (select test) (after left (each_point p es))
+    tested_gives =
+        expressions_give p law naming (all_loose columns) formed (many_scope 0 yss) names before es s made (plain_written p es (joined_plain p all all)) given (source_as (alias_of 0) x) (crosses 1 xs) test from_is left (rows_joined test ∙ kept) typed
+
+  -- its points, or those that a filter leaves
+  filtered : (condition : Option CompExp) → IsTest p (columns_of s) condition → IsExactly p before (filtered_by p condition (cross_query p ss s (x ∷ xs))) s (where_of p condition (map (point_of p es) (map row_with ts)))
+  filtered None test =
+      exactly_same p before (select None ∷ []) s (each_point p es (map row_with ts)) (Ok (map (point_of p es) (map row_with ts))) (each_plain p es (map row_with ts) (joined_plain p all all))
+      (one_exactly p before s given (select None) (each_point p es (map row_with ts)) (tested_gives None (Ok (map row_with ts)) refl tt tt all_typed))
+  filtered (Some e) test = filter_exactly p law before naming (many_scope 0 yss) (all_loose columns) names formed es s made given (joined_columns all all) (map row_with ts) all_typed e test select tested_gives
+
+  pub cross_exactly : (condition : Option CompExp) → IsTest p (columns_of s) condition → IsExactly p before (filtered_by p condition (cross_query p ss s (x ∷ xs))) s (where_of p condition (map tuple_point (cross_tuples (d ∷ ds))))
+  cross_exactly condition test = subst (λ l. IsExactly p before (filtered_by p condition (cross_query p ss s (x ∷ xs))) s (where_of p condition l)) point_values (filtered condition test)

@@ -1,5 +1,5 @@
 -- A full join: a left join of each operand with the table of identifiers.
-use Rattle.std.proofs.Common.{◌≡◌, Bool, ◌<◌, ◌+◌, ◌^◌, ℕ, suc, true, List, [], ◌∷◌, ◌++◌, length, map, Option, None, Some, Ok, refl, ap, sym, ◌∙◌, subst, arith, append-nil}
+use Rattle.std.proofs.Common.{◌≡◌, Bool, ◌<◌, ◌+◌, ◌^◌, ℕ, suc, true, List, [], ◌∷◌, ◌++◌, length, map, Option, None, Some, refl, ap, sym, ◌∙◌, subst, arith, append-nil}
 use Rattle.std.specs.List.{AllByRecursion, filter, find, flat_map}
 use Rattle.std.specs.Option.{option_to_list}
 use Rattle.std.proofs.lemmas.List.{length-map}
@@ -22,7 +22,7 @@ use Rattle.vtl_tree.specs.Columns.{common_identifiers, has_identifier, identifie
 use Rattle.vtl_meaning.specs.Agreement.{values_in}
 use Rattle.vtl_meaning.specs.Joined.{Tuple, part_of, structures_of, tuple_at, tuple_point}
 use Rattle.vtl_meaning.specs.Made.{AreAmong, AreFor, HasIdentifiers, attributes_of, component_kinds, kinds_of_all}
-use Rattle.vtl_meaning.specs.Points.{each_point, point_of, with_points}
+use Rattle.vtl_meaning.specs.Points.{point_of, with_points}
 use Rattle.vtl_meaning.proofs.JoinAgreements.{covers, key_only, own_names}
 use Rattle.vtl_meaning.proofs.JoinParts.{AreSets, found_is}
 use Rattle.vtl_meaning.proofs.LookUps.{named_cells}
@@ -34,21 +34,24 @@ use Rattle.sql_tree.specs.declared.word_groups.JoinKind.TheVariants as joining
 use Rattle.sql_meaning.specs.Scripts.{Data}
 use Rattle.expressions_to_sql.specs.ToSql.{Naming, to_sql}
 use Rattle.selects_to_sql.specs.Writable.{HaveNames}
+use Rattle.joins_to_sql.specs.FilteredJoins.{filtered_by}
 use Rattle.joins_to_sql.specs.FullJoins.{full_query, key_structure}
-use Rattle.joins_to_sql.specs.Joins.{Placed, all_tied as ties_of, chain_select, joined_exps, joins_on, many_at, placed_at, placed_from, tied_to, width_of}
+use Rattle.joins_to_sql.specs.Joins.{Placed, all_tied as ties_of, chain_select, joined_exps, joins_on, many_at, placed_at, placed_from, tied_to, where_of, width_of}
 use Rattle.selects_to_sql.specs.Queries.{alias_of, conjunction, select_of, source_as}
 use Rattle.joins_to_sql.proofs.Chains.{AllTied, IsTied, agrees, extended_by, found}
-use Rattle.joins_to_sql.proofs.ChainSelects.{chain_exactly, chain_rows}
-use Rattle.selects_to_sql.proofs.Exact.{IsExactly, exactly_same}
+use Rattle.joins_to_sql.proofs.ChainSelects.{chain_rows, shown_exactly}
+use Rattle.selects_to_sql.proofs.Exact.{IsExactly}
 use Rattle.selects_to_sql.proofs.Expressions.{Translates}
 use Rattle.selects_to_sql.proofs.Givens.{AreGiven}
 use Rattle.joins_to_sql.proofs.HeldOperands.{AreHeld, IsHeld}
 use Rattle.selects_to_sql.proofs.Identifiers.{few_identifiers, identifiers_there}
-use Rattle.joins_to_sql.proofs.JoinedColumns.{AllShown, ArePlaced, AreWell, each_plain, first_placed, joined_plain, placed_all, plain_written}
+use Rattle.joins_to_sql.proofs.JoinedColumns.{AllShown, ArePlaced, AreWell, first_placed, joined_plain, placed_all, plain_written}
 use Rattle.joins_to_sql.proofs.JoinedRows.{IsFound, first_shown, founds, from_structures, joined_for, joined_values, left_extended, parts_found, shown_from, with_parts}
 use Rattle.joins_to_sql.proofs.KeyColumns.{keep_all, key_columns, key_identifiers, key_is_structure, keyed, keyed_cells}
+use Rattle.joins_to_sql.proofs.ShownColumns.{joined_columns}
 use Rattle.selects_to_sql.proofs.Loose.{all_loose}
 use Rattle.selects_to_sql.proofs.OneOperand.{same_functions}
+use Rattle.selects_to_sql.proofs.Selects.{IsTest}
 
 -- the operands have the same identifiers
 abbrev pub HaveSame : List Component → List Structure → Type 0
@@ -181,10 +184,9 @@ module _ (p : Settings) (law : Translates p) (before : Data) (r : Structure) (w 
   abbrev rows : List Row
   rows = chain_rows p law before (with_points t keys) well key_given.named typed x here f joining.Left tt ds xs few_sources held
 
-  given_rows : IsExactly p before (tied_query p r ss s xs x) s (Ok (map (point_of p es) rows))
-  given_rows =
-      exactly_same p before (tied_query p r ss s xs x) s (each_point p es rows) (Ok (map (point_of p es) rows)) (each_plain p es rows (joined_plain p lead all))
-      (chain_exactly p law before (with_points t keys) well key_given.named typed x here f joining.Left tt ds xs few_sources held (all_tied ds sets named among) es s made (plain_written p es (joined_plain p lead all)) given None tt)
+  given_rows : (condition : Option CompExp) → IsTest p (columns_of s) condition → IsExactly p before (filtered_by p condition (tied_query p r ss s xs x)) s (where_of p condition (map (point_of p es) rows))
+  given_rows condition asked =
+      shown_exactly p law before (with_points t keys) well key_given.named typed x here f joining.Left tt ds xs few_sources held (all_tied ds sets named among) es s made (plain_written p es (joined_plain p lead all)) given (joined_columns lead all) condition asked
 
   -- ---- its rows
 
@@ -212,15 +214,16 @@ module _ (p : Settings) (law : Translates p) (before : Data) (r : Structure) (w 
   one_row : (q : Row) → is_point first q ≡ true → given_by q ≡ tuple_point (tuple q) ∷ []
   one_row q h = ap (map (point_of p es)) (left_extended (founds (found_at q) ds) q) ∙ ap (λ z. z ∷ []) (row_value q h)
 
-  pub full_exactly : IsExactly p before (full_query p r ss s xs x) s (Ok (map (λ q. tuple_point (tuple q)) keys))
-  full_exactly =
-      subst (λ q. IsExactly p before q s (Ok (map (λ q. tuple_point (tuple q)) keys))) (sym (all_tied_by p r ss s xs x among))
-      (exactly_same p before (tied_query p r ss s xs x) s (Ok (map (point_of p es) rows)) (Ok (map (λ q. tuple_point (tuple q)) keys))
-      (ap Ok
-      (map-flat_map (point_of p es) (λ q. extended_by joining.Left (founds (found_at q) ds) q) keys
+  row_values : map (point_of p es) rows ≡ map (λ q. tuple_point (tuple q)) keys
+  row_values =
+      map-flat_map (point_of p es) (λ q. extended_by joining.Left (founds (found_at q) ds) q) keys
       ∙ flat_map_same given_by (λ q. tuple_point (tuple q) ∷ []) keys (all_more (λ q. is_point first q ≡ true) (λ q. given_by q ≡ tuple_point (tuple q) ∷ []) one_row keys typed)
-      ∙ flat_map_single (λ q. tuple_point (tuple q)) keys))
-      given_rows)
+      ∙ flat_map_single (λ q. tuple_point (tuple q)) keys
+
+  pub full_exactly : (condition : Option CompExp) → IsTest p (columns_of s) condition → IsExactly p before (filtered_by p condition (full_query p r ss s xs x)) s (where_of p condition (map (λ q. tuple_point (tuple q)) keys))
+  full_exactly condition asked =
+      subst (λ q. IsExactly p before (filtered_by p condition q) s (where_of p condition (map (λ q. tuple_point (tuple q)) keys))) (sym (all_tied_by p r ss s xs x among))
+      (subst (λ l. IsExactly p before (filtered_by p condition (tied_query p r ss s xs x)) s (where_of p condition l)) row_values (given_rows condition asked))
 
   -- the rows of the table are these tuples in any order
   pub full_turned : (ks : List Row) → AllByRecursion (λ k. is_point ids k ≡ true) ks → Perm keys (map (keyed ids) ks) → Perm (map (λ q. tuple_point (tuple q)) keys) (map (λ k. tuple_point (tuple_at ids ds k)) ks)

@@ -1,5 +1,5 @@
 -- The tables of a full join mean it.
-use Rattle.std.proofs.Common.{◌≡◌, ◌<◌, ◌+◌, ◌^◌, ℕ, true, List, [], ◌∷◌, ◌++◌, length, map, Result, Ok, Err, refl, ap, sym, ◌∙◌, subst, arith, append-nil, length-append}
+use Rattle.std.proofs.Common.{◌≡◌, ◌<◌, ◌+◌, ◌^◌, ℕ, true, List, [], ◌∷◌, ◌++◌, length, map, Option, Result, Ok, Err, refl, ap, sym, ◌∙◌, subst, arith, append-nil, length-append}
 use Rattle.std.specs.List.{AllByRecursion, flat_map}
 use Rattle.std.proofs.lemmas.List.{length-map}
 use Rattle.vtl_cell.specs.Outcome.{Outcome, after}
@@ -10,6 +10,7 @@ use Rattle.vtl_text.specs.Words.{is_word}
 use Rattle.vtl_lists.proofs.Perms.{AllByRecursion-Perm, Perm-append, Perm-map, Perm-same, Perm-sym}
 use Rattle.vtl_syntax.specs.declared.word_groups.JoinKind.TheVariants as join
 use Rattle.vtl_rows.specs.Tables.{cells_at}
+use Rattle.vtl_tree.specs.CompExp.{CompExp}
 use Rattle.vtl_tree.specs.DataSet.{is_point}
 use Rattle.vtl_tree.specs.Environment.{DataSet}
 use Rattle.vtl_tree.specs.Structure.{IsStructure, columns_of}
@@ -30,11 +31,13 @@ use Rattle.vtl_meaning.proofs.Places.{all_append, all_map, all_more, all_of_map,
 use Rattle.sql_tree.specs.Trees.{QueryTree, Text}
 use Rattle.sql_meaning.specs.Scripts.{Data, NamedFault}
 use Rattle.selects_to_sql.specs.Writable.{HaveNames}
+use Rattle.joins_to_sql.specs.FilteredJoins.{filtered_by, filtered_made}
 use Rattle.joins_to_sql.specs.FullJoins.{full_query, key_structure, keys_query, once_query, or_spare}
 use Rattle.selects_to_sql.specs.Means.{AreEarlier, AreThere, Means, NodeGives, SourcesGive, StandsAs}
 use Rattle.selects_to_sql.specs.Runs.{held, run}
 use Rattle.selects_to_sql.specs.Tables.{Sources, and_then, by_names, numbered, over, stored, table_of, with_last, with_one}
 use Rattle.joins_to_sql.specs.JoinTables.{full_made, keys_of}
+use Rattle.joins_to_sql.specs.Joins.{where_of}
 use Rattle.selects_to_sql.proofs.Composition.{all_earlier, beside_gives, no_tables, one_gives, over_gives, stored_gives}
 use Rattle.selects_to_sql.proofs.Exact.{IsExactly, means_by}
 use Rattle.selects_to_sql.proofs.Expressions.{Translates}
@@ -44,7 +47,9 @@ use Rattle.joins_to_sql.proofs.HeldOperands.{AreHeld, IsHeld, turned}
 use Rattle.joins_to_sql.proofs.KeyColumns.{key_columns, key_given, key_is_structure, keyed, keyed_point, once_keyed}
 use Rattle.joins_to_sql.proofs.KeyTables.{keys_exactly}
 use Rattle.joins_to_sql.proofs.OnceRows.{once_exactly}
+use Rattle.joins_to_sql.proofs.ShownColumns.{where_respects}
 use Rattle.selects_to_sql.proofs.Running.{columns_there, run_stops}
+use Rattle.selects_to_sql.proofs.Selects.{IsTest}
 
 -- ---- the order of operands' points
 
@@ -197,12 +202,12 @@ module _ (p : Settings) (law : Translates p) (s : Structure) (given : AreGiven (
 
   -- ---- the operands beside them
 
-  pub full_mean : (now : Data) (xs : List Text) (y : Text) → AreThere now xs ds → StandsAs now y t (each_once same_row keys) → Means p now (full_query p a ss s xs y) s (Ok (join_of join.Full ds))
-  full_mean now xs y there st =
+  pub full_mean : (now : Data) (xs : List Text) (y : Text) → AreThere now xs ds → StandsAs now y t (each_once same_row keys) → (condition : Option CompExp) → IsTest p (columns_of s) condition → Means p now (filtered_by p condition (full_query p a ss s xs y)) s (where_of p condition (join_of join.Full ds))
+  full_mean now xs y there st condition asked =
       let it = turned now xs ds there sets in
       go it.0 it.1.held it.1.same it.1.sets (it.1.structures ∙ are)
     where
-      go : (es : List DataSet) → AreHeld now xs es → SameOperands es ds → AreSets es → structures_of es ≡ ss → Means p now (full_query p a ss s xs y) s (Ok (join_of join.Full ds))
+      go : (es : List DataSet) → AreHeld now xs es → SameOperands es ds → AreSets es → structures_of es ≡ ss → Means p now (filtered_by p condition (full_query p a ss s xs y)) s (where_of p condition (join_of join.Full ds))
       go [] h same all e = cc
       go (d ∷ rest) h same all e =
           let es = d ∷ rest in
@@ -213,22 +218,23 @@ module _ (p : Settings) (law : Translates p) (s : Structure) (given : AreGiven (
           let measures = i.measures ∙ ap (kinds_of_all measures_of) (sym e) in
           let attributes = i.attributes ∙ ap (kinds_of_all attributes_of) (sym e) in
           let point : Row → Row = λ k. tuple_point (tuple_at ids es k) in
-          let exact = full_exactly p law now a well rows y here own_given typed es xs s h all (all_named es e) (few_sets es e) given together.0 (same_in es e) measures attributes in
+          let row : Row → Row = λ q. point (cells_at (places_in (columns_of t) ids) q) in
+          let exact = full_exactly p law now a well rows y here own_given typed es xs s h all (all_named es e) (few_sets es e) given together.0 (same_in es e) measures attributes condition asked in
           let by_keys = full_turned p law now a well rows y here own_given typed es xs s h all (all_named es e) (few_sets es e) given together.0 (same_in es e) measures attributes (all_keys ids ds) tuples_are (chain st.same (Perm-same (each_once same_row keys) (map (keyed ids) (all_keys ids ds)) (once_keyed ids tuples))) in
           let reordered : Perm (map point (all_keys ids ds)) (map point (all_keys ids es)) = Perm-map point (Perm-sym (once_respects same_row rows_apart (keys_respect ids es ds same))) in
           let joined : map point (all_keys ids es) ≡ join_of join.Full es = sym (map-map tuple_point (tuple_at ids es) (all_keys ids es)) ∙ ap (λ b. map tuple_point (map (tuple_at (identifiers_of b) es) (all_keys (identifiers_of b) es))) (sym first) in
-          means_by p now (full_query p a ss s xs y) s _ (Ok (join_of join.Full ds))
-          (chain by_keys (chain reordered (chain (Perm-same (map point (all_keys ids es)) (join_of join.Full es) joined) (join_order join.Full es ds same all s (subst (λ l. IsJoined join.Full l s) (sym e) i)))))
-          (subst (λ l. IsExactly p now (full_query p a l s xs y) s (Ok (map (λ q. tuple_point (tuple_at ids es (cells_at (places_in (columns_of t) ids) q))) rows))) e exact)
+          means_by p now (filtered_by p condition (full_query p a ss s xs y)) s (where_of p condition (map row rows)) (where_of p condition (join_of join.Full ds))
+          (where_respects p condition (map row rows) (join_of join.Full ds) (chain by_keys (chain reordered (chain (Perm-same (map point (all_keys ids es)) (join_of join.Full es) joined) (join_order join.Full es ds same all s (subst (λ l. IsJoined join.Full l s) (sym e) i))))))
+          (subst (λ l. IsExactly p now (filtered_by p condition (full_query p a l s xs y)) s (where_of p condition (map row rows))) e exact)
 
   -- ---- the tables
 
-  module _ (r : Text) (word : is_word r ≡ true) where
+  module _ (r : Text) (word : is_word r ≡ true) (condition : Option CompExp) (asked : IsTest p (columns_of s) condition) where
     -- of the identifiers
     keys_give : (now : Data) (xs : List Text) (n : ℕ) → AreThere now xs ds → AreEarlier r n now → n + 2 < 2 ^ 64 → SourcesGive p now r n (keys_of p r a ss xs n) (Ok (with_points t (each_once same_row keys) ∷ []))
     keys_give = keys_stand p r word a ss keys ds keys_mean once_mean
 
-    pub full_there : (before : Data) (n : ℕ) (os : Sources) → AreEarlier r n before → n + length (full_made p r ss s os).tables < 2 ^ 64 → SourcesGive p before r n os (Ok ds) → NodeGives p before r n (full_made p r ss s os) s (Ok (join_of join.Full ds))
+    pub full_there : (before : Data) (n : ℕ) (os : Sources) → AreEarlier r n before → n + length (full_made p r ss s os).tables < 2 ^ 64 → SourcesGive p before r n os (Ok ds) → NodeGives p before r n (filtered_made p condition (full_made p r ss s os)) s (where_of p condition (join_of join.Full ds))
     full_there before n os apart few g =
         let next : ℕ → Sources = keys_of p r a ss os.names in
         let key : DataSet = with_points t (each_once same_row keys) in
@@ -236,22 +242,22 @@ module _ (p : Settings) (law : Translates p) (s : Structure) (given : AreGiven (
         let two : length (next os.next).tables ≡ 2 = refl in
         let both : SourcesGive p before r n (and_then os next) (Ok (ds ++ key ∷ [])) =
         beside_there p r word before n os next ds (Ok (key ∷ [])) apart g (λ more there earlier counted. keys_give (before ++ more) os.names os.next there earlier (omega (arith, few, counted, size, two))) in
-        over_gives p r word before n (and_then os next) (with_last (full_query p a ss s)) s (Ok (ds ++ key ∷ [])) (λ l. Ok (join_of join.Full ds)) both
+        over_gives p r word before n (and_then os next) (λ xs. filtered_by p condition (with_last (full_query p a ss s) xs)) s (Ok (ds ++ key ∷ [])) (λ l. where_of p condition (join_of join.Full ds)) both
         (λ later l e h.
         let same : ds ++ key ∷ [] ≡ l = cc in
         let y = numbered r (over (stored r (over (by_names os.names os.next) (keys_query p a ss))) (with_one (once_query p t))).next in
         let parts = there_parts later os.names y ds key (before ++ g.0.more) g.1 (subst (AreThere later (os.names ++ y ∷ [])) (sym same) h) in
-        subst (λ q. Means p later q s (Ok (join_of join.Full ds))) (sym (last_is (full_query p a ss s) os.names y)) (full_mean later os.names y parts.0 parts.1))
+        subst (λ q. Means p later (filtered_by p condition q) s (where_of p condition (join_of join.Full ds))) (sym (last_is (full_query p a ss s) os.names y)) (full_mean later os.names y parts.0 parts.1 condition asked))
 
 -- ---- where an operand has a fault, too
 
-pub full_gives : (p : Settings) → Translates p → (s : Structure) → AreGiven (columns_of s) → (ss : List Structure) → AllByRecursion (λ b. HaveNames (columns_of b)) ss → 1 + length ss < 2 ^ 64 → IsJoined join.Full ss s → (r : Text) → is_word r ≡ true → (before : Data) (n : ℕ) (os : Sources) (v : Outcome (List DataSet))
-    → ((ds : List DataSet) → v ≡ Ok ds → (structures_of ds ≡ ss) × AreSets ds) → AreEarlier r n before → n + length (full_made p r ss s os).tables < 2 ^ 64 → SourcesGive p before r n os v → NodeGives p before r n (full_made p r ss s os) s (after v (λ ds. Ok (join_of join.Full ds)))
-full_gives p law s given [] named few i r word before n os v sets apart most g = let there = i.there in cc
-full_gives p law s given (a ∷ others) named few i r word before n os (Ok ds) sets apart most g =
+pub full_gives : (p : Settings) → Translates p → (s : Structure) → AreGiven (columns_of s) → (ss : List Structure) → AllByRecursion (λ b. HaveNames (columns_of b)) ss → 1 + length ss < 2 ^ 64 → IsJoined join.Full ss s → (r : Text) → is_word r ≡ true → (condition : Option CompExp) → IsTest p (columns_of s) condition → (before : Data) (n : ℕ) (os : Sources) (v : Outcome (List DataSet))
+    → ((ds : List DataSet) → v ≡ Ok ds → (structures_of ds ≡ ss) × AreSets ds) → AreEarlier r n before → n + length (full_made p r ss s os).tables < 2 ^ 64 → SourcesGive p before r n os v → NodeGives p before r n (filtered_made p condition (full_made p r ss s os)) s (after v (λ ds. where_of p condition (join_of join.Full ds)))
+full_gives p law s given [] named few i r word condition asked before n os v sets apart most g = let there = i.there in cc
+full_gives p law s given (a ∷ others) named few i r word condition asked before n os (Ok ds) sets apart most g =
     let are = sets ds refl in
-    full_there p law s given a others named few i ds are.1 are.0 r word before n os apart most g
-full_gives p law s given (a ∷ others) named few i r word before n os (Err f) sets apart most g =
+    full_there p law s given a others named few i ds are.1 are.0 r word condition asked before n os apart most g
+full_gives p law s given (a ∷ others) named few i r word condition asked before n os (Err f) sets apart most g =
     let next = keys_of p r a (a ∷ others) os.names os.next in
-    let made = full_made p r (a ∷ others) s os in
+    let made = filtered_made p condition (full_made p r (a ∷ others) s os) in
     λ name e. run_stops p before made.tables (table_of name made.query ∷ []) (f, r) (run_stops p before os.tables next.tables (f, r) g)

@@ -2,8 +2,9 @@ pub mod ManySources
 pub mod Ties
 pub mod HeldOperands
 pub mod Chains
-pub mod ChainSelects
 pub mod JoinedColumns
+pub mod ShownColumns
+pub mod ChainSelects
 pub mod JoinedRows
 pub mod ReferenceJoins
 pub mod CrossJoins
@@ -16,5 +17,6 @@ pub mod Joins
 pub mod JoinWritten
 pub mod References
 pub mod JoinForms
+pub mod FilteredForms
 pub mod KeyForms
 pub mod JoinTables

@@ -1,5 +1,5 @@
 -- Inner and left joins: a select over the reference, with which each other operand is joined on the identifiers that both have.
-use Rattle.std.proofs.Common.{◌≡◌, ◌≤◌, ◌<◌, ◌+◌, ◌^◌, ◌&&◌, ℕ, zero, suc, Bool, true, false, cond, List, [], ◌∷◌, ◌++◌, length, map, Option, Some, None, Ok, refl, ap, sym, ◌∙◌, subst, arith, append-nil}
+use Rattle.std.proofs.Common.{◌≡◌, ◌≤◌, ◌<◌, ◌+◌, ◌^◌, ◌&&◌, ℕ, zero, suc, Bool, true, false, cond, List, [], ◌∷◌, ◌++◌, length, map, Option, Some, None, refl, ap, sym, ◌∙◌, subst, arith, append-nil}
 use Rattle.std.specs.Prelude.{is_some, slice_get}
 use Rattle.std.specs.List.{AllByRecursion, find, flat_map, list_all}
 use Rattle.std.specs.Option.{option_to_list}
@@ -21,7 +21,7 @@ use Rattle.vtl_tree.specs.Columns.{common_identifiers, has_identifier, identifie
 use Rattle.vtl_meaning.specs.Agreement.{agree_in, first_agreeing, values_in}
 use Rattle.vtl_meaning.specs.Joined.{Tuple, inner_tuples, is_whole, left_tuples, part_of, structures_of, tuple_beside, tuple_point}
 use Rattle.vtl_meaning.specs.Made.{AreAmong, AreFor, HasIdentifiers, IsColumnAt, attributes_of, component_kinds, kinds_of_all}
-use Rattle.vtl_meaning.specs.Points.{each_point, point_of}
+use Rattle.vtl_meaning.specs.Points.{point_of}
 use Rattle.vtl_meaning.proofs.Agreements.{own_values}
 use Rattle.vtl_meaning.proofs.JoinAgreements.{agreeing_only, agreeing_own, covers}
 use Rattle.vtl_meaning.proofs.JoinKept.{made_of_passing}
@@ -35,18 +35,21 @@ use Rattle.sql_tree.specs.declared.word_groups.JoinKind.{JoinKind}
 use Rattle.sql_tree.specs.declared.word_groups.JoinKind.TheVariants as joining
 use Rattle.sql_meaning.specs.Scripts.{Data}
 use Rattle.selects_to_sql.specs.Writable.{HaveNames}
-use Rattle.joins_to_sql.specs.Joins.{Placed, chain_select, from_reference, joined_exps, placed_around, placed_at, reference_query, width_of, without}
+use Rattle.joins_to_sql.specs.FilteredJoins.{filtered_by}
+use Rattle.joins_to_sql.specs.Joins.{Placed, chain_select, from_reference, joined_exps, placed_around, placed_at, reference_query, where_of, width_of, without}
 use Rattle.joins_to_sql.proofs.Chains.{AllTied, IsOneSided, IsTied, agrees, extended_by, found}
-use Rattle.joins_to_sql.proofs.ChainSelects.{chain_exactly, chain_rows}
-use Rattle.selects_to_sql.proofs.Exact.{IsExactly, exactly_same}
+use Rattle.joins_to_sql.proofs.ChainSelects.{chain_rows, shown_exactly}
+use Rattle.selects_to_sql.proofs.Exact.{IsExactly}
 use Rattle.selects_to_sql.proofs.Expressions.{Translates}
 use Rattle.selects_to_sql.proofs.Givens.{AreGiven}
 use Rattle.joins_to_sql.proofs.HeldOperands.{AreHeld, IsHeld}
 use Rattle.selects_to_sql.proofs.Identifiers.{few_identifiers, fewer, identifiers_there}
-use Rattle.joins_to_sql.proofs.JoinedColumns.{AllShown, ArePlaced, AreWell, Shows, around_all, each_plain, first_placed, joined_plain, plain_written}
+use Rattle.joins_to_sql.proofs.JoinedColumns.{AllShown, ArePlaced, AreWell, Shows, around_all, first_placed, joined_plain, plain_written}
 use Rattle.joins_to_sql.proofs.JoinedRows.{IsFound, all_there, around_structures, first_shown, founds, inner_extended, joined_for, joined_values, left_extended, parts_found, shown_around, with_parts}
+use Rattle.joins_to_sql.proofs.ShownColumns.{joined_columns}
 use Rattle.selects_to_sql.proofs.Loose.{all_loose}
 use Rattle.selects_to_sql.proofs.OneOperand.{same_functions}
+use Rattle.selects_to_sql.proofs.Selects.{IsTest}
 
 -- ---- all but one of several
 
@@ -219,11 +222,11 @@ module _ (p : Settings) (law : Translates p) (before : Data) (ds : List DataSet)
         ∙ ap (from_reference p kind i ss s xs (Some a)) own.1
         ∙ ap (λ l. chain_select p kind first shared l es s None own.0 (without i xs) ∷ []) (sym (without_map (λ d. d.structure) i ds))
 
-    given_rows : IsExactly p before (reference_query p kind i ss s xs) s (Ok (map (point_of p es) rows))
-    given_rows =
-        subst (λ q. IsExactly p before q s (Ok (map (point_of p es) rows))) (sym query_is)
-        (exactly_same p before (chain_select p kind first shared (structures_of others) es s None own.0 (without i xs) ∷ []) s (each_point p es rows) (Ok (map (point_of p es) rows)) (each_plain p es rows (joined_plain p ids all))
-        (chain_exactly p law before r set.well_formed (one_of_all (λ d. HaveNames (columns_of d.structure)) i ds r there named) set.typed own.0 own.2 shared kind one others (without i xs) few_sources (held_without before i xs ds held) tied es s made (plain_written p es (joined_plain p ids all)) given None tt))
+    -- its points, or those that a filter leaves
+    given_rows : (condition : Option CompExp) → IsTest p (columns_of s) condition → IsExactly p before (filtered_by p condition (reference_query p kind i ss s xs)) s (where_of p condition (map (point_of p es) rows))
+    given_rows condition test =
+        subst (λ q. IsExactly p before (filtered_by p condition q) s (where_of p condition (map (point_of p es) rows))) (sym query_is)
+        (shown_exactly p law before r set.well_formed (one_of_all (λ d. HaveNames (columns_of d.structure)) i ds r there named) set.typed own.0 own.2 shared kind one others (without i xs) few_sources (held_without before i xs ds held) tied es s made (plain_written p es (joined_plain p ids all)) given (joined_columns ids all) condition test)
 
     -- ---- its rows
 
@@ -278,16 +281,16 @@ module _ (p : Settings) (law : Translates p) (before : Data) (ds : List DataSet)
   left_rows : (q : Row) → IsOwn joining.Left tt q → given_by joining.Left tt q ≡ tuple_point (tuple joining.Left tt q) ∷ []
   left_rows q h = ap (map (point_of p es)) (left_extended (founds (found_at joining.Left tt q) others) q) ∙ ap (λ z. z ∷ []) (row_value joining.Left tt q h)
 
-  -- a left join
-  pub left_exactly : IsExactly p before (reference_query p joining.Left i ss s xs) s (Ok (map tuple_point (left_tuples r ds)))
-  left_exactly =
-      exactly_same p before (reference_query p joining.Left i ss s xs) s (Ok (map (point_of p es) (rows joining.Left tt))) (Ok (map tuple_point (left_tuples r ds)))
-      (ap Ok
-      (by_points joining.Left tt
+  left_points : map (point_of p es) (rows joining.Left tt) ≡ map tuple_point (left_tuples r ds)
+  left_points =
+      by_points joining.Left tt
       ∙ flat_map_same (given_by joining.Left tt) (λ q. tuple_point (tuple joining.Left tt q) ∷ []) r.points (all_more (IsOwn joining.Left tt) (λ q. given_by joining.Left tt q ≡ tuple_point (tuple joining.Left tt q) ∷ []) left_rows r.points (all_own joining.Left tt))
       ∙ flat_map_single (λ q. tuple_point (tuple joining.Left tt q)) r.points
-      ∙ sym (map-map tuple_point (tuple_beside a ds) r.points)))
-      (given_rows joining.Left tt)
+      ∙ sym (map-map tuple_point (tuple_beside a ds) r.points)
+
+  -- a left join
+  pub left_exactly : (condition : Option CompExp) → IsTest p (columns_of s) condition → IsExactly p before (filtered_by p condition (reference_query p joining.Left i ss s xs)) s (where_of p condition (map tuple_point (left_tuples r ds)))
+  left_exactly condition test = subst (λ l. IsExactly p before (filtered_by p condition (reference_query p joining.Left i ss s xs)) s (where_of p condition l)) left_points (given_rows joining.Left tt condition test)
 
   abbrev whole_of : Row → List Row
   whole_of q = option_to_list (cond (is_whole (tuple_beside a ds q)) (Some (tuple_point (tuple_beside a ds q))) None)
@@ -303,12 +306,12 @@ module _ (p : Settings) (law : Translates p) (before : Data) (ds : List DataSet)
       go true = ap (λ z. z ∷ []) (row_value joining.Inner tt q h)
       go false = refl
 
-  -- an inner join
-  pub inner_exactly : IsExactly p before (reference_query p joining.Inner i ss s xs) s (Ok (map tuple_point (inner_tuples r ds)))
-  inner_exactly =
-      exactly_same p before (reference_query p joining.Inner i ss s xs) s (Ok (map (point_of p es) (rows joining.Inner tt))) (Ok (map tuple_point (inner_tuples r ds)))
-      (ap Ok
-      (by_points joining.Inner tt
+  inner_points : map (point_of p es) (rows joining.Inner tt) ≡ map tuple_point (inner_tuples r ds)
+  inner_points =
+      by_points joining.Inner tt
       ∙ flat_map_same (given_by joining.Inner tt) whole_of r.points (all_more (IsOwn joining.Inner tt) (λ q. given_by joining.Inner tt q ≡ whole_of q) inner_rows r.points (all_own joining.Inner tt))
-      ∙ sym (made_of_passing is_whole tuple_point (tuple_beside a ds) r.points)))
-      (given_rows joining.Inner tt)
+      ∙ sym (made_of_passing is_whole tuple_point (tuple_beside a ds) r.points)
+
+  -- an inner join
+  pub inner_exactly : (condition : Option CompExp) → IsTest p (columns_of s) condition → IsExactly p before (filtered_by p condition (reference_query p joining.Inner i ss s xs)) s (where_of p condition (map tuple_point (inner_tuples r ds)))
+  inner_exactly condition test = subst (λ l. IsExactly p before (filtered_by p condition (reference_query p joining.Inner i ss s xs)) s (where_of p condition l)) inner_points (given_rows joining.Inner tt condition test)

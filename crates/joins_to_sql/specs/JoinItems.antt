@@ -9,6 +9,7 @@ use Rattle.vtl_tree.specs.Columns.{common_identifiers, identifiers_of, measures_
 use Rattle.vtl_meaning.specs.Made.{attributes_of}
 use Rattle.sql_tree.specs.Trees as tree
 use Rattle.sql_tree.specs.Trees.{Exp, JoinTree, QueryTree, Text}
+use Rattle.sql_tree.specs.declared.parts.Column.{Column}
 use Rattle.sql_tree.specs.declared.word_groups.JoinKind.{JoinKind}
 use Rattle.sql_tree.specs.declared.word_groups.JoinKind.TheVariants as joining
 use Rattle.expressions_to_sql.specs.ToSql.{column_of}
@@ -57,8 +58,11 @@ columns_from_all f os = flat_map (columns_from f) os
 abbrev pub joined_values : List Exp → List Aliased → List Exp
 joined_values ids os = ids ++ columns_from_all measures_of os ++ columns_from_all attributes_of os
 
+abbrev pub column_picked : Picked → Column
+column_picked c = column_of c.alias.now c.name.now
+
 abbrev pub picked_column : Picked → Exp
-picked_column c = tree.column (column_of c.alias.now c.name.now)
+picked_column c = tree.column (column_picked c)
 
 -- ---- joins
 

@@ -3,3 +3,4 @@ pub mod FullJoins
 pub mod JoinItems
 pub mod KeyItems
 pub mod JoinTables
+pub mod FilteredJoins

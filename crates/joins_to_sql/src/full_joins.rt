@@ -11,11 +11,12 @@ ghost use Rattle.std.specs.Prelude.{◌≡◌, [], List as ListOf, length, map, 
 ghost use Rattle.vtl_tree.specs.Shown.{shown};
 ghost use Rattle.vtl_tree.specs.declared.structure.Structure.{Structure as StructureOf};
 ghost use Rattle.sql_tree.specs.View.{item_tree, join_tree, query_tree, select_tree};
+ghost use Rattle.joins_to_sql.specs.FilteredJoins.{condition_of, filtered_by};
 ghost use Rattle.joins_to_sql.specs.FullJoins.{full_query, key_structure, keys_query, once_query, or_spare, spare};
 ghost use Rattle.joins_to_sql.specs.JoinItems.{aliased_of, keyed_query, keyed_with};
 ghost use Rattle.joins_to_sql.specs.KeyItems.{identifiers_select, key_items};
 
-use crate::join_items::push_columns;
+use crate::join_items::{condition_over, push_columns};
 use crate::join_operands::{Aliased, with_aliases};
 use crate::join_queries::{joined_on, joined_query, push_others};
 use selects_to_sql::{Writer, from_one, group_of, grouped, one_select, own_items, push_item};
@@ -23,7 +24,7 @@ use sql_tree::{Constant, Item, Join, JoinKind, Query, Select, SqlExpr};
 use std::alloc::{AllocError, Global};
 use vtl_cell::Kind;
 use vtl_text::{List, Txt};
-use vtl_tree::{Component, Role, Structure, common_identifiers, share_component};
+use vtl_tree::{CompExpr, Component, Role, Structure, common_identifiers, share_component};
 
 // The name of the column of a table of identifiers where there are none.
 fn spare_name(alloc: Global) -> Result<Txt, AllocError>
@@ -197,21 +198,25 @@ fn all_keyed(
 // The operands beside a table of identifiers.
 fn keyed_query(
     alloc: Global,
+    writer: &Writer,
     keys: &Aliased<'_>,
     operands: &[Aliased<'_>],
     s: &Structure,
+    condition: Option<&CompExpr>,
 ) -> Result<Query, AllocError>
-    ensures { IfOk result (λ q. query_tree q ≡ keyed_query (aliased_of keys.now) (map aliased_of operands.now) s.now) }
+    ensures { IfOk result (λ q. query_tree q ≡ filtered_by writer.now (condition_of condition.entry) (keyed_query (aliased_of keys.now) (map aliased_of operands.now) s.now)) }
 {
     let mut picked = Vec::new(alloc);
     let identifiers = keys.structure.identifiers(alloc)?;
     push_columns(&mut picked, &keys.alias, &identifiers)?;
     push_others(alloc, &mut picked, operands)?;
     let joins = all_keyed(alloc, keys, operands)?;
-    joined_query(alloc, &picked, s, keys, joins)
+    let condition = condition_over(alloc, writer, &picked, s, condition)?;
+    joined_query(alloc, &picked, s, keys, joins, condition)
 }
 
-/// `full_join`: the operands beside a table of each tuple of their identifiers. It fails only if memory runs out.
+/// `full_join`: the operands beside a table of each tuple of their identifiers, and of this the points at which a condition
+/// is true, where there is one. It fails only if memory runs out.
 pub(crate) fn full_query(
     alloc: Global,
     writer: &Writer,
@@ -220,9 +225,10 @@ pub(crate) fn full_query(
     tables: &[Txt],
     s: &Structure,
     table: &Txt,
+    condition: Option<&CompExpr>,
 ) -> Result<Query, AllocError>
     requires { length tables.now ≡ length structures.now }
-    ensures { IfOk result (λ q. (r : StructureOf) → keys.now ≡ key_structure r → query_tree q ≡ full_query writer.now r (shown structures.now) s.now tables.now table.now) }
+    ensures { IfOk result (λ q. (r : StructureOf) → keys.now ≡ key_structure r → query_tree q ≡ filtered_by writer.now (condition_of condition.entry) (full_query writer.now r (shown structures.now) s.now tables.now table.now)) }
 {
     let operands = with_aliases(alloc, writer, structures.len(), structures, tables)?;
     let first = Aliased {
@@ -230,5 +236,5 @@ pub(crate) fn full_query(
         table: table.share()?,
         structure: keys,
     };
-    keyed_query(alloc, &first, &operands, s)
+    keyed_query(alloc, writer, &first, &operands, s, condition)
 }

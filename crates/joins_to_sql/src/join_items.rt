@@ -1,21 +1,23 @@
 // The items of joins, and their conditions.
-ghost use Rattle.std.specs.Prelude.{◌≡◌, ◌++◌, map, IfOk, OnOk};
+ghost use Rattle.std.specs.Prelude.{◌≡◌, ◌++◌, map, option_map, IfOk, OnOk};
 ghost use Rattle.vtl_tree.specs.Shown.{shown};
 ghost use Rattle.vtl_tree.specs.Structure.{columns_of, of_role};
 ghost use Rattle.sql_tree.specs.View.{expr_tree, item_tree};
 ghost use Rattle.sql_tree.specs.Trees as tree;
-ghost use Rattle.expressions_to_sql.specs.ToSql.{column_of};
+ghost use Rattle.expressions_to_sql.specs.ToSql.{column_of, to_sql};
 ghost use Rattle.selects_to_sql.specs.Items.{all_of};
-ghost use Rattle.joins_to_sql.specs.JoinItems.{aliased_of, column_from, columns_from, columns_from_all, picked_column, tied_with};
+ghost use Rattle.joins_to_sql.specs.JoinItems.{aliased_of, column_from, columns_from, columns_from_all, column_picked, picked_column, tied_with};
+ghost use Rattle.joins_to_sql.specs.FilteredJoins.{condition_of, shown_by};
 ghost use Rattle.selects_to_sql.specs.Queries.{items_as};
 
 use crate::join_operands::Aliased;
-use selects_to_sql::{all_of, between, push_item};
+use expressions_to_sql::{Aliases, comp_to_sql};
+use selects_to_sql::{Writer, all_of, between, push_item};
 use sql_tree::{Column, Item, SqlExpr};
 use std::alloc::{AllocError, Global};
 use vtl_cell::ScalarOp;
 use vtl_text::Txt;
-use vtl_tree::{Component, Role, Structure};
+use vtl_tree::{CompExpr, Component, Role, Structure};
 
 /// A column of an operand: the alias of its source, and its name.
 #[derive(Drop)]
@@ -140,4 +142,39 @@ pub fn all_tied(
         conditions.push(tied_with(alloc, first, alias, component)?)?;
     }
     all_of(alloc, conditions)
+}
+
+// Columns of sources that were picked.
+fn columns_picked(alloc: Global, picked: &[Picked<'_, '_>]) -> Result<Vec<Column>, AllocError>
+    ensures { IfOk result (λ v. v.items ≡ map column_picked picked.now) }
+{
+    let mut columns = Vec::with_capacity(alloc, picked.len())?;
+    for one in picked {
+        columns.push(Column {
+            source: one.alias.share()?,
+            name: one.name.share()?,
+        })?;
+    }
+    Ok(columns)
+}
+
+/// A condition over the points that a select of picked columns shows, over the columns of its sources. It fails only if
+/// memory runs out.
+pub(crate) fn condition_over(
+    alloc: Global,
+    writer: &Writer,
+    picked: &[Picked<'_, '_>],
+    s: &Structure,
+    condition: Option<&CompExpr>,
+) -> Result<Option<SqlExpr>, AllocError>
+    ensures { IfOk result (λ c. option_map expr_tree c ≡ option_map (to_sql writer.now (shown_by (items_as (map picked_column picked.now) (columns_of s.now)))) (condition_of condition.entry)) }
+{
+    let Some(condition) = condition else {
+        return Ok(None);
+    };
+    let names = s.columns(alloc)?;
+    let many = picked.len().min(names.len());
+    let columns = columns_picked(alloc, &picked[..many])?;
+    let at = Aliases::Each(&columns);
+    Ok(Some(comp_to_sql(alloc, condition, &at, writer.profile())?))
 }

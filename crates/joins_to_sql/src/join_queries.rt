@@ -2,23 +2,26 @@
 //
 // A join is one select, with the reference as first source and one JOIN for each other operand, whose ON is
 // equalities with columns of the reference; a cross join has no ON. Aliases are numbered, since there may be many.
+// The filter of a join is the WHERE of that select, in which each component is the column that the select shows for it.
 //
 // Rows behind a left join are no points, since identifiers are null in them; proofs take their columns as measures
 // (Loose.antt of `selects_to_sql`), and one proof of a chain of joins serves inner, left and full (proofs/Chains.antt).
-ghost use Rattle.std.specs.Prelude.{◌≡◌, ◌<◌, ◌++◌, [], length, map, slice_get, IfOk, OnOk};
+ghost use Rattle.std.specs.Prelude.{◌≡◌, ◌<◌, ◌++◌, ◌∷◌, [], length, map, option_map, slice_get, IfOk, OnOk};
 ghost use Rattle.vtl_tree.specs.Shown.{shown};
-ghost use Rattle.sql_tree.specs.View.{join_tree, query_tree};
-ghost use Rattle.joins_to_sql.specs.JoinItems.{aliased_of, crossed_query, crossed_with, joined_on, joined_query, joined_values, joined_with, picked_column, referred_query};
+ghost use Rattle.vtl_tree.specs.Structure.{columns_of};
+ghost use Rattle.sql_tree.specs.View.{expr_tree, join_tree, query_tree};
+ghost use Rattle.joins_to_sql.specs.JoinItems.{aliased_of, crossed_query, crossed_with, joined_on, joined_values, joined_with, picked_column, referred_query};
+ghost use Rattle.joins_to_sql.specs.FilteredJoins.{condition_of, filtered_by};
 ghost use Rattle.joins_to_sql.specs.Joins.{cross_query, reference_query, without};
-ghost use Rattle.selects_to_sql.specs.Queries.{source_as};
+ghost use Rattle.selects_to_sql.specs.Queries.{items_as, select_as, source_as};
 
-use crate::join_items::{Picked, all_tied, named_items, push_columns, push_roles};
+use crate::join_items::{Picked, all_tied, condition_over, named_items, push_columns, push_roles};
 use crate::join_operands::{Aliased, with_aliases};
 use selects_to_sql::{Writer, no_query};
-use sql_tree::{Join, JoinKind, Query, Select, Source};
+use sql_tree::{Join, JoinKind, Query, Select, Source, SqlExpr};
 use std::alloc::{AllocError, Global};
 use vtl_text::{List, Txt};
-use vtl_tree::{Component, Role, Structure, common_identifiers};
+use vtl_tree::{CompExpr, Component, Role, Structure, common_identifiers};
 
 fn source(operand: &Aliased<'_>) -> Result<Source, AllocError>
     ensures { IfOk result (λ x. x ≡ source_as (aliased_of operand.now).alias (aliased_of operand.now).table) }
@@ -30,22 +33,23 @@ fn source(operand: &Aliased<'_>) -> Result<Source, AllocError>
 }
 
 /// A query of one select from operands that are joined with the first, of these columns under the names of those of the
-/// result. It fails only if memory runs out.
+/// result, at the rows at which a condition is true, where there is one. It fails only if memory runs out.
 pub(crate) fn joined_query(
     alloc: Global,
     picked: &[Picked<'_, '_>],
     s: &Structure,
     first: &Aliased<'_>,
     joins: Vec<Join>,
+    condition: Option<SqlExpr>,
 ) -> Result<Query, AllocError>
-    ensures { IfOk result (λ q. query_tree q ≡ joined_query (map picked_column picked.now) s.now (aliased_of first.now) (map join_tree joins.items)) }
+    ensures { IfOk result (λ q. query_tree q ≡ select_as (items_as (map picked_column picked.now) (columns_of s.now)) (source_as (aliased_of first.now).alias (aliased_of first.now).table) (map join_tree joins.items) (option_map expr_tree condition) ∷ []) }
 {
     let mut selects = Vec::with_capacity(alloc, 1)?;
     selects.push(Select {
         items: List::of(named_items(alloc, picked, s)?),
         from: source(first)?,
         joins: List::of(joins),
-        condition: None,
+        condition,
         group: List::of(Vec::new(alloc)),
         having: None,
     })?;
@@ -132,12 +136,14 @@ fn others_joined(
 // The operands joined with the one at a place.
 fn referred_query(
     alloc: Global,
+    writer: &Writer,
     kind: JoinKind,
     place: usize,
     operands: &[Aliased<'_>],
     s: &Structure,
+    condition: Option<&CompExpr>,
 ) -> Result<Query, AllocError>
-    ensures { IfOk result (λ q. query_tree q ≡ referred_query kind place (map aliased_of operands.now) s.now (slice_get (map aliased_of operands.now) place)) }
+    ensures { IfOk result (λ q. query_tree q ≡ filtered_by writer.now (condition_of condition.entry) (referred_query kind place (map aliased_of operands.now) s.now (slice_get (map aliased_of operands.now) place))) }
 {
     let Some(reference) = operands.get(place) else {
         return Ok(no_query(alloc));
@@ -147,10 +153,12 @@ fn referred_query(
     push_columns(&mut picked, &reference.alias, &identifiers)?;
     push_others(alloc, &mut picked, operands)?;
     let joins = others_joined(alloc, kind, place, reference, operands)?;
-    joined_query(alloc, &picked, s, reference, joins)
+    let condition = condition_over(alloc, writer, &picked, s, condition)?;
+    joined_query(alloc, &picked, s, reference, joins, condition)
 }
 
-/// `inner_join` and `left_join`: each other operand joined with the one at a place. It fails only if memory runs out.
+/// `inner_join` and `left_join`: each other operand joined with the one at a place, and of this the points at which a
+/// condition is true, where there is one. It fails only if memory runs out.
 pub(crate) fn reference_query(
     alloc: Global,
     writer: &Writer,
@@ -159,12 +167,13 @@ pub(crate) fn reference_query(
     structures: &[&Structure],
     tables: &[Txt],
     s: &Structure,
+    condition: Option<&CompExpr>,
 ) -> Result<Query, AllocError>
     requires { length tables.now ≡ length structures.now }
-    ensures { IfOk result (λ q. query_tree q ≡ reference_query writer.now kind place (shown structures.now) s.now tables.now) }
+    ensures { IfOk result (λ q. query_tree q ≡ filtered_by writer.now (condition_of condition.entry) (reference_query writer.now kind place (shown structures.now) s.now tables.now)) }
 {
     let operands = with_aliases(alloc, writer, place, structures, tables)?;
-    referred_query(alloc, kind, place, &operands, s)
+    referred_query(alloc, writer, kind, place, &operands, s, condition)
 }
 
 // The operands behind the first, each point with each.
@@ -181,10 +190,12 @@ fn crosses(alloc: Global, operands: &[Aliased<'_>]) -> Result<Vec<Join>, AllocEr
 // Each point of each operand with each of the others.
 fn crossed_query(
     alloc: Global,
+    writer: &Writer,
     operands: &[Aliased<'_>],
     s: &Structure,
+    condition: Option<&CompExpr>,
 ) -> Result<Query, AllocError>
-    ensures { IfOk result (λ q. query_tree q ≡ crossed_query (map aliased_of operands.now) s.now) }
+    ensures { IfOk result (λ q. query_tree q ≡ filtered_by writer.now (condition_of condition.entry) (crossed_query (map aliased_of operands.now) s.now)) }
 {
     let [first, others @ ..] = operands else {
         return Ok(no_query(alloc));
@@ -193,20 +204,23 @@ fn crossed_query(
     push_roles(alloc, &mut picked, operands, Role::Identifier)?;
     push_others(alloc, &mut picked, operands)?;
     let joins = crosses(alloc, others)?;
-    joined_query(alloc, &picked, s, first, joins)
+    let condition = condition_over(alloc, writer, &picked, s, condition)?;
+    joined_query(alloc, &picked, s, first, joins, condition)
 }
 
-/// `cross_join`: each point with each. It fails only if memory runs out.
+/// `cross_join`: each point with each, and of these the ones at which a condition is true, where there is one. It fails
+/// only if memory runs out.
 pub(crate) fn cross_query(
     alloc: Global,
     writer: &Writer,
     structures: &[&Structure],
     tables: &[Txt],
     s: &Structure,
+    condition: Option<&CompExpr>,
 ) -> Result<Query, AllocError>
     requires { length tables.now ≡ length structures.now }
-    ensures { IfOk result (λ q. query_tree q ≡ cross_query writer.now (shown structures.now) s.now tables.now) }
+    ensures { IfOk result (λ q. query_tree q ≡ filtered_by writer.now (condition_of condition.entry) (cross_query writer.now (shown structures.now) s.now tables.now)) }
 {
     let operands = with_aliases(alloc, writer, 0, structures, tables)?;
-    crossed_query(alloc, &operands, s)
+    crossed_query(alloc, writer, &operands, s, condition)
 }

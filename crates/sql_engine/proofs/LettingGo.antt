@@ -1,5 +1,5 @@
 -- Rows that no statement reads any more.
-use Rattle.std.proofs.Common.{◌≡◌, inl, inr, ◌⊎◌, Bool, true, false, cond, List, [], ◌∷◌, Option, Some, None, refl, sym, ap, ◌∙◌, subst}
+use Rattle.std.proofs.Common.{◌≡◌, inl, inr, ◌⊎◌, Bool, true, false, cond, [], ◌∷◌, Option, Some, refl, sym, ap, ◌∙◌, subst}
 use Rattle.std.specs.Map.{set_value}
 use Rattle.std.specs.Option.{option_map}
 use Rattle.std.specs.Cmp.Lexicographic.{bytes_decides}
@@ -7,9 +7,14 @@ use Rattle.vtl_text.specs.Texts.{same_text}
 use Rattle.vtl_rows.specs.Named.{NamedTables, table_of}
 use Rattle.vtl_rows.specs.Tables.{Listed}
 use Rattle.sql_tree.specs.Trees.{Text}
+use Rattle.sql_check_parts.specs.Scopes.{Columns}
 use Rattle.sql_from.specs.Held.{tables_held}
 use Rattle.sql_engine.specs.Held.{MayLetGo, MayLoseRows, without_rows}
 use Rattle.sql_engine.proofs.TableLookups.{columns_in}
+
+-- the name and the columns of a table
+abbrev columns_entry : Text × Listed → Text × Columns
+columns_entry x = (x.0, columns_in x.1)
 
 module _ (is_kept : Text → Bool) where
   -- ---- none, one, and one after the other
@@ -49,9 +54,9 @@ module _ (is_kept : Text → Bool) where
   columns_stay (t ∷ held) [] f = absurd f
   columns_stay (t ∷ held) (u ∷ now) f = λ i. each f.0 i ∷ columns_stay held now f.1 i
     where
-      each : MayLoseRows is_kept t u → (u.0, columns_in u.1) ≡ (t.0, columns_in t.1)
-      each (inl p) = ap (λ (x : Text × Listed). (x.0, columns_in x.1)) p
-      each (inr p) = ap (λ (x : Text × Listed). (x.0, columns_in x.1)) p.1
+      each : MayLoseRows is_kept t u → columns_entry u ≡ columns_entry t
+      each (inl p) = ap columns_entry p
+      each (inr p) = ap columns_entry p.1
 
   -- the table of a name is as it was, or it is not read any more and has lost its rows
   abbrev pub LooksAs : Text → (before now : Option Listed) → Type 0
@@ -61,7 +66,7 @@ module _ (is_kept : Text → Bool) where
   looked_up name [] [] f = inl refl
   looked_up name [] (u ∷ now) f = absurd f
   looked_up name (t ∷ held) [] f = absurd f
-  looked_up name (t ∷ held) (u ∷ now) f = at f.0
+  looked_up name (t ∷ held) (u ∷ now) f = at f.0 (looked_up name held now f.1)
     where
       as_before : (b : Bool) → LooksAs name (table_of name held) (table_of name now) → LooksAs name (cond b (Some t.1) (table_of name held)) (cond b (Some t.1) (table_of name now))
       as_before true ih = inl refl
@@ -71,8 +76,8 @@ module _ (is_kept : Text → Bool) where
       lost unread true same ih = inr (ap is_kept (same refl) ∙ unread, refl)
       lost unread false same ih = ih
 
-      at : MayLoseRows is_kept t u → LooksAs name (cond (same_text name t.0) (Some t.1) (table_of name held)) (cond (same_text name u.0) (Some u.1) (table_of name now))
-      at (inl p) = subst (λ (x : Text × Listed). LooksAs name (cond (same_text name t.0) (Some t.1) (table_of name held)) (cond (same_text name x.0) (Some x.1) (table_of name now))) (sym p)
-          (as_before (same_text name t.0) (looked_up name held now f.1))
-      at (inr p) = subst (λ (x : Text × Listed). LooksAs name (cond (same_text name t.0) (Some t.1) (table_of name held)) (cond (same_text name x.0) (Some x.1) (table_of name now))) (sym p.1)
-          (lost p.0 (same_text name t.0) (λ b. (bytes_decides name t.0).0 b) (looked_up name held now f.1))
+      at : MayLoseRows is_kept t u → LooksAs name (table_of name held) (table_of name now) → LooksAs name (cond (same_text name t.0) (Some t.1) (table_of name held)) (cond (same_text name u.0) (Some u.1) (table_of name now))
+      at (inl p) ih = subst (λ (x : Text × Listed). LooksAs name (cond (same_text name t.0) (Some t.1) (table_of name held)) (cond (same_text name x.0) (Some x.1) (table_of name now))) (sym p)
+          (as_before (same_text name t.0) ih)
+      at (inr p) ih = subst (λ (x : Text × Listed). LooksAs name (cond (same_text name t.0) (Some t.1) (table_of name held)) (cond (same_text name x.0) (Some x.1) (table_of name now))) (sym p.1)
+          (lost p.0 (same_text name t.0) (λ b. (bytes_decides name t.0).0 b) ih)

@@ -57,9 +57,9 @@ free_name name (t ∷ held) h = go (same_text name t.0) (free_name name held) h
 
 -- ---- a table in place of another
 
-pub there_is : {X Y : Type 0} {f : X → Y} (o : Option X) (p : Option Y) → option_map f o ≡ p → IsSome p → IsSome o
-there_is None p e h = let q : IsSome None = subst IsSome (sym e) h in cc
-there_is (Some x) p e h = refl
+pub there_is : {X Y : Type 0} (o : Option X) (p : Option Y) (f : X → Y) → option_map f o ≡ p → IsSome p → IsSome o
+there_is None p f e h = let q : IsSome (option_map f None) = subst IsSome (sym e) h in cc
+there_is (Some x) p f e h = refl
 
 pub looked_other : (name other : Text) (held : NamedTables) (t : Listed) → same_text name other ≡ false → table_of other (set_value (same_text name) held t) ≡ table_of other held
 looked_other name other [] t unlike = refl

@@ -3,7 +3,8 @@ use Rattle.std.proofs.Common.{◌≡◌, ◌≢◌, inl, inr, ◌∙◌, ℕ, ze
 use Rattle.std.specs.Prelude.{◌==◌, filter, if◌then◌else◌}
 use Rattle.std.specs.Global.{Vec}
 use Rattle.std.proofs.lemmas.Bool.{cases_eq}
-use Rattle.std.proofs.lemmas.List.{append-nil, get_or-set_other, get_or-set_same, map-append, take_more}
+use Rattle.std.proofs.lemmas.List.{append-nil, get_or-set_other, get_or-set_same, get_or_default, map-append, take_more, with_items_is}
+use Rattle.std.specs.Vec.{with_items}
 use Rattle.sql_exec.specs.Planned.{AreLists, IsPutAt}
 
 filter_last : {A : Type 0} (p : A → Bool) (xs : List A) (x : A) → filter p (xs ++ x ∷ []) ≡ filter p xs ++ (if p x then x ∷ [] else [])
@@ -89,3 +90,14 @@ module _ {E X : Type 0} (place_of : E → ℕ) (item_of : E → X) where
     where
       eqb_sym : (a b : ℕ) → (a == b) ≡ (b == a)
       eqb_sym a b = grind arith
+
+  -- where the lists of a vector were lent
+  pub entry_kept : (es : List E) (i : ℕ) (d : E) (count : ℕ) (v : Vec (Vec X)) (lent now : List (Vec X)) → i < length es → lent ≡ v.items → length now ≡ v.len → length v.items ≡ count → AreLists (items_for (take i es)) count v.items
+      → IsPutAt (place_of (get_or es i d)) (item_of (get_or es i d)) lent now → (length (with_items v now).items ≡ count) × AreLists (items_for (take (i + 1) es)) count (with_items v now).items
+  entry_kept es i d count v lent now h same long many lists put =
+      let e = get_or es i d in
+      let is : (with_items v now).items ≡ now = with_items_is v now long in (
+        ap length is ∙ long ∙ v.ok.0 ∙ many,
+        subst (AreLists (items_for (take (i + 1) es)) count) (sym is)
+            (entry_put es i e count v.items now h (get_or_default es i d e h) many lists (subst (λ (b : List (Vec X)). IsPutAt (place_of e) (item_of e) b now) same put)),
+      )

@@ -20,9 +20,9 @@ pub trees_more : (es : List (Bor SqlExpr)) (i : ℕ) (x : Bor SqlExpr) → i < l
 trees_more es i x h at = ap trees_of (take_more es i x h ∙ ap (λ y. take i es ++ y ∷ []) (sym at)) ∙ map-append (λ (e : Bor SqlExpr). expr_tree e.now) (take i es) (x ∷ [])
 
 -- one reference stands for one tree
-pub one_tree : (es : List (Bor SqlExpr)) (x : SqlExpr) → length es ≡ 1 → x ≡ (get_or es 0 (record { now = x })).now → trees_of es ≡ expr_tree x ∷ []
+pub one_tree : (es : List (Bor SqlExpr)) (x : Bor SqlExpr) → length es ≡ 1 → x ≡ get_or es 0 x → trees_of es ≡ expr_tree x.now ∷ []
 one_tree [] x e at = absurd (omega (arith, e))
-one_tree (y ∷ []) x e at = ap (λ (z : SqlExpr). expr_tree z ∷ []) (sym at)
+one_tree (y ∷ []) x e at = ap (λ (z : Bor SqlExpr). expr_tree z.now ∷ []) (sym at)
 one_tree (y ∷ z ∷ es) x e at = absurd (omega (arith, e))
 
 -- what holds of all holds of the first ones

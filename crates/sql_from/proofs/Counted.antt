@@ -10,7 +10,6 @@ use Rattle.vtl_rows.specs.Named.{NamedTables}
 use Rattle.sql_tree.specs.Trees as tree
 use Rattle.sql_tree.specs.Trees.{Exp, JoinTree, SelectTree}
 use Rattle.sql_tree.specs.declared.parts.Source.{Source}
-use Rattle.sql_tree.specs.declared.word_groups.JoinKind.{JoinKind}
 use Rattle.sql_meaning.specs.From.{Joined, first_of, joined, with_join}
 use Rattle.sql_check_parts.specs.Expressions.{site}
 use Rattle.sql_meaning.specs.Plans.{IsEqualityJoin, conjuncts, conjuncts_of, try_early}

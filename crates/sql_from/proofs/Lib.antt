@@ -25,3 +25,5 @@ pub mod TwoSources
 pub mod Fewer
 pub mod Counted
 pub mod KeyFound
+pub mod PlacedLists
+pub mod Dues

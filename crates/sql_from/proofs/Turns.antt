@@ -1,5 +1,5 @@
 -- Conditions that are tried in turn.
-use Rattle.std.proofs.Common.{◌≡◌, ℕ, ◌+◌, ◌<◌, Bool, true, false, cond, ◌&&◌, List, [], ◌∷◌, drop, get_or, length, map, Option, None, Some, Ok, Err, refl, sym, ap, ◌∙◌, subst}
+use Rattle.std.proofs.Common.{◌≡◌, ℕ, ◌+◌, ◌<◌, Bool, true, false, cond, ◌&&◌, List, [], ◌∷◌, drop, get_or, length, map, Option, None, Ok, Err, refl, sym, ap, ◌∙◌, subst}
 use Rattle.std.specs.List.{filter, flat_map}
 use Rattle.std.proofs.lemmas.List.{drop_more}
 use Rattle.vtl_decimal.specs.declared.number.Fault.{Fault}
@@ -89,7 +89,7 @@ one_true f x = turn_true (f x) (Ok (cell.Bool true)) ∙ sym (last_and (is_true 
 pub one_fault : (f : Test) (x : List ℕ) → fault_in (in_turn (f ∷ []) x) ≡ fault_in (f x)
 one_fault f x = turn_fault (f x) (Ok (cell.Bool true)) ∙ ap (join (fault_in (f x))) (neither (is_true (f x))) ∙ join_none (fault_in (f x))
   where
-    neither : (b : Bool) → cond b None None ≡ None
+    neither : (b : Bool) → cond {A = Option Fault} b None None ≡ None
     neither true = refl
     neither false = refl
 

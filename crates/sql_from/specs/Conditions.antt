@@ -1,6 +1,7 @@
 -- Conditions at the rows of sources.
 use Rattle.std.specs.Borrow.{Bor}
-use Rattle.std.specs.Prelude.{◌==◌, ℕ, List, [], ◌∷◌, map, drop, fold, length, take, Option, Some, None, if◌then◌else◌}
+use Rattle.std.specs.Global.{Vec}
+use Rattle.std.specs.Prelude.{◌≡◌, ◌==◌, ◌≤◌, ℕ, List, get_or, [], ◌∷◌, map, drop, fold, length, take, Option, Some, None, if◌then◌else◌}
 use Rattle.std.specs.List.{flat_map}
 use Rattle.vtl_decimal.specs.Settings.{Settings}
 use Rattle.sql_tree.specs.Trees as tree
@@ -44,12 +45,16 @@ all_of None = []
 all_of (Some e) = e ∷ []
 
 -- the parts that entries have tried before the join at a place, of all of these
-abbrev pub parts_at : List Exp → List Early → ℕ → List Exp
+abbrev pub parts_at : {A : Type 0} → List A → List Early → ℕ → List A
 parts_at parts early place = flat_map (λ e. if e.join == place then take 1 (drop e.conjunct parts) else []) early
 
 -- what is tried of WHERE before the join at a place, by these entries; behind the last join all of it
 abbrev pub due_at : SelectTree → List Early → ℕ → List Exp
 due_at s early place = if place == length s.joins then all_of s.condition else parts_at (conjuncts_of s.condition) early place
+
+-- the lists of what is tried before each join, by place, and behind the last one
+pub record AreDue (s : SelectTree) (early : List Early) (lists : List (Vec (Bor SqlExpr))) : Type 0 where
+  pub at : (place : ℕ) (other : Vec (Bor SqlExpr)) → place ≤ length s.joins → trees_of (get_or lists place other).items ≡ due_at s early place
 
 -- the rows of FROM by a plan, with which WHERE is tried whole
 abbrev pub filtered : Base → SelectTree → List Early → Joined

@@ -15,3 +15,4 @@ pub mod Steps
 pub mod Partners
 pub mod KeyPartners
 pub mod Columns
+pub mod PlacedLists

@@ -2,13 +2,16 @@
 //
 // A part that is tried early is tried again with all of WHERE: so a plan's rows are told without taking WHERE apart,
 // and what is tried twice is a comparison of rows that are there. `exec` gives the rows of the plan exactly, and that
-// these are the rows of the query, in any order, is used once, from what each plan keeps (`IsPlan`).
+// these are the rows of the query, in any order, is used once, from what each plan keeps (`IsPlan`). A plan lists
+// entries in any order, so each is put to its join once: a select takes no time with the product of both.
 ghost use Rattle.std.specs.Option.{option_map};
-ghost use Rattle.std.specs.Prelude.{◌≡◌, ◌++◌, IfOk, OnOk};
+ghost use Rattle.std.specs.Prelude.{◌≡◌, ◌+◌, ◌++◌, length, IfOk, OnOk};
 ghost use Rattle.sql_tree.specs.View.{expr_tree, select_tree};
 ghost use Rattle.sql_meaning.specs.Plans.{conjuncts, conjuncts_of};
-ghost use Rattle.sql_from.specs.Conditions.{due_at, parts_at, trees_of};
+ghost use Rattle.sql_from.specs.Conditions.{AreDue, all_of, parts_at, trees_of};
+ghost use Rattle.sql_from.specs.PlacedLists.{AreLists};
 
+use crate::placed_lists::{no_lists, put_at};
 use sql_meaning::Early;
 use sql_tree::{Select, SqlExpr};
 use std::alloc::{AllocError, Global};
@@ -52,44 +55,50 @@ pub(crate) fn conjuncts_of(
     Ok(parts)
 }
 
-// The parts that entries have tried before the join at a place, of all of these.
-fn parts_at<'e>(
+// The parts that entries have tried before each of so many joins, of all of these.
+fn parts_by_join<'e>(
     alloc: Global,
     parts: &[&'e SqlExpr],
     early: &[Early],
-    place: usize,
-) -> Result<Vec<&'e SqlExpr>, AllocError>
-    ensures { IfOk result (λ v. trees_of v.items ≡ parts_at (trees_of parts.now) early.now place) }
+    count: usize,
+) -> Result<Vec<Vec<&'e SqlExpr>>, AllocError>
+    ensures many { IfOk result (λ v. length v.items ≡ count) }
+    ensures lists { IfOk result (λ v. AreLists (parts_at parts.now early.now) count v.items) }
 {
-    let mut due = Vec::new(alloc);
+    let mut lists = no_lists(alloc, count)?;
     for entry in early {
-        if entry.join == place {
-            if let Some(part) = parts.get(entry.conjunct) {
-                due.push(*part)?;
-            }
+        if let Some(part) = parts.get(entry.conjunct) {
+            put_at(&mut lists, entry.join, *part)?;
         }
     }
-    Ok(due)
+    Ok(lists)
 }
 
-/// What is tried of WHERE, of which these are the parts, before the join at a place: what entries have tried there, or behind
-/// the last join all of it. It fails only if memory runs out.
-pub(crate) fn due_at<'e>(
+// All of a condition.
+fn all_of(alloc: Global, condition: &Option<SqlExpr>) -> Result<Vec<&SqlExpr>, AllocError>
+    ensures { IfOk result (λ v. trees_of v.items ≡ all_of (option_map expr_tree condition.now)) }
+{
+    let mut all = Vec::new(alloc);
+    if let Some(condition) = condition {
+        all.push(condition)?;
+    }
+    Ok(all)
+}
+
+/// What is tried of WHERE, of which these are the parts, before each join, by place: what entries have tried there, and
+/// behind the last join all of it. It takes time for the joins and the entries, whatever order these have. It fails only if
+/// memory runs out.
+pub(crate) fn due_parts<'e>(
     alloc: Global,
     select: &'e Select,
     parts: &[&'e SqlExpr],
     early: &[Early],
-    place: usize,
-) -> Result<Vec<&'e SqlExpr>, AllocError>
+) -> Result<Vec<Vec<&'e SqlExpr>>, AllocError>
     requires { trees_of parts.now ≡ conjuncts_of (select_tree select.now).condition }
-    ensures { IfOk result (λ v. trees_of v.items ≡ due_at (select_tree select.now) early.now place) }
+    ensures many { IfOk result (λ v. length v.items ≡ length (select_tree select.now).joins + 1) }
+    ensures due { IfOk result (λ v. AreDue (select_tree select.now) early.now v.items) }
 {
-    if place != select.joins.as_slice().len() {
-        return parts_at(alloc, parts, early, place);
-    }
-    let mut due = Vec::new(alloc);
-    if let Some(condition) = &select.condition {
-        due.push(condition)?;
-    }
+    let mut due = parts_by_join(alloc, parts, early, select.joins.as_slice().len())?;
+    due.push(all_of(alloc, &select.condition)?)?;
     Ok(due)
 }

@@ -35,6 +35,7 @@ mod pairs;
 mod partner_index;
 mod partnered_row;
 mod partners;
+mod placed_lists;
 mod selects;
 mod source_condition;
 mod sources;

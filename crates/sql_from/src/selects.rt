@@ -25,7 +25,7 @@ ghost use Rattle.sql_from.specs.Steps.{IsPlainJoin, JoinsTwo, is_listed, most_st
 
 use crate::conditions::Conditions;
 use crate::counting::count_pairs;
-use crate::early::{conjuncts_of, due_at};
+use crate::early::{conjuncts_of, due_parts};
 use crate::joining::{join_each, join_found, keep};
 use crate::key_lookup::{KeyLookup, lookup_of};
 use crate::pairs::Walked;
@@ -57,8 +57,11 @@ fn wanted_lookup<'a, L: Ledger>(
     ensures steps { by_index ≡ true → (lead : ℕ) → AreLinked sources.now lead (trees_of conditions.now) → steps.new ≤ steps.old + linked_count sources.now lead }
     ensures finds { IfOk result (λ o. IfSome o (Finds (length sources.now.sources) (conditions_at p.now sources.now (trees_of conditions.now)))) }
 {
+    if !by_index {
+        return Ok(None);
+    }
     match conditions {
-        [condition] if by_index => lookup_of(alloc, sources, condition, p, steps),
+        [condition] => lookup_of(alloc, sources, condition, p, steps),
         _ => Ok(None),
     }
 }
@@ -312,12 +315,13 @@ fn joined<'a, L: Ledger>(
     let joins = select.joins.as_slice();
     let looks_up = by_index.is_some();
     let parts = conjuncts_of(alloc, &select.condition)?;
+    let due = due_parts(alloc, select, &parts, early)?;
     let first = first_source(alloc, &select.from, tables)?;
-    let begun = due_at(alloc, select, &parts, early, 0)?;
-    let mut so_far = first.with_parts(alloc, &begun, looks_up, p, steps)?;
+    let begun = &due[0];
+    let mut so_far = first.with_parts(alloc, begun, looks_up, p, steps)?;
     for place in 0..joins.len() {
-        let due = due_at(alloc, select, &parts, early, place + 1)?;
-        so_far = so_far.with_join(alloc, &joins[place], &due, looks_up, p, steps)?;
+        let next = &due[place + 1];
+        so_far = so_far.with_join(alloc, &joins[place], next, looks_up, p, steps)?;
     }
     Ok(so_far)
 }

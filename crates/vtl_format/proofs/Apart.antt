@@ -1,5 +1,5 @@
 -- What stands between two tokens is white space, and keeps them apart.
-use Rattle.std.proofs.Common.{◌≡◌, ◌-◌, ◌*◌, ◌∷◌, ◌++◌, ◌∙◌, ◌==◌, ◌||◌, ◌&&◌, ◌⊎◌, [], ℕ, zero, suc, List, Bool, true, false, not, cond, replicate, sym, ap, refl, arith, inl, inr}
+use Rattle.std.proofs.Common.{◌≡◌, ◌-◌, ◌*◌, ◌∷◌, ◌++◌, ◌∙◌, ◌==◌, ◌||◌, ◌&&◌, ◌⊎◌, [], ℕ, zero, suc, List, Bool, true, false, not, cond, replicate, ap, refl, arith, inl, inr}
 use Rattle.std.specs.List.{list_all}
 use Rattle.std.proofs.lemmas.Bool.{and_parts, false≢true}
 use Rattle.std.proofs.lemmas.Bool.Decides.{nat_tests}

@@ -1,5 +1,5 @@
 -- The canonical text has the tokens and the comments of the text, and is its own.
-use Rattle.std.proofs.Common.{◌≡◌, ◌∷◌, ◌++◌, ◌∙◌, [], ℕ, List, None, true, false, sym, ap, subst, refl}
+use Rattle.std.proofs.Common.{◌≡◌, ◌∷◌, ◌∙◌, [], ℕ, List, None, false, sym, ap, subst, refl}
 use Rattle.std.specs.List.{slice_range}
 use Rattle.vtl_lexer.specs.Lexed.{IsLexed}
 use Rattle.vtl_lexer.specs.Parts.{HasParts, tokens_of}

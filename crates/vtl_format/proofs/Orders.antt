@@ -1,10 +1,8 @@
 -- What is written has the tokens and the comments of the text, and is its canonical text.
 use Rattle.std.proofs.Common.{◌≡◌, ◌<◌, ◌+◌, ◌∷◌, ◌++◌, ◌∙◌, ◌==◌, [], ℕ, List, Bool, true, false, cond, append_assoc, append-nil, sym, ap, subst, refl, arith}
 use Rattle.std.specs.List.{AllByRecursion}
-use Rattle.std.proofs.lemmas.Bool.{false≢true}
 use Rattle.std.proofs.lemmas.Bool.Decides.{nat_tests}
 use Rattle.vtl_lexer.specs.Pieces.{IsRemark, IsWritable, Piece, Stands, a_comment, a_token, stands_comment, stands_nothing, stands_space}
-use Rattle.vtl_lexer.specs.declared.token.TokenKind.{TokenKind}
 use Rattle.vtl_format.specs.Form.{Remark, ends_statement, form_from, is_inside, lexeme, lexemes, remark, remark_lines, remarks_from, statements, with_first}
 use Rattle.vtl_format.specs.Layout.{Lexeme, statement_form, statement_style}
 use Rattle.vtl_format.specs.Written.{last_form, written}

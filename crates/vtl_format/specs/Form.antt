@@ -1,6 +1,6 @@
 -- The canonical text of a script.
-use Rattle.std.specs.Prelude.{◌≡◌, ◌+◌, ◌==◌, not, ℕ, Bool, true, false, List, [], ◌∷◌, ◌++◌, Option, None, if◌then◌else◌}
-use Rattle.std.specs.List.{AllByRecursion, slice_range}
+use Rattle.std.specs.Prelude.{◌≡◌, ◌+◌, ◌==◌, not, ℕ, Bool, true, false, List, [], ◌∷◌, ◌++◌, None, map, if◌then◌else◌}
+use Rattle.std.specs.List.{slice_range}
 use Rattle.vtl_lexer.specs.Parts.{HasParts}
 use Rattle.vtl_lexer.specs.Pieces.{Piece, a_comment, a_token, pieces_of}
 use Rattle.vtl_lexer.specs.declared.keyword.Keyword.TheVariants as word
@@ -31,6 +31,10 @@ abbrev pub lexemes : List Piece → List Lexeme
 lexemes [] = []
 lexemes (a_token kind bytes ∷ pieces) = lexeme kind bytes ∷ lexemes pieces
 lexemes (a_comment bytes ∷ pieces) = lexemes pieces
+
+-- the tokens without their bytes
+abbrev pub kinds_of : List Lexeme → List TokenKind
+kinds_of lexemes = map (λ (lexeme : Lexeme). lexeme.kind) lexemes
 
 -- the token before those of the first statement
 abbrev pub with_first : Lexeme → List (List Lexeme) → List (List Lexeme)

@@ -1,5 +1,5 @@
 -- How a statement is laid out: what stands between two of its tokens.
-use Rattle.std.specs.Prelude.{◌+◌, ◌-◌, ◌*◌, ◌==◌, ◌||◌, ◌&&◌, nat_le, ℕ, Bool, true, false, List, [], ◌∷◌, ◌++◌, length, replicate, chars, if◌then◌else◌}
+use Rattle.std.specs.Prelude.{◌+◌, ◌-◌, ◌*◌, ◌||◌, ◌&&◌, nat_le, ℕ, Bool, true, false, List, [], ◌∷◌, ◌++◌, length, replicate, chars, if◌then◌else◌}
 use Rattle.vtl_lists.specs.Runs.{begins_with}
 use Rattle.vtl_lexer.specs.declared.keyword.Keyword.TheVariants as word
 use Rattle.vtl_lexer.specs.declared.token.Sign.TheVariants as sign

@@ -1,5 +1,5 @@
 -- What is still to be written, where some tokens of a statement are held back: the code goes piece by piece, and `written-is_form` says that this is the canonical text.
-use Rattle.std.specs.Prelude.{Bool, true, false, ℕ, List, [], ◌∷◌, ◌++◌, if◌then◌else◌}
+use Rattle.std.specs.Prelude.{Bool, false, ℕ, List, [], ◌∷◌, ◌++◌, if◌then◌else◌}
 use Rattle.vtl_lexer.specs.Pieces.{Piece, a_comment, a_token}
 use Rattle.vtl_format.specs.Form.{ends_statement, is_inside, lexeme}
 use Rattle.vtl_format.specs.Layout.{Lexeme, statement_form}

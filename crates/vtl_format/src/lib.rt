@@ -18,4 +18,5 @@ pub use formatting::format;
 pub use laws::{
     formatted_scripts_are_their_scripts, formatted_texts_are_formatted,
     formatted_texts_have_their_comments, formatted_texts_have_their_tokens, forms_are_determined,
+    statements_are_those_of_the_grammar,
 };

@@ -21,11 +21,10 @@ Evaluates view p env n (Err err.DivZero) = node_value p env n ≡ Err DivZero
 Evaluates view p env n (Err err.Range) = node_value p env n ≡ Err Range
 Evaluates view p env n (Err err.OutOfMemory) = Unit {0}
 
--- ---- the operands of a form with one, or with two between which it works, give these data sets
+-- ---- the operands of a form with one, or with two between which it works, give these data sets; a filter is evaluated with its operand
 abbrev pub GivesOne : Settings → Environment → FormTree → DataSet → Type 0
 GivesOne p env (nodes.measures m a) d = Gives p env a d
 GivesOne p env (nodes.member a m) d = Gives p env a d
-GivesOne p env (nodes.filter a e) d = Gives p env a d
 GivesOne p env (nodes.calc a items) d = Gives p env a d
 GivesOne p env (nodes.keep a names) d = Gives p env a d
 GivesOne p env (nodes.drop_named a names) d = Gives p env a d

@@ -128,8 +128,6 @@ pub fn filter_joined(
             let table = beside_table(alloc, kind, &j, made, condition, filtered, p);
             DataSet::answered(alloc, filtered, table)
         }
-        JoinKind::Full => {
-            closed_and_filtered(alloc, kind, j, made, condition, filtered, p)
-        }
+        JoinKind::Full => { closed_and_filtered(alloc, kind, j, made, condition, filtered, p) }
     }
 }

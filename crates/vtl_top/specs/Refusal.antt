@@ -1,6 +1,6 @@
 -- The status of a file that was not read, or does not hold what it should.
-use Rattle.std.specs.Prelude.{◌≡◌, ◌⊎◌, List, ℕ, chars, Result, Ok, Err, IsUtf8, string_bytes}
-use Rattle.std.specs.Global.{String}
+use Rattle.std.specs.Prelude.{◌≡◌, ◌⊎◌, List, ℕ, chars, Result, Ok, Err, IsUtf8, String, string_bytes}
+use Rattle.std.specs.Global.{Global}
 use Rattle.vtl_files.specs.declared.read_err.ReadErr.{ReadErr}
 use Rattle.vtl_files.specs.declared.read_err.ReadErr.TheVariants as e
 use Rattle.vtl_parser.specs.declared.parsing.ParseErr.{ParseErr}
@@ -73,12 +73,12 @@ IsScriptOf path bytes (Err status) =
     (status ≡ st.Memory) ⊎ (((¬ IsUtf8 bytes) × (status ≡ st.NotText (chars path))) ⊎ ((done byte : ℕ) × IsUtf8 bytes × IsFaulty bytes done byte × (status ≡ st.Syntax done byte)))
 
 -- the canonical text of the script that a text is, or its fault, or want of memory
-abbrev pub IsFormOfText : List ℕ → Result String Status → Type 0
+abbrev pub IsFormOfText : List ℕ → Result (String Global) Status → Type 0
 IsFormOfText text (Ok form) = IsFormed text (string_bytes form)
 IsFormOfText text (Err status) = (status ≡ st.Memory) ⊎ ((done byte : ℕ) × IsFaulty text done byte × (status ≡ st.Syntax done byte))
 
 -- the canonical text of the script that the bytes of the file at this path are; they may be no text, or no script
-abbrev pub IsFormIn : List ℕ → List ℕ → Result String Status → Type 0
+abbrev pub IsFormIn : List ℕ → List ℕ → Result (String Global) Status → Type 0
 IsFormIn path bytes (Ok form) = IsUtf8 bytes × IsFormed bytes (string_bytes form)
 IsFormIn path bytes (Err status) =
     (status ≡ st.Memory) ⊎ (((¬ IsUtf8 bytes) × (status ≡ st.NotText (chars path))) ⊎ ((done byte : ℕ) × IsUtf8 bytes × IsFaulty bytes done byte × (status ≡ st.Syntax done byte)))

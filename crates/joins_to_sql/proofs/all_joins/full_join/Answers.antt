@@ -1,8 +1,9 @@
-use Rattle.std.proofs.Common.{map, sym, ◌∙◌}
+use Rattle.std.proofs.Common.{ap, map, sym, ◌∙◌}
 use Rattle.std.proofs.lemmas.List.{length-map}
 use Rattle.std.proofs.lemmas.Result.{IfOk-weaker}
 use Rattle.vtl_tree.specs.Shown.{shown}
 use Rattle.sql_tree.specs.View.{query_tree, statement_tree}
+use Rattle.joins_to_sql.specs.FilteredJoins.{condition_of, filtered_by}
 use Rattle.joins_to_sql.proofs.JoinTables.{full_is_next, full_is_query, full_is_tables}
 use Rattle.joins_to_sql.proofs.all_joins.full_join.Goals as goal
 
@@ -14,7 +15,7 @@ returns-clause-query c =
     let a = c.reference-item.result in
     IfOk-weaker c.full_query.result _ _
     (λ q e. e a.now c.in_ok-keys.ensures
-    ∙ full_is_query p r bs a c.args.s.now c.args.tables.now c.in_ok-once.once c.args.draft.now.next c.store.new.self.next c.in-len1-up.len_at_least c.reference-item.is c.in_ok-once.ensures.name c.in_ok-all.ensures.next)
+    ∙ ap (filtered_by p (condition_of c.args.condition)) (full_is_query p r bs a c.args.s.now c.args.tables.now c.in_ok-once.once c.args.draft.now.next c.store.new.self.next c.in-len1-up.len_at_least c.reference-item.is c.in_ok-once.ensures.name c.in_ok-all.ensures.next))
     c.full_query.ensures
 
 pub returns-clause-tables : goal.returns-clause-tables

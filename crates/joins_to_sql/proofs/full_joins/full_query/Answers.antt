@@ -4,6 +4,7 @@ use Rattle.std.proofs.lemmas.Result.{IfOk-weaker}
 use Rattle.vtl_tree.specs.Shown.{shown}
 use Rattle.vtl_tree.specs.declared.structure.Structure.{Structure}
 use Rattle.sql_tree.specs.Trees.{Text}
+use Rattle.joins_to_sql.specs.FilteredJoins.{condition_of, filtered_by}
 use Rattle.joins_to_sql.specs.JoinItems.{Aliased, aliased, aliased_around, aliased_of, keyed_query}
 use Rattle.selects_to_sql.specs.Queries.{alias_of}
 use Rattle.joins_to_sql.proofs.JoinForms.{full_written}
@@ -26,7 +27,7 @@ returns c =
     let keys = c.args.keys.now in
     let around = aliased_around (length (shown bs)) 0 (shown bs) xs in
     IfOk-weaker c.keyed_query.result _ _
-    (λ q e r is. e
-    ∙ ap (λ l. keyed_query (operand alias table keys) l s) (ap (map aliased_of) c.deref.ensures.value ∙ c.in_ok-operands.ensures ∙ ap (λ (n : ℕ). aliased_around n 0 (shown bs) xs) (sym many))
+    (λ q e r is. e ∙ ap (filtered_by c.args.writer.now (condition_of c.args.condition))
+    (ap (λ l. keyed_query (operand alias table keys) l s) (ap (map aliased_of) c.deref.ensures.value ∙ c.in_ok-operands.ensures ∙ ap (λ (n : ℕ). aliased_around n 0 (shown bs) xs) (sym many))
     ∙ ap (λ (k : Aliased). keyed_query k around s) (first_is alias table c.args.table.now keys _ c.in_ok-alias.ensures c.in_ok-share.ensures is)
-    ∙ sym (full_written c.args.writer.now r (shown bs) s xs c.args.table.now (c.requires ∙ sym many))) c.keyed_query.ensures
+    ∙ sym (full_written c.args.writer.now r (shown bs) s xs c.args.table.now (c.requires ∙ sym many)))) c.keyed_query.ensures

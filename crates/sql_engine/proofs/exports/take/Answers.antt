@@ -1,10 +1,11 @@
-use Rattle.std.proofs.Common.{◌≡◌, ◌∙◌, IsSome, Some, ap, sym, subst}
+use Rattle.std.proofs.Common.{◌∙◌, IsSome, Some, ap, sym, subst}
 use Rattle.vtl_rows.specs.Named.{table_of}
+use Rattle.vtl_rows.specs.Tables.{listed}
 use Rattle.sql_engine.proofs.TableLookups.{looked_other, there_is}
 use Rattle.sql_engine.proofs.exports.take.Goals as goal
 
 pub unwrap-table-requires : goal.unwrap-table-requires
-unwrap-table-requires c = there_is c.get.result (table_of c.args.name.now c.args.tables.now) c.get.ensures c.requires
+unwrap-table-requires c = there_is c.get.result (table_of c.args.name.now c.args.tables.now) (λ t. listed t.now) c.get.ensures c.requires
 
 pub unwrap-taken-requires : goal.unwrap-taken-requires
 unwrap-taken-requires c = subst IsSome (sym c.replace.ensures.before) c.requires

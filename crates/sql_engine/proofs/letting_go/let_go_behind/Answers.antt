@@ -1,4 +1,3 @@
-use Rattle.std.proofs.Common.{Unit}
 use Rattle.sql_engine.specs.Held.{MayLetGo}
 use Rattle.sql_engine.specs.LastReads.{is_read_from}
 use Rattle.sql_engine.proofs.LettingGo.{let_go_both}

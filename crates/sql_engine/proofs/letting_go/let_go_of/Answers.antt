@@ -2,8 +2,8 @@ use Rattle.std.proofs.Common.{◌≡◌, ◌∙◌, Some, ap, sym, subst}
 use Rattle.std.specs.Map.{set_value}
 use Rattle.std.specs.Option.{option_map}
 use Rattle.vtl_text.specs.Texts.{same_text}
-use Rattle.vtl_rows.specs.Named.{NamedTables, table_of}
-use Rattle.vtl_rows.specs.Tables.{Listed, listed}
+use Rattle.vtl_rows.specs.Named.{table_of}
+use Rattle.vtl_rows.specs.Tables.{listed}
 use Rattle.sql_engine.specs.Held.{MayLetGo}
 use Rattle.sql_engine.specs.LastReads.{is_read_from}
 use Rattle.sql_engine.proofs.LettingGo.{none_let_go, one_let_go}

@@ -38,7 +38,7 @@ returns-in_err-run_statement g c =
     let x = c.index-statements-place.result in
     let rest = map statement_tree (drop (i + 1) ss) in
     let before = subst (λ (l : List StatementTree). Running p inputs last (fold after nothing trees) (Whole p inputs last trees) i l c.loop-place.tables) (one_left ss i x c.loop-place-test.true c.index-statements-place.is) c.loop-place.invariant in
-    let passed : c.from_residual.result ≡ Err c.in_err-run_statement.field-0.0 = search rules in
+    let passed : c.from_residual-in_err-run_statement.result ≡ Err c.in_err-run_statement.field-0.0 = search rules in
     rw passed (has_fault p inputs last (fold after nothing trees) (Whole p inputs last trees) i rest c.loop-place.tables (statement_tree x) c.in_err-run_statement.field-0.0 before c.in_err-run_statement.ensures)
 
 pub loop-place-preserved : goal.loop-place-preserved

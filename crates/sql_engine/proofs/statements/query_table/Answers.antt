@@ -1,5 +1,4 @@
-use Rattle.std.proofs.Common.{◌≡◌, ◌∷◌, [], ap, sym, subst, ◌∙◌}
-use Rattle.sql_tree.specs.Trees.{SelectTree}
+use Rattle.std.proofs.Common.{ap, subst, ◌∙◌}
 use Rattle.sql_tree.specs.View.{query_tree}
 use Rattle.sql_tree.specs.declared.statements.Query.{Query}
 use Rattle.sql_plan.specs.Chosen.{equality_joins}

@@ -4,6 +4,6 @@ use Rattle.sql_exec.proofs.planned.no_lists.Given as goal
 
 abbrev pub invariant-loop : goal.invariant-loop
 invariant-loop g l = record {
-  many : length l.lists.items ≡ l.index;
-  none : AreLists (λ _. []) l.index l.lists.items;
+  many : length l.lists.items ≡ l.counter;
+  none : AreLists (λ _. []) l.counter l.lists.items;
 }

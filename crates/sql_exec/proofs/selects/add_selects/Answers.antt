@@ -32,7 +32,7 @@ add_select-requires-clause-same g c =
     let i = c.loop-place.place in
     let x = c.index-selects-place.result in
     let part = holds_mapped (IsPart b c.args.kinds.now) select_tree selects i x c.requires.parts c.loop-place-test.true c.index-selects-place.is in
-    subst (λ (early : List Early). HasRowsOf b early (select_tree x)) (sym (c.as_slice-early.ensures ∙ list_read (early_in c.args.plan.now.ways) (length selects) c.in_ok-planned.planned.early.items i c.index-in-loop-place.result c.in_ok-planned.ensures.early c.loop-place-test.true c.index-in-loop-place.ensures))
+    subst (λ (early : List Early). HasRowsOf b early (select_tree x)) (sym (c.as_slice-early.ensures.value ∙ list_read (early_in c.args.plan.now.ways) (length selects) c.in_ok-planned.planned.early.items i c.index-in-loop-place.result.now c.in_ok-planned.ensures.early c.loop-place-test.true c.index-in-loop-place.ensures))
     (has_rows c.args.plan.now.ways b c.args.kinds.now (map select_tree selects) c.requires.plan i (select_tree x) (map select_tree (drop (i + 1) selects)) (here selects i x c.loop-place-test.true c.index-selects-place.is) c.requires.lawful part)
 
 pub loop-place-preserved : goal.loop-place-preserved
@@ -50,7 +50,7 @@ loop-place-preserved g c =
     let many = planned_many w b kinds 0 q in
     let long = length-map selects select_tree in
     let h : i < length (planned_selects b kinds w 0 q) = omega (arith, many, long, c.loop-place-test.true) in
-    let early : c.as_slice-early.result.now ≡ early_in w i = c.as_slice-early.ensures ∙ list_read (early_in w) (length selects) c.in_ok-planned.planned.early.items i c.index-in-loop-place.result c.in_ok-planned.ensures.early c.loop-place-test.true c.index-in-loop-place.ensures in
+    let early : c.as_slice-early.result.now ≡ early_in w i = c.as_slice-early.ensures.value ∙ list_read (early_in w) (length selects) c.in_ok-planned.planned.early.items i c.index-in-loop-place.result.now c.in_ok-planned.ensures.early c.loop-place-test.true c.index-in-loop-place.ensures in
     let same : phase_of b kinds s (planned_source_rows b s [] c.as_slice-early.result.now) ≡ planned_at w b kinds i s = ap (λ (es : List Early). phase_of b kinds s (planned_source_rows b s [] es)) early ∙ phase_planned w b kinds q c.requires.plan i s rest there in
     record {
       adds = added_more (λ (m : Outcome (List Row)). m) (planned_selects b kinds w 0 q) i (planned_at w b kinds i s) h (planned_read w b kinds i q s rest there) c.args.out.now c.loop-place.out c.add_select.new.out c.loop-place.invariant.adds
@@ -58,7 +58,7 @@ loop-place-preserved g c =
       steps = λ only one listed plain. record {
         none = λ e. absurd (omega (arith, e));
         most = select_taken b w q only s rest i c.args.steps.now c.loop-place.steps c.add_select.new.steps one (omega (arith, long, c.loop-place-test.true)) there listed plain (c.loop-place.invariant.steps only one listed plain)
-            c.as_slice-by_index.result.now (c.as_slice-by_index.ensures ∙ list_read (λ n. map (λ e. e.join) (indexed_in w n)) (length selects) c.in_ok-planned.planned.joins.items i c.index.result c.in_ok-planned.ensures.joins c.loop-place-test.true c.index.ensures) c.add_select.ensures.steps;
+            c.as_slice-by_index.result.now (c.as_slice-by_index.ensures.value ∙ list_read (λ n. map (λ e. e.join) (indexed_in w n)) (length selects) c.in_ok-planned.planned.joins.items i c.index.result.now c.in_ok-planned.ensures.joins c.loop-place-test.true c.index.ensures) c.add_select.ensures.steps;
       };
     }
 
@@ -84,4 +84,4 @@ returns-in_err-add_select-clause-steps g c only one listed plain =
     let x = c.index-selects-place.result in
     let long = length-map selects select_tree in
     select_taken b w (map select_tree selects) only (select_tree x) (map select_tree (drop (i + 1) selects)) i c.args.steps.now c.loop-place.steps c.add_select.new.steps one (omega (arith, long, c.loop-place-test.true)) (here selects i x c.loop-place-test.true c.index-selects-place.is) listed plain
-    (c.loop-place.invariant.steps only one listed plain) c.as_slice-by_index.result.now (c.as_slice-by_index.ensures ∙ list_read (λ n. map (λ e. e.join) (indexed_in w n)) (length selects) c.in_ok-planned.planned.joins.items i c.index.result c.in_ok-planned.ensures.joins c.loop-place-test.true c.index.ensures) c.add_select.ensures.steps
+    (c.loop-place.invariant.steps only one listed plain) c.as_slice-by_index.result.now (c.as_slice-by_index.ensures.value ∙ list_read (λ n. map (λ e. e.join) (indexed_in w n)) (length selects) c.in_ok-planned.planned.joins.items i c.index.result.now c.in_ok-planned.ensures.joins c.loop-place-test.true c.index.ensures) c.add_select.ensures.steps

@@ -1,4 +1,4 @@
-use Rattle.std.proofs.Common.{◌≡◌, ◌∙◌, cond, false, replicate, ap}
+use Rattle.std.proofs.Common.{◌∙◌, cond, false, replicate, ap}
 use Rattle.vtl_scalar.specs.Seen.{seen_of}
 use Rattle.sql_from.specs.Joins.{keeps_right}
 use Rattle.sql_from.proofs.Stepped.{step_rows, step_seen}

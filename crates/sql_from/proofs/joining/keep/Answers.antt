@@ -1,5 +1,5 @@
 use Rattle.std.proofs.Common.{◌≡◌, ◌∙◌, ◌<◌, ◌-◌, ◌++◌, ◌∷◌, [], List, ℕ, length, get_or, take, arith, sym}
-use Rattle.sql_from.proofs.Gained.{gains_nothing, kept_more}
+use Rattle.sql_from.proofs.Gained.{kept_more}
 use Rattle.sql_from.proofs.Walks.{whole_tuple}
 use Rattle.sql_from.proofs.joining.keep.Goals as goal
 

@@ -1,5 +1,4 @@
 use Rattle.std.proofs.Common.{◌≡◌, ◌∙◌, ◌∷◌, [], None, ap, sym, not, cond}
-use Rattle.sql_from.specs.Gains.{Gains}
 use Rattle.sql_from.specs.Joins.{with_number}
 use Rattle.sql_from.proofs.Gained.{gains_as, gains_nothing, left_gains}
 use Rattle.sql_from.proofs.pairs.left_row.Goals.{else-keeps-via-then-keeps+else-not-any, else-keeps-via-else-keeps}

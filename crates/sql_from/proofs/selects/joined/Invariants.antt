@@ -11,5 +11,5 @@ abbrev pub invariant-loop-place : goal.invariant-loop-place
 invariant-loop-place g l = record {
   held : l.so_far.sources.held ≡ l.tables;
   left : Left (base_held l.p l.tables) (select_tree l.select) l.early l.place (map join_tree (drop l.place l.select.joins)) l.so_far.sources l.so_far.walked.rows (seen_of l.so_far.walked.seen);
-  steps : is_listed l.by_index 0 ≡ true → IsPlainJoin (select_tree l.select) → Taken (base_held l.p l.tables) (select_tree l.select) l.early l.place l.so_far.sources l.so_far.walked.rows (seen_of l.so_far.walked.seen) l.fn.steps l.steps;
+  steps : is_listed l.fn.by_index 0 ≡ true → IsPlainJoin (select_tree l.select) → Taken (base_held l.p l.tables) (select_tree l.select) l.early l.place l.so_far.sources l.so_far.walked.rows (seen_of l.so_far.walked.seen) l.fn.steps l.steps;
 }

@@ -1,4 +1,4 @@
-use Rattle.std.proofs.Common.{◌≡◌, ◌∙◌, ℕ, IfOk, IfSome, Option, ap, arith, length, subst, sym}
+use Rattle.std.proofs.Common.{◌≡◌, ℕ, IfOk, IfSome, Option, arith, length, subst, sym}
 use Rattle.std.specs.List.{flat_map}
 use Rattle.vtl_cell.specs.Outcome.{join}
 use Rattle.vtl_scalar.specs.Seen.{seen_of}
@@ -49,7 +49,7 @@ returns-in-Some-clause-steps g c by lead linked =
     let t = c.args.left.now.rows.tuples in
     let f = conditions_at c.args.p.now s (trees_of c.args.conditions.now) in
     let count = subst (λ (o : Option KeyLookup). IfSome o (λ l. l.count ≡ length (last_of s).rows)) c.in-Some.is c.in_ok-keys.ensures.rows in
-    let none = c.of-on.ensures.steps (linked_asks s lead (trees_of c.args.conditions.now) linked) in
+    let none = c.of.ensures.steps (linked_asks s lead (trees_of c.args.conditions.now) linked) in
     let made = c.wanted_lookup.ensures.steps by lead linked in
     let found = c.join_found.ensures.steps in
     let same : length (flat_map (pairs_with (tested c.in_ok-on.on) c.in-Some.keys.count) t) ≡ length (flat_map (pairs_with f (length (last_of s).rows)) t) =
@@ -57,5 +57,16 @@ returns-in-Some-clause-steps g c by lead linked =
     let fewer = pairs_fewer c.args.kind f c.args.marks.now (length (last_of s).rows) t in
     omega (arith, none, made, found, same, fewer)
 
-pub returns-in-None-clause-steps : goal.returns-in-None-clause-steps
-returns-in-None-clause-steps g c by lead linked = absurd (nothing_there c.in_ok-keys.field-0 c.in-None.is (c.in_ok-keys.ensures.some by lead linked))
+pub returns-clause-steps : goal.returns-clause-steps
+returns-clause-steps g c by lead linked = absurd (nothing_there _ c.in-None.is (c.in_ok-keys.ensures.some by lead linked))
+
+pub returns-in_err-on-clause-steps : goal.returns-in_err-on-clause-steps
+returns-in_err-on-clause-steps g c by lead linked =
+    let none = c.of.ensures.steps (linked_asks c.args.sources.now lead (trees_of c.args.conditions.now) linked) in
+    omega (arith, none)
+
+pub returns-in_err-keys-clause-steps : goal.returns-in_err-keys-clause-steps
+returns-in_err-keys-clause-steps g c by lead linked =
+    let none = c.of.ensures.steps (linked_asks c.args.sources.now lead (trees_of c.args.conditions.now) linked) in
+    let made = c.wanted_lookup.ensures.steps by lead linked in
+    omega (arith, none, made)

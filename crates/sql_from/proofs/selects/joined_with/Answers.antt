@@ -24,6 +24,6 @@ returns-clause-seen g c =
 
 pub returns-clause-steps : goal.returns-clause-steps
 returns-clause-steps g c by silent lead linked =
-    let none = c.of-filter.ensures.steps silent in
+    let none = c.of.ensures.steps silent in
     let most = c.joined_by.ensures.steps by lead linked in
     omega (arith, none, most)

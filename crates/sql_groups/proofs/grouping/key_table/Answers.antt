@@ -1,7 +1,6 @@
-use Rattle.std.proofs.Common.{◌≡◌, ◌∙◌, ◌<◌, List, All, length, map, ap, sym, subst, arith}
+use Rattle.std.proofs.Common.{◌∙◌, ◌<◌, List, All, length, ap, sym, subst, arith}
 use Rattle.std.proofs.lemmas.List.{length-map}
 use Rattle.vtl_cell.specs.declared.kind.Kind.{Kind}
-use Rattle.vtl_rows.specs.Tables.{column_kinds}
 use Rattle.sql_check_parts.specs.Scopes.{column_kind, row_of}
 use Rattle.sql_from.specs.Columns.{kinds_at}
 use Rattle.sql_groups.specs.Kept.{scope_of}

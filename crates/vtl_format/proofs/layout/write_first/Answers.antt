@@ -1,4 +1,4 @@
-use Rattle.std.proofs.Common.{◌++◌, ◌∙◌, ap, arith, string_bytes}
+use Rattle.std.proofs.Common.{◌++◌, ◌∙◌, ap, string_bytes}
 use Rattle.vtl_lexer.specs.Pieces.{IsCutOf}
 use Rattle.vtl_format.specs.Form.{lexemes_at}
 use Rattle.vtl_format.specs.Layout.{depth_behind, gap_behind}

@@ -1,4 +1,4 @@
-use Rattle.std.proofs.Common.{◌++◌, ap, string_bytes, subst}
+use Rattle.std.proofs.Common.{string_bytes, subst}
 use Rattle.std.specs.List.{AllByRecursion, slice_range}
 use Rattle.std.proofs.lemmas.Result.{IfOk-weaker}
 use Rattle.vtl_lexer.specs.Pieces.{IsCutAt, IsCutOf}

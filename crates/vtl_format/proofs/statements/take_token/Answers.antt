@@ -1,9 +1,8 @@
-use Rattle.std.proofs.Common.{◌≡◌, ◌∷◌, ◌++◌, ◌∙◌, [], List, Bool, false, ap, string_bytes, subst, sym}
-use Rattle.std.specs.List.{AllByRecursion, slice_range}
+use Rattle.std.proofs.Common.{◌∙◌, List, string_bytes, subst, sym}
+use Rattle.std.specs.List.{AllByRecursion}
 use Rattle.std.proofs.lemmas.Result.{IfOk-weaker}
-use Rattle.vtl_lexer.specs.Pieces.{IsCutOf, Piece, a_token}
+use Rattle.vtl_lexer.specs.Pieces.{IsCutOf}
 use Rattle.vtl_lexer.specs.declared.token.Token.{Token}
-use Rattle.vtl_format.specs.Form.{lexemes_at}
 use Rattle.vtl_format.proofs.Lists.{all-more, token-ends, token-kept}
 use Rattle.vtl_format.proofs.statements.take_token.Goals as goal
 

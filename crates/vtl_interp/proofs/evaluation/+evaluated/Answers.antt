@@ -34,9 +34,9 @@ evaluate-choose-requires t c =
     let w = value_view c.in_ok-first-in-Choose.first in
     let x = value_view c.in_ok-second-in-Choose.second in
     choose_fits c.args.p.now env c.args.node.now c.in-Choose.c c.in-Choose.a c.in-Choose.b v w x c.in-Choose.is c.requires.made
-    (subst (λ n. Gives c.args.p.now env (node_tree n) v) c.deref.ensures c.in_ok-condition-in-Choose.ensures)
-    (subst (λ n. Gives c.args.p.now env (node_tree n) w) c.deref-in-Choose.ensures c.in_ok-first-in-Choose.ensures)
-    (subst (λ n. Gives c.args.p.now env (node_tree n) x) c.deref-in-Choose-2.ensures c.in_ok-second-in-Choose.ensures)
+    (subst (λ n. Gives c.args.p.now env (node_tree n) v) c.deref-in-Choose.ensures c.in_ok-condition-in-Choose.ensures)
+    (subst (λ n. Gives c.args.p.now env (node_tree n) w) c.deref-in-Choose-2.ensures c.in_ok-first-in-Choose.ensures)
+    (subst (λ n. Gives c.args.p.now env (node_tree n) x) c.deref-in-Choose-3.ensures c.in_ok-second-in-Choose.ensures)
 
 pub evaluate-returns-in_ok-second-in-Choose : goal.evaluate-returns-in_ok-second-in-Choose
 evaluate-returns-in_ok-second-in-Choose t c =
@@ -45,9 +45,9 @@ evaluate-returns-in_ok-second-in-Choose t c =
     let w = value_view c.in_ok-first-in-Choose.first in
     let x = value_view c.in_ok-second-in-Choose.second in
     choice_gives value_view c.args.p.now env c.args.node.now c.in-Choose.c c.in-Choose.a c.in-Choose.b v w x c.choose.result c.in-Choose.is
-    (subst (λ n. Gives c.args.p.now env (node_tree n) v) c.deref.ensures c.in_ok-condition-in-Choose.ensures)
-    (subst (λ n. Gives c.args.p.now env (node_tree n) w) c.deref-in-Choose.ensures c.in_ok-first-in-Choose.ensures)
-    (subst (λ n. Gives c.args.p.now env (node_tree n) x) c.deref-in-Choose-2.ensures c.in_ok-second-in-Choose.ensures)
+    (subst (λ n. Gives c.args.p.now env (node_tree n) v) c.deref-in-Choose.ensures c.in_ok-condition-in-Choose.ensures)
+    (subst (λ n. Gives c.args.p.now env (node_tree n) w) c.deref-in-Choose-2.ensures c.in_ok-first-in-Choose.ensures)
+    (subst (λ n. Gives c.args.p.now env (node_tree n) x) c.deref-in-Choose-3.ensures c.in_ok-second-in-Choose.ensures)
     c.choose.ensures
 
 pub evaluate-returns-in_err-right-in-Pair : goal.evaluate-returns-in_err-right-in-Pair
@@ -145,75 +145,75 @@ evaluate-returns-in-Filter t c =
     let x = c.in-Filter in
     let s = c.args.node.now.structure in
     filter_gives value_view p env c.args.node.now x.a x.c c.evaluate_filter.result x.is
-    (subst (λ n. AnswersBy value_view c.evaluate_filter.result (with_structure s (after (node_value p env (node_tree n)) (filter_of p (comp_exp_of x.c))))) c.deref-in-Filter.ensures c.evaluate_filter.ensures)
+    (subst (λ n. AnswersBy value_view c.evaluate_filter.result (with_structure s (after (node_value p env (node_tree n)) (filter_of p (comp_exp_of x.c))))) c.deref.ensures c.evaluate_filter.ensures)
 
 pub evaluate_filter-filter_join-requires-clause-named : goal.evaluate_filter-filter_join-requires-clause-named
 evaluate_filter-filter_join-requires-clause-named t c =
     let env = c.args.known.now.entries in
     let os = c.in-Join.operands in
-    let sets = c.in_ok-sets.sets in
-    ap length c.deref-2.ensures.value
+    let sets = c.in_ok-sets-in-Join.sets in
+    ap length c.deref-in-Join.ensures.value
     ∙ sym (length-map sets.items value_view)
     ∙ operands_named c.args.p.now env (map operand_tree os.items) (values_view sets)
-    (subst (λ xs. operands_value c.args.p.now env (operands_of (map operand_tree xs)) ≡ Ok (values_view sets)) c.deref.ensures.value c.in_ok-sets.ensures)
+    (subst (λ xs. operands_value c.args.p.now env (operands_of (map operand_tree xs)) ≡ Ok (values_view sets)) c.deref.ensures.value c.in_ok-sets-in-Join.ensures)
     ∙ length-map os.items operand_tree
-    ∙ sym (ap length c.deref-3.ensures.value)
+    ∙ sym (ap length c.deref-in-Join-2.ensures.value)
 
 pub evaluate_filter-filter_join-requires-clause-joined : goal.evaluate_filter-filter_join-requires-clause-joined
 evaluate_filter-filter_join-requires-clause-joined t c =
     let env = c.args.known.now.entries in
     let os = c.in-Join.operands in
-    let sets = c.in_ok-sets.sets in
-    subst (λ xs. IsJoined c.in-Join.spec.kind (structures_of (map value_view xs)) c.args.a.now.structure) (sym c.deref-2.ensures.value)
+    let sets = c.in_ok-sets-in-Join.sets in
+    subst (λ xs. IsJoined c.in-Join.spec.kind (structures_of (map value_view xs)) c.args.a.now.structure) (sym c.deref-in-Join.ensures.value)
     (join_fits c.args.p.now env c.args.a.now os c.in-Join.spec (values_view sets) c.in-Join.is c.requires.made
-    (subst (λ xs. operands_value c.args.p.now env (operands_of (map operand_tree xs)) ≡ Ok (values_view sets)) c.deref.ensures.value c.in_ok-sets.ensures))
+    (subst (λ xs. operands_value c.args.p.now env (operands_of (map operand_tree xs)) ≡ Ok (values_view sets)) c.deref.ensures.value c.in_ok-sets-in-Join.ensures))
 
 pub evaluate_filter-filter_join-requires-clause-from : goal.evaluate_filter-filter_join-requires-clause-from
 evaluate_filter-filter_join-requires-clause-from t c =
     let env = c.args.known.now.entries in
     let os = c.in-Join.operands in
-    let sets = c.in_ok-sets.sets in
-    subst (λ xs. IsJoinedFrom c.in-Join.spec.kind (under_aliases (map (λ o. o.alias) c.deref-3.result.now) (structures_of (map value_view xs))) c.args.a.now.structure) (sym c.deref-2.ensures.value)
-    (subst (λ (xs : List JoinOperand). IsJoinedFrom c.in-Join.spec.kind (under_aliases (map (λ o. o.alias) xs) (structures_of (values_view sets))) c.args.a.now.structure) (sym c.deref-3.ensures.value)
+    let sets = c.in_ok-sets-in-Join.sets in
+    subst (λ xs. IsJoinedFrom c.in-Join.spec.kind (under_aliases (map (λ o. o.alias) c.deref-in-Join-2.result.now) (structures_of (map value_view xs))) c.args.a.now.structure) (sym c.deref-in-Join.ensures.value)
+    (subst (λ (xs : List JoinOperand). IsJoinedFrom c.in-Join.spec.kind (under_aliases (map (λ o. o.alias) xs) (structures_of (values_view sets))) c.args.a.now.structure) (sym c.deref-in-Join-2.ensures.value)
     (join_named c.args.p.now env c.args.a.now os c.in-Join.spec (values_view sets) c.in-Join.is c.requires.made
-    (subst (λ xs. operands_value c.args.p.now env (operands_of (map operand_tree xs)) ≡ Ok (values_view sets)) c.deref.ensures.value c.in_ok-sets.ensures)))
+    (subst (λ xs. operands_value c.args.p.now env (operands_of (map operand_tree xs)) ≡ Ok (values_view sets)) c.deref.ensures.value c.in_ok-sets-in-Join.ensures)))
 
 pub evaluate_filter-filter_join-requires-clause-filtered : goal.evaluate_filter-filter_join-requires-clause-filtered
 evaluate_filter-filter_join-requires-clause-filtered t c =
     subst (λ (s : Structure). IsFiltered c.args.p.now (comp_exp_of c.args.condition.now) s c.args.made.now) (joined_structure c.args.a.now) c.requires.filtered
 
-pub evaluate_filter-returns-in_ok-sets : goal.evaluate_filter-returns-in_ok-sets
-evaluate_filter-returns-in_ok-sets t c =
+pub evaluate_filter-returns-in_ok-sets-in-Join : goal.evaluate_filter-returns-in_ok-sets-in-Join
+evaluate_filter-returns-in_ok-sets-in-Join t c =
     let p = c.args.p.now in
     let env = c.args.known.now.entries in
     let os = c.in-Join.operands in
     let e = comp_exp_of c.args.condition.now in
     let s = c.args.made.now in
-    let sets = c.in_ok-sets.sets in
+    let sets = c.in_ok-sets-in-Join.sets in
     filter_joined p env c.args.a.now os c.in-Join.spec c.in-Join.is e s value_view (values_view sets) c.filter_join.result
-    (subst (λ xs. operands_value p env (operands_of (map operand_tree xs)) ≡ Ok (values_view sets)) c.deref.ensures.value c.in_ok-sets.ensures)
-    (subst (λ xs. AnswersBy value_view c.filter_join.result (with_structure s (filter_of p e (join_of c.in-Join.spec.kind (map value_view xs))))) c.deref-2.ensures.value c.filter_join.ensures)
+    (subst (λ xs. operands_value p env (operands_of (map operand_tree xs)) ≡ Ok (values_view sets)) c.deref.ensures.value c.in_ok-sets-in-Join.ensures)
+    (subst (λ xs. AnswersBy value_view c.filter_join.result (with_structure s (filter_of p e (join_of c.in-Join.spec.kind (map value_view xs))))) c.deref-in-Join.ensures.value c.filter_join.ensures)
 
-pub evaluate_filter-returns-in_err-sets : goal.evaluate_filter-returns-in_err-sets
-evaluate_filter-returns-in_err-sets t c =
+pub evaluate_filter-returns-in_err-sets-in-Join : goal.evaluate_filter-returns-in_err-sets-in-Join
+evaluate_filter-returns-in_err-sets-in-Join t c =
     let p = c.args.p.now in
     let env = c.args.known.now.entries in
     let os = c.in-Join.operands in
-    let f = c.in_err-sets.field-0.0 in
+    let f = c.in_err-sets-in-Join.field-0.0 in
     let passed : c.from_residual.result ≡ Err f = search rules in
     rw passed (filter_operands_stop p env c.args.a.now os c.in-Join.spec c.in-Join.is (comp_exp_of c.args.condition.now) c.args.made.now values_view value_view f
-    (subst (λ xs. AnswersBy values_view (Err f) (operands_value p env (operands_of (map operand_tree xs)))) c.deref.ensures.value c.in_err-sets.ensures))
+    (subst (λ xs. AnswersBy values_view (Err f) (operands_value p env (operands_of (map operand_tree xs)))) c.deref.ensures.value c.in_err-sets-in-Join.ensures))
 
 pub evaluate_filter-filter-requires : goal.evaluate_filter-filter-requires
 evaluate_filter-filter-requires t c =
-    subst (λ (s : Structure). IsFiltered c.args.p.now (comp_exp_of c.args.condition.now) s c.args.made.now) (sym c.in_ok-set.ensures.structure) c.requires.filtered
+    subst (λ (s : Structure). IsFiltered c.args.p.now (comp_exp_of c.args.condition.now) s c.args.made.now) (sym c.in_ok-set-in_default.ensures.structure) c.requires.filtered
 
-pub evaluate_filter-returns-in_ok-set : goal.evaluate_filter-returns-in_ok-set
-evaluate_filter-returns-in_ok-set t c =
-    filter_after c.args.p.now c.args.known.now.entries (node_tree c.args.a.now) (comp_exp_of c.args.condition.now) c.args.made.now value_view (value_view c.in_ok-set.set) c.filter.result c.in_ok-set.ensures c.filter.ensures
+pub evaluate_filter-returns-in_ok-set-in_default : goal.evaluate_filter-returns-in_ok-set-in_default
+evaluate_filter-returns-in_ok-set-in_default t c =
+    filter_after c.args.p.now c.args.known.now.entries (node_tree c.args.a.now) (comp_exp_of c.args.condition.now) c.args.made.now value_view (value_view c.in_ok-set-in_default.set) c.filter.result c.in_ok-set-in_default.ensures c.filter.ensures
 
-pub evaluate_filter-returns-in_err-set : goal.evaluate_filter-returns-in_err-set
-evaluate_filter-returns-in_err-set t c =
-    let f = c.in_err-set.field-0.0 in
-    let passed : c.from_residual-in_err-set.result ≡ Err f = search rules in
-    rw passed (filter_stops c.args.p.now c.args.known.now.entries (node_tree c.args.a.now) (comp_exp_of c.args.condition.now) c.args.made.now value_view value_view f c.in_err-set.ensures)
+pub evaluate_filter-returns-in_err-set-in_default : goal.evaluate_filter-returns-in_err-set-in_default
+evaluate_filter-returns-in_err-set-in_default t c =
+    let f = c.in_err-set-in_default.field-0.0 in
+    let passed : c.from_residual-in_err-set-in_default.result ≡ Err f = search rules in
+    rw passed (filter_stops c.args.p.now c.args.known.now.entries (node_tree c.args.a.now) (comp_exp_of c.args.condition.now) c.args.made.now value_view value_view f c.in_err-set-in_default.ensures)

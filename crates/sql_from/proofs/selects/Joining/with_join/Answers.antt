@@ -1,4 +1,4 @@
-use Rattle.std.proofs.Common.{◌≡◌, ◌∙◌, ◌+◌, ◌≤◌, ◌++◌, ◌∷◌, [], ℕ, List, ap, length, subst, sym}
+use Rattle.std.proofs.Common.{◌≡◌, ◌∙◌, ◌+◌, ◌≤◌, ◌++◌, ◌∷◌, [], List, ap, length, subst, sym}
 use Rattle.vtl_cell.specs.Outcome.{join}
 use Rattle.vtl_rows.specs.Named.{NamedTables}
 use Rattle.sql_tree.specs.Trees.{Exp}

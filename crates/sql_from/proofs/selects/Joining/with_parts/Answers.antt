@@ -1,4 +1,4 @@
-use Rattle.std.proofs.Common.{◌≡◌, ◌∙◌, [], List, length, sym, subst}
+use Rattle.std.proofs.Common.{◌≡◌, ◌∙◌, [], List, sym, subst}
 use Rattle.std.specs.Prelude.{fold}
 use Rattle.sql_tree.specs.Trees.{Exp}
 use Rattle.sql_meaning.specs.Plans.{try_early}
