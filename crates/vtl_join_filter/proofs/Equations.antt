@@ -4,16 +4,19 @@ use Rattle.std.specs.Prelude.{OnOk}
 use Rattle.std.specs.List.{AllByRecursion}
 use Rattle.std.specs.Ordering.{is_eq}
 use Rattle.vtl_decimal.specs.Settings.{Settings}
+use Rattle.vtl_decimal.specs.Range.{fit_number}
 use Rattle.vtl_cell.specs.Conversion.{as_kind}
 use Rattle.vtl_cell.specs.Logic.{and_of}
 use Rattle.vtl_cell.specs.Outcome.{Outcome, after}
 use Rattle.vtl_cell.specs.Outcomes.{all_of, is_true, result_of}
 use Rattle.vtl_cell.specs.Row.{Row, column_of}
+use Rattle.vtl_cell.specs.ScalarArithmetic.{number, units}
 use Rattle.vtl_cell.specs.ScalarChoice.{on_truths, truth_in}
 use Rattle.vtl_cell.specs.ScalarComparison.{compared, truth}
 use Rattle.vtl_cell.specs.declared.cell.Cell.{Cell}
 use Rattle.vtl_cell.specs.declared.cell.Cell.TheVariants as c
 use Rattle.vtl_cell.specs.declared.kind.Kind.{Kind}
+use Rattle.vtl_cell.specs.declared.kind.Kind.TheVariants as k
 use Rattle.vtl_cell.specs.declared.operator.ScalarOp.{ScalarOp}
 use Rattle.vtl_cell.specs.declared.operator.ScalarOp.TheVariants as op
 use Rattle.vtl_text.specs.declared.shared_text.Txt.{Txt}
@@ -22,8 +25,31 @@ use Rattle.vtl_tree.specs.Value.{called, value, values}
 use Rattle.vtl_tree.specs.View.{comp_exp_of, comp_exps_of}
 use Rattle.vtl_tree.specs.declared.expression.CompExpr.{Apply, Column, CompExpr, the_lemmas}
 use Rattle.vtl_join_filter.specs.declared.equated.Equated.{Equated}
-use Rattle.vtl_join_filter.specs.Sure.{Equates, Implies}
-use Rattle.vtl_join_filter.proofs.SureValues.{true_scalar}
+use Rattle.vtl_join_filter.specs.Equalities.{Equates, Implies}
+
+-- ---- a value that is true
+true_before : (p : Settings) (kind : Kind) (v : Cell) → is_true (as_kind p kind v) ≡ true → is_true (Ok v) ≡ true
+true_before p kind (c.Bool b) h = bool kind h
+  where
+    bool : (kind : Kind) → is_true (as_kind p kind (c.Bool b)) ≡ true → b ≡ true
+    bool k.Num h = h
+    bool k.Null h = h
+    bool k.Bool h = h
+    bool k.Int h = h
+    bool k.Text h = h
+    bool k.Day h = h
+    bool k.Period h = h
+true_before p k.Num (c.Int n) h = absurd (no_number (fit_number (units p n)) h)
+  where
+    no_number : (m : _) → is_true (number m) ≡ true → ⊥
+    no_number (Ok x) h = cc
+    no_number (Err g) h = cc
+true_before p k.Num v h = cc
+true_before p kind v h = cc
+
+true_scalar : (p : Settings) (kind : Kind) (m : Outcome Cell) → is_true (after m (as_kind p kind)) ≡ true → is_true m ≡ true
+true_scalar p kind (Ok v) h = true_before p kind v h
+true_scalar p kind (Err g) h = cc
 
 -- ---- `and`
 both_are : (u v : Cell) → is_true (Ok (on_truths and_of (truth_in u) (truth_in v))) ≡ true → (is_true (Ok u) ≡ true) × (is_true (Ok v) ≡ true)

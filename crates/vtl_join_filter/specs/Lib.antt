@@ -1,3 +1,4 @@
 pub mod Sifting
-pub mod Sure
+pub mod Safety
+pub mod Equalities
 pub mod Partners

@@ -7,7 +7,7 @@ ghost use Rattle.vtl_decimal.specs.Settings.{Settings};
 ghost use Rattle.vtl_tree.specs.CompExp.{CompExp, call};
 ghost use Rattle.vtl_tree.specs.Value.{value};
 ghost use Rattle.vtl_tree.specs.View.{comp_exp_of, comp_exps_of};
-ghost use Rattle.vtl_join_filter.specs.Sure.{Equates, Implies};
+ghost use Rattle.vtl_join_filter.specs.Equalities.{Equates, Implies};
 
 use std::alloc::{AllocError, Global};
 use vtl_cell::ScalarOp;

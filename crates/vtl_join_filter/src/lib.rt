@@ -12,8 +12,9 @@
 mod crossing;
 mod equated;
 mod filtering;
+mod keys;
 mod partners;
 mod sieve;
-mod sure;
+mod safety;
 
 pub use filtering::filter_joined;

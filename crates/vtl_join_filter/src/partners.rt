@@ -1,35 +1,34 @@
 // The rows of an operand that may go with rows in front of them.
 //
-// Where a condition equates a cell of an operand with one in front of it, and has no fault at any point, only rows with
-// this value need be asked: a look-up by this column is made once, and tells their numbers, which rise.
-ghost use Rattle.std.specs.Prelude.{◌≡◌, ℕ, ◌<◌, true, length, slice_index, IfOk, IfSome};
+// Where a condition has no fault at any point, and equates cells of an operand with cells of one in front of it, only
+// rows with these cells need be asked: a look-up by all of them is made once, and tells their numbers, which rise.
+ghost use Rattle.std.specs.Prelude.{◌≡◌, ◌<◌, length, map, slice_index, IfOk, IfSome};
 ghost use Rattle.std.specs.List.{AllByRecursion};
-ghost use Rattle.vtl_cell.specs.Kinds.{is_of};
 ghost use Rattle.vtl_rows.specs.Places.{row_at};
 ghost use Rattle.vtl_tree.specs.View.{comp_exp_of};
 ghost use Rattle.vtl_expr.specs.Prepared.{SameValue, prepared_exp};
-ghost use Rattle.vtl_join_filter.specs.Partners.{AreEnough, Finds, IsPartner, IsSafe, cell_in, found_behind, numbers_of};
-ghost use Rattle.vtl_join_filter.specs.Sure.{Equates};
+ghost use Rattle.vtl_join_filter.specs.Partners.{AreEnough, HasNoFault, IsPair, IsPairBetween, IsPartner, asked_column, found_behind, numbers_of, own_column};
 ghost use Rattle.vtl_join_filter.specs.declared.sieve.Asked.{Asked};
 
-use crate::equated::{Equated, equated_columns};
+use crate::keys::{KeyPair, key_pairs};
+use crate::safety::is_safe;
 use crate::sieve::Asked;
-use crate::sure::is_sure;
 use std::alloc::{AllocError, Global};
 use std::marker::Brand;
 use std::sync::ledger::{Blank, Ledger};
-use vtl_cell::{Cell, Kind, is_same_kind};
-use vtl_decimal::Profile;
-use vtl_index::{KeyColumn, KeyForm, NullKeys, RowIndex, Steps};
-use vtl_join::Source;
+use vtl_cell::Cell;
+use vtl_index::{KeyColumn, NullKeys, RowIndex, Steps};
 use vtl_rows::Table;
 use vtl_tree::CompExpr;
 
-// How rows of an operand are found by one in front of it: those whose cell is equal to the one that asks.
+// How rows of an operand are found by a row of one in front of it: those whose key has the cells that stand at listed
+// columns there.
 pub(crate) struct Partner<'a> {
     part: usize,
     index: RowIndex<'a>,
-    asking: Source<'a>,
+    front: usize,
+    asking: &'a Table,
+    at: Vec<KeyColumn>,
 }
 
 // Written out, so that a proof sees one call and not the drop of each part.
@@ -38,7 +37,9 @@ impl Drop for Partner<'_> {
         let Partner {
             part: _,
             index: _index,
+            front: _,
             asking: _,
+            at: _at,
         } = self;
     }
 }
@@ -87,7 +88,7 @@ fn number_at(numbers: &[usize], i: usize) -> usize
     if i < numbers.len() { numbers[i] } else { 0 }
 }
 
-// The rows that are found behind those in front.
+// The rows that are found behind the numbers in front.
 fn found_behind<'p, L: Ledger>(
     partner: &'p Partner<'_>,
     front: &[usize],
@@ -99,13 +100,8 @@ fn found_behind<'p, L: Ledger>(
     ensures { result.now ≡ found_behind partner.now front.now }
 {
     let mut steps: Steps<L> = Steps::new(blank);
-    let asking = &partner.asking;
-    let row = row_or_none(asking.table, number_at(front, asking.part));
-    let at = KeyColumn {
-        column: asking.column,
-        form: KeyForm::AsIs,
-    };
-    partner.index.probe(row, &[at], &mut steps)
+    let row = row_or_none(partner.asking, number_at(front, partner.front));
+    partner.index.probe(row, &partner.at, &mut steps)
 }
 
 // The numbers below a count that may stand behind those in front.
@@ -124,72 +120,93 @@ pub(crate) fn numbers_behind<'p>(
     Numbers::Below(count)
 }
 
-// The kind of the cells of a source.
-fn kind_of(source: &Source<'_>) -> Kind
-    ensures { (i : ℕ) → is_of result (cell_in source.now i) ≡ true }
-{
-    let columns = source.table.columns();
-    if source.column < columns.len() {
-        columns[source.column].kind
-    } else {
-        Kind::Null
-    }
+// Whether rows of an operand are found.
+fn is_found(partners: &[Partner<'_>], part: usize) -> bool {
+    partners.iter().any(|partner| partner.part == part)
 }
 
-// How rows of the last source are found by those of the one in front, where both are of one kind.
-fn partner_by<'a, L: Ledger>(
+// The pairs of cells of two operands.
+fn pairs_between(
     alloc: Global,
-    front: Source<'a>,
-    last: Source<'a>,
-    p: &Profile,
+    pairs: &[KeyPair],
+    front: usize,
+    last: usize,
+) -> Result<Vec<KeyPair>, AllocError>
+    ensures { IfOk result (λ v. (a : Asked) → AllByRecursion (IsPair a) pairs.now → AllByRecursion (IsPairBetween a front last) v.items) }
+{
+    let mut between = Vec::new(alloc);
+    for pair in pairs {
+        if pair.asked.part == front && pair.own.part == last {
+            between.push(*pair)?;
+        }
+    }
+    Ok(between)
+}
+
+// The columns of the key.
+fn own_columns(alloc: Global, pairs: &[KeyPair]) -> Result<Vec<KeyColumn>, AllocError>
+    ensures { IfOk result (λ v. v.items ≡ map own_column pairs.now) }
+{
+    let mut columns = Vec::with_capacity(alloc, pairs.len())?;
+    for pair in pairs {
+        columns.push(KeyColumn {
+            column: pair.own.column,
+            form: pair.form,
+        })?;
+    }
+    Ok(columns)
+}
+
+// The columns of the same cells in rows that ask.
+fn asked_columns(alloc: Global, pairs: &[KeyPair]) -> Result<Vec<KeyColumn>, AllocError>
+    ensures { IfOk result (λ v. v.items ≡ map asked_column pairs.now) }
+{
+    let mut columns = Vec::with_capacity(alloc, pairs.len())?;
+    for pair in pairs {
+        columns.push(KeyColumn {
+            column: pair.asked.column,
+            form: pair.form,
+        })?;
+    }
+    Ok(columns)
+}
+
+// How rows of the later operand of a pair are found, by all pairs of the same two operands.
+fn partner_of<'a, L: Ledger>(
+    alloc: Global,
+    asked: &Asked<'a>,
+    pairs: &[KeyPair],
+    pair: KeyPair,
     blank: Blank,
 ) -> Result<Option<Partner<'a>>, AllocError>
     requires name { blank.name ≡ L.name }
     requires parts { blank.parts ≡ L.parts }
     requires some { 0 < L.parts }
-    ensures { IfOk result (λ o. IfSome o (λ x. Finds p.now front last x)) }
+    ensures { IfOk result (λ o. IfSome o (λ x. HasNoFault asked.now → AllByRecursion (IsPair asked.now) pairs.now → IsPartner asked.now x)) }
 {
-    if !is_same_kind(kind_of(&front), kind_of(&last)) {
+    let (front, part) = (pair.asked.part, pair.own.part);
+    let Some(asking) = asked.gathering.part(front) else {
         return Ok(None);
-    }
+    };
+    let Some(table) = asked.gathering.part(part) else {
+        return Ok(None);
+    };
+    let between = pairs_between(alloc, pairs, front, part)?;
+    let at = asked_columns(alloc, &between)?;
+    let key = own_columns(alloc, &between)?;
     let mut steps: Steps<L> = Steps::new(blank);
-    let mut key = Vec::new(alloc);
-    key.push(KeyColumn {
-        column: last.column,
-        form: KeyForm::AsIs,
-    })?;
-    let index = RowIndex::of(alloc, last.table, key, NullKeys::NotFound, p, &mut steps)?;
+    let index = RowIndex::of(alloc, table, key, NullKeys::NotFound, asked.profile, &mut steps)?;
     Ok(Some(Partner {
-        part: last.part,
+        part,
         index,
-        asking: front,
+        front,
+        asking,
+        at,
     }))
 }
 
-// How rows of the later of two operands are found by those of the earlier one.
-fn partner_of<'a>(
-    alloc: Global,
-    asked: &Asked<'a>,
-    pair: Equated,
-) -> Result<Option<Partner<'a>>, AllocError>
-    ensures { IfOk result (λ o. IfSome o (λ x. IsSafe asked.now → Equates asked.now.profile.now (prepared_exp asked.now.condition) pair → IsPartner asked.now x)) }
-{
-    let Some(left) = asked.gathering.source_of(pair.left) else {
-        return Ok(None);
-    };
-    let Some(right) = asked.gathering.source_of(pair.right) else {
-        return Ok(None);
-    };
-    if left.part < right.part {
-        partner_by::<Brand>(alloc, left, right, asked.profile, Blank::new(1))
-    } else if right.part < left.part {
-        partner_by::<Brand>(alloc, right, left, asked.profile, Blank::new(1))
-    } else {
-        Ok(None)
-    }
-}
-
-// How rows of operands are found, by the columns that a condition equates; none where it may have a fault.
+// How rows of operands are found; none where the condition may have a fault. Where an operand has pairs with several
+// others, those with the one of its first pair count.
 pub(crate) fn partners<'a>(
     alloc: Global,
     asked: &Asked<'a>,
@@ -199,13 +216,15 @@ pub(crate) fn partners<'a>(
     ensures { IfOk result (λ v. AllByRecursion (IsPartner asked.now) v.items) }
 {
     let mut partners = Vec::new(alloc);
-    if !is_sure(condition) {
+    if !is_safe(condition) {
         return Ok(partners);
     }
-    let pairs = equated_columns(alloc, condition)?;
+    let pairs = key_pairs(alloc, asked, condition)?;
     for pair in &pairs {
-        if let Some(partner) = partner_of(alloc, asked, *pair)? {
-            partners.push(partner)?;
+        if !is_found(&partners, pair.own.part) {
+            if let Some(partner) = partner_of::<Brand>(alloc, asked, &pairs, *pair, Blank::new(1))? {
+                partners.push(partner)?;
+            }
         }
     }
     Ok(partners)

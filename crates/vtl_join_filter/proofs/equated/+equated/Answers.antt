@@ -4,7 +4,7 @@ use Rattle.vtl_cell.specs.declared.operator.ScalarOp.{ScalarOp}
 use Rattle.vtl_tree.specs.CompExp.{CompExp, call}
 use Rattle.vtl_tree.specs.View.{comp_exp_of, comp_exps_of}
 use Rattle.vtl_tree.specs.declared.expression.CompExpr.{Apply, CompExpr}
-use Rattle.vtl_join_filter.specs.Sure.{Implies}
+use Rattle.vtl_join_filter.specs.Equalities.{Implies}
 use Rattle.vtl_join_filter.proofs.Equations.{all_at, call_is, on_ok, operands_implied}
 use Rattle.vtl_join_filter.proofs.equated.+equated.Goals as goal
 

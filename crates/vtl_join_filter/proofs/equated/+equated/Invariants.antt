@@ -3,7 +3,7 @@ use Rattle.std.specs.List.{AllByRecursion}
 use Rattle.vtl_decimal.specs.Settings.{Settings}
 use Rattle.vtl_tree.specs.CompExp.{CompExp}
 use Rattle.vtl_tree.specs.View.{comp_exp_of}
-use Rattle.vtl_join_filter.specs.Sure.{Equates, Implies}
+use Rattle.vtl_join_filter.specs.Equalities.{Equates, Implies}
 use Rattle.vtl_join_filter.proofs.equated.+equated.Given as goal
 
 abbrev pub invariant-push_each-loop-condition : goal.invariant-push_each-loop-condition
