@@ -17,6 +17,7 @@ use std::alloc::{AllocError, Global};
 use std::marker::Brand;
 use std::sync::ledger::{Blank, Ledger};
 use vtl_cell::Cell;
+use vtl_decimal::Profile;
 use vtl_index::{KeyColumn, NullKeys, RowIndex, Steps};
 use vtl_rows::Table;
 use vtl_tree::CompExpr;
@@ -89,7 +90,14 @@ fn number_at(numbers: &[usize], i: usize) -> usize
 }
 
 // The rows that are found behind the numbers in front.
-fn found_behind<'p, L: Ledger>(
+fn found_behind<'p>(partner: &'p Partner<'_>, front: &[usize]) -> &'p [usize]
+    ensures { result.now ≡ found_behind partner.now front.now }
+{
+    found_in_steps::<Brand>(partner, front, Blank::new(1))
+}
+
+// The same, whose steps are counted.
+fn found_in_steps<'p, L: Ledger>(
     partner: &'p Partner<'_>,
     front: &[usize],
     blank: Blank,
@@ -114,7 +122,7 @@ pub(crate) fn numbers_behind<'p>(
 {
     for partner in partners {
         if partner.part == front.len() && partner.index.table().len() == count {
-            return Numbers::Found(found_behind::<Brand>(partner, front, Blank::new(1)));
+            return Numbers::Found(found_behind(partner, front));
         }
     }
     Numbers::Below(count)
@@ -122,7 +130,12 @@ pub(crate) fn numbers_behind<'p>(
 
 // Whether rows of an operand are found.
 fn is_found(partners: &[Partner<'_>], part: usize) -> bool {
-    partners.iter().any(|partner| partner.part == part)
+    for partner in partners {
+        if partner.part == part {
+            return true;
+        }
+    }
+    false
 }
 
 // The pairs of cells of two operands.
@@ -171,37 +184,46 @@ fn asked_columns(alloc: Global, pairs: &[KeyPair]) -> Result<Vec<KeyColumn>, All
     Ok(columns)
 }
 
+// A look-up of a table by such pairs, whose steps are counted.
+fn index_by<'a, L: Ledger>(
+    alloc: Global,
+    table: &'a Table,
+    pairs: &[KeyPair],
+    p: &Profile,
+    blank: Blank,
+) -> Result<RowIndex<'a>, AllocError>
+    requires name { blank.name ≡ L.name }
+    requires parts { blank.parts ≡ L.parts }
+    requires some { 0 < L.parts }
+    ensures { IfOk result (λ x. x ≡ record { rows = table.now.rows; key = map own_column pairs.now; nulls = NullKeys.NotFound; p = p.now }) }
+{
+    let mut steps: Steps<L> = Steps::new(blank);
+    let key = own_columns(alloc, pairs)?;
+    RowIndex::of(alloc, table, key, NullKeys::NotFound, p, &mut steps)
+}
+
 // How rows of the later operand of a pair are found, by all pairs of the same two operands.
-fn partner_of<'a, L: Ledger>(
+fn partner_of<'a>(
     alloc: Global,
     asked: &Asked<'a>,
     pairs: &[KeyPair],
     pair: KeyPair,
-    blank: Blank,
 ) -> Result<Option<Partner<'a>>, AllocError>
-    requires name { blank.name ≡ L.name }
-    requires parts { blank.parts ≡ L.parts }
-    requires some { 0 < L.parts }
     ensures { IfOk result (λ o. IfSome o (λ x. HasNoFault asked.now → AllByRecursion (IsPair asked.now) pairs.now → IsPartner asked.now x)) }
 {
-    let (front, part) = (pair.asked.part, pair.own.part);
-    let Some(asking) = asked.gathering.part(front) else {
+    let Some(asking) = asked.gathering.part(pair.asked.part) else {
         return Ok(None);
     };
-    let Some(table) = asked.gathering.part(part) else {
+    let Some(table) = asked.gathering.part(pair.own.part) else {
         return Ok(None);
     };
-    let between = pairs_between(alloc, pairs, front, part)?;
-    let at = asked_columns(alloc, &between)?;
-    let key = own_columns(alloc, &between)?;
-    let mut steps: Steps<L> = Steps::new(blank);
-    let index = RowIndex::of(alloc, table, key, NullKeys::NotFound, asked.profile, &mut steps)?;
+    let between = pairs_between(alloc, pairs, pair.asked.part, pair.own.part)?;
     Ok(Some(Partner {
-        part,
-        index,
-        front,
+        part: pair.own.part,
+        index: index_by::<Brand>(alloc, table, &between, asked.profile, Blank::new(1))?,
+        front: pair.asked.part,
         asking,
-        at,
+        at: asked_columns(alloc, &between)?,
     }))
 }
 
@@ -222,7 +244,7 @@ pub(crate) fn partners<'a>(
     let pairs = key_pairs(alloc, asked, condition)?;
     for pair in &pairs {
         if !is_found(&partners, pair.own.part) {
-            if let Some(partner) = partner_of::<Brand>(alloc, asked, &pairs, *pair, Blank::new(1))? {
+            if let Some(partner) = partner_of(alloc, asked, &pairs, *pair)? {
                 partners.push(partner)?;
             }
         }
