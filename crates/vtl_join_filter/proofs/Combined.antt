@@ -1,9 +1,10 @@
 -- The tuples behind a front, one more number after the other.
-use Rattle.std.proofs.Common.{◌≡◌, ℕ, ◌+◌, ◌<◌, List, [], ◌∷◌, ◌++◌, length, map, take, append_assoc, sym, ap, ◌∙◌}
+use Rattle.std.proofs.Common.{◌≡◌, ℕ, ◌+◌, ◌<◌, List, [], ◌∷◌, ◌++◌, length, map, take, append_assoc, sym, ap, ◌∙◌, arith}
 use Rattle.std.specs.Prelude.{slice_index}
 use Rattle.std.specs.List.{flat_map}
 use Rattle.std.proofs.lemmas.Grind.{flat_map-append}
 use Rattle.std.proofs.lemmas.List.{append-nil, map-append, take_more}
+use Rattle.std.proofs.lemmas.List.FromFn.{get_or-range_with_len, length-range_with_len}
 use Rattle.vtl_decimal.specs.Settings.{Settings}
 use Rattle.vtl_cell.specs.Row.{Row}
 use Rattle.vtl_tree.specs.CompExp.{CompExp}
@@ -30,3 +31,11 @@ pub found_more : (p : Settings) (e : CompExp) (point : List ℕ → Row) (f : �
 found_more p e point f before old new ns i n within at o is =
     is ∙ ap (λ s. sifted p e s (map point (f n))) o ∙ sifted_more p e before (map point (flat_map f (take i ns))) (map point (f n))
     ∙ ap (sifted p e before) (sym (map-append point (flat_map f (take i ns)) (f n)) ∙ ap (map point) (more f ns i n within at))
+
+-- the number at a place of all below one
+pub number_below : (n i : ℕ) → i < length (up_to n) → i ≡ slice_index (up_to n) i
+number_below n i h =
+    let l = length-range_with_len 0 n in
+    let within : i < n = omega (arith, l, h) in
+    let e = get_or-range_with_len 0 n i 0 within in
+    omega (arith, e)

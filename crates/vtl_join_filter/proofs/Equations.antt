@@ -24,6 +24,7 @@ use Rattle.vtl_tree.specs.CompExp.{CompExp, CompExps, call, column}
 use Rattle.vtl_tree.specs.Value.{called, value, values}
 use Rattle.vtl_tree.specs.View.{comp_exp_of, comp_exps_of}
 use Rattle.vtl_tree.specs.declared.expression.CompExpr.{Apply, Column, CompExpr, the_lemmas}
+use Rattle.vtl_expr.proofs.Values.{no_choice}
 use Rattle.vtl_join_filter.specs.declared.equated.Equated.{Equated}
 use Rattle.vtl_join_filter.specs.Equalities.{Equates, Implies}
 
@@ -52,12 +53,26 @@ true_scalar p kind (Ok v) h = true_before p kind v h
 true_scalar p kind (Err g) h = cc
 
 -- ---- `and`
+both_true : (a b : Option (Option Bool)) → is_true (Ok (on_truths and_of a b)) ≡ true → (a ≡ Some (Some true)) × (b ≡ Some (Some true))
+both_true None b h = cc
+both_true (Some a) None h = cc
+both_true (Some (Some true)) (Some (Some true)) h = (refl, refl)
+both_true (Some (Some true)) (Some (Some false)) h = cc
+both_true (Some (Some true)) (Some None) h = cc
+both_true (Some (Some false)) (Some b) h = cc
+both_true (Some None) (Some (Some true)) h = cc
+both_true (Some None) (Some (Some false)) h = cc
+both_true (Some None) (Some None) h = cc
+
+truth_is : (v : Cell) → truth_in v ≡ Some (Some true) → is_true (Ok v) ≡ true
+truth_is (c.Bool true) h = refl
+truth_is (c.Bool false) h = cc
+truth_is v h = cc
+
 both_are : (u v : Cell) → is_true (Ok (on_truths and_of (truth_in u) (truth_in v))) ≡ true → (is_true (Ok u) ≡ true) × (is_true (Ok v) ≡ true)
-both_are (c.Bool true) (c.Bool true) h = (refl, refl)
-both_are (c.Bool true) v h = cc
-both_are (c.Bool false) v h = cc
-both_are c.Null v h = cc
-both_are u v h = cc
+both_are u v h =
+    let both = both_true (truth_in u) (truth_in v) h in
+    (truth_is u both.0, truth_is v both.1)
 
 -- more than two operands have no truth
 module _ (p : Settings) (kind : Kind) where
@@ -66,19 +81,19 @@ module _ (p : Settings) (kind : Kind) where
   more_null a b d (Ok (v ∷ vs)) h = true≢false (sym (true_scalar p kind (Ok c.Null) h))
   more_null a b d (Err f) h = true≢false (sym h)
 
-  and_true : (ms : List (Outcome Cell)) → is_true (called p kind ms op.And) ≡ true → AllByRecursion (λ m. is_true m ≡ true) ms
-  and_true [] h = tt
-  and_true (Ok u ∷ []) h = absurd (true≢false (sym (true_scalar p kind (Ok c.Null) h)))
-  and_true (Err f ∷ []) h = absurd (true≢false (sym h))
-  and_true (Ok u ∷ Ok v ∷ []) h =
+  each_operand : (ms : List (Outcome Cell)) → is_true (after (all_of ms) (result_of p op.And kind)) ≡ true → AllByRecursion (λ m. is_true m ≡ true) ms
+  each_operand [] h = tt
+  each_operand (Ok u ∷ []) h = absurd (true≢false (sym (true_scalar p kind (Ok c.Null) h)))
+  each_operand (Err f ∷ ms) h = absurd (true≢false (sym h))
+  each_operand (Ok u ∷ Ok v ∷ []) h =
       let both = both_are u v (true_scalar p kind (Ok (on_truths and_of (truth_in u) (truth_in v))) h) in
       (both.0, (both.1, tt))
-  and_true (Ok u ∷ Err f ∷ []) h = absurd (true≢false (sym h))
-  and_true (Err f ∷ m ∷ []) h = absurd (true≢false (sym h))
-  and_true (Ok a ∷ Ok b ∷ Ok d ∷ ms) h = absurd (more_null a b d (all_of ms) h)
-  and_true (Ok a ∷ Ok b ∷ Err f ∷ ms) h = absurd (true≢false (sym h))
-  and_true (Ok a ∷ Err f ∷ n ∷ ms) h = absurd (true≢false (sym h))
-  and_true (Err f ∷ m ∷ n ∷ ms) h = absurd (true≢false (sym h))
+  each_operand (Ok u ∷ Err f ∷ ms) h = absurd (true≢false (sym h))
+  each_operand (Ok a ∷ Ok b ∷ Ok d ∷ ms) h = absurd (more_null a b d (all_of ms) h)
+  each_operand (Ok a ∷ Ok b ∷ Err f ∷ ms) h = absurd (true≢false (sym h))
+
+  and_true : (ms : List (Outcome Cell)) → is_true (called p kind ms op.And) ≡ true → AllByRecursion (λ m. is_true m ≡ true) ms
+  and_true ms h = each_operand ms (ap is_true (sym (no_choice p kind op.And ms refl)) ∙ h)
 
 each_true : (p : Settings) (es : List CompExp) (r : Row) → AllByRecursion (λ m. is_true m ≡ true) (values p (comp_exps_of es) r) → AllByRecursion (λ e. is_true (value p e r) ≡ true) es
 each_true p [] r h = tt
@@ -102,10 +117,10 @@ all_at P f [] i x h within e = absurd (omega arith)
 all_at P f (y ∷ ys) zero x h within e = subst (λ z. P (f z)) (sym e) h.0
 all_at P f (y ∷ ys) (suc i) x h within e = all_at P f ys i x h.1 (omega (arith, within)) e
 
-pub each_at : {X : Type 0} (P : X → Type 0) (xs : List X) (i : ℕ) (x : X) → AllByRecursion P xs → i < length xs → x ≡ get_or xs i x → P x
-each_at P [] i x h within e = absurd (omega arith)
-each_at P (y ∷ ys) zero x h within e = subst P (sym e) h.0
-each_at P (y ∷ ys) (suc i) x h within e = each_at P ys i x h.1 (omega (arith, within)) e
+pub each_of : {X : Type 0} (P : X → Type 0) (xs : List X) (i : ℕ) (d : X) → AllByRecursion P xs → i < length xs → P (get_or xs i d)
+each_of P [] i d h within = absurd (omega (arith, within))
+each_of P (x ∷ xs) zero d h within = h.0
+each_of P (x ∷ xs) (suc i) d h within = each_of P xs i d h.1 (omega (arith, within))
 
 pub on_ok : {A E P Q : Type 0} (r : Result A E) → (P → Q) → OnOk r P → OnOk r Q
 on_ok (Ok x) f h = f h
@@ -117,6 +132,14 @@ call_is o kind args = search (rules, the_lemmas)
 
 pub column_is : (place : ℕ) (name : Txt) (kind : Kind) (p : Settings) (r : Row) → value p (comp_exp_of (Column place name kind)) r ≡ Ok (column_of place r)
 column_is place name kind p r = let e : comp_exp_of (Column place name kind) ≡ column place name kind = search (rules, the_lemmas) in ap (λ f. value p f r) e
+
+pub operands_given : (p : Settings) (e : CompExp) (kind : Kind) (f : CompExp) (args : Vec CompExpr Global) (es : List CompExpr) → f ≡ comp_exp_of (Apply op.And kind args) → es ≡ args.items → Implies p e f → AllByRecursion (Implies p e) (map comp_exp_of es)
+operands_given p e kind f args es is e_is h =
+    subst (λ (l : List CompExpr). AllByRecursion (Implies p e) (map comp_exp_of l)) (sym e_is) (operands_implied p e kind (map comp_exp_of args.items) (subst (Implies p e) (is ∙ call_is op.And kind args) h))
+
+pub equality_given : (p : Settings) (e : CompExp) (kind : Kind) (f : CompExp) (args : Vec CompExpr Global) (es : List CompExpr) → f ≡ comp_exp_of (Apply op.Equal kind args) → es ≡ args.items → Implies p e f → Implies p e (call op.Equal kind (comp_exps_of (map comp_exp_of es)))
+equality_given p e kind f args es is e_is h =
+    subst (λ (l : List CompExpr). Implies p e (call op.Equal kind (comp_exps_of (map comp_exp_of l)))) (sym e_is) (subst (Implies p e) (is ∙ call_is op.Equal kind args) h)
 
 -- ---- equalities of two columns
 truth_true : (o : Option Bool) → is_true (Ok (truth o)) ≡ true → o ≡ Some true

@@ -75,7 +75,13 @@ mixed_cells a b n m x y = cc
 mixed_sym : (a b : Kind) → are_mixed a b ≡ are_mixed b a
 mixed_sym k.Int k.Num = refl
 mixed_sym k.Num k.Int = refl
-mixed_sym a b = refl
+mixed_sym a k.Null = refl
+mixed_sym a k.Bool = refl
+mixed_sym a k.Int = refl
+mixed_sym a k.Num = refl
+mixed_sym a k.Text = refl
+mixed_sym a k.Day = refl
+mixed_sym a k.Period = refl
 
 beside_is : (p : Settings) (a b : Kind) (v w : Cell) → are_mixed a b ≡ false → is_of a v ≡ true → is_of b w ≡ true → as_beside p v w ≡ v
 beside_is p a b (c.Int n) (c.Num m) h x y = absurd (true≢false (sym (mixed_cells a b n m x y) ∙ h))
@@ -91,7 +97,7 @@ meet_as_is a b v w plain x y p h =
 number_fits : (m : ℤ) → unsigned_abs m < 10 ^ 18 → fit_number m ≡ Ok m
 number_fits m h = grind arith
 
-units_in : Cell → ℤ
+abbrev units_in : Cell → ℤ
 units_in (c.Num m) = m
 units_in v = pos 0
 

@@ -65,12 +65,13 @@ module _ (p : Settings) (e : CompExp) where
 
     pub enough : (ns : List ℕ) (s : Sifted) → sifted p e s (map point (flat_map f (filter q ns))) ≡ sifted p e s (map point (flat_map f ns))
     enough [] s = refl
-    enough (n ∷ ns) s = go (q n) refl
+    enough (n ∷ ns) s = go (q n) refl (λ t. enough ns t)
       where
-        go : (b : Bool) → q n ≡ b → sifted p e s (map point (flat_map f (cond b (n ∷ filter q ns) (filter q ns)))) ≡ sifted p e s (map point (f n ++ flat_map f ns))
-        go true h = parts s (f n) (flat_map f (filter q ns)) ∙ enough ns (sifted p e s (map point (f n))) ∙ sym (parts s (f n) (flat_map f ns))
-        go false h =
-            enough ns s ∙ ap (λ t. sifted p e t (map point (flat_map f ns))) (sym (nothing_found (map point (f n)) s (rest_pass n h))) ∙ sym (parts s (f n) (flat_map f ns))
+        go : (b : Bool) → q n ≡ b → ((t : Sifted) → sifted p e t (map point (flat_map f (filter q ns))) ≡ sifted p e t (map point (flat_map f ns)))
+            → sifted p e s (map point (flat_map f (cond b (n ∷ filter q ns) (filter q ns)))) ≡ sifted p e s (map point (f n ++ flat_map f ns))
+        go true h ih = parts s (f n) (flat_map f (filter q ns)) ∙ ih (sifted p e s (map point (f n))) ∙ sym (parts s (f n) (flat_map f ns))
+        go false h ih =
+            ih s ∙ ap (λ t. sifted p e t (map point (flat_map f ns))) (sym (nothing_found (map point (f n)) s (rest_pass n h))) ∙ sym (parts s (f n) (flat_map f ns))
 
 -- ---- keys of cells that are one in keys
 module _ (p : Settings) (asked own : Row) where

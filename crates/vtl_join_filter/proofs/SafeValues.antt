@@ -12,7 +12,7 @@ use Rattle.vtl_cell.specs.Outcomes.{all_of, is_true, result_of}
 use Rattle.vtl_cell.specs.Row.{Row, column_of}
 use Rattle.vtl_cell.specs.ScalarArithmetic.{number, units}
 use Rattle.vtl_cell.specs.ScalarComparison.{compared, truth}
-use Rattle.vtl_cell.specs.Scalars.{binary_of, scalar_of, ternary_of, unary_of}
+use Rattle.vtl_cell.specs.Scalars.{binary_of, by_number_of_operands, scalar_of, ternary_of, unary_of}
 use Rattle.vtl_cell.specs.declared.cell.Cell.{Cell}
 use Rattle.vtl_cell.specs.declared.cell.Cell.TheVariants as c
 use Rattle.vtl_cell.specs.declared.kind.Kind.{Kind}
@@ -52,14 +52,17 @@ ternary_safe : (p : Settings) (o : ScalarOp) (a x y : Cell) → is_total o ≡ t
 ternary_safe p op.If a x y h = cc
 ternary_safe p o a x y h = refl
 
+by_number_safe : (p : Settings) (o : ScalarOp) (vs : List Cell) → is_total o ≡ true → fault_in (by_number_of_operands p o vs) ≡ None
+by_number_safe p o [] h = refl
+by_number_safe p o (a ∷ []) h = unary_safe p o a h
+by_number_safe p o (a ∷ b ∷ []) h = binary_safe p o a b h
+by_number_safe p o (a ∷ x ∷ y ∷ []) h = ternary_safe p o a x y h
+by_number_safe p o (a ∷ x ∷ y ∷ z ∷ vs) h = refl
+
 scalar_safe : (p : Settings) (o : ScalarOp) (vs : List Cell) → is_total o ≡ true → fault_in (scalar_of p o vs) ≡ None
 scalar_safe p op.In vs h = refl
 scalar_safe p op.NotIn vs h = refl
-scalar_safe p o [] h = refl
-scalar_safe p o (a ∷ []) h = unary_safe p o a h
-scalar_safe p o (a ∷ b ∷ []) h = binary_safe p o a b h
-scalar_safe p o (a ∷ x ∷ y ∷ []) h = ternary_safe p o a x y h
-scalar_safe p o (a ∷ x ∷ y ∷ z ∷ vs) h = refl
+scalar_safe p o vs h = by_number_safe p o vs h
 
 after_safe : {A B : Type 0} (m : Outcome A) (f : A → Outcome B) → fault_in m ≡ None → ((x : A) → fault_in (f x) ≡ None) → fault_in (after m f) ≡ None
 after_safe (Ok x) f e h = h x

@@ -102,8 +102,10 @@ fn closed_and_filtered(
 
 /// The points of the joined set at which the condition is true, as a data set of the filter's structure; `made` is the
 /// structure that typing gives the joined set. The kind is that of the steps; a join of one operand has none. Only
-/// the points that are kept are held, but of a full join, of which all are made first. The answer is DivZero where the condition divides by zero at any point
-/// of the joined set, otherwise Range where it is out of range at any; otherwise it fails only if memory runs out.
+/// the points that are kept are held, but of a full join, of which all are made first. Where a condition that can have no
+/// fault equates components of two operands of a cross join, it is asked only where these are equal. The answer is
+/// DivZero where the condition divides by zero at any point of the joined set, otherwise Range where it is out of range
+/// at any; otherwise it fails only if memory runs out.
 pub fn filter_joined(
     alloc: Global,
     kind: JoinKind,

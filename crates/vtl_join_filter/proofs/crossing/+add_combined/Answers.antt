@@ -47,6 +47,6 @@ returns-clause-found t c =
     let before = so_far a c.args.sieve.now in
     let ns = numbers_of c.numbers_behind-numbers.result in
     let past : length ns ≤ c.loop-i.i = omega (arith, c.len-i-end.ensures, c.loop-i-test.false) in
-    let enough = subst (λ f. AreEnough a f count ns) c.deref.ensures.value (c.numbers_behind-numbers.ensures a c.requires.partners) in
+    let enough = subst (λ f. AreEnough a f count ns) c.deref-2.ensures.value (c.numbers_behind-numbers.ensures a c.requires.partners) in
     c.loop-i.invariant.found ∙ ap (λ l. asked_of a before (points_behind a front rest l)) (take_all c.loop-i.i ns past) ∙ enough rest before
     ∙ ap (λ l. asked_of a before (map (point_of a.gathering) l)) (tuples_step front count rest ∙ ap (tuples_behind front) (sym c.in-Some.ensures.cases.0))

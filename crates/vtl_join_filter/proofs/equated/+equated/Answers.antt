@@ -1,18 +1,23 @@
-use Rattle.std.proofs.Common.{◌≡◌, List, map, subst, sym, ap, ◌∙◌}
-use Rattle.vtl_decimal.specs.Settings.{Settings}
-use Rattle.vtl_cell.specs.declared.operator.ScalarOp.{ScalarOp}
-use Rattle.vtl_tree.specs.CompExp.{CompExp, call}
-use Rattle.vtl_tree.specs.View.{comp_exp_of, comp_exps_of}
-use Rattle.vtl_tree.specs.declared.expression.CompExpr.{Apply, CompExpr}
+use Rattle.std.proofs.Common.{◌≡◌, ap}
+use Rattle.vtl_tree.specs.View.{comp_exp_of}
 use Rattle.vtl_join_filter.specs.Equalities.{Implies}
-use Rattle.vtl_join_filter.proofs.Equations.{all_at, call_is, on_ok, operands_implied}
+use Rattle.vtl_join_filter.proofs.Equations.{all_at, equality_given, on_ok, operands_given}
 use Rattle.vtl_join_filter.proofs.equated.+equated.Goals as goal
 
-pub push_equated-returns-in-Apply-And : goal.push_equated-returns-in-Apply-And
-push_equated-returns-in-Apply-And t c = ?
+pub push_equated-returns-in-Apply-And-default-default : goal.push_equated-returns-in-Apply-And-default-default
+push_equated-returns-in-Apply-And-default-default t c =
+    let x = c.in-Apply-And-default-default in
+    on_ok c.push_each.result
+    (λ f p e h before. f p e (operands_given p e _ (comp_exp_of c.args.condition.now) x.args c.deref.result.now (ap comp_exp_of x.is) c.deref.ensures.value h) before)
+    c.push_each.ensures
 
-pub push_equated-returns-in-Apply-Equal : goal.push_equated-returns-in-Apply-Equal
-push_equated-returns-in-Apply-Equal t c = ?
+pub push_equated-returns-in-Apply-Equal-default-default : goal.push_equated-returns-in-Apply-Equal-default-default
+push_equated-returns-in-Apply-Equal-default-default t c =
+    let x = c.in-Apply-Equal-default-default in
+    let inner = c.deref-in-Apply-Equal-default-default in
+    on_ok c.push_columns.result
+    (λ f p e h before. f p e _ (equality_given p e _ (comp_exp_of c.args.condition.now) x.args inner.result.now (ap comp_exp_of x.is) inner.ensures.value h) before)
+    c.push_columns.ensures
 
 pub push_each-loop-condition-preserved : goal.push_each-loop-condition-preserved
 push_each-loop-condition-preserved t c p e all before =
