@@ -26,7 +26,7 @@ use Rattle.vtl_tree.specs.View.{comp_exp_of, comp_exps_of}
 use Rattle.vtl_tree.specs.declared.expression.CompExpr.{Apply, Column, CompExpr, the_lemmas}
 use Rattle.vtl_expr.proofs.Values.{no_choice}
 use Rattle.vtl_join_filter.specs.declared.equated.Equated.{Equated}
-use Rattle.vtl_join_filter.specs.Equalities.{Equates, Implies}
+use Rattle.vtl_join_filter.specs.Equalities.{Equates, Implies, is_conjunction, is_equality}
 
 -- ---- a value that is true
 true_before : (p : Settings) (kind : Kind) (v : Cell) → is_true (as_kind p kind v) ≡ true → is_true (Ok v) ≡ true
@@ -133,13 +133,26 @@ call_is o kind args = search (rules, the_lemmas)
 pub column_is : (place : ℕ) (name : Txt) (kind : Kind) (p : Settings) (r : Row) → value p (comp_exp_of (Column place name kind)) r ≡ Ok (column_of place r)
 column_is place name kind p r = let e : comp_exp_of (Column place name kind) ≡ column place name kind = search (rules, the_lemmas) in ap (λ f. value p f r) e
 
-pub operands_given : (p : Settings) (e : CompExp) (kind : Kind) (f : CompExp) (args : Vec CompExpr Global) (es : List CompExpr) → f ≡ comp_exp_of (Apply op.And kind args) → es ≡ args.items → Implies p e f → AllByRecursion (Implies p e) (map comp_exp_of es)
-operands_given p e kind f args es is e_is h =
-    subst (λ (l : List CompExpr). AllByRecursion (Implies p e) (map comp_exp_of l)) (sym e_is) (operands_implied p e kind (map comp_exp_of args.items) (subst (Implies p e) (is ∙ call_is op.And kind args) h))
+conjunction_is : (o : ScalarOp) → is_conjunction o ≡ true → o ≡ op.And
+conjunction_is op.And h = refl
+conjunction_is o h = cc
 
-pub equality_given : (p : Settings) (e : CompExp) (kind : Kind) (f : CompExp) (args : Vec CompExpr Global) (es : List CompExpr) → f ≡ comp_exp_of (Apply op.Equal kind args) → es ≡ args.items → Implies p e f → Implies p e (call op.Equal kind (comp_exps_of (map comp_exp_of es)))
-equality_given p e kind f args es is e_is h =
-    subst (λ (l : List CompExpr). Implies p e (call op.Equal kind (comp_exps_of (map comp_exp_of l)))) (sym e_is) (subst (Implies p e) (is ∙ call_is op.Equal kind args) h)
+equality_is : (o : ScalarOp) → is_equality o ≡ true → o ≡ op.Equal
+equality_is op.Equal h = refl
+equality_is o h = cc
+
+-- what a condition that is such a call implies
+module _ (p : Settings) (e : CompExp) (kind : Kind) (o : ScalarOp) (f : CompExpr) (args : Vec CompExpr Global) (es : List CompExpr) (is : f ≡ Apply o kind args) (es_are : es ≡ args.items) where
+  call_given : (q : ScalarOp) → o ≡ q → Implies p e (comp_exp_of f) → Implies p e (call q kind (comp_exps_of (map comp_exp_of es)))
+  call_given q same h =
+      let e_is : comp_exp_of f ≡ call q kind (comp_exps_of (map comp_exp_of args.items)) = ap comp_exp_of (is ∙ ap (λ (x : ScalarOp). Apply x kind args) same) ∙ call_is q kind args in
+      subst (λ (l : List CompExpr). Implies p e (call q kind (comp_exps_of (map comp_exp_of l)))) (sym es_are) (subst (Implies p e) e_is h)
+
+  pub operands_given : is_conjunction o ≡ true → Implies p e (comp_exp_of f) → AllByRecursion (Implies p e) (map comp_exp_of es)
+  operands_given c h = operands_implied p e kind (map comp_exp_of es) (call_given op.And (conjunction_is o c) h)
+
+  pub equality_given : is_equality o ≡ true → Implies p e (comp_exp_of f) → Implies p e (call op.Equal kind (comp_exps_of (map comp_exp_of es)))
+  equality_given c h = call_given op.Equal (equality_is o c) h
 
 -- ---- equalities of two columns
 truth_true : (o : Option Bool) → is_true (Ok (truth o)) ≡ true → o ≡ Some true

@@ -72,25 +72,22 @@ mixed_cells : (a b : Kind) (n m : ℤ) → is_of a (c.Int n) ≡ true → is_of 
 mixed_cells k.Int k.Num n m x y = refl
 mixed_cells a b n m x y = cc
 
-mixed_sym : (a b : Kind) → are_mixed a b ≡ are_mixed b a
-mixed_sym k.Int k.Num = refl
-mixed_sym k.Num k.Int = refl
-mixed_sym a k.Null = refl
-mixed_sym a k.Bool = refl
-mixed_sym a k.Int = refl
-mixed_sym a k.Num = refl
-mixed_sym a k.Text = refl
-mixed_sym a k.Day = refl
-mixed_sym a k.Period = refl
+turned_cells : (a b : Kind) (n m : ℤ) → is_of a (c.Num m) ≡ true → is_of b (c.Int n) ≡ true → are_mixed a b ≡ true
+turned_cells k.Num k.Int n m x y = refl
+turned_cells a b n m x y = cc
 
 beside_is : (p : Settings) (a b : Kind) (v w : Cell) → are_mixed a b ≡ false → is_of a v ≡ true → is_of b w ≡ true → as_beside p v w ≡ v
 beside_is p a b (c.Int n) (c.Num m) h x y = absurd (true≢false (sym (mixed_cells a b n m x y) ∙ h))
 beside_is p a b v w h x y = refl
 
+beside_turned : (p : Settings) (a b : Kind) (w v : Cell) → are_mixed a b ≡ false → is_of a v ≡ true → is_of b w ≡ true → as_beside p w v ≡ w
+beside_turned p a b (c.Int n) (c.Num m) h x y = absurd (true≢false (sym (turned_cells a b n m x y) ∙ h))
+beside_turned p a b w v h x y = refl
+
 pub meet_as_is : (a b : Kind) (v w : Cell) → are_mixed a b ≡ false → is_of a v ≡ true → is_of b w ≡ true → Meet AsIs v w
 meet_as_is a b v w plain x y p h =
     let one = beside_is p a b v w plain x y in
-    let two = beside_is p b a w v (mixed_sym b a ∙ plain) y x in
+    let two = beside_turned p a b w v plain x y in
     same_within v w ((λ i. option_map is_eq (order_within (sym one i) (sym two i))) ∙ h)
 
 -- ---- integers beside numbers

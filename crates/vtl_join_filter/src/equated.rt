@@ -7,7 +7,7 @@ ghost use Rattle.vtl_decimal.specs.Settings.{Settings};
 ghost use Rattle.vtl_tree.specs.CompExp.{CompExp, call};
 ghost use Rattle.vtl_tree.specs.Value.{value};
 ghost use Rattle.vtl_tree.specs.View.{comp_exp_of, comp_exps_of};
-ghost use Rattle.vtl_join_filter.specs.Equalities.{Equates, Implies};
+ghost use Rattle.vtl_join_filter.specs.Equalities.{Equates, Implies, is_conjunction, is_equality};
 
 use std::alloc::{AllocError, Global};
 use vtl_cell::ScalarOp;
@@ -43,22 +43,36 @@ fn push_columns(pairs: &mut Vec<Equated>, args: &[CompExpr]) -> Result<(), Alloc
     Ok(())
 }
 
+// Whether an operator is `and`.
+fn is_conjunction(op: ScalarOp) -> bool
+    ensures { result ≡ is_conjunction op }
+{
+    matches!(op, ScalarOp::And)
+}
+
+// Whether it is `=`.
+fn is_equality(op: ScalarOp) -> bool
+    ensures { result ≡ is_equality op }
+{
+    matches!(op, ScalarOp::Equal)
+}
+
 // Adds columns that are equal wherever a condition is true: where it is an equality of two, or joins such by `and`.
 #[cycle(equated)]
 fn push_equated(pairs: &mut Vec<Equated>, condition: &CompExpr) -> Result<(), AllocError>
     ensures { OnOk result ((p : Settings) (e : CompExp) → Implies p e (comp_exp_of condition.now) → AllByRecursion (Equates p e) pairs.old.items → AllByRecursion (Equates p e) pairs.new.items) }
 {
     match condition {
-        CompExpr::Apply {
-            op: ScalarOp::And,
-            args,
-            ..
-        } => push_each(pairs, args),
-        CompExpr::Apply {
-            op: ScalarOp::Equal,
-            args,
-            ..
-        } => push_columns(pairs, args),
+        CompExpr::Apply { op, args, .. } => {
+            let operands = args.as_slice();
+            if is_conjunction(*op) {
+                push_each(pairs, operands)
+            } else if is_equality(*op) {
+                push_columns(pairs, operands)
+            } else {
+                Ok(())
+            }
+        }
         _ => Ok(()),
     }
 }

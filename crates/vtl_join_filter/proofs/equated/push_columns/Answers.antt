@@ -1,7 +1,5 @@
-use Rattle.std.proofs.Common.{◌≡◌, length, ap, sym, subst, ◌∙◌, arith}
+use Rattle.std.proofs.Common.{◌≡◌, length, sym, subst, arith}
 use Rattle.std.specs.List.{AllByRecursion}
-use Rattle.vtl_tree.specs.Value.{value}
-use Rattle.vtl_tree.specs.View.{comp_exp_of}
 use Rattle.vtl_join_filter.specs.Equalities.{Equates}
 use Rattle.vtl_join_filter.specs.declared.equated.Equated.{Equated}
 use Rattle.vtl_join_filter.proofs.Equations.{all_push, columns_equated}
@@ -15,4 +13,4 @@ returns-in_ok-push c p e kind h before =
     subst (AllByRecursion (Equates p e)) (sym c.in_ok-push.ensures.items)
     (all_push (Equates p e) c.args.pairs.now.items pair before
     (columns_equated p e kind c.args.args.now c.index-args-0.result c.index-args-1.result pair two c.index-args-0.is c.index-args-1.is
-    (λ q r. ap (λ z. value q (comp_exp_of z) r) c.index-args-0.is ∙ x.ensures q r) (λ q r. ap (λ z. value q (comp_exp_of z) r) c.index-args-1.is ∙ x.ensures' q r) h))
+    x.ensures x.ensures' h))
