@@ -139,3 +139,21 @@ for points in 25000 50000; do
     awk 'BEGIN { print "Class,Low,High"; for (i = 0; i < 600; i++) printf "%d,%d,%d\n", i, i * 100, i * 100 + 99 }' >"$made/in/classes.csv"
     echo 'total <- cross_join(ages, classes filter Low <= Age and Age <= High);' | job "cross_join of $points ages with 600 classes, one of them kept" total
 done
+
+# Codes and texts of codes, each once: a cross join whose filter equates them, of which one point in 20,000 is kept, and an
+# inner join with a filter of as many points.
+cat >>"$made/structures.csv" <<'END_OF_CODES'
+uses,Person,identifier,integer,
+uses,Code,measure,integer,
+texts,Place,identifier,integer,
+texts,Number,measure,integer,
+codes,Person,identifier,integer,
+codes,Number,measure,integer,
+END_OF_CODES
+for points in 20000 40000; do
+    awk -v count="$points" 'BEGIN { print "Person,Code"; for (i = 0; i < count; i++) printf "%d,%d\n", i, (i * 7001) % count }' >"$made/in/uses.csv"
+    awk -v count="$points" 'BEGIN { print "Place,Number"; for (i = 0; i < count; i++) printf "%d,%d\n", i, (i * 3001) % count }' >"$made/in/texts.csv"
+    sed '1s/Place/Person/' "$made/in/texts.csv" >"$made/in/codes.csv"
+    echo 'total <- cross_join(uses, texts filter Code = Number);' | job "cross_join of $points points with $points, whose filter equates a component of each" total
+    echo 'total <- inner_join(uses, codes filter Code = Number);' | job "inner_join of $points points with $points, whose filter equates a component of each" total
+done

@@ -1,12 +1,9 @@
 -- What points are gathered from fits them, and what is gathered.
 use Rattle.std.proofs.Common.{◌≡◌, ℕ, zero, suc, ◌+◌, ◌<◌, List, [], ◌∷◌, length, get_or, map, Option, Some, None, Result, refl, sym, ap, ◌∙◌, subst, All, arith}
-use Rattle.std.specs.Prelude.{IfOk, slice_index}
+use Rattle.std.specs.Prelude.{IfOk}
 use Rattle.std.specs.Borrow.{Bor}
 use Rattle.std.proofs.lemmas.List.{length-map}
-use Rattle.vtl_cell.specs.Row.{column_of}
-use Rattle.vtl_cell.specs.declared.cell.Cell.{Cell}
-use Rattle.vtl_rows.specs.Gathered.{part_at, picked, picked_cell, picked_kind, pieces}
-use Rattle.vtl_rows.specs.Places.{row_at}
+use Rattle.vtl_rows.specs.Gathered.{part_at, picked, picked_kind, pieces}
 use Rattle.vtl_rows.specs.Tables.{Listed, Tabled, column_kinds, listed}
 use Rattle.vtl_rows.specs.declared.column.Column.{Column}
 use Rattle.vtl_rows.specs.declared.gather.Pick.{Pick}
@@ -70,29 +67,14 @@ module _ (parts items : List (Bor Tabled)) (picks its : List Pick) (s : Structur
       ap (λ ts. map (picked (shown ts) picks) (pieces (length ts) tuples)) e ∙ ap (λ ps. map (picked (shown items) ps) (pieces (length items) tuples)) h
       ∙ ap (λ n. map (picked (shown items) its) (pieces n tuples)) (sym (length-map items (λ t. listed t.now))) ∙ ap (λ x. points_of x tuples) v
 
--- ---- where cells of points stand
-cell_picked : {X : Type 0} (f : X → Cell) (xs : List X) (i : ℕ) (x : X) → i < length xs → x ≡ get_or xs i x → column_of i (map f xs) ≡ f x
-cell_picked f [] i x h e = absurd (omega arith)
-cell_picked f (y ∷ xs) zero x h e = ap f (sym e)
-cell_picked f (y ∷ xs) (suc i) x h e = cell_picked f xs i x (omega (arith, h)) e
-
-part_is : (items : List (Bor Tabled)) (part : ℕ) (t : Bor Tabled) → part < length items → t ≡ get_or items part t → part_at (map (λ u. listed u.now) items) part ≡ listed t.now
-part_is [] part t h e = absurd (omega arith)
-part_is (u ∷ items) zero t h e = ap (λ (b : Bor Tabled). listed b.now) (sym e)
-part_is (u ∷ items) (suc part) t h e = part_is items part t (omega (arith, h)) e
-
-pub source_is : (items : List (Bor Tabled)) (its : List Pick) (s : Structure) (g : Gathers) (place : ℕ) (pick : Pick) (t : Bor Tabled) → gathers_of items its s ≡ g → place < length its → pick ≡ get_or its place pick → pick.part < length items → t ≡ get_or items pick.part t
-    → (tuple : List ℕ) → column_of place (point_of g tuple) ≡ column_of pick.column (row_at t.now.rows (slice_index tuple pick.part))
-source_is items its s g place pick t v within at part there tuple =
-    ap (λ (x : Gathers). column_of place (point_of x tuple)) (sym v)
-    ∙ cell_picked (picked_cell (map (λ u. listed u.now) items) tuple) its place pick within at
-    ∙ ap (λ (l : Listed). column_of pick.column (row_at l.rows (slice_index tuple pick.part))) (part_is items pick.part t part there)
-
-pub part_within : (items : List (Bor Tabled)) (its : List Pick) (s : Structure) (place : ℕ) (pick : Pick) → IsGathering (gathers_of items its s) → place < length its → pick ≡ get_or its place pick → pick.part < length items
-part_within items its s place pick g within at =
-    let here = subst (λ (x : Pick). x.part < length (map (λ u. listed u.now) items)) (sym at) (g.within place pick within) in
-    let many = length-map items (λ (u : Bor Tabled). listed u.now) in
-    omega (arith, here, many)
+-- ---- the table at a place
+pub part_is : (parts : List (Bor Tabled)) (picks : List Pick) (s : Structure) (g : Gathers) (place : ℕ) (t : Bor Tabled) → gathers_of parts picks s ≡ g → place < length parts → t ≡ get_or parts place t → listed t.now ≡ part_at g.parts place
+part_is parts picks s g place t v within is = sym (go parts place within is) ∙ ap (λ (x : Gathers). part_at x.parts place) v
+  where
+    go : (ts : List (Bor Tabled)) (i : ℕ) → i < length ts → t ≡ get_or ts i t → part_at (map (λ u. listed u.now) ts) i ≡ listed t.now
+    go [] i h e = absurd (omega (arith, h))
+    go (u ∷ ts) zero h e = ap (λ (b : Bor Tabled). listed b.now) (sym e)
+    go (u ∷ ts) (suc i) h e = go ts i (omega (arith, h)) e
 
 -- ---- cross joins
 pub cross_join : (ds : List DataSet) (s : Structure) → IsJoined join.Cross (structures_of ds) s → join_of join.Cross ds ≡ map tuple_point (cross_tuples ds)

@@ -1,9 +1,7 @@
 // The table of a joined set, gathered from a lead and the tables of the operands.
-ghost use Rattle.std.specs.Prelude.{◌≡◌, ℕ, ◌+◌, ◌<◌, List, ◌++◌, ◌∷◌, length, map, slice_index, All, IfOk, IfSome, OnOk};
+ghost use Rattle.std.specs.Prelude.{◌≡◌, ◌+◌, ◌<◌, ◌++◌, ◌∷◌, length, map, slice_get, All, IfOk, IfSome, OnOk};
 ghost use Rattle.std.specs.List.{AllByRecursion};
-ghost use Rattle.vtl_cell.specs.Row.{column_of};
-ghost use Rattle.vtl_rows.specs.Gathered.{picked_kind};
-ghost use Rattle.vtl_rows.specs.Places.{row_at};
+ghost use Rattle.vtl_rows.specs.Gathered.{part_at, picked_kind};
 ghost use Rattle.vtl_rows.specs.Tables.{listed};
 ghost use Rattle.vtl_sets.specs.TableOf.{table_columns};
 ghost use Rattle.vtl_tree.specs.DataSet.{IsDataSet};
@@ -104,17 +102,6 @@ pub struct Gathering<'a> {
     made: &'a Structure,
 }
 
-/// Where cells of points stand.
-#[derive(Clone, Copy)]
-pub struct Source<'a> {
-    /// The place of the row's number in a tuple.
-    pub part: usize,
-    /// The table.
-    pub table: &'a Table,
-    /// The place of the column there.
-    pub column: usize,
-}
-
 // Written out, so that a proof sees one call and not the drop of each part.
 impl Drop for Gathering<'_> {
     fn drop(self) {
@@ -166,20 +153,23 @@ impl<'a> Gathering<'a> {
         self.parts.len()
     }
 
-    /// Where the cells at a place of the points stand, if the points have cells there.
-    pub fn source_of(&self, place: usize) -> Option<Source<'a>>
-        ensures { IfSome result (λ s. (tuple : List ℕ) → column_of place (point_of self.now tuple) ≡ column_of s.column (row_at s.table.now.rows (slice_index tuple s.part))) }
+    /// The place of a tuple's row number and the column from which the cells at a place of the points come, if the points
+    /// have cells there.
+    pub fn pick(&self, place: usize) -> Option<Pick>
+        ensures { result ≡ slice_get self.now.picks place }
     {
-        if place >= self.picks.len() {
-            return None;
+        self.picks.get(place).copied()
+    }
+
+    /// The table of the row number at a place of a tuple, if a tuple has one there.
+    pub fn part(&self, place: usize) -> Option<&'a Table>
+        ensures { IfSome result (λ t. listed t.now ≡ part_at self.now.parts place) }
+    {
+        if place < self.parts.len() {
+            Some(self.parts[place])
+        } else {
+            None
         }
-        let pick = self.picks[place];
-        let table = self.parts[pick.part];
-        Some(Source {
-            part: pick.part,
-            table,
-            column: pick.column,
-        })
     }
 
     /// The points of tuples that stand one after the other, in their order. It fails only if memory runs out.

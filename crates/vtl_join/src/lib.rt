@@ -26,5 +26,5 @@ mod sources;
 mod tuples;
 
 pub use closing::{BesideParts, close, parts_beside, product};
-pub use gathering::{Gathering, Source};
+pub use gathering::Gathering;
 pub use joined::{Joined, Operand, open, step};

@@ -1,1 +1,4 @@
 pub mod Sifting
+pub mod Safety
+pub mod Equalities
+pub mod Partners

@@ -13,6 +13,7 @@ ghost use Rattle.vtl_meaning.specs.Shapes.{IsJoinedFrom};
 ghost use Rattle.vtl_join.specs.Joining.{IsBeside, sets_of, typed_operands};
 
 use crate::crossing::add_all;
+use crate::partners::partners;
 use crate::sieve::{Asked, Sieve};
 use std::alloc::Global;
 use vtl_clause::filter;
@@ -45,8 +46,9 @@ fn crossed_table(
         condition: prepare(alloc, condition)?,
         profile: p,
     };
+    let partners = partners(alloc, &asked, condition)?;
     let mut sieve = Sieve::new(alloc, made)?;
-    add_all(alloc, &asked, &mut sieve, &counts)?;
+    add_all(alloc, &asked, &partners, &mut sieve, &counts)?;
     sieve.finish(alloc, &asked)
 }
 
@@ -100,8 +102,10 @@ fn closed_and_filtered(
 
 /// The points of the joined set at which the condition is true, as a data set of the filter's structure; `made` is the
 /// structure that typing gives the joined set. The kind is that of the steps; a join of one operand has none. Only
-/// the points that are kept are held, but of a full join, of which all are made first. The answer is DivZero where the condition divides by zero at any point
-/// of the joined set, otherwise Range where it is out of range at any; otherwise it fails only if memory runs out.
+/// the points that are kept are held, but of a full join, of which all are made first. Where a condition that can have no
+/// fault equates components of two operands of a cross join, it is asked only where these are equal. The answer is
+/// DivZero where the condition divides by zero at any point of the joined set, otherwise Range where it is out of range
+/// at any; otherwise it fails only if memory runs out.
 pub fn filter_joined(
     alloc: Global,
     kind: JoinKind,

@@ -1,9 +1,10 @@
-use Rattle.std.proofs.Common.{◌≡◌, ◌+◌, ◌∷◌, [], ◌++◌, length, length-append, map, take, refl, ap, sym, ◌∙◌, arith}
-use Rattle.std.specs.List.{flat_map}
+use Rattle.std.proofs.Common.{◌≡◌, ◌+◌, ◌<◌, ◌≤◌, ◌∷◌, [], ◌++◌, length, length-append, map, take, refl, ap, subst, sym, ◌∙◌, arith}
+use Rattle.std.proofs.lemmas.List.{take_all}
 use Rattle.std.proofs.Math.Seq.{take-append_seam}
 use Rattle.vtl_expr.specs.Prepared.{prepared_exp}
-use Rattle.vtl_join.specs.Crossing.{tuples_behind, up_to}
+use Rattle.vtl_join.specs.Crossing.{tuples_behind}
 use Rattle.vtl_join.specs.Gatherings.{point_of}
+use Rattle.vtl_join_filter.specs.Partners.{AreEnough, numbers_of, points_behind}
 use Rattle.vtl_join_filter.specs.Sifting.{asked_of, so_far}
 use Rattle.vtl_join_filter.proofs.Combined.{found_more, tuples_step}
 use Rattle.vtl_join_filter.proofs.Sifts.{sifted_none}
@@ -26,12 +27,14 @@ loop-i-preserved t c =
     let rest = c.in-Some.rest.now in
     let now = c.loop-i.invariant in
     let width : c.len-width.result ≡ length front = omega (arith, c.len-width.ensures, c.args.front.now.ok.0) in
-    let pushed : c.push.new.self.items ≡ front ++ c.loop-i.i ∷ [] = c.in_ok-push.ensures.items ∙ ap (λ l. l ++ c.loop-i.i ∷ []) now.front in
+    let n = c.at.result in
+    let within : c.loop-i.i < length (numbers_of c.numbers_behind-numbers.result) = omega (arith, c.len-i-end.ensures, c.loop-i-test.true) in
+    let pushed : c.push.new.self.items ≡ front ++ n ∷ [] = c.in_ok-push.ensures.items ∙ ap (λ l. l ++ n ∷ []) now.front in
     record {
       ready = c.in_ok-add_combined.ensures.ready;
       front = c.truncate.ensures.items ∙ ap (take c.len-width.result) (c.in_ok-add_combined.ensures.front ∙ pushed)
-          ∙ ap (λ n. take n (front ++ c.loop-i.i ∷ [])) width ∙ take-append_seam front (c.loop-i.i ∷ []);
-      found = found_more a.profile.now (prepared_exp a.condition) (point_of a.gathering) (λ k. tuples_behind (front ++ k ∷ []) rest) (so_far a c.args.sieve.now) (so_far a c.loop-i.sieve) (so_far a c.add_combined.new.sieve) c.loop-i.i now.found
+          ∙ ap (λ k. take k (front ++ n ∷ [])) width ∙ take-append_seam front (n ∷ []);
+      found = found_more a.profile.now (prepared_exp a.condition) (point_of a.gathering) (λ k. tuples_behind (front ++ k ∷ []) rest) (so_far a c.args.sieve.now) (so_far a c.loop-i.sieve) (so_far a c.add_combined.new.sieve) (numbers_of c.numbers_behind-numbers.result) c.loop-i.i n within c.at.ensures now.found
           (c.in_ok-add_combined.ensures.found ∙ ap (λ l. asked_of a (so_far a c.loop-i.sieve) (map (point_of a.gathering) (tuples_behind l rest))) pushed);
     }
 
@@ -42,6 +45,8 @@ returns-clause-found t c =
     let count = c.in-Some.count.now in
     let rest = c.in-Some.rest.now in
     let before = so_far a c.args.sieve.now in
-    let all : c.loop-i.i ≡ count = omega arith in
-    c.loop-i.invariant.found ∙ ap (λ n. asked_of a before (map (point_of a.gathering) (flat_map (λ k. tuples_behind (front ++ k ∷ []) rest) (up_to n)))) all
+    let ns = numbers_of c.numbers_behind-numbers.result in
+    let past : length ns ≤ c.loop-i.i = omega (arith, c.len-i-end.ensures, c.loop-i-test.false) in
+    let enough = subst (λ f. AreEnough a f count ns) c.deref-2.ensures.value (c.numbers_behind-numbers.ensures a c.requires.partners) in
+    c.loop-i.invariant.found ∙ ap (λ l. asked_of a before (points_behind a front rest l)) (take_all c.loop-i.i ns past) ∙ enough rest before
     ∙ ap (λ l. asked_of a before (map (point_of a.gathering) l)) (tuples_step front count rest ∙ ap (tuples_behind front) (sym c.in-Some.ensures.cases.0))
