@@ -1,5 +1,5 @@
 -- Cells of two columns that are equal are one in keys.
-use Rattle.std.proofs.Common.{◌≡◌, ℕ, ◌^◌, ◌<◌, ◌≤◌, Bool, true, false, not, ◌&&◌, cond, ℤ, pos, List, [], ◌∷◌, length, get_or, map, Option, Some, None, option_map, Ok, Err, inl, inr, refl, sym, ap, ◌∙◌, subst, arith, true≢false}
+use Rattle.std.proofs.Common.{◌≡◌, ℕ, ◌^◌, ◌<◌, ◌≤◌, Bool, true, false, not, ◌&&◌, cond, ℤ, pos, List, [], length, get_or, map, Some, None, option_map, Ok, inl, inr, refl, sym, ap, ◌∙◌, subst, arith, true≢false}
 use Rattle.std.specs.Prelude.{◌==◌, slice_get, slice_index, unsigned_abs}
 use Rattle.std.specs.Ordering.{is_eq}
 use Rattle.std.specs.declared.cmp.Ordering.{Ordering}
@@ -10,7 +10,7 @@ use Rattle.std.proofs.lemmas.Option.{get_or_from_slice_get, slice_get-map}
 use Rattle.vtl_decimal.specs.Range.{fit_number}
 use Rattle.vtl_decimal.specs.Settings.{Settings}
 use Rattle.vtl_cell.specs.Kinds.{is_null, is_of}
-use Rattle.vtl_cell.specs.Order.{cell_cmp, kind_rank, same_cell}
+use Rattle.vtl_cell.specs.Order.{cell_cmp, kind_rank}
 use Rattle.vtl_cell.specs.Outcome.{fault_in}
 use Rattle.vtl_cell.specs.Outcomes.{is_true}
 use Rattle.vtl_cell.specs.Row.{Row, column_of}
@@ -31,7 +31,6 @@ use Rattle.vtl_index.specs.RowKeys.{or_null}
 use Rattle.vtl_index.specs.declared.row_keys.KeyForm.{KeyForm}
 use Rattle.vtl_index.specs.declared.row_keys.KeyForm.TheVariants.{AsIs, AsNumber}
 use Rattle.vtl_tree.specs.CompExp.{CompExp}
-use Rattle.vtl_tree.specs.Value.{value}
 use Rattle.vtl_meaning.proofs.ValueKinds.{null_is_of}
 use Rattle.vtl_expr.specs.Prepared.{SameValue, prepared_exp}
 use Rattle.vtl_expr.proofs.PointValues.{same_at}

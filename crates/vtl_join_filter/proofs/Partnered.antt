@@ -1,15 +1,13 @@
 -- Rows that are not found behind those in front need not be asked.
-use Rattle.std.proofs.Common.{◌≡◌, ℕ, ◌+◌, ◌<◌, Bool, true, false, not, ◌&&◌, ◌||◌, cond, List, [], ◌∷◌, ◌++◌, length, map, None, Result, Ok, Err, Some, Option, append_assoc, refl, sym, ap, ◌∙◌, subst, arith, true≢false}
+use Rattle.std.proofs.Common.{◌≡◌, ℕ, ◌<◌, Bool, true, false, not, ◌&&◌, ◌||◌, cond, List, [], ◌∷◌, ◌++◌, length, map, None, Result, Ok, Err, Some, Option, append_assoc, refl, sym, ap, ◌∙◌, subst, arith, true≢false}
 use Rattle.std.specs.Prelude.{IfOk, IfSome, slice_index}
 use Rattle.std.specs.List.{AllByRecursion, filter, flat_map}
 use Rattle.std.proofs.Math.ListN.{get_or-append}
 use Rattle.std.proofs.lemmas.List.{append-nil, get_or_at, map-append}
 use Rattle.vtl_decimal.specs.Settings.{Settings}
-use Rattle.vtl_cell.specs.Kinds.{is_null}
 use Rattle.vtl_cell.specs.Outcome.{fault_in, join}
 use Rattle.vtl_cell.specs.Outcomes.{is_true}
 use Rattle.vtl_cell.specs.Row.{Row, column_of, same_row}
-use Rattle.vtl_cell.specs.declared.cell.Cell.{Cell}
 use Rattle.vtl_cell.proofs.Rows.{same_row-refl}
 use Rattle.vtl_rows.specs.Gathered.{part_at, picked_cell}
 use Rattle.vtl_rows.specs.Places.{row_at}
@@ -27,7 +25,7 @@ use Rattle.vtl_expr.specs.Prepared.{prepared_exp}
 use Rattle.vtl_clause.specs.Walks.{fault_over}
 use Rattle.vtl_join.specs.Crossing.{tuples_behind, up_to}
 use Rattle.vtl_join.specs.Gatherings.{point_of}
-use Rattle.vtl_join_filter.specs.Partners.{AreEnough, AreOneKey, HasNoFault, IsPairBetween, IsPartner, asked_column, found_behind, is_true_at, own_column, points_behind}
+use Rattle.vtl_join_filter.specs.Partners.{AreEnough, AreOneKey, HasNoFault, IsPairBetween, IsPartner, asked_column, is_true_at, own_column, points_behind}
 use Rattle.vtl_join_filter.specs.Sifting.{Sifted, asked_of, sifted}
 use Rattle.vtl_join_filter.specs.declared.keys.KeyPair.{KeyPair}
 use Rattle.vtl_join_filter.specs.declared.partners.Partner.{Partner}

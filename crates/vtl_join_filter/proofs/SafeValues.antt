@@ -1,20 +1,15 @@
 -- A condition that is safe has no fault.
-use Rattle.std.proofs.Common.{rules, Global, Vec, ◌≡◌, Bool, true, false, not, ◌&&◌, List, [], ◌∷◌, length, map, Option, Some, None, Ok, Err, refl, sym, ap, ◌∙◌, subst}
-use Rattle.std.specs.List.{AllByRecursion, list_all}
-use Rattle.std.specs.Ordering.{is_eq}
+use Rattle.std.proofs.Common.{rules, Global, Vec, ◌≡◌, true, false, not, ◌&&◌, List, [], ◌∷◌, length, map, None, Ok, Err, refl, sym, ap, ◌∙◌}
+use Rattle.std.specs.List.{list_all}
 use Rattle.std.proofs.lemmas.Bool.{and_parts}
-use Rattle.vtl_decimal.specs.Range.{fit_number}
 use Rattle.vtl_decimal.specs.Settings.{Settings}
 use Rattle.vtl_cell.specs.Conversion.{as_kind}
 use Rattle.vtl_cell.specs.Kinds.{same_kind}
 use Rattle.vtl_cell.specs.Outcome.{Outcome, after, fault_in}
-use Rattle.vtl_cell.specs.Outcomes.{all_of, is_true, result_of}
-use Rattle.vtl_cell.specs.Row.{Row, column_of}
-use Rattle.vtl_cell.specs.ScalarArithmetic.{number, units}
-use Rattle.vtl_cell.specs.ScalarComparison.{compared, truth}
+use Rattle.vtl_cell.specs.Outcomes.{all_of, result_of}
+use Rattle.vtl_cell.specs.Row.{Row}
 use Rattle.vtl_cell.specs.Scalars.{binary_of, by_number_of_operands, scalar_of, ternary_of, unary_of}
 use Rattle.vtl_cell.specs.declared.cell.Cell.{Cell}
-use Rattle.vtl_cell.specs.declared.cell.Cell.TheVariants as c
 use Rattle.vtl_cell.specs.declared.kind.Kind.{Kind}
 use Rattle.vtl_cell.specs.declared.kind.Kind.TheVariants as k
 use Rattle.vtl_cell.specs.declared.operator.ScalarOp.{ScalarOp}

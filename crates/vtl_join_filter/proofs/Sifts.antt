@@ -1,10 +1,9 @@
 -- Points are asked in parts as they are asked at once.
-use Rattle.std.proofs.Common.{◌≡◌, ℕ, suc, ◌+◌, ◌*◌, ◌<◌, List, [], ◌∷◌, ◌++◌, length, length-append, map, Option, None, Result, append_assoc, refl, sym, ap, ◌∙◌, subst, arith}
+use Rattle.std.proofs.Common.{◌≡◌, ℕ, suc, ◌*◌, ◌<◌, List, [], ◌∷◌, ◌++◌, length, length-append, map, Result, append_assoc, sym, ap, ◌∙◌, subst, arith}
 use Rattle.std.specs.Prelude.{IfOk}
 use Rattle.std.proofs.lemmas.List.{append-nil, map-append}
 use Rattle.std.proofs.lemmas.List.Elements.{filter-append}
 use Rattle.vtl_decimal.specs.Settings.{Settings}
-use Rattle.vtl_decimal.specs.declared.number.Fault.{Fault}
 use Rattle.vtl_cell.specs.Outcome.{Outcome, fault_in, join, unless}
 use Rattle.vtl_cell.specs.Outcomes.{is_true}
 use Rattle.vtl_cell.specs.Row.{Row}

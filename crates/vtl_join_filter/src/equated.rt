@@ -88,7 +88,10 @@ fn push_each(pairs: &mut Vec<Equated>, conditions: &[CompExpr]) -> Result<(), Al
 }
 
 // Columns that are equal wherever a condition is true.
-pub(crate) fn equated_columns(alloc: Global, condition: &CompExpr) -> Result<Vec<Equated>, AllocError>
+pub(crate) fn equated_columns(
+    alloc: Global,
+    condition: &CompExpr,
+) -> Result<Vec<Equated>, AllocError>
     ensures { IfOk result (λ v. (p : Settings) → AllByRecursion (Equates p (comp_exp_of condition.now)) v.items) }
 {
     let mut pairs = Vec::new(alloc);

@@ -14,7 +14,7 @@ mod equated;
 mod filtering;
 mod keys;
 mod partners;
-mod sieve;
 mod safety;
+mod sieve;
 
 pub use filtering::filter_joined;

@@ -1,4 +1,4 @@
-use Rattle.std.proofs.Common.{◌≡◌, sym, ◌∙◌}
+use Rattle.std.proofs.Common.{sym, ◌∙◌}
 use Rattle.vtl_tree.specs.View.{comp_exp_of}
 use Rattle.vtl_join_filter.specs.Equalities.{Implies}
 use Rattle.vtl_join_filter.proofs.Equations.{all_at, equality_given, on_ok, operands_given}

@@ -1,4 +1,4 @@
-use Rattle.std.proofs.Common.{Global, Vec, ℕ, ◌≡◌, ◌<◌, ap, sym, arith, ◌∙◌}
+use Rattle.std.proofs.Common.{Global, Vec, ℕ, ◌<◌, ap, sym, arith, ◌∙◌}
 use Rattle.vtl_tree.specs.View.{comp_exp_of}
 use Rattle.vtl_meaning.specs.Joined.{join_of}
 use Rattle.vtl_join.specs.Gatherings.{Gathers, points_of, width_of}

@@ -1,4 +1,4 @@
-use Rattle.std.proofs.Common.{◌≡◌, sym, ◌∙◌}
+use Rattle.std.proofs.Common.{sym, ◌∙◌}
 use Rattle.vtl_cell.specs.Row.{column_of}
 use Rattle.vtl_rows.specs.Places.{row_at}
 use Rattle.vtl_join_filter.proofs.Keyed.{meet_as_is}

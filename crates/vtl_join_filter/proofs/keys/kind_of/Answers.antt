@@ -1,4 +1,4 @@
-use Rattle.std.proofs.Common.{◌≡◌, List, get_or, ap, sym, subst}
+use Rattle.std.proofs.Common.{List, get_or, ap, sym, subst}
 use Rattle.vtl_rows.specs.Tables.{AllFit}
 use Rattle.vtl_rows.specs.declared.column.Column.{Column}
 use Rattle.vtl_join_filter.proofs.Keyed.{kind_within}

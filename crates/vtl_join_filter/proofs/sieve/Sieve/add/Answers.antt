@@ -1,6 +1,5 @@
-use Rattle.std.proofs.Common.{◌≡◌, [], ◌∷◌, refl, subst}
+use Rattle.std.proofs.Common.{◌≡◌, refl, subst}
 use Rattle.std.specs.Prelude.{OnOk}
-use Rattle.vtl_join.specs.Gatherings.{point_of}
 use Rattle.vtl_join_filter.specs.Sifting.{Sifted, so_far}
 use Rattle.vtl_join_filter.specs.declared.sieve.Sieve.{Sieve}
 use Rattle.vtl_join_filter.proofs.Sifts.{added, ready_more}

@@ -1,6 +1,5 @@
-use Rattle.std.proofs.Common.{◌≡◌, ◌∙◌, ◌<◌, length, map, ap, sym, subst}
+use Rattle.std.proofs.Common.{◌≡◌, ◌∙◌, ◌<◌, length, ap, sym, subst}
 use Rattle.std.specs.Slice.Iter.{chunks_exact_rest, chunks_exact_size}
-use Rattle.vtl_rows.specs.Gathered.{pieces}
 use Rattle.vtl_expr.specs.Prepared.{prepared_exp}
 use Rattle.vtl_join.specs.Gatherings.{point_of, points_of, width_of}
 use Rattle.vtl_join_filter.specs.Sifting.{asked_of, so_far}

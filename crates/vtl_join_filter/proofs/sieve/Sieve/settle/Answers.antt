@@ -1,4 +1,4 @@
-use Rattle.std.proofs.Common.{◌≡◌, ap, sym, ◌∙◌}
+use Rattle.std.proofs.Common.{ap, sym, ◌∙◌}
 use Rattle.vtl_join.specs.Gatherings.{points_of}
 use Rattle.vtl_join_filter.specs.declared.sieve.Sieve.{Sieve}
 use Rattle.vtl_join_filter.proofs.Sifts.{ready_settled, settled}
