@@ -1,10 +1,9 @@
 -- By all identifiers each point is a group of its own.
-use Rattle.std.proofs.Common.{◌≡◌, ℕ, Bool, true, false, not, cond, List, [], ◌∷◌, ◌++◌, map, take, Some, None, Ok, Err, Option, refl, sym, ap, ◌∙◌, subst, true≢false}
+use Rattle.std.proofs.Common.{◌≡◌, ℕ, true, List, [], ◌∷◌, ◌++◌, map, take, Some, None, Ok, Err, Option, refl, sym, ap, ◌∙◌, subst, true≢false}
 use Rattle.std.specs.List.{AllByRecursion, filter, find}
 use Rattle.std.specs.Prelude.{IfOk}
 use Rattle.std.specs.Option.{option_and_then, option_map_or, option_to_list}
 use Rattle.std.proofs.Math.IntN.{+ℤ_idl}
-use Rattle.vtl_lists.specs.Apart.{all_apart}
 use Rattle.vtl_cell.specs.AggregateKinds.{aggregate_kind}
 use Rattle.vtl_cell.specs.Groups.{group_value}
 use Rattle.vtl_cell.specs.Kinds.{is_of}
@@ -27,13 +26,12 @@ use Rattle.vtl_tree.specs.Environment.{DataSet}
 use Rattle.vtl_tree.specs.Names.{component_of}
 use Rattle.vtl_tree.specs.Trees.{AggTree}
 use Rattle.vtl_tree.specs.Structure.{columns_of, key_width, names_of}
-use Rattle.vtl_tree.specs.declared.specifications.AggItems.TheVariants as items
 use Rattle.vtl_tree.specs.declared.structure.Component.{Component}
 use Rattle.vtl_tree.specs.declared.structure.Structure.{Structure}
 use Rattle.vtl_tuples.specs.Keys.{each_once}
 use Rattle.vtl_tuples.proofs.Lists.{filter_same, map-map, map_same}
 use Rattle.vtl_tuples.proofs.Onces.{once_already}
-use Rattle.vtl_meaning.specs.Aggregates.{Condition, Made, aggregate_of, condition_of, group_fault, group_point, made_of, made_value, measure_call}
+use Rattle.vtl_meaning.specs.Aggregates.{Made, aggregate_of, condition_of, group_fault, group_point, made_of, measure_call}
 use Rattle.vtl_meaning.specs.AggregateShapes.{IsAggregated}
 use Rattle.vtl_meaning.specs.GroupExpressions.{aggregated}
 use Rattle.vtl_meaning.specs.Groups.{keys_by, places_named, points_with}

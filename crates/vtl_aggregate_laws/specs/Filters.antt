@@ -1,5 +1,5 @@
 -- A condition on groups as a filter of what was made of them.
-use Rattle.std.specs.Prelude.{◌≡◌, ℕ, true, false, List, option_map, Option, Some, None}
+use Rattle.std.specs.Prelude.{◌≡◌, ℕ, true, false, List, option_map, Option, Some}
 use Rattle.vtl_tree.specs.Columns.{identifiers_of, others_of, place_of}
 use Rattle.vtl_tree.specs.CompExp.{CompExp, CompExps, aggregate, call, column, comp_exp, const, no_comp_exps}
 use Rattle.vtl_tree.specs.Names.{is_among}

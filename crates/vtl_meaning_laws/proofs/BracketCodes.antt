@@ -1,8 +1,8 @@
 -- However a union of three is bracketed, its identifiers have the same codes.
 use Rattle.std.specs.Cmp.Lexicographic.{pointwise}
-use Rattle.std.specs.List.{AllByRecursion, filter, list_all}
+use Rattle.std.specs.List.{AllByRecursion, list_all}
 use Rattle.std.specs.Option.{option_map_or}
-use Rattle.std.proofs.Common.{◌≡◌, ℕ, zero, suc, Bool, true, false, not, cond, ◌&&◌, ◌||◌, List, [], ◌∷◌, ◌++◌, map, Option, Some, None, refl, sym, ap, ◌∙◌, subst, true≢false}
+use Rattle.std.proofs.Common.{◌≡◌, ℕ, Bool, true, false, not, cond, ◌&&◌, ◌||◌, List, [], ◌∷◌, ◌++◌, map, Option, Some, None, refl, sym, ap, ◌∙◌, subst, true≢false}
 use Rattle.vtl_cell.specs.declared.kind.Kind.{Kind}
 use Rattle.vtl_cell.proofs.Rows.{split_and}
 use Rattle.vtl_lists.proofs.Sorts.{AllByRecursion-filter}
@@ -10,14 +10,14 @@ use Rattle.vtl_tree.specs.Choices.{is_identifier}
 use Rattle.vtl_tree.specs.Columns.{identifiers_of, measures_of, place_of}
 use Rattle.vtl_tree.specs.Names.{component_of}
 use Rattle.vtl_tree.specs.Operands.{agreed, agreed_identifiers, is_coded_alike, same_codes}
-use Rattle.vtl_tree.specs.Structure.{IsStructure, names_of, same_name}
+use Rattle.vtl_tree.specs.Structure.{IsStructure, same_name}
 use Rattle.vtl_tree.specs.declared.structure.Component.{Component}
 use Rattle.vtl_tree.specs.declared.structure.Structure.{Structure}
 use Rattle.vtl_tuples.proofs.Lists.{map-map, map_same}
 use Rattle.vtl_meaning.specs.Made.{AreAmong, IsColumnAt, IsCombined}
 use Rattle.vtl_meaning.proofs.Determined.{same_shape}
 use Rattle.vtl_meaning.proofs.FoundColumns.{all-found, at-found, name-found}
-use Rattle.vtl_meaning.proofs.Places.{all_filtered, all_more, all_of_map, place_later, same_name-is, same_name-refl}
+use Rattle.vtl_meaning.proofs.Places.{all_filtered, all_more, all_of_map, place_later, same_name-is}
 use Rattle.vtl_meaning_laws.proofs.Combined.{combined_identifiers, combined_measures}
 
 -- ---- lists of codes

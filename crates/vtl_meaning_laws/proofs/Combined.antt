@@ -18,7 +18,7 @@ use Rattle.vtl_tree.specs.declared.structure.Structure.{Structure}
 use Rattle.vtl_meaning.specs.Operators.{left_of}
 use Rattle.vtl_meaning.specs.Points.{with_points}
 use Rattle.vtl_meaning.specs.LookUps.{values_named}
-use Rattle.vtl_meaning.specs.Made.{AreAmong, HasIdentifiers, IsColumnAt, IsCombined, component_kinds}
+use Rattle.vtl_meaning.specs.Made.{AreAmong, IsColumnAt, IsCombined, component_kinds}
 use Rattle.vtl_meaning.proofs.AnalyticColumns.{measure_role}
 use Rattle.vtl_meaning.proofs.Places.{all_filtered, all_map, all_more, identifier_role, places_of_namesakes}
 use Rattle.vtl_meaning.proofs.SetsFolds.{each_own, filter_once, own_cells}

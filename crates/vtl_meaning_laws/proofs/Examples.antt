@@ -1,6 +1,6 @@
 -- Each law on data sets that its premises fit.
 use Rattle.std.specs.Prelude.{codes, count_by, false, reverse}
-use Rattle.std.specs.List.{AllByRecursion, Contains}
+use Rattle.std.specs.List.{AllByRecursion, Contains, filter}
 use Rattle.std.specs.Ordering.{is_lt}
 use Rattle.std.proofs.Common.{◌≡◌, ℕ, zero, suc, pos, List, [], ◌∷◌, Some, None, Ok, map, take, ap, refl, arith}
 use Rattle.vtl_cell.specs.Groups.{group_value}
@@ -24,7 +24,7 @@ use Rattle.vtl_tree.specs.declared.calls.Window.{Window}
 use Rattle.vtl_tree.specs.declared.structure.Component.{Component}
 use Rattle.vtl_tree.specs.declared.structure.Role.TheVariants as role
 use Rattle.vtl_tree.specs.declared.structure.Structure.{Structure}
-use Rattle.vtl_meaning.specs.Joined.{Tuple, full_tuples, left_tuples, part_of, structures_of}
+use Rattle.vtl_meaning.specs.Joined.{Tuple, full_tuples, left_tuples, part_of, reference_place, structures_of}
 use Rattle.vtl_meaning.specs.Made.{IsCombined, IsJoined, IsPivoted, IsUnpivoted}
 use Rattle.vtl_meaning.specs.Operators.{left_of}
 use Rattle.vtl_meaning.specs.Points.{with_points}
@@ -35,14 +35,16 @@ use Rattle.vtl_meaning.specs.AnalyticShapes.{IsAnalyzed}
 use Rattle.vtl_meaning.specs.Analytics.{analytic_of}
 use Rattle.vtl_meaning.specs.Turned.{pivot_of, unpivot_of}
 use Rattle.vtl_meaning.specs.Windows.{keys_in, op_value, partition_of, seen, stand_of}
-use Rattle.vtl_meaning_laws.specs.Found.{IsFullTuple, IsLeftTuple}
+use Rattle.vtl_meaning_laws.specs.Found.{IsFullTuple, IsLeftTuple, begins_whole}
 use Rattle.vtl_meaning_laws.specs.Frames.{of_current_alone, turned_round}
 use Rattle.vtl_meaning_laws.specs.Overs.{by_groups, over_partitions}
+use Rattle.vtl_meaning_laws.proofs.BracketCodes.{same_structures}
+use Rattle.vtl_meaning_laws.proofs.Combined.{own_points}
 use Rattle.vtl_meaning_laws.proofs.Existence.{absent_is_difference, there_is_intersection}
 use Rattle.vtl_meaning_laws.proofs.FallingOrders.{from_its_end}
-use Rattle.vtl_meaning_laws.proofs.JoinTuples.{full_has_all, full_within, left_has_all, left_within}
+use Rattle.vtl_meaning_laws.proofs.JoinTuples.{full_has_all, full_within, left_has_all, left_is_part, left_within}
 use Rattle.vtl_meaning_laws.proofs.Regrouped.{bracketed_sets, two_differences}
-use Rattle.vtl_meaning_laws.proofs.Stands.{lagged, rank_is_place, running_whole, seen_alone}
+use Rattle.vtl_meaning_laws.proofs.Stands.{lagged, led, rank_is_place, ranks_tie, running_whole, seen_alone}
 use Rattle.vtl_meaning_laws.proofs.Twice.{union_twice}
 use Rattle.vtl_meaning_laws.proofs.Unpivoted.{undone}
 use Rattle.vtl_meaning_laws.proofs.WholeGroups.{faults_alike, over_is}
@@ -152,17 +154,24 @@ differences = two_differences first second plain turned plain both_are back_is w
 differences_are : symmetric_difference_of first second plain ≡ ((text 97 ∷ int 1 ∷ int 10 ∷ []) ∷ (text 98 ∷ int 2 ∷ int 40 ∷ []) ∷ [])
 differences_are = refl
 
+twice_back : IsCombined turned (turned ∷ []) turned
+twice_back = record {
+  well_formed = turned_is;
+  identifiers = (refl, refl);
+  operands = (record { there = ((refl, refl), ((refl, refl), tt)); back = ((refl, refl), ((refl, refl), tt)); measures = ((refl, refl), tt) }, (record { there = ((refl, refl), ((refl, refl), tt)); back = ((refl, refl), ((refl, refl), tt)); measures = ((refl, refl), tt) }, tt));
+  no_attributes = refl;
+  shape = refl;
+}
+
 brackets : union_of (with_points plain (union_of (first ∷ second ∷ []) plain) ∷ second ∷ []) plain ≡ union_of (first ∷ with_points turned (union_of (second ∷ second ∷ []) turned) ∷ []) plain
 brackets = bracketed_sets first second second plain turned plain plain both_are twice_back whole_is both_are first_is second_is second_is
-  where
-    twice_back : IsCombined turned (turned ∷ []) turned
-    twice_back = record {
-      well_formed = turned_is;
-      identifiers = (refl, refl);
-      operands = (record { there = ((refl, refl), ((refl, refl), tt)); back = ((refl, refl), ((refl, refl), tt)); measures = ((refl, refl), tt) }, (record { there = ((refl, refl), ((refl, refl), tt)); back = ((refl, refl), ((refl, refl), tt)); measures = ((refl, refl), tt) }, tt));
-      no_attributes = refl;
-      shape = refl;
-    }
+
+bracket_structures : plain ≡ plain
+bracket_structures = same_structures noted turned turned plain turned plain plain both_are twice_back whole_is both_are turned_is turned_is
+
+-- a data set without attributes, in its own columns
+in_own_columns : left_of second turned ≡ second.points
+in_own_columns = own_points turned turned second.points second_is refl
 
 -- ---- joins of two operands by one identifier
 abbrev size : Component
@@ -227,6 +236,13 @@ behind_is = record { some = refl; parts = (refl, (refl, (refl, tt)), (refl, ((su
 in_full : Contains (full_tuples counted (counted ∷ measured ∷ [])) behind
 in_full = full_has_all counted (counted ∷ measured ∷ []) (full_within counted (measured ∷ []) joined full_is both_sets) behind behind_is
 
+left_in_full : filter begins_whole (full_tuples counted (counted ∷ measured ∷ [])) ≡ left_tuples counted (counted ∷ measured ∷ [])
+left_in_full = left_is_part counted (measured ∷ []) joined full_is both_sets
+
+-- the reference of the inner join is the first operand
+first_is_reference : reference_place join.Inner (structures_of (counted ∷ measured ∷ [])) ≡ 0
+first_is_reference = refl
+
 -- ---- windows over all points of the first data set, by its measure
 abbrev scale_six : Settings
 scale_six = record { scale = 6; rounding = HalfUp }
@@ -249,6 +265,9 @@ higher = text 98 ∷ int 1 ∷ int 20 ∷ text 120 ∷ []
 lag_of_higher : op_value scale_six (columns_of noted) by_people people_at (op.Lag 1 Null) (stand_of first by_people higher) ≡ Ok (int 10)
 lag_of_higher = ap Ok (lagged first by_people people_at 1 Null lower higher first_is refl refl (zero, omega arith, refl))
 
+lead_of_lower : op_value scale_six (columns_of noted) by_people people_at (op.Lead 1 Null) (stand_of first by_people lower) ≡ Ok (int 20)
+lead_of_lower = ap Ok (led first by_people people_at 1 Null lower higher first_is refl refl (suc zero, omega arith, refl))
+
 running_at_last : group_value scale_six Sum (seen by_people people_at (stand_of first by_people higher)) ≡ group_value scale_six Sum (map people_at (partition_of first by_people higher))
 running_at_last = running_whole scale_six first by_people Sum people_at higher refl refl
 
@@ -257,6 +276,13 @@ seen_by_lower = seen_alone first current people_at lower first_is (zero, omega a
 
 rank_of_higher : count_by (λ q. is_lt (by_keys (keys_in (columns_of noted) by_people) q higher)) (stand_of first by_people higher).ordered ≡ 1
 rank_of_higher = rank_is_place scale_six first by_people higher ((λ e. cc), ((λ e. refl), tt))
+
+-- both points have one year, and so one rank by it
+abbrev by_years : Window
+by_years = record { partition = []; order = record { component = codes "year"; falling = false } ∷ []; frame = None }
+
+one_rank : count_by (λ q. is_lt (by_keys (keys_in (columns_of noted) by_years) q higher)) (stand_of first by_years higher).ordered ≡ count_by (λ q. is_lt (by_keys (keys_in (columns_of noted) by_years) q lower)) (stand_of first by_years lower).ordered
+one_rank = ranks_tie scale_six first by_years lower higher refl refl
 
 -- ---- `sum(first over (partition by year))` beside `sum(first group by year)`
 abbrev windowed : Structure

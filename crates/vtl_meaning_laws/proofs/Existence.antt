@@ -1,8 +1,8 @@
 -- `exists_in` beside the set operators.
 use Rattle.std.specs.Prelude.{is_some, option_map, slice_get}
-use Rattle.std.specs.List.{AllByRecursion, filter}
+use Rattle.std.specs.List.{filter}
 use Rattle.std.specs.Option.{option_and_then}
-use Rattle.std.proofs.Common.{◌≡◌, ℕ, Bool, true, false, not, ◌&&◌, List, [], ◌∷◌, ◌++◌, map, length, take, Option, Some, None, refl, sym, ap, ◌∙◌}
+use Rattle.std.proofs.Common.{◌≡◌, ℕ, Bool, true, false, not, ◌&&◌, [], ◌∷◌, ◌++◌, map, take, Option, Some, None, refl, sym, ap, ◌∙◌}
 use Rattle.std.proofs.lemmas.List.{map-append}
 use Rattle.vtl_lists.specs.Perm.{Perm, chain}
 use Rattle.vtl_lists.proofs.Perms.{Perm-map, Perm-same}
@@ -15,19 +15,19 @@ use Rattle.vtl_tree.specs.DataSet.{IsDataSet, is_point, look}
 use Rattle.vtl_tree.specs.Environment.{DataSet}
 use Rattle.vtl_tree.specs.Structure.{columns_of, key_width}
 use Rattle.vtl_tree.specs.declared.structure.Structure.{Structure}
-use Rattle.vtl_tuples.proofs.Lists.{filter-map, filter_each, filter_same, map-map, map_same}
+use Rattle.vtl_tuples.proofs.Lists.{filter-map, filter_same, map-map, map_same}
 use Rattle.vtl_meaning.specs.Agreement.{first_agreeing, has_agreeing, key_of}
 use Rattle.vtl_meaning.specs.JoinWords.{IsWithin}
 use Rattle.vtl_meaning.specs.Joined.{Tuple}
 use Rattle.vtl_meaning.specs.LookUps.{part_for, values_named}
-use Rattle.vtl_meaning.specs.Made.{AreAmong, IsCombined}
+use Rattle.vtl_meaning.specs.Made.{IsCombined}
 use Rattle.vtl_meaning.specs.Operators.{left_of}
-use Rattle.vtl_meaning.specs.Sets.{difference_of, existence_of, has_point, intersection_of, is_retained, with_answer}
+use Rattle.vtl_meaning.specs.Sets.{difference_of, existence_of, has_point, intersection_of, with_answer}
 use Rattle.vtl_meaning.proofs.JoinPartners.{beside_looked}
 use Rattle.vtl_meaning.proofs.Kept.{shown_split}
 use Rattle.vtl_meaning.proofs.Lists.{filtered}
-use Rattle.vtl_meaning.proofs.Places.{all_more, key_cells, key_for, key_of_joined, key_of_point, key_width_same, key_within, point_length}
-use Rattle.vtl_meaning.proofs.SetsKept.{combined_is, filter_true}
+use Rattle.vtl_meaning.proofs.Places.{all_more, key_cells, key_for, key_of_joined, key_of_point, key_within, point_length}
+use Rattle.vtl_meaning.proofs.SetsKept.{filter_true}
 use Rattle.vtl_meaning.proofs.SetsLooks.{shown_look}
 use Rattle.vtl_meaning_laws.proofs.Combined.{among_same, named_same}
 use Rattle.vtl_meaning_laws.proofs.Twice.{parts_of_all}

@@ -1,8 +1,7 @@
 -- Left and full joins as sets of tuples; an inner join as a part of a left one, and that as a part of a full one.
 use Rattle.std.specs.Prelude.{is_some, slice_get}
 use Rattle.std.specs.List.{AllByRecursion, Contains, filter, find, flat_map, list_any}
-use Rattle.std.specs.Option.{option_map_or, option_to_list}
-use Rattle.std.proofs.Common.{◌≡◌, ℕ, Bool, true, false, not, cond, ◌||◌, List, [], ◌∷◌, ◌++◌, map, length, take, Option, Some, None, refl, sym, ap, ◌∙◌, subst, true≢false}
+use Rattle.std.proofs.Common.{◌≡◌, Bool, true, false, not, cond, ◌||◌, List, [], ◌∷◌, ◌++◌, map, length, take, Option, Some, None, refl, sym, ap, ◌∙◌, subst, true≢false}
 use Rattle.std.proofs.lemmas.List.{append-nil, length-take-le}
 use Rattle.std.proofs.lemmas.List.Elements.{filter-append}
 use Rattle.std.proofs.lemmas.List.Folds.{list_any-append}
@@ -33,7 +32,7 @@ use Rattle.vtl_meaning.proofs.JoinPartners.{beside_looked}
 use Rattle.vtl_meaning.proofs.Kept.{both_all}
 use Rattle.vtl_meaning.proofs.Places.{all_filtered, all_map, all_more, all_of_map, key_within}
 use Rattle.vtl_meaning.proofs.SetsFolds.{filter_once}
-use Rattle.vtl_meaning_laws.specs.Found.{AgreesWith, AreParts, HasValues, IsFullTuple, IsLeftTuple, IsOneThat, begins_whole}
+use Rattle.vtl_meaning_laws.specs.Found.{AgreesWith, AreParts, HasValues, IsFullTuple, IsLeftTuple, begins_whole}
 use Rattle.vtl_meaning_laws.proofs.TupleLists.{any_contained, contained_any, contains_map, each_contained, found_is, item_has, none_found, one_is_found}
 use Rattle.vtl_meaning_laws.proofs.Twice.{none_left}
 

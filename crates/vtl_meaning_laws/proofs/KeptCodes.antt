@@ -14,22 +14,20 @@ use Rattle.vtl_tree.specs.Operands.{agreed, agreed_identifiers, is_coded_alike}
 use Rattle.vtl_tree.specs.Pairs.{contains, pair_identifiers}
 use Rattle.vtl_tree.specs.Structure.{columns_of, same_role}
 use Rattle.vtl_tree.specs.Trees.{MeasureTree}
-use Rattle.vtl_tree.specs.declared.choices.Choice.{Choice}
 use Rattle.vtl_tree.specs.declared.choices.Choice.TheVariants as choice
-use Rattle.vtl_tree.specs.declared.clauses.SubItem.{SubItem}
 use Rattle.vtl_tree.specs.declared.measures.Outcome.{Outcome}
 use Rattle.vtl_tree.specs.declared.measures.Outcome.TheVariants as outcome
 use Rattle.vtl_tree.specs.declared.structure.Component.{Component}
 use Rattle.vtl_tree.specs.declared.structure.Role.TheVariants as role
 use Rattle.vtl_tree.specs.declared.structure.Structure.{Structure}
 use Rattle.vtl_tuples.proofs.Lists.{filter_each}
-use Rattle.vtl_meaning.specs.Made.{IsChoice, IsCombined, IsExistence, IsMeasured, IsPaired, IsPivoted, IsSub, IsUnpivoted}
+use Rattle.vtl_meaning.specs.Made.{IsChoice, IsExistence, IsMeasured, IsPaired, IsPivoted, IsUnpivoted}
 use Rattle.vtl_meaning.specs.Shapes.{given_between, given_of_two, outcome_of}
 use Rattle.vtl_meaning.specs.Turned.{codes_of, other_identifiers}
 use Rattle.vtl_meaning.proofs.AnalyticColumns.{measure_role}
 use Rattle.vtl_meaning.proofs.Places.{all_append, all_filtered, all_map, all_more, each}
 use Rattle.vtl_meaning.proofs.SetsFolds.{filter_once}
-use Rattle.vtl_meaning_laws.proofs.Combined.{agreed_roles, combined_identifiers}
+use Rattle.vtl_meaning_laws.proofs.Combined.{agreed_roles}
 use Rattle.vtl_meaning_laws.proofs.Twice.{none_left}
 
 -- ---- identifiers before other components

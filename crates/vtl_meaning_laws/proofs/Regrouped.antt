@@ -6,10 +6,9 @@ use Rattle.std.proofs.Math.Seq.{take-append_seam}
 use Rattle.vtl_cell.specs.Row.{Row, column_of, same_key, same_row}
 use Rattle.vtl_cell.specs.declared.kind.Kind.{Kind}
 use Rattle.vtl_cell.proofs.Rows.{same_row-is, same_row-refl}
-use Rattle.vtl_lists.proofs.Sorts.{AllByRecursion-filter}
 use Rattle.vtl_rows.specs.Tables.{cells_at}
 use Rattle.vtl_tree.specs.Columns.{identifiers_of, measures_of, others_of, place_of, places_in}
-use Rattle.vtl_tree.specs.DataSet.{Distinct, IsDataSet, is_point}
+use Rattle.vtl_tree.specs.DataSet.{IsDataSet, is_point}
 use Rattle.vtl_tree.specs.Environment.{DataSet}
 use Rattle.vtl_tree.specs.Structure.{IsStructure, columns_of, key_width, names_of}
 use Rattle.vtl_tree.specs.declared.structure.Component.{Component}
@@ -22,7 +21,7 @@ use Rattle.vtl_meaning.specs.LookUps.{values_named}
 use Rattle.vtl_meaning.specs.Made.{AreAmong, IsAlternative, IsColumnAt, IsCombined}
 use Rattle.vtl_meaning.specs.Operators.{left_of}
 use Rattle.vtl_meaning.specs.Points.{with_points}
-use Rattle.vtl_meaning.specs.Sets.{all_left_of, difference_of, has_point, reduced, symmetric_difference_of, union_of, united}
+use Rattle.vtl_meaning.specs.Sets.{difference_of, has_point, reduced, symmetric_difference_of, union_of, united}
 use Rattle.vtl_meaning.proofs.JoinAgreements.{covers, values_agree}
 use Rattle.vtl_meaning.proofs.JoinKept.{once_hold}
 use Rattle.vtl_meaning.proofs.Kept.{shown_split}

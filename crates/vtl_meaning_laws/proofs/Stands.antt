@@ -1,39 +1,34 @@
 -- Where points stand in their partitions, and what windows see from there.
 use Rattle.std.specs.Prelude.{count_by, nat_le, if◌then◌else◌}
-use Rattle.std.specs.List.{AllByRecursion, Contains, filter}
+use Rattle.std.specs.List.{AllByRecursion, Contains}
 use Rattle.std.specs.Cmp.{IsTotalOrder}
 use Rattle.std.specs.Ordering.{is_lt, ordering_reverse, ordering_then}
 use Rattle.std.specs.declared.cmp.Ordering.{Ordering}
 use Rattle.std.specs.declared.cmp.Ordering.TheVariants.{Less, Equal, Greater}
-use Rattle.std.proofs.Common.{◌≡◌, ℕ, zero, suc, ◌+◌, ◌-◌, ◌<◌, ◌≤◌, Bool, true, false, cond, List, [], ◌∷◌, ◌++◌, map, length, get_or, take, drop, Ok, pos, refl, sym, ap, ◌∙◌, subst, arith}
+use Rattle.std.proofs.Common.{◌≡◌, ℕ, zero, suc, ◌+◌, ◌-◌, ◌<◌, ◌≤◌, Bool, true, false, List, [], ◌∷◌, ◌++◌, map, length, get_or, take, drop, refl, sym, ap, ◌∙◌, subst, arith}
 use Rattle.std.proofs.lemmas.List.{get_or_default, get_or_past, length-map, take_all}
 use Rattle.std.proofs.lemmas.List.Sums.{length-filter}
 use Rattle.std.proofs.Math.ListN.{get_or-map}
 use Rattle.vtl_lists.specs.Perm.{Perm}
 use Rattle.vtl_lists.proofs.Perms.{AllByRecursion-Perm, Perm-map, Perm-sym}
-use Rattle.vtl_cell.specs.Frames.{first_cell, frame_of, lag_of, last_cell, lead_of}
+use Rattle.vtl_cell.specs.Frames.{frame_of, lag_of, lead_of}
 use Rattle.vtl_cell.specs.Groups.{group_value}
 use Rattle.vtl_cell.specs.Row.{Row, row_cmp, same_row}
-use Rattle.vtl_cell.specs.ScalarArithmetic.{integer}
 use Rattle.vtl_cell.specs.Sorted.{Key, in_order, by_keys, by_keys_then, key_cmp, rising, window_cmp}
 use Rattle.vtl_cell.specs.declared.cell.Cell.{Cell}
 use Rattle.vtl_cell.specs.declared.operator.AggKind.{AggKind}
 use Rattle.vtl_cell.proofs.Aggregates.{group-Perm}
 use Rattle.vtl_cell.proofs.Keys.{by_keys_total}
 use Rattle.vtl_cell.proofs.Rows.{row_cmp_total, same_row-refl}
-use Rattle.vtl_decimal.specs.Range.{fit_integer}
 use Rattle.vtl_decimal.specs.Settings.{Settings}
 use Rattle.vtl_rows.specs.Tables.{cells_at}
 use Rattle.vtl_tree.specs.DataSet.{IsDataSet}
 use Rattle.vtl_tree.specs.Environment.{DataSet}
 use Rattle.vtl_tree.specs.Structure.{columns_of}
-use Rattle.vtl_tree.specs.declared.calls.AnalyticOp.TheVariants as op
-use Rattle.vtl_tree.specs.declared.calls.Frame.{Frame}
 use Rattle.vtl_tree.specs.declared.calls.Window.{Window}
-use Rattle.vtl_tree.specs.declared.structure.Component.{Component}
 use Rattle.vtl_tuples.proofs.Lists.{filter_same}
 use Rattle.vtl_meaning.specs.Groups.{places_named}
-use Rattle.vtl_meaning.specs.Windows.{Stand, bound_of, frame_in, identifier_places, keys_in, op_value, partition_of, point_cmp, seen, stand_of}
+use Rattle.vtl_meaning.specs.Windows.{bound_of, frame_in, identifier_places, keys_in, partition_of, point_cmp, seen, stand_of}
 use Rattle.vtl_meaning.proofs.Partitions.{count_by-Perm, ordered_perm}
 use Rattle.vtl_meaning.proofs.Places.{all_more}
 use Rattle.vtl_meaning.proofs.WindowPlaces.{places_are}

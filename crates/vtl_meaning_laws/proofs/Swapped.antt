@@ -1,6 +1,6 @@
 -- An inner join of two operands, whichever stands first.
 use Rattle.std.specs.Prelude.{reverse}
-use Rattle.std.specs.List.{filter, flat_map, list_all}
+use Rattle.std.specs.List.{filter, flat_map}
 use Rattle.std.proofs.Common.{◌≡◌, Bool, true, false, cond, ◌&&◌, List, [], ◌∷◌, ◌++◌, map, refl, sym, ap, ◌∙◌}
 use Rattle.vtl_lists.specs.Perm.{Perm, chain}
 use Rattle.vtl_lists.proofs.Perms.{Perm-same}

@@ -1,8 +1,8 @@
 -- `unpivot` undoes `pivot`.
-use Rattle.std.specs.List.{AllByRecursion, filter, find, list_any}
+use Rattle.std.specs.List.{AllByRecursion, filter, list_any}
 use Rattle.std.specs.Option.{option_and_then, option_map_or}
-use Rattle.std.proofs.Common.{◌≡◌, ℕ, zero, suc, Bool, true, false, cond, ◌&&◌, ◌||◌, List, [], ◌∷◌, ◌++◌, map, length, take, Option, Some, None, refl, sym, ap, ◌∙◌, subst, true≢false, arith}
-use Rattle.std.proofs.lemmas.List.{append-nil, length-map, map-append}
+use Rattle.std.proofs.Common.{◌≡◌, ℕ, Bool, true, false, cond, ◌&&◌, ◌||◌, List, [], ◌∷◌, ◌++◌, map, length, Option, Some, None, refl, sym, ap, ◌∙◌, true≢false, arith}
+use Rattle.std.proofs.lemmas.List.{length-map, map-append}
 use Rattle.std.proofs.lemmas.List.Elements.{filter-append}
 use Rattle.vtl_lists.specs.Apart.{all_apart}
 use Rattle.vtl_lists.proofs.Aparts.{apart_parts, none_same}
@@ -15,7 +15,7 @@ use Rattle.vtl_cell.specs.declared.cell.Cell.TheVariants as c
 use Rattle.vtl_cell.specs.declared.kind.Kind.{Kind}
 use Rattle.vtl_tree.specs.Choices.{is_identifier}
 use Rattle.vtl_tree.specs.ClauseShapes.{code_measure}
-use Rattle.vtl_tree.specs.Columns.{identifiers_of, kind_named, measures_of, others_of}
+use Rattle.vtl_tree.specs.Columns.{kind_named, measures_of, others_of}
 use Rattle.vtl_tree.specs.DataSet.{IsDataSet, look}
 use Rattle.vtl_tree.specs.Environment.{DataSet}
 use Rattle.vtl_tree.specs.Names.{is_among}
@@ -31,7 +31,7 @@ use Rattle.vtl_meaning.specs.Points.{with_points}
 use Rattle.vtl_meaning.specs.Turned.{coded_value, codes_of, is_coded, named_point, other_identifiers, pivot_of, pivoted_point, unpivot_of}
 use Rattle.vtl_meaning.proofs.AnalyticColumns.{columns_split}
 use Rattle.vtl_meaning.proofs.Looks.{look_key}
-use Rattle.vtl_meaning.proofs.Places.{all_back, all_map, all_more, each, place_here, place_later, same_name-is, same_name-refl}
+use Rattle.vtl_meaning.proofs.Places.{all_back, all_map, all_more, each, place_here, place_later, same_name-is}
 use Rattle.vtl_meaning.proofs.SetsFolds.{filter_once}
 use Rattle.vtl_meaning.proofs.TurnedKept.{pivot_kept}
 use Rattle.vtl_meaning.proofs.TurnedLooks.{pivot_look, unpivoted_look}

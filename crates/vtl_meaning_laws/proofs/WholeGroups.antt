@@ -25,17 +25,16 @@ use Rattle.vtl_decimal.specs.declared.number.Fault.{Fault}
 use Rattle.vtl_decimal.specs.declared.number.Fault.TheVariants.{DivZero, Range}
 use Rattle.vtl_rows.specs.Tables.{cells_at}
 use Rattle.vtl_tree.specs.Choices.{chosen, is_chosen, is_identifier}
-use Rattle.vtl_tree.specs.Columns.{identifiers_of, others_of, place_of, places_in}
+use Rattle.vtl_tree.specs.Columns.{identifiers_of, others_of, place_of}
 use Rattle.vtl_tree.specs.DataSet.{IsDataSet, is_point, look}
 use Rattle.vtl_tree.specs.Environment.{DataSet}
-use Rattle.vtl_tree.specs.Measures.{given_measure, given_measures, is_measure, made, measures}
+use Rattle.vtl_tree.specs.Measures.{given_measure, is_measure, made, measures}
 use Rattle.vtl_tree.specs.Names.{is_among}
 use Rattle.vtl_tree.specs.Structure.{columns_of, key_width, same_role}
 use Rattle.vtl_tree.specs.declared.calls.AnalyticOp.{AnalyticOp}
 use Rattle.vtl_tree.specs.declared.calls.AnalyticOp.TheVariants as op
 use Rattle.vtl_tree.specs.declared.calls.Window.{Window}
 use Rattle.vtl_tree.specs.declared.choices.Choice.TheVariants as choice
-use Rattle.vtl_tree.specs.declared.measures.Outcome.TheVariants as outcome
 use Rattle.vtl_tree.specs.declared.specifications.AggItems.TheVariants as items
 use Rattle.vtl_tree.specs.declared.structure.Component.{Component}
 use Rattle.vtl_tree.specs.declared.structure.Role.{Role}
@@ -44,7 +43,7 @@ use Rattle.vtl_tree.specs.declared.structure.Structure.{Structure}
 use Rattle.vtl_tuples.specs.Keys.{each_once}
 use Rattle.vtl_tuples.proofs.Lists.{map-map, map_each, map_same}
 use Rattle.vtl_meaning.specs.Agreement.{key_of}
-use Rattle.vtl_meaning.specs.Aggregates.{Made, aggregate_of, condition_of, group_fault, group_point, made_of as group_made, measure_call}
+use Rattle.vtl_meaning.specs.Aggregates.{Made, aggregate_of, group_fault, group_point, made_of as group_made, measure_call}
 use Rattle.vtl_meaning.specs.AggregateShapes.{IsAggregated, made_components, of_measure as by_measure}
 use Rattle.vtl_meaning.specs.AnalyticShapes.{IsAnalyzed, of_measure, taken}
 use Rattle.vtl_meaning.specs.Analytics.{analytic_of, made_of, measure_call as windowed_call, point_of, tree_value, value_for}
@@ -56,7 +55,7 @@ use Rattle.vtl_meaning.proofs.Agreements.{found_by_key}
 use Rattle.vtl_meaning.proofs.AnalyticColumns.{columns_split, identifier_cells}
 use Rattle.vtl_meaning.proofs.AnalyticLooks.{looked}
 use Rattle.vtl_meaning.proofs.GroupLooks.{looked as group_looked}
-use Rattle.vtl_meaning.proofs.GroupPoints.{found_key, key_of_point, point_is}
+use Rattle.vtl_meaning.proofs.GroupPoints.{found_key, point_is}
 use Rattle.vtl_meaning.proofs.JoinAgreements.{own_found}
 use Rattle.vtl_meaning.proofs.Places.{all_filtered, all_map, all_more, each, point_length}
 use Rattle.vtl_meaning.proofs.SetsFolds.{filter_once}

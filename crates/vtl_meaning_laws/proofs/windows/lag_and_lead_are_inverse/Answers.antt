@@ -1,4 +1,4 @@
-use Rattle.std.specs.Prelude.{◌≤◌, length, map}
+use Rattle.std.specs.Prelude.{map}
 use Rattle.std.proofs.Common.{ap, arith, Ok}
 use Rattle.std.proofs.lemmas.List.{length-map}
 use Rattle.vtl_meaning.specs.Windows.{stand_of}

@@ -1,12 +1,7 @@
-use Rattle.std.specs.Prelude.{◌≡◌, ◌+◌, pos, count_by}
-use Rattle.std.specs.List.{AllByRecursion}
-use Rattle.std.specs.declared.cmp.Ordering.TheVariants.{Equal}
-use Rattle.std.proofs.Common.{ap, subst, sym}
+use Rattle.std.specs.Prelude.{◌+◌, pos}
+use Rattle.std.proofs.Common.{ap}
 use Rattle.vtl_decimal.specs.Range.{fit_integer}
 use Rattle.vtl_cell.specs.ScalarArithmetic.{integer}
-use Rattle.vtl_cell.specs.Sorted.{by_keys, row_rank}
-use Rattle.vtl_tree.specs.Structure.{columns_of}
-use Rattle.vtl_meaning.specs.Windows.{keys_in, partition_of, stand_of}
 use Rattle.vtl_meaning_laws.proofs.Stands.{rank_is_place, ranks_tie}
 use Rattle.vtl_meaning_laws.proofs.windows.ranks_without_ties_are_places.Goals as goal
 
