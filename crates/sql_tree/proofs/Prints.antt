@@ -442,6 +442,8 @@ function-token op.Position is = record { token = t.Word w.Instr; is = refl; stan
 function-token op.Length is = record { token = t.Word w.Length; is = refl; stands_for = refl }
 function-token op.ValueOr is = record { token = t.Word w.Coalesce; is = refl; stands_for = refl }
 function-token op.Between is = record { token = t.Word w.Between; is = refl; stands_for = refl }
+function-token op.PeriodShift is = record { token = t.Word w.PeriodShift; is = refl; stands_for = refl }
+function-token op.PeriodFrequency is = record { token = t.Word w.PeriodFrequency; is = refl; stands_for = refl }
 function-token _ is = cc
 
 some-depth : (es : Exps) → SomeExps es → 1 ≤ exps_depth es
