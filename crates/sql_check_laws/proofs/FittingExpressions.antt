@@ -60,7 +60,7 @@ mutual
   expression_fits at g (tree.case_when bs e) =
       three (branches_fit at g bs) (expression_fits at g e) (test rule.UnfitKind refl (sure (is_some (common_kind (value_kinds at.scope bs (kind_in at.scope e ∷ []))))))
   expression_fits at g (tree.exists s es) =
-      two (test rule.UnknownTable refl (sure (is_some (columns_of at.tables s.table))))
+      two (two_tests rule.UnknownTable rule.MisnamedSeries refl refl (sure (is_some (columns_of at.tables s.table))) same)
       (each (equality_breaks at.scope g (inner_of at.tables s)) (equality_ties at.scope g (inner_of at.tables s)) es)
 
   all_fit : (at : Site) (g : Option Grouping) (es : Exps) → Reads (all_break at g es) (AllFit at g es)

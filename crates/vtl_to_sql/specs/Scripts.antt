@@ -20,7 +20,7 @@ use Rattle.selects_to_sql.specs.Tables.{create_for}
 
 -- a component that lists no codes has none
 abbrev pub input_column : Component → InputColumn
-input_column x = record { name = x.name; kind = x.kind; codes = unwrap_or x.codes [] }
+input_column x = record { name = x.name; kind = x.kind; not_null = false; codes = unwrap_or x.codes [] }
 
 -- the components in column order; the identifiers are the key
 abbrev pub input_of : List ℕ × Structure → SqlInput
