@@ -1,5 +1,5 @@
 -- What the definitions give for whole scripts, by computing it.
-use Rattle.std.proofs.Common.{◌≡◌, [], ◌∷◌, None, Some, Ok, Err, refl}
+use Rattle.std.proofs.Common.{◌≡◌, false, [], ◌∷◌, None, Some, Ok, Err, refl}
 use Rattle.std.specs.Prelude.{codes}
 use Rattle.vtl_decimal.specs.declared.number.Fault.TheVariants.{DivZero}
 use Rattle.vtl_cell.specs.declared.cell.Cell.TheVariants.{Null}
