@@ -242,7 +242,7 @@ module _ (m : ℕ) (part : Place → Expr) (parts : (p : Place) → Has (Within 
       gives-made gv (λ p. (f.is_function p.0 ≡ true) × Deep-each Fits p.1) (Within (suc m))
       (λ a b p e. limited-is (Within (suc m)) (suc m) (tree.call a.0 (exps_of a.1.tree)) (suc a.1.depth) b e (λ h. let fit = exps-fit a.1.depth a.1.tree p.1.1 in (((p.0, some-exps a.1.tree p.1.0, fit.0), omega (arith, fit.1)), h)))
       (gives-seq gv (λ o. f.is_function o ≡ true) (Deep-each Fits)
-      (gives-words gv (λ o. f.is_function o ≡ true) class g.functions_table (refl, (refl, (refl, (refl, (refl, (refl, (refl, (refl, (refl, (refl, (refl, (refl, (refl, (refl, (refl, tt))))))))))))))))
+      (gives-words gv (λ o. f.is_function o ≡ true) class g.functions_table (refl, (refl, (refl, (refl, (refl, (refl, (refl, (refl, (refl, (refl, (refl, (refl, (refl, (refl, (refl, (refl, (refl, tt))))))))))))))))))
       (has-brackets (Deep-each Fits) (gives-deep_listed gv Fits fits-more (λ ts a good h. (parts Whole ts a good h).0))))
 
   has-counted : Has (Within (suc m)) (g.counted (suc m) (part Whole))

@@ -86,10 +86,10 @@ pub names-of : (x : Text) (xs : List Text) → Each IsName (x ∷ xs) → g.name
 unfolding g.names
 names-of x xs each = listed-by w.Comma g.name written_name IsName (λ y h. name-of y) (x ∷ xs) (omega arith) each
 
-module _ {O A : Type 0} (mark : SqlForm O) (marks : Tokens) (o : O) (marked : mark.spells marks o) (items : SqlForm (List A)) (f : List A → Tokens) (P : A → Type 0) (good : (x : A) (xs : List A) → Each P (x ∷ xs) → items.spells (f (x ∷ xs)) (x ∷ xs)) where
+module _ {O A : Type 0} (mark : SqlForm O) (marks : Tokens) (o : O) (marked : mark.spells marks o) (items : SqlForm (List A)) (f : List A → Tokens) (P : A → Type 0) (item-spells : (x : A) (xs : List A) → Each P (x ∷ xs) → items.spells (f (x ∷ xs)) (x ∷ xs)) where
   pub items-of : (xs : List A) → Each P xs → (items_after mark items).spells (p.items_after marks f xs) xs
   items-of [] each = inr (record { none = refl; is = refl })
-  items-of (x ∷ xs) each = inl (record { part = (o, x ∷ xs); spelled = both-of marks (f (x ∷ xs)) marked (good x xs each); is = refl })
+  items-of (x ∷ xs) each = inl (record { part = (o, x ∷ xs); spelled = both-of marks (f (x ∷ xs)) marked (item-spells x xs each); is = refl })
 
 -- names may be any texts here
 any-names : (xs : List Text) → Each (λ x. Unit {0}) xs
