@@ -88,9 +88,12 @@ abbrev pub or_no_columns : Option Columns → Columns
 or_no_columns (Some columns) = columns
 or_no_columns None = []
 
--- whether a source is a SERIES that does not fit its table
+-- whether a source is its table, or a SERIES that fits it
+abbrev pub fits_table : Tables → Source → Bool
+fits_table tables s = maybe_series_fits (or_no_columns (columns_of tables s.table)) s.series
+
 abbrev pub misnames_series : Tables → Source → Bool
-misnames_series tables s = not (maybe_series_fits (or_no_columns (columns_of tables s.table)) s.series)
+misnames_series tables s = not (fits_table tables s)
 
 -- ---- sources
 
