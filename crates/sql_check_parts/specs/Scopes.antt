@@ -61,13 +61,13 @@ abbrev pub add_column : Columns → Text → Kind → Columns
 add_column columns name kind = if is_among name (keys_of columns) then columns else columns ++ (name, kind) ∷ []
 
 -- the columns of these names, each with its kind in a table; a name that the table does not have counts as one of kind null, and one that stands twice counts once: a SERIES with such a name breaks a rule of its own, and what names its column breaks none
-abbrev pub columns_named : Columns → List Text → Columns
-columns_named table names = fold (λ columns name. add_column columns name (or_null (value_among table name))) [] names
+abbrev pub columns_chosen : Columns → List Text → Columns
+columns_chosen table names = fold (λ columns name. add_column columns name (or_null (value_among table name))) [] names
 
 -- a SERIES has the columns that it names, and a table has its own
 abbrev pub columns_within : Columns → Option Series → Columns
 columns_within table None = table
-columns_within table (Some s) = columns_named table (series_names s)
+columns_within table (Some s) = columns_chosen table (series_names s)
 
 -- the columns of a source, where its table is there
 abbrev pub columns_from : Tables → Source → Option Columns
@@ -83,14 +83,14 @@ abbrev pub maybe_series_fits : Columns → Option Series → Bool
 maybe_series_fits table None = true
 maybe_series_fits table (Some s) = series_fits table s
 
--- what a table that is not there has: no columns
-abbrev pub or_no_columns : Option Columns → Columns
-or_no_columns (Some columns) = columns
-or_no_columns None = []
+-- what a source names where its table is not there: nothing
+abbrev pub or_nothing : {V : Type 0} → Option (Named V) → Named V
+or_nothing (Some columns) = columns
+or_nothing None = []
 
 -- whether a source is its table, or a SERIES that fits it
 abbrev pub fits_table : Tables → Source → Bool
-fits_table tables s = maybe_series_fits (or_no_columns (columns_of tables s.table)) s.series
+fits_table tables s = maybe_series_fits (or_nothing (columns_of tables s.table)) s.series
 
 abbrev pub misnames_series : Tables → Source → Bool
 misnames_series tables s = not (fits_table tables s)
@@ -109,11 +109,6 @@ found sources c = option_and_then (λ named. value_among named c.name) (value_am
 abbrev pub add_source : {V : Type 0} → Sources V → Text → Option (Named V) → Sources V
 add_source sources alias None = sources
 add_source sources alias (Some columns) = if is_among alias (keys_of sources) then sources else sources ++ (alias, columns) ∷ []
-
--- what a source names where its table is not there: nothing
-abbrev pub or_nothing : {V : Type 0} → Option (Named V) → Named V
-or_nothing (Some columns) = columns
-or_nothing None = []
 
 -- the sources within EXISTS: its own stands first, so that it hides an outer one of its alias wholly
 abbrev pub inside : {V : Type 0} → Sources V → Text → Option (Named V) → Sources V

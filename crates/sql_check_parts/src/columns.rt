@@ -4,7 +4,7 @@
 // SQL has no limit of size. What GROUP BY names is a set in the definition, since nothing looks at its order.
 ghost use Rattle.std.specs.List.{list_all};
 ghost use Rattle.std.specs.Prelude.{◌≡◌, length, zip, is_some, IfOk, OnOk};
-ghost use Rattle.sql_check_parts.specs.Scopes.{add_column, columns_named, columns_within, repeats, series_fits, series_names, value_among};
+ghost use Rattle.sql_check_parts.specs.Scopes.{add_column, columns_chosen, columns_within, repeats, series_fits, series_names, value_among};
 ghost use Rattle.sql_check_parts.specs.Told.{distinct_columns};
 
 use crate::or_null;
@@ -65,7 +65,7 @@ impl Columns {
 
     /// The columns of a SERIES over the table. It fails only if memory runs out.
     pub(crate) fn of_series(&self, alloc: Global, series: &Series) -> Result<Columns, AllocError>
-        ensures { IfOk result (λ columns. columns ≡ columns_named self.now (series_names series.now)) }
+        ensures { IfOk result (λ columns. columns ≡ columns_chosen self.now (series_names series.now)) }
     {
         let mut columns = Columns {
             kinds: ByName::new(alloc),
