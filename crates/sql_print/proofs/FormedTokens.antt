@@ -74,9 +74,14 @@ column-all : (x : Column) → IsColumn x → AllFormed (written_column x)
 column-all x h = (h.0, (tt, (h.1, tt)))
 
 series-all : (x : Series) → IsMaybeSeries (Some x) → AllFormed (written_series x)
-series-all x h =
-    (tt, (h.0, both (items_after (just w.By) (λ xs. bracketed (commas written_name xs)) x.by) (just (span_word x.span))
-    (after-all (just w.By) (λ xs. bracketed (commas written_name xs)) IsName (tt, tt) (λ xs each. in-pair (commas written_name xs) (commas-all written_name IsName name-all xs each)) x.by h.1) (tt, tt)))
+series-all x h = (
+  tt,
+  (
+    h.0,
+    both (items_after (just w.By) (λ xs. bracketed (commas written_name xs)) x.by) (just (span_word x.span))
+        (after-all (just w.By) (λ xs. bracketed (commas written_name xs)) IsName (tt, tt) (λ xs each. in-pair (commas written_name xs) (commas-all written_name IsName name-all xs each)) x.by h.1) (tt, tt),
+  ),
+)
 
 given-all : (table : Text) (o : Option Series) → IsName table → IsMaybeSeries o → AllFormed (written_given table o)
 given-all table None t h = (t, tt)
