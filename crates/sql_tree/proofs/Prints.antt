@@ -82,9 +82,9 @@ not_null-of false = record { part = None; spelled = refl; is = refl }
 
 -- what may be left out
 
-pub names-of : (x : Text) (xs : List Text) → Each IsName (x ∷ xs) → g.names.spells (p.commas written_name (x ∷ xs)) (x ∷ xs)
+pub names-of : (x : Text) (xs : List Text) → Each IsName (x ∷ xs) → g.names.spells (p.commas p.written_name (x ∷ xs)) (x ∷ xs)
 unfolding g.names
-names-of x xs each = listed-by w.Comma g.name written_name IsName (λ y h. name-of y) (x ∷ xs) (omega arith) each
+names-of x xs each = listed-by w.Comma g.name p.written_name IsName (λ y h. name-of y) (x ∷ xs) (omega arith) each
 
 module _ {O A : Type 0} (mark : SqlForm O) (marks : Tokens) (o : O) (marked : mark.spells marks o) (items : SqlForm (List A)) (f : List A → Tokens) (P : A → Type 0) (item-spells : (x : A) (xs : List A) → Each P (x ∷ xs) → items.spells (f (x ∷ xs)) (x ∷ xs)) where
   pub items-of : (xs : List A) → Each P xs → (items_after mark items).spells (p.items_after marks f xs) xs
