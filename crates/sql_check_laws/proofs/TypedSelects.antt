@@ -14,7 +14,7 @@ use Rattle.sql_tree.specs.declared.parts.Source.{Source}
 use Rattle.sql_check_parts.specs.Expressions.{Site, site}
 use Rattle.sql_check_parts.specs.Queries.{first_scope, groups_of, item_breaks, join_condition, join_source, joins_break, kinds_of, lacks_kind, most_columns, names_of, query_breaks, query_names, same_names, select_breaks, shared_kinds, source_breaks, sources_break, union_breaks, value_breaks}
 use Rattle.sql_check_parts.specs.Queries as queries
-use Rattle.sql_check_parts.specs.Scopes.{Grouping, Scope, Tables, columns_of, repeats, with_source}
+use Rattle.sql_check_parts.specs.Scopes.{Grouping, Scope, Tables, columns_of, fits_table, repeats, with_source}
 use Rattle.sql_check_parts.specs.Windows.{column_breaks}
 use Rattle.sql_check_parts.specs.Rules.{broken}
 use Rattle.sql_check_parts.specs.declared.rules.SqlRule.{SqlRule}
@@ -22,13 +22,13 @@ use Rattle.sql_check_parts.specs.declared.rules.SqlRule.TheVariants as rule
 use Rattle.sql_check_parts.proofs.Unbroken.{none_behind, none_both, unbroken, unbroken_both}
 use Rattle.sql_check_laws.specs.Both.{Iff, besides_null}
 use Rattle.sql_check_laws.specs.Selects.{AreJoinsTyped, IsColumnKind, IsItemTyped, IsJoinCondition, IsQueryTyped, IsQueryWhole, IsSelectTyped, IsSourceTyped, IsValueTyped, whole_site}
-use Rattle.sql_check_laws.proofs.BothWays.{Reads, all_true, no_rule, at_most, behind, each, neither, none_any, besides_before, besides_behind, same, sure, test, three, two, two_tests}
+use Rattle.sql_check_laws.proofs.BothWays.{Reads, all_true, no_rule, at_most, behind, each, neither, none_any, besides_before, besides_behind, same, sure, test, three, three_tests, two, two_tests}
 use Rattle.sql_check_laws.proofs.FittingExpressions.{column_seen, condition_fits, expression_fits, maybe_condition_fits, window_typed}
 
 -- ---- sources
 
 source_typed : (tables : Tables) (before : Scope) (s : Source) → Reads (source_breaks tables before s) (IsSourceTyped tables before s)
-source_typed tables before s = two_tests rule.UnknownTable rule.MisnamedTable refl refl (sure (is_some (columns_of tables s.table))) same
+source_typed tables before s = three_tests rule.UnknownTable rule.MisnamedTable rule.MisnamedSeries refl refl refl (sure (is_some (columns_of tables s.table))) same (sure (fits_table tables s))
 
 join_condition_fits : (at : Site) (j : JoinTree) → Reads (join_condition at j) (IsJoinCondition at j)
 join_condition_fits at (tree.on kind s e) = condition_fits at None e

@@ -10,7 +10,7 @@ use Rattle.sql_tree.specs.declared.parts.Equality.{Equality}
 use Rattle.sql_tree.specs.declared.parts.Source.{Source}
 use Rattle.sql_check_parts.specs.Rules.{broken}
 use Rattle.vtl_text.specs.Texts.{same_text}
-use Rattle.sql_check_parts.specs.Scopes.{Columns, Grouping, Scope, Tables, columns_of, found, inside, or_null}
+use Rattle.sql_check_parts.specs.Scopes.{Columns, Grouping, Scope, Tables, columns_from, columns_of, found, inside, misnames_series, or_null}
 use Rattle.sql_check_parts.specs.Windows.{is_ungrouped}
 use Rattle.sql_check_parts.specs.declared.rules.SqlRule.{SqlRule}
 use Rattle.sql_check_parts.specs.declared.rules.SqlRule.TheVariants as rule
@@ -21,7 +21,7 @@ pub record Inner : Type 0 where
   pub columns : Option Columns
 
 abbrev pub inner_of : Tables → Source → Inner
-inner_of tables s = record { alias = s.alias; columns = columns_of tables s.table }
+inner_of tables s = record { alias = s.alias; columns = columns_from tables s }
 
 abbrev pub is_inner : Inner → Column → Bool
 is_inner i c = same_text c.source i.alias
@@ -45,6 +45,8 @@ is_tie s i e = not (same_side (is_inner i e.left) (is_inner i e.right)) && same_
 abbrev pub equality_breaks : Scope → Option Grouping → Inner → Equality → List SqlRule
 equality_breaks s g i e = side_breaks s g i e.left ++ side_breaks s g i e.right ++ broken ((rule.UntiedEquality, not (is_tie s i e)) ∷ [])
 
--- the table of EXISTS is known
+-- the table of EXISTS is known, and a SERIES over it fits it
 abbrev pub exists_breaks : Tables → Scope → Option Grouping → Source → List Equality → List SqlRule
-exists_breaks tables s g source es = broken ((rule.UnknownTable, is_none (columns_of tables source.table)) ∷ []) ++ flat_map (equality_breaks s g (inner_of tables source)) es
+exists_breaks tables s g source es =
+    broken ((rule.UnknownTable, is_none (columns_of tables source.table)) ∷ (rule.MisnamedSeries, misnames_series tables source) ∷ [])
+    ++ flat_map (equality_breaks s g (inner_of tables source)) es

@@ -15,7 +15,7 @@ use Rattle.sql_check_parts.specs.Expressions.{Site, breaks, condition_breaks, ha
 use Rattle.sql_check_parts.specs.Kinds.{kind_in}
 use Rattle.sql_check_parts.specs.Rules.{broken}
 use Rattle.vtl_text.specs.Texts.{same_text}
-use Rattle.sql_check_parts.specs.Scopes.{Columns, Grouping, Scope, Tables, columns_of, grouping_of, is_among, is_empty, or_null, repeats, with_source}
+use Rattle.sql_check_parts.specs.Scopes.{Columns, Grouping, Scope, Tables, columns_of, grouping_of, is_among, is_empty, misnames_series, or_null, repeats, with_source}
 use Rattle.sql_check_parts.specs.Windows.{column_breaks, window_breaks, window_kind}
 use Rattle.sql_check_parts.specs.declared.limits.TheConstants.{MOST_COLUMNS}
 use Rattle.sql_check_parts.specs.declared.rules.SqlRule.{SqlRule}
@@ -32,9 +32,12 @@ maybe_condition at g (Some e) = condition_at at g e
 
 -- ---- sources
 
--- a source: its table is known, and no source before it has its alias
+-- a source: its table is known, no source before it has its alias, and a SERIES fits its table
 abbrev pub source_breaks : Tables → Scope → Source → List SqlRule
-source_breaks tables before s = broken ((rule.UnknownTable, is_none (columns_of tables s.table)) ∷ (rule.MisnamedTable, is_among s.alias (keys_of before)) ∷ [])
+source_breaks tables before s =
+    broken ((rule.UnknownTable, is_none (columns_of tables s.table))
+    ∷ (rule.MisnamedTable, is_among s.alias (keys_of before))
+    ∷ (rule.MisnamedSeries, misnames_series tables s) ∷ [])
 
 abbrev pub join_source : JoinTree → Source
 join_source (tree.on kind s e) = s

@@ -7,36 +7,44 @@ ghost use Rattle.sql_check_parts.specs.Scopes.{value_among};
 ghost use Rattle.sql_check_parts.specs.Windows.{is_ungrouped};
 
 use crate::scope::is_ungrouped;
-use crate::{Columns, Grouping, Scope, SqlRule, Tables, Test, least_broken, lesser, or_null};
+use crate::{
+    GivenColumns, Grouping, Scope, SqlRule, Tables, Test, columns_from, least_broken, lesser,
+    misnames_series, or_null,
+};
 use sql_tree::{Column, Equality, Source};
-use std::alloc::AllocError;
+use std::alloc::{AllocError, Global};
 use std::marker::Model;
 use vtl_cell::{Kind, is_same_kind};
 use vtl_text::Txt;
 
-// The source of EXISTS: its alias, and the columns of its table, if there is one.
+// The source of EXISTS: its alias, and its columns, if its table is there.
 #[derive(Drop)]
 struct InnerSource<'a> {
     alias: &'a Txt,
-    columns: Option<&'a Columns>,
+    columns: Option<GivenColumns<'a>>,
 }
 
 impl<'a> Model for InnerSource<'a> {
-    ghost use Rattle.std.specs.Option.{option_copied};
+    ghost use Rattle.std.specs.Prelude.{option_map};
+    ghost use Rattle.sql_check_parts.specs.Given.{columns_given};
     ghost use Rattle.sql_check_parts.specs.Exists as exists;
 
     ghost Value = { exists.Inner };
 
-    ghost view = { λ i. record { alias = i.alias.now; columns = option_copied i.columns } };
+    ghost view = { λ i. record { alias = i.alias.now; columns = option_map columns_given i.columns } };
 }
 
-fn inner_of<'a>(tables: &'a Tables, source: &'a Source) -> InnerSource<'a>
-    ensures { result ≡ inner_of tables.now source.now }
+fn inner_of<'a>(
+    alloc: Global,
+    tables: &'a Tables,
+    source: &'a Source,
+) -> Result<InnerSource<'a>, AllocError>
+    ensures { IfOk result (λ inner. inner ≡ inner_of tables.now source.now) }
 {
-    InnerSource {
+    Ok(InnerSource {
         alias: &source.alias,
-        columns: tables.columns(&source.table),
-    }
+        columns: columns_from(alloc, tables, source)?,
+    })
 }
 
 fn is_inner(inner: &InnerSource, column: &Column) -> bool
@@ -48,7 +56,7 @@ fn is_inner(inner: &InnerSource, column: &Column) -> bool
 fn inner_kind(inner: &InnerSource, column: &Column) -> Option<Kind>
     ensures { result ≡ option_and_then (λ columns. value_among columns column.now.name) inner.now.columns }
 {
-    match inner.columns {
+    match &inner.columns {
         Some(columns) => columns.kind(&column.name),
         None => None,
     }
@@ -148,6 +156,7 @@ fn equalities_fault(
 /// EXISTS: the least of the rules that it breaks. It fails only if memory runs out.
 #[tactic(auto, using(crate::proofs::Least::least_append))]
 pub fn exists(
+    alloc: Global,
     tables: &Tables,
     scope: &Scope,
     group: &Option<Grouping>,
@@ -156,11 +165,18 @@ pub fn exists(
 ) -> Result<Option<SqlRule>, AllocError>
     ensures { IfOk result (λ fault. fault ≡ least (exists_breaks tables.now scope.now group.now source.now equalities.now)) }
 {
-    let inner = inner_of(tables, source);
-    let unknown = least_broken(&[Test {
-        rule: SqlRule::UnknownTable,
-        is_broken: inner.columns.is_none(),
-    }]);
+    let inner = inner_of(alloc, tables, source)?;
+    let misnamed = misnames_series(alloc, tables, source)?;
+    let own = least_broken(&[
+        Test {
+            rule: SqlRule::UnknownTable,
+            is_broken: tables.columns(&source.table).is_none(),
+        },
+        Test {
+            rule: SqlRule::MisnamedSeries,
+            is_broken: misnamed,
+        },
+    ]);
     let rest = equalities_fault(scope, group, &inner, equalities)?;
-    Ok(lesser(unknown, rest))
+    Ok(lesser(own, rest))
 }

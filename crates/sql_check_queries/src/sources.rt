@@ -8,7 +8,9 @@ ghost use Rattle.sql_check_parts.specs.Scopes.{with_source};
 ghost use Rattle.sql_check_queries.specs.Told.{HasSources};
 
 use sql_check_expressions::{Site, condition};
-use sql_check_parts::{Scope, SqlRule, Tables, Test, least_broken, lesser};
+use sql_check_parts::{
+    Scope, SqlRule, Tables, Test, columns_from, least_broken, lesser, misnames_series,
+};
 use sql_tree::{Join, Select, Source};
 use std::alloc::{AllocError, Global};
 use vtl_decimal::Profile;
@@ -21,10 +23,16 @@ pub(crate) struct SourcesTold<'a> {
 }
 
 // The rules of a source after others.
-fn source_fault(tables: &Tables, before: &Scope, source: &Source) -> Option<SqlRule>
-    ensures { result ≡ least (source_breaks tables.now before.now source.now) }
+fn source_fault(
+    alloc: Global,
+    tables: &Tables,
+    before: &Scope,
+    source: &Source,
+) -> Result<Option<SqlRule>, AllocError>
+    ensures { IfOk result (λ fault. fault ≡ least (source_breaks tables.now before.now source.now)) }
 {
-    least_broken(&[
+    let misnamed = misnames_series(alloc, tables, source)?;
+    Ok(least_broken(&[
         Test {
             rule: SqlRule::UnknownTable,
             is_broken: tables.columns(&source.table).is_none(),
@@ -33,17 +41,22 @@ fn source_fault(tables: &Tables, before: &Scope, source: &Source) -> Option<SqlR
             rule: SqlRule::MisnamedTable,
             is_broken: before.has(&source.alias),
         },
-    ])
+        Test {
+            rule: SqlRule::MisnamedSeries,
+            is_broken: misnamed,
+        },
+    ]))
 }
 
 fn add_source<'a>(
+    alloc: Global,
     tables: &'a Tables,
     scope: &mut Scope<'a>,
     source: &Source,
 ) -> Result<(), AllocError>
     ensures { OnOk result (scope.new ≡ with_source tables.now scope.old source.now) }
 {
-    scope.add(&source.alias, tables.columns(&source.table))
+    scope.add(&source.alias, columns_from(alloc, tables, source)?)
 }
 
 /// The source of a join.
@@ -87,8 +100,8 @@ fn add_join<'a>(
     ensures fault { IfOk result (λ fault. fault ≡ least (join_breaks profile.now tables.now scope.old (join_tree join.now))) }
 {
     let source = join_source(join);
-    let own = source_fault(tables, scope, source);
-    add_source(tables, scope, source)?;
+    let own = source_fault(alloc, tables, scope, source)?;
+    add_source(alloc, tables, scope, source)?;
     let condition = join_condition(alloc, profile, tables, scope, join)?;
     Ok(lesser(own, condition))
 }
@@ -122,8 +135,8 @@ pub(crate) fn sources<'a>(
     ensures { IfOk result (HasSources profile.now tables.now (select_tree select.now)) }
 {
     let mut scope = Scope::new(alloc);
-    let first = source_fault(tables, &scope, &select.from);
-    add_source(tables, &mut scope, &select.from)?;
+    let first = source_fault(alloc, tables, &scope, &select.from)?;
+    add_source(alloc, tables, &mut scope, &select.from)?;
     let joins = add_joins(alloc, profile, tables, &mut scope, select.joins.as_slice())?;
     Ok(SourcesTold {
         scope,
