@@ -28,6 +28,7 @@ use Rattle.sql_parser.proofs.Texts.{Answered}
 use Rattle.sql_tree.specs.Trees as tree
 use Rattle.sql_tree.specs.Trees.{Text, Exp, exps_of, branches_of, ItemTree, JoinTree, StatementTree, ScriptTree}
 use Rattle.sql_tree.specs.declared.parts.Column.{Column}
+use Rattle.sql_tree.specs.declared.parts.Series.{Series}
 use Rattle.sql_tree.specs.declared.parts.Source.{Source}
 use Rattle.sql_tree.specs.declared.parts.Equality.{Equality}
 use Rattle.sql_tree.specs.declared.parts.Numeral.TheVariants as numeral
@@ -98,9 +99,28 @@ has-columns : Has (Some-each f.IsColumn) g.columns
 unfolding g.columns
 has-columns = gives-listed gv f.IsColumn has-column
 
+Is-series : Series → Type 0
+Is-series x = f.IsMaybeSeries (Some x)
+
+has-series : Has Is-series g.series
+unfolding g.series Is-series
+has-series =
+    gives-as gv (λ p. f.IsName p.0 × (Each f.IsName p.1.0 × Any p.1.1)) Is-series _ (λ a p. (p.0, p.1.0))
+    (gives-seq gv f.IsName (λ p. Each f.IsName p.0 × Any p.1) (gives-after gv f.IsName has-name)
+    (gives-seq gv (Each f.IsName) Any (has-items_after f.IsName (has-brackets (Some-each f.IsName) has-names)) (gives-any gv _)))
+
+Is-given : Text × Option Series → Type 0
+Is-given p = f.IsName p.0 × f.IsMaybeSeries p.1
+
+has-given : Has Is-given g.given
+unfolding g.given Is-given Is-series
+has-given =
+    gives-or gv Is-given (gives-as gv f.IsName Is-given _ (λ a p. (p, tt)) has-name)
+    (gives-as gv (λ p. f.IsName p.0 × Is-series p.1) Is-given _ (λ a p. p) (gives-after gv (λ p. f.IsName p.0 × Is-series p.1) (gives-seq gv f.IsName Is-series has-name has-series)))
+
 has-source : Has f.IsSource g.source
-unfolding g.source
-has-source = gives-as gv (λ p. f.IsName p.0 × f.IsName p.1) f.IsSource _ (λ a p. p) (gives-seq gv f.IsName f.IsName has-name (gives-after gv f.IsName has-name))
+unfolding g.source Is-given
+has-source = gives-as gv (λ p. Is-given p.0 × f.IsName p.1) f.IsSource _ (λ a p. (p.0.0, (p.0.1, p.1))) (gives-seq gv Is-given f.IsName has-given (gives-after gv f.IsName has-name))
 
 has-equality : Has f.IsEquality g.equality
 unfolding g.equality
