@@ -10,7 +10,7 @@ use Rattle.sql_tree.specs.declared.parts.Equality.{Equality}
 use Rattle.sql_tree.specs.declared.parts.Source.{Source}
 use Rattle.sql_check_parts.specs.Rules.{broken}
 use Rattle.vtl_text.specs.Texts.{same_text}
-use Rattle.sql_check_parts.specs.Scopes.{Columns, Grouping, Scope, Tables, columns_of, found, inside, or_null}
+use Rattle.sql_check_parts.specs.Scopes.{Columns, Grouping, Scope, Tables, columns_from, columns_of, found, inside, or_null}
 use Rattle.sql_check_parts.specs.Windows.{is_ungrouped}
 use Rattle.sql_check_parts.specs.declared.rules.SqlRule.{SqlRule}
 use Rattle.sql_check_parts.specs.declared.rules.SqlRule.TheVariants as rule
@@ -21,7 +21,7 @@ pub record Inner : Type 0 where
   pub columns : Option Columns
 
 abbrev pub inner_of : Tables → Source → Inner
-inner_of tables s = record { alias = s.alias; columns = columns_of tables s.table }
+inner_of tables s = record { alias = s.alias; columns = columns_from tables s }
 
 abbrev pub is_inner : Inner → Column → Bool
 is_inner i c = same_text c.source i.alias

@@ -1,5 +1,5 @@
 -- Tables by name, their columns by name, and the sources of a select by alias, with one look-up for kinds, places and cells.
-use Rattle.std.specs.Prelude.{ℕ, suc, ◌+◌, Bool, true, false, not, List, [], ◌∷◌, ◌++◌, Option, Some, None, length, map, option_and_then, if◌then◌else◌}
+use Rattle.std.specs.Prelude.{ℕ, suc, ◌+◌, Bool, true, false, not, List, [], ◌∷◌, ◌++◌, Option, Some, None, length, map, option_and_then, option_map, if◌then◌else◌}
 use Rattle.std.specs.Cmp.Lexicographic.{slice_cmp}
 use Rattle.std.specs.FinSet as set
 use Rattle.std.specs.List.{flat_map, list_any}
@@ -12,6 +12,7 @@ use Rattle.vtl_cell.specs.declared.kind.Kind.{Kind}
 use Rattle.vtl_cell.specs.declared.kind.Kind.TheVariants as k
 use Rattle.sql_tree.specs.Trees.{Text}
 use Rattle.sql_tree.specs.declared.parts.Column.{Column}
+use Rattle.sql_tree.specs.declared.parts.Series.{Series}
 use Rattle.sql_tree.specs.declared.parts.Source.{Source}
 
 abbrev pub is_among : Text → List Text → Bool
@@ -72,12 +73,26 @@ or_nothing None = []
 abbrev pub inside : {V : Type 0} → Sources V → Text → Option (Named V) → Sources V
 inside outer alias columns = (alias, or_nothing columns) ∷ outer
 
+-- The columns of a SERIES over a table of these columns: those of BY as they are written, and behind them that of ON, whether the table
+-- has them or not.
+abbrev pub series_columns : Series → Columns → Columns
+series_columns s columns = map (λ name. (name, or_null (value_among columns name))) (s.by ++ s.on ∷ [])
+
+-- the columns that a source has where its table has these
+abbrev pub given_columns : Option Series → Columns → Columns
+given_columns None columns = columns
+given_columns (Some s) columns = series_columns s columns
+
+-- the columns of a source, where its table is there
+abbrev pub columns_from : Tables → Source → Option Columns
+columns_from tables s = option_map (given_columns s.series) (columns_of tables s.table)
+
 -- the kinds of the columns of the sources
 abbrev pub Scope : Type 0
 Scope = Sources Kind
 
 abbrev pub with_source : Tables → Scope → Source → Scope
-with_source tables scope s = add_source scope s.alias (columns_of tables s.table)
+with_source tables scope s = add_source scope s.alias (columns_from tables s)
 
 abbrev pub column_kind : Scope → Column → Kind
 column_kind scope c = or_null (found scope c)
