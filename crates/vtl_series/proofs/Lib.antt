@@ -1,1 +1,3 @@
+mod GroupLemmas
+mod NumberLemmas
 mod SpanLemmas
