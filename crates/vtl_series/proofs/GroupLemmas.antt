@@ -1,7 +1,8 @@
 -- Groups of rows by the other columns: their rows, and their tuples.
 use Rattle.std.proofs.Common.{◌≡◌, ℕ, zero, suc, ◌+◌, ◌<◌, ◌≤◌, ◌++◌, Bool, true, false, cond, List, [], ◌∷◌, length, get_or, map, filter, refl, sym, ap, ◌∙◌, arith, subst, eqb, eq-eqb, ne_eqb}
 use Rattle.std.specs.List.{AllByRecursion, flat_map, position_or_len, range_with_len}
-use Rattle.std.specs.Prelude.{slice_index_or}
+use Rattle.std.specs.Prelude.{All, slice_index_or}
+use Rattle.std.proofs.lemmas.List.Elements.{All-from_recursion}
 use Rattle.std.proofs.lemmas.List.{get_or-map, length-map}
 use Rattle.vtl_lists.proofs.Sorts.{AllByRecursion-filter}
 use Rattle.vtl_cell.specs.Row.{Row, same_row}
@@ -25,6 +26,12 @@ numbers_within : (a n m : ℕ) → a + n ≤ m → AllByRecursion (λ i. i < m) 
 numbers_within a zero m h = tt
 numbers_within a (suc n) m h = (omega (arith, h), numbers_within (a + 1) n m (omega (arith, h)))
 
+-- the rows of a group are rows
+pub led_below : (leads : List ℕ) (n f : ℕ) → length leads ≡ n → All (λ i. i < n) (rows_led leads f)
+led_below leads n f e =
+    All-from_recursion (λ i. i < n) (rows_led leads f)
+    (AllByRecursion-filter (λ i. i < n) (λ i. eqb (get_or leads i 0) f) (range_with_len 0 (length leads)) (numbers_within 0 (length leads) n (omega (arith, e))))
+
 module _ (by : List ℕ) (rows : List Row) where
   abbrev leads : List ℕ
   leads = leads_of (cells_at by) rows
@@ -37,9 +44,6 @@ module _ (by : List ℕ) (rows : List Row) where
 
   pub many_keys : length (keys_by by rows) ≡ length (firsts leads)
   many_keys = ap length (sym (keys_once (cells_at by) rows)) ∙ length-map (firsts leads) key_of
-
-  pub led_within : (f : ℕ) → AllByRecursion (λ i. i < length rows) (rows_led leads f)
-  led_within f = AllByRecursion-filter (λ i. i < length rows) (λ i. eqb (get_or leads i 0) f) (range_with_len 0 (length leads)) (numbers_within 0 (length leads) (length rows) (let m = many_leads in omega (arith, m)))
 
   -- one of the groups
   module _ (g : ℕ) (h : g < length (firsts leads)) where

@@ -1,5 +1,5 @@
 -- Numbers of periods: which ones the spans of rows cover, and that these are the numbers from the first to the last.
-use Rattle.std.proofs.Common.{◌≡◌, ◌<◌, ◌≤◌, ◌+◌, ◌-◌, ◌*◌, ◌&&◌, ◌||◌, ◌++◌, ℕ, zero, suc, Bool, true, false, cond, min, max, List, [], ◌∷◌, map, filter, None, Some, Option, refl, sym, ap, ◌∙◌, arith, nat_eq, nat_le}
+use Rattle.std.proofs.Common.{◌≡◌, ◌<◌, ◌≤◌, ◌+◌, ◌-◌, ◌*◌, ◌&&◌, ◌||◌, ◌++◌, ℕ, zero, suc, Bool, true, false, cond, min, max, List, [], ◌∷◌, map, filter, None, Some, Option, refl, sym, ap, ◌∙◌, arith, append-assoc, nat_eq, nat_le}
 use Rattle.std.specs.Prelude.{IfSome}
 use Rattle.std.specs.List.{fold, list_any, range_with_len}
 use Rattle.std.specs.Option.{option_map_or}
@@ -16,7 +16,7 @@ use Rattle.vtl_series.specs.declared.extent.Extent.TheVariants as extent
 use Rattle.vtl_series.specs.declared.spans.Span.{Span}
 use Rattle.vtl_series.specs.declared.spans.Spans.{Spans}
 use Rattle.vtl_series.specs.Kept.{IsWithin, and_index, and_number, and_period, chosen, covers, no_spans, numbers_of_span, span_at, spans_of}
-use Rattle.vtl_series.specs.Series.{is_spanned, number_of, numbers_of, period_in, seen_by, some_number}
+use Rattle.vtl_series.specs.Series.{dated, is_spanned, number_of, numbers_of, period_in, seen_by, some_number}
 
 or_nothing : (b : Bool) → b ≡ (b || false)
 or_nothing true = refl
@@ -175,3 +175,12 @@ pub numbers_are : (e : Extent) (on : ℕ) (f : Frequency) (rows own : List Row) 
 numbers_are e on f rows own h =
     passing_agree (is_spanned f on own (seen_by e rows own)) (covers (chosen e (span_at (spans_of on own) f) (span_at (spans_of on rows) f))) (10000 * parts_in_year f) (λ i k. spans_cover e on f rows own i)
     ∙ covered_are f (chosen e (span_at (spans_of on own) f) (span_at (spans_of on rows) f)) h
+
+-- ---- rows of one period more
+pub more_dated : (f : Frequency) (key : Row) (a n : ℕ) (old now new : List Row) → a ≤ n → now ≡ old ++ map (dated f key) (range_with_len a (n - a)) → new ≡ now ++ dated f key n ∷ []
+    → new ≡ old ++ map (dated f key) (range_with_len a (n + 1 - a))
+more_dated f key a n old now new h before one =
+    let many : n + 1 - a ≡ (n - a) + 1 = omega (arith, h) in
+    let last : a + (n - a) ≡ n = omega (arith, h) in
+    one ∙ ap (λ l. l ++ dated f key n ∷ []) before ∙ append-assoc old (map (dated f key) (range_with_len a (n - a))) (dated f key n ∷ [])
+    ∙ ap (λ l. old ++ l) (sym (ap (λ k. map (dated f key) (range_with_len a k)) many ∙ map-range_with_len_more (dated f key) a (n - a) n last))

@@ -1,5 +1,5 @@
 // The rows of series, from groups of rows.
-ghost use Rattle.std.specs.Prelude.{◌≡◌, ◌<◌, ◌≤◌, ◌+◌, ◌++◌, [], ◌∷◌, true, length, map, slice_index, All, IfOk, IfSome, OnOk};
+ghost use Rattle.std.specs.Prelude.{◌≡◌, ◌<◌, ◌≤◌, ◌+◌, ◌++◌, [], ◌∷◌, true, Some, length, map, All, IfOk, IfSome, OnOk};
 ghost use Rattle.std.specs.List.{flat_map};
 ghost use Rattle.vtl_cell.specs.Kinds.{is_of};
 ghost use Rattle.vtl_cell.specs.declared.kind.Kind.TheVariants as k;
@@ -104,6 +104,7 @@ fn count_of(extent: Extent, own: &Spans, all: &Spans) -> usize
 }
 
 // How many rows there are in all. A sum that no number holds is more than memory holds.
+#[tactic(auto, using(crate::proofs::GroupLemmas::led_below))]
 fn count_all(table: &Table, on: usize, extent: Extent, groups: &Groups, all: &Spans) -> usize
     requires groups { length groups.now ≡ length table.now.rows }
     requires all { AreWithin all.now }
@@ -136,7 +137,28 @@ fn push_dated(
     rows.push_moved(room)
 }
 
-// Puts a row for each period of a span behind the others.
+// Puts a row for each period from the first to the last of a span behind the others.
+fn push_periods(
+    rows: &mut Table,
+    room: &mut Vec<Cell>,
+    key: &[Cell],
+    frequency: Frequency,
+    span: Span,
+) -> Result<(), AllocError>
+    requires within { IsWithin frequency span }
+    requires fits { FitsDated rows.old.columns key.now }
+    requires empty { room.old.items ≡ [] }
+    ensures columns { rows.new.columns ≡ rows.old.columns }
+    ensures rows { OnOk result (rows.new.rows ≡ rows.old.rows ++ map (dated frequency key.now) (numbers_of_span (Some span))) }
+    ensures empty { OnOk result (room.new.items ≡ []) }
+{
+    for index in span.first..span.last + 1 {
+        push_dated(rows, room, key, Period::at_index(frequency, index))?;
+    }
+    Ok(())
+}
+
+// The same for a span that may not be there.
 fn push_span(
     rows: &mut Table,
     room: &mut Vec<Cell>,
@@ -151,12 +173,10 @@ fn push_span(
     ensures rows { OnOk result (rows.new.rows ≡ rows.old.rows ++ map (dated frequency key.now) (numbers_of_span span)) }
     ensures empty { OnOk result (room.new.items ≡ []) }
 {
-    if let Some(span) = span {
-        for index in span.first..span.last + 1 {
-            push_dated(rows, room, key, Period::at_index(frequency, index))?;
-        }
+    match span {
+        None => Ok(()),
+        Some(span) => push_periods(rows, room, key, frequency, span),
     }
-    Ok(())
 }
 
 // Puts the rows of a group's series behind the others, those of one frequency after the other.

@@ -1,0 +1,5 @@
+use Rattle.std.proofs.Common.{Unit, tt}
+use Rattle.vtl_series.proofs.series.count_all.Given as goal
+
+abbrev pub invariant-loop-group : goal.invariant-loop-group
+invariant-loop-group l = Unit {0}
