@@ -1,10 +1,10 @@
 -- Numbers of periods: which ones the spans of rows cover, and that these are the numbers from the first to the last.
-use Rattle.std.proofs.Common.{◌≡◌, ◌<◌, ◌≤◌, ◌+◌, ◌-◌, ◌*◌, ◌&&◌, ◌||◌, ◌++◌, ℕ, zero, suc, Bool, true, false, cond, min, max, List, [], ◌∷◌, map, filter, None, Some, Option, refl, sym, ap, ◌∙◌, arith, append-assoc, nat_eq, nat_le}
+use Rattle.std.proofs.Common.{◌≡◌, ◌<◌, ◌≤◌, ◌+◌, ◌-◌, ◌*◌, ◌&&◌, ◌||◌, ◌++◌, ℕ, zero, suc, Bool, true, false, cond, min, max, List, [], ◌∷◌, map, filter, None, Some, Option, refl, sym, ap, ◌∙◌, arith, nat_eq, nat_le}
 use Rattle.std.specs.Prelude.{IfSome}
 use Rattle.std.specs.List.{fold, list_any, range_with_len}
 use Rattle.std.specs.Option.{option_map_or}
 use Rattle.std.proofs.Math.Bool.{or_assoc}
-use Rattle.std.proofs.lemmas.List.{map-id}
+use Rattle.std.proofs.lemmas.List.{append_assoc, map-id}
 use Rattle.std.proofs.lemmas.List.FromFn.{map-range_with_len_more}
 use Rattle.vtl_cell.specs.Row.{Row, column_of}
 use Rattle.vtl_index.proofs.Ranges.{more_passing, none_pass, passing, passing_agree, same_passing}
@@ -182,5 +182,5 @@ pub more_dated : (f : Frequency) (key : Row) (a n : ℕ) (old now new : List Row
 more_dated f key a n old now new h before one =
     let many : n + 1 - a ≡ (n - a) + 1 = omega (arith, h) in
     let last : a + (n - a) ≡ n = omega (arith, h) in
-    one ∙ ap (λ l. l ++ dated f key n ∷ []) before ∙ append-assoc old (map (dated f key) (range_with_len a (n - a))) (dated f key n ∷ [])
+    one ∙ ap (λ l. l ++ dated f key n ∷ []) before ∙ append_assoc old (map (dated f key) (range_with_len a (n - a))) (dated f key n ∷ [])
     ∙ ap (λ l. old ++ l) (sym (ap (λ k. map (dated f key) (range_with_len a k)) many ∙ map-range_with_len_more (dated f key) a (n - a) n last))

@@ -1,17 +1,15 @@
 // Laws of the definitions: what the rows of series are, in words that name no list of numbers.
-ghost use Rattle.std.specs.Prelude.{◌≡◌, ◌<◌, ◌*◌, ◌++◌, ◌∷◌, [], ℕ, true, Bool, List, Some, map, nat_le};
-ghost use Rattle.std.specs.List.{AllByRecursion, list_any};
+ghost use Rattle.std.specs.Prelude.{◌≡◌, ◌<◌, ◌*◌, ◌++◌, ◌∷◌, [], ℕ, true, List, length};
+ghost use Rattle.std.specs.List.{AllByRecursion, list_any, range_with_len};
 ghost use Rattle.vtl_lists.specs.Apart.{all_apart};
 ghost use Rattle.vtl_lists.specs.Perm.{Perm};
-ghost use Rattle.vtl_cell.specs.Kinds.{is_of};
-ghost use Rattle.vtl_cell.specs.Row.{Row, column_of, same_row};
+ghost use Rattle.vtl_cell.specs.Row.{Row, same_row};
 ghost use Rattle.vtl_cell.specs.declared.kind.Kind.{Kind};
 ghost use Rattle.vtl_cell.specs.declared.kind.Kind.TheVariants as k;
 ghost use Rattle.vtl_rows.specs.Tables.{cells_at, fits_kinds};
 ghost use Rattle.vtl_time.specs.Periods.{parts_in_year};
 ghost use Rattle.vtl_time.specs.declared.periods.Frequency.{Frequency};
-ghost use Rattle.vtl_series.specs.Kept.{covers, chosen, numbers_of_span, span_at, spans_of};
-ghost use Rattle.vtl_series.specs.Series.{dated, is_spanned, numbers_of, rows_by, seen_by, series_rows, some_number};
+ghost use Rattle.vtl_series.specs.Series.{dated, is_spanned, rows_by, seen_by, series_rows};
 ghost use Rattle.vtl_series.specs.declared.extent.Extent.{Extent};
 ghost use Rattle.vtl_series.specs.declared.extent.Extent.TheVariants as extent;
 
@@ -36,4 +34,5 @@ pub fn rows_stand_once()
 pub fn series_are_whole()
     ensures exactly { (e : Extent) (on : ℕ) (by : List ℕ) (rows : List Row) (r : Row) (f : Frequency) (i : ℕ) → list_any (same_row r) rows ≡ true → i < 10000 * parts_in_year f → list_any (same_row (dated f (cells_at by r) i)) (series_rows e on by rows) ≡ is_spanned f on (rows_by by rows (cells_at by r)) (seen_by e rows (rows_by by rows (cells_at by r))) i }
     ensures contains { (on : ℕ) (by : List ℕ) (rows : List Row) → AllByRecursion (λ r. list_any (same_row r) (series_rows extent.All on by rows) ≡ true) (series_rows extent.Single on by rows) }
+    ensures again { (e : Extent) (on : ℕ) (by : List ℕ) (rows : List Row) → series_rows e (length by) (range_with_len 0 (length by)) (series_rows e on by rows) ≡ series_rows e on by rows }
 {}

@@ -1,7 +1,6 @@
 // The rows of series, from groups of rows.
 ghost use Rattle.std.specs.Prelude.{◌≡◌, ◌<◌, ◌≤◌, ◌+◌, ◌++◌, [], ◌∷◌, true, Some, length, map, All, IfOk, IfSome, OnOk};
 ghost use Rattle.std.specs.List.{flat_map};
-ghost use Rattle.vtl_cell.specs.Kinds.{is_of};
 ghost use Rattle.vtl_cell.specs.declared.kind.Kind.TheVariants as k;
 ghost use Rattle.vtl_cell.specs.Row.{Row, column_of};
 ghost use Rattle.vtl_rows.specs.Places.{row_at};
