@@ -134,20 +134,17 @@ one_longer a n h =
 
 up_to : (a b n : ℕ) → n ≤ b + 1 → passing (between a b) n ≡ range_with_len a (n - a)
 up_to a b zero h = let z : zero ≡ 0 - a = omega arith in ap (range_with_len a) z
-up_to a b (suc n) h = go (nat_le a n) refl
+up_to a b (suc n) h = go (nat_le a n) refl (up_to a b n (omega (arith, h)))
   where
     next : suc n ≡ n + 1
     next = omega arith
 
-    before : passing (between a b) n ≡ range_with_len a (n - a)
-    before = up_to a b n (omega (arith, h))
-
-    go : (t : Bool) → nat_le a n ≡ t → passing (between a b) (suc n) ≡ range_with_len a (suc n - a)
-    go true e =
+    go : (t : Bool) → nat_le a n ≡ t → passing (between a b) n ≡ range_with_len a (n - a) → passing (between a b) (suc n) ≡ range_with_len a (suc n - a)
+    go true e before =
         let inside : between a b n ≡ true = grind (arith, e, h) in
         let low : a ≤ n = grind (arith, e) in
         ap (passing (between a b)) next ∙ more_passing (between a b) n inside ∙ ap (λ l. l ++ n ∷ []) before ∙ sym (one_longer a n low)
-    go false e =
+    go false e before =
         let outside : between a b n ≡ false = grind (arith, e) in
         let high : n < a = grind (arith, e) in
         let same : n - a ≡ suc n - a = omega (arith, high) in

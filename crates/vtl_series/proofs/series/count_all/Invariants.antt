@@ -1,4 +1,3 @@
-use Rattle.std.proofs.Common.{Unit, tt}
 use Rattle.vtl_series.proofs.series.count_all.Given as goal
 
 abbrev pub invariant-loop-group : goal.invariant-loop-group
