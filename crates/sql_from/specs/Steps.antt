@@ -10,7 +10,7 @@ use Rattle.sql_meaning.specs.From.{joined}
 use Rattle.sql_meaning.specs.Plans.{IsEqualityJoin}
 use Rattle.sql_check_parts.specs.Queries.{is_grouped, join_source}
 use Rattle.sql_check_parts.specs.Scopes.{with_source}
-use Rattle.sql_meaning.specs.Tables.{Base}
+use Rattle.sql_meaning.specs.Tables.{Base, rows_from}
 use Rattle.sql_check_laws.specs.Selects.{IsJoinCondition}
 use Rattle.sql_from.specs.Asking.{condition_asks, item_asks}
 use Rattle.sql_from.specs.Held.{rows_held, tables_held}
@@ -32,11 +32,11 @@ pub record IsPlainJoin (s : SelectTree) : Type 0 where
 
 -- how many rows the source of a join has
 abbrev pub joined_count : Base → JoinTree → ℕ
-joined_count b j = length (b.rows (join_source j).table)
+joined_count b j = length (rows_from b (join_source j))
 
 -- one for each row of each source, and one for each row that FROM gives
 abbrev pub most_steps : Base → SelectTree → ℕ
-most_steps b s = length (b.rows s.source.table) + sum (map (joined_count b) s.joins) + length (joined b s).rows
+most_steps b s = length (rows_from b s.source) + sum (map (joined_count b) s.joins) + length (joined b s).rows
 
 -- ---- one source more
 

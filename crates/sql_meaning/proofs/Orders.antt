@@ -32,7 +32,7 @@ use Rattle.sql_check_parts.specs.Queries.{is_grouped, query_columns, scope_of}
 use Rattle.sql_check_parts.specs.Scopes.{Scope, row_of, with_source}
 use Rattle.sql_check_parts.specs.Exists.{inner_of}
 use Rattle.sql_meaning.specs.Outcomes.{operated, row_at, row_fault}
-use Rattle.sql_meaning.specs.Tables.{Base, columns_named, kinds_of}
+use Rattle.sql_meaning.specs.Tables.{Base, columns_given, kinds_of, rows_from}
 use Rattle.sql_meaning.specs.Values.{View, at_groups, at_rows, chosen, is_tied, literal_cell, null_test, place_in, set_operator, value, values}
 use Rattle.sql_meaning.specs.From.{Joined, condition_fault, fault_at, beside, holds, is_met, joined, joined_by, joined_rows, kept, kept_of, or_alone, pairs, pairs_by, partners, partners_or_alone, nulls, source_rows, unmet, with_join}
 use Rattle.sql_meaning.specs.Groups.{keys_by, rows_with}
@@ -168,15 +168,15 @@ module _ (b : Base) (other : Text → List Row) (same : SameRows b.rows other) w
   joined_same : (js : List JoinTree) (scope : Scope) (left left' : List Row) (fault fault' : Option Fault) → Perm left left' → fault ≡ fault' → SameJoined (fold (with_join b) (from scope left fault) js) (fold (with_join o) (from scope left' fault') js)
   joined_same [] scope left left' fault fault' p e = record { scope = refl; rows = p; fault = e }
   joined_same (tree.cross s ∷ js) scope left left' fault fault' p e =
-      joined_same js (with_source b.tables scope s) (pairs left (b.rows s.table)) (pairs left' (other s.table)) fault fault' (pairs-Perm beside p (same s.table)) e
+      joined_same js (with_source b.tables scope s) (pairs left (rows_from b s)) (pairs left' (other s.table)) fault fault' (pairs-Perm beside p (same s.table)) e
   joined_same (tree.on kind s x ∷ js) scope left left' fault fault' p e =
       let now = with_source b.tables scope s in
       let n = length (row_of scope) in
-      let m = length (columns_named b.tables s.table) in
+      let m = length (columns_given b.tables s) in
       let q = same s.table in
-      joined_same js now (joined_rows kind (holds (at_rows b now) x) n m left (b.rows s.table)) (joined_rows kind (holds (at_rows o now) x) n m left' (other s.table))
-      (join fault (faults_by (fault_at (at_rows b now) x) (pairs left (b.rows s.table)))) (join fault' (faults_by (fault_at (at_rows o now) x) (pairs left' (other s.table))))
-      (subst (λ t. Perm (joined_rows kind (holds (at_rows b now) x) n m left (b.rows s.table)) (joined_rows kind t n m left' (other s.table))) (holds_same now x) (joined_by-Perm (λ y z. holds (at_rows b now) x (y ++ z)) beside (λ y. y ++ nulls m) (λ z. nulls n ++ z) left left' (b.rows s.table) (other s.table) p q kind))
+      joined_same js now (joined_rows kind (holds (at_rows b now) x) n m left (rows_from b s)) (joined_rows kind (holds (at_rows o now) x) n m left' (other s.table))
+      (join fault (faults_by (fault_at (at_rows b now) x) (pairs left (rows_from b s)))) (join fault' (faults_by (fault_at (at_rows o now) x) (pairs left' (other s.table))))
+      (subst (λ t. Perm (joined_rows kind (holds (at_rows b now) x) n m left (rows_from b s)) (joined_rows kind t n m left' (other s.table))) (holds_same now x) (joined_by-Perm (λ y z. holds (at_rows b now) x (y ++ z)) beside (λ y. y ++ nulls m) (λ z. nulls n ++ z) left left' (rows_from b s) (other s.table) p q kind))
       (λ i. join (e i) (condition_faults now x (pairs-Perm beside p q) i))
 
   kept_same : (scope : Scope) (e : Option Exp) {rows rows' : List Row} → Perm rows rows' → Perm (kept (at_rows b scope) e rows) (kept (at_rows o scope) e rows')

@@ -65,7 +65,7 @@ use Rattle.sql_meaning.specs.Outcomes.{all_values, cell_or_null, operated, row_a
 use Rattle.sql_meaning.specs.Profiles.{AreOfProfile, HeldOfProfile, InputsOfProfile, IsRowOfProfile, TablesOfProfile}
 use Rattle.sql_meaning.specs.Scripts.{Data, Inputs, Made, NamedFault, Table, and_table, base_of, created, input_table, no_table, or_named, rows_read, statement_made, statements_made, table_named}
 use Rattle.sql_meaning.specs.Selects.{Wanted, at_key, group_item, grouped_rows, having_fault, item_value, kept_keys, key_value, plain_rows, query_value, row_value, rows_in, second_phase, select_value}
-use Rattle.sql_meaning.specs.Tables.{Base, columns_named, kinds_of}
+use Rattle.sql_meaning.specs.Tables.{Base, columns_given, kinds_of, rows_from}
 use Rattle.sql_meaning.specs.Values.{View, at_groups, at_rows, cell_at, chosen, constant_cell, literal_cell, place_in, set_operator, value, values}
 use Rattle.sql_meaning.specs.Windows.{Stand, call_value, cells_of, count_of, default_cell, framed, keys_of, partition_of, partition_places, stand_in, told_apart, window_value}
 use Rattle.sql_meaning.proofs.Lists.{all_once, under}
@@ -397,13 +397,13 @@ module _ (b : Base) (fit : TablesOfProfile b) where
   joined_are [] f all = all
   joined_are (tree.cross s ∷ js) f all =
       joined_are js (with_join b f (tree.cross s))
-      (pairs_all (IsRowOfProfile q) (IsRowOfProfile q) (IsRowOfProfile q) (λ x y. true) beside (λ x. x) (λ y. y) (append_is q) (λ x h. h) (λ y h. h) f.rows (b.rows s.table) all (fit s.table))
+      (pairs_all (IsRowOfProfile q) (IsRowOfProfile q) (IsRowOfProfile q) (λ x y. true) beside (λ x. x) (λ y. y) (append_is q) (λ x h. h) (λ y h. h) f.rows (rows_from b s) all (fit s.table))
   joined_are (tree.on kind s e ∷ js) f all =
       let n = length (row_of f.scope) in
-      let m = length (columns_named b.tables s.table) in
+      let m = length (columns_given b.tables s) in
       let v = at_rows b (with_source b.tables f.scope s) in
       joined_are js (with_join b f (tree.on kind s e))
-      (joined_all (IsRowOfProfile q) (IsRowOfProfile q) (IsRowOfProfile q) (λ x y. holds v e (x ++ y)) beside (λ x. x ++ nulls m) (λ y. nulls n ++ y) (append_is q) (λ x h. append_is q x (nulls m) h (nulls_are q m)) (λ y h. append_is q (nulls n) y (nulls_are q n) h) kind f.rows (b.rows s.table) all (fit s.table))
+      (joined_all (IsRowOfProfile q) (IsRowOfProfile q) (IsRowOfProfile q) (λ x y. holds v e (x ++ y)) beside (λ x. x ++ nulls m) (λ y. nulls n ++ y) (append_is q) (λ x h. append_is q x (nulls m) h (nulls_are q m)) (λ y h. append_is q (nulls n) y (nulls_are q n) h) kind f.rows (rows_from b s) all (fit s.table))
 
   kept_are : (v : View) (e : Option Exp) (rows : List Row) → AreOfProfile q rows → AreOfProfile q (kept v e rows)
   kept_are v None rows all = all
