@@ -114,20 +114,6 @@ add_source sources alias (Some columns) = if is_among alias (keys_of sources) th
 abbrev pub inside : {V : Type 0} → Sources V → Text → Option (Named V) → Sources V
 inside outer alias columns = (alias, or_nothing columns) ∷ outer
 
--- The columns of a SERIES over a table of these columns: those of BY as they are written, and behind them that of ON, whether the table
--- has them or not.
-abbrev pub series_columns : Series → Columns → Columns
-series_columns s columns = map (λ name. (name, or_null (value_among columns name))) (s.by ++ s.on ∷ [])
-
--- the columns that a source has where its table has these
-abbrev pub given_columns : Option Series → Columns → Columns
-given_columns None columns = columns
-given_columns (Some s) columns = series_columns s columns
-
--- the columns of a source, where its table is there
-abbrev pub columns_from : Tables → Source → Option Columns
-columns_from tables s = option_map (given_columns s.series) (columns_of tables s.table)
-
 -- the kinds of the columns of the sources
 abbrev pub Scope : Type 0
 Scope = Sources Kind
