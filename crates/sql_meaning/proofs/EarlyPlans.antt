@@ -35,9 +35,10 @@ use Rattle.sql_meaning.proofs.IndexedJoins.{index_same}
 use Rattle.sql_meaning.proofs.LeftValues.{value_narrow}
 use Rattle.sql_meaning.proofs.Lists.{all_joined, under}
 use Rattle.sql_meaning.proofs.Planned.{Same_refl, entries_here, equality_here, joins_by_index, next_behind}
-use Rattle.sql_meaning.proofs.Profiled.{append_is, joined_are}
+use Rattle.sql_meaning.proofs.Profiled.{append_is, joined_are, source_is}
 use Rattle.sql_meaning.proofs.SafeValues.{no_faults}
-use Rattle.sql_meaning.proofs.SourceKinds.{first_fits, fits_beside, from_fits, kinds_now, left_alone, pairs_all, source_added, table_fits}
+use Rattle.sql_meaning.proofs.RowKinds.{fits_beside}
+use Rattle.sql_meaning.proofs.SourceKinds.{first_fits, from_fits, kinds_now, left_alone, pairs_all, source_added, table_fits}
 use Rattle.sql_meaning.proofs.UpToOrder.{join_none}
 
 -- ---- lists
@@ -164,7 +165,7 @@ module _ (b : Base) (lawful : IsLawful b) where
 
   pairs_ranged : (rows : List Row) (s : Source) → AreOfProfile b.settings rows → AreOfProfile b.settings (pairs rows (rows_from b s))
   pairs_ranged rows s all =
-      pairs_all (IsRowOfProfile b.settings) (IsRowOfProfile b.settings) (IsRowOfProfile b.settings) (λ x y. true) beside (λ x. x) (λ y. y) (append_is b.settings) (λ x h. h) (λ y h. h) rows (rows_from b s) all (lawful.ranged s.table)
+      pairs_all (IsRowOfProfile b.settings) (IsRowOfProfile b.settings) (IsRowOfProfile b.settings) (λ x y. true) beside (λ x. x) (λ y. y) (append_is b.settings) (λ x h. h) (λ y h. h) rows (rows_from b s) all (source_is b lawful.ranged s)
 
   module _ (f : Joined) (st : Stage f) (s : Source) (known : IsSourceTyped b.tables f.scope s) where
     abbrev next : Scope
@@ -350,7 +351,7 @@ module _ (b : Base) (lawful : IsLawful b) where
       let first = first_of b s.source in
       let F = joined b s in
       let P = ImpliedBy (at_rows b F.scope) s.condition in
-      let start : Stage first = record { fault = refl; fit = first_fits b lawful.fit s.source typed.source; ranged = lawful.ranged s.source.table } in
+      let start : Stage first = record { fault = refl; fit = first_fits b lawful.fit s.source typed.source; ranged = source_is b lawful.ranged s.source } in
       let keyed : keys_of first.scope ≡ aliases_left s 0 = ap keys_of (source_added b.tables [] s.source typed.source).1 in
       let ended = planned_cut s indexed equal early may P (all_implied (at_rows b F.scope) s.condition) (all_safe s.condition safe.condition) s.joins 0 first [] refl keyed start typed.joins safe.joins (inl refl) tt tt in
       ap (λ g. kept_of b s.condition (planned_joins b s indexed early 0 g s.joins)) (sym (cut_none first))

@@ -21,12 +21,14 @@ use Rattle.sql_tree.specs.declared.parts.Source.{Source}
 use Rattle.sql_tree.specs.declared.word_groups.JoinKind.{JoinKind}
 use Rattle.sql_tree.specs.declared.word_groups.JoinKind.TheVariants as joining
 use Rattle.sql_check_parts.specs.Queries.{first_scope, joined_scope, scope_of}
-use Rattle.sql_check_parts.specs.Scopes.{Columns, Scope, Tables, add_source, columns_from, found, or_nothing, placed, row_of, with_source}
+use Rattle.sql_check_parts.specs.Scopes.{Columns, Scope, Tables, add_source, columns_from, columns_of, columns_within, found, or_nothing, placed, row_of, with_source}
 use Rattle.sql_check_parts.proofs.Places.{found_placed}
 use Rattle.sql_check_laws.specs.Selects.{AreJoinsTyped, IsSelectTyped, IsSourceTyped}
 use Rattle.sql_meaning.specs.From.{Joined, beside, condition_fault, fault_at, holds, is_met, joined, joined_by, joined_rows, kept, nulls, or_alone, pairs, pairs_by, partners, partners_or_alone, source_rows, unmet, with_join}
-use Rattle.sql_meaning.specs.Tables.{Base, RowsFit, TablesFit, columns_given, kinds_of, rows_from}
+use Rattle.sql_meaning.specs.Tables.{Base, RowsFit, TablesFit, columns_given, columns_named, kinds_of, rows_from}
 use Rattle.sql_meaning.specs.Values.{View, at_rows, place_in}
+use Rattle.sql_meaning.proofs.RowKinds.{fits_beside}
+use Rattle.sql_meaning.proofs.SeriesColumns.{given_columns, given_fit}
 
 -- ---- columns
 
@@ -50,15 +52,6 @@ column_fits scope r x kind h e = go (found (placed scope) x) (sym (found_placed 
         same w = cc
 
 -- ---- rows
-
-pub fits_beside : (ks js : List Kind) (r q : Row) → fits_kinds ks r ≡ true → fits_kinds js q ≡ true → fits_kinds (ks ++ js) (r ++ q) ≡ true
-fits_beside [] js [] q h i = i
-fits_beside [] js (v ∷ vs) q h i = cc
-fits_beside (x ∷ ks) js [] q h i = cc
-fits_beside (x ∷ ks) js (v ∷ vs) q h i =
-    let parts = split_and (is_of x v) (fits_kinds ks vs) h in
-    let rest = fits_beside ks js vs q parts.1 i in
-    λ n. parts.0 n && rest n
 
 pub null_is_of : (kind : Kind) → is_of kind c.Null ≡ true
 null_is_of k.Null = refl
@@ -127,15 +120,19 @@ pub unless_ok : {A : Type 0} (f : Option Fault) (x out : A) → unless f x ≡ O
 unless_ok None x out e = cc
 unless_ok (Some f) x out e = cc
 
+known : (o : Option Columns) → IsSome o → o ≡ Some (or_nothing o)
+known None e = cc
+known (Some columns) e = refl
+
 -- a source whose table is known, and whose alias is new, stands behind the others
 pub source_added : (tables : Tables) (scope : Scope) (s : Source) → IsSourceTyped tables scope s → (columns_from tables s ≡ Some (columns_given tables s)) × (with_source tables scope s ≡ scope ++ (s.alias, columns_given tables s) ∷ [])
 source_added tables scope s h =
-    let there = known (columns_from tables s) h.0 in
-    (there, ap (add_source scope s.alias) there ∙ ap (λ b. cond b scope (scope ++ (s.alias, columns_given tables s) ∷ [])) h.1)
+    let there = known (columns_from tables s) (within (columns_of tables s.table) h.0) in
+    (there, ap (add_source scope s.alias) there ∙ ap (λ b. cond b scope (scope ++ (s.alias, columns_given tables s) ∷ [])) h.1.0)
   where
-    known : (o : Option Columns) → IsSome o → o ≡ Some (or_nothing o)
-    known None e = cc
-    known (Some columns) e = refl
+    within : (o : Option Columns) → IsSome o → IsSome (option_map (λ table. columns_within table s.series) o)
+    within None e = e
+    within (Some table) e = tt
 
 pub kinds_added : (scope : Scope) (alias : Text) (columns : Columns) → row_of (scope ++ (alias, columns) ∷ []) ≡ row_of scope ++ kinds_of columns
 kinds_added scope alias columns = flat_map-append (λ s. map (λ e. e.1) s.1) scope ((alias, columns) ∷ []) ∙ ap (λ l. row_of scope ++ l) (append-nil (kinds_of columns))
@@ -145,7 +142,10 @@ columns_wide columns = length-map columns (λ x. x.1)
 
 module _ (b : Base) (fit : TablesFit b) where
   pub table_fits : (scope : Scope) (s : Source) → IsSourceTyped b.tables scope s → RowsFit (kinds_of (columns_given b.tables s)) (rows_from b s)
-  table_fits scope s e = fit s.table (columns_given b.tables s) (source_added b.tables scope s e).0
+  table_fits scope s e =
+      let table = columns_named b.tables s.table in
+      subst (λ columns. RowsFit (kinds_of columns) (rows_from b s)) (sym (given_columns b.tables s e.0))
+      (given_fit s.series table (b.rows s.table) e.1.1 (fit s.table table (known (columns_of b.tables s.table) e.0)))
 
   abbrev sofar : Scope → List Row → Option Fault → Joined
   sofar scope rows fault = record { scope = scope; rows = rows; fault = fault }
@@ -200,6 +200,6 @@ module _ (b : Base) (fit : TablesFit b) where
   pub source_rows_fit : (s : SelectTree) (rows : List Row) → IsSelectTyped b.settings b.tables s → source_rows b s ≡ Ok rows → RowsFit (row_of (scope_of b.tables s)) rows
   source_rows_fit s rows h is =
       let f = joined b s in
-      let all = from_fits s.joins (first_scope b.tables s) (b.rows s.source.table) None h.joins (first_fits s.source h.source) in
+      let all = from_fits s.joins (first_scope b.tables s) (rows_from b s.source) None h.joins (first_fits s.source h.source) in
       subst (RowsFit (row_of (scope_of b.tables s))) (unless_ok (join f.fault (condition_fault (at_rows b f.scope) s.condition f.rows)) (kept (at_rows b f.scope) s.condition f.rows) rows is)
       (kept_fits (at_rows b f.scope) s.condition (row_of (scope_of b.tables s)) f.rows all)
