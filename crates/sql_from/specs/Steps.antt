@@ -13,8 +13,8 @@ use Rattle.sql_check_parts.specs.Scopes.{with_source}
 use Rattle.sql_meaning.specs.Tables.{Base, rows_from}
 use Rattle.sql_check_laws.specs.Selects.{IsJoinCondition}
 use Rattle.sql_from.specs.Asking.{condition_asks, item_asks}
-use Rattle.sql_from.specs.Held.{rows_held, tables_held}
-use Rattle.sql_from.specs.Sources.{Sourced, parts_of, scope_held}
+use Rattle.sql_from.specs.Held.{tables_held}
+use Rattle.sql_from.specs.Sources.{Sourced, parts_of, scope_held, table_given}
 
 -- whether a join is listed, by its place
 abbrev pub is_listed : Option (Bor (List ℕ)) → ℕ → Bool
@@ -48,4 +48,4 @@ pub record JoinsTwo (p : Settings) (s : Sourced) (j : JoinTree) : Type 0 where
 
 -- how many rows both have
 abbrev pub two_counts : Sourced → JoinTree → ℕ
-two_counts s j = length (part_at (parts_of s.sources) 0).rows + length (rows_held s.held (join_source j).table)
+two_counts s j = length (part_at (parts_of s.sources) 0).rows + length (table_given s.held (join_source j)).rows

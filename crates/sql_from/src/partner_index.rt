@@ -3,6 +3,7 @@ ghost use Rattle.std.specs.List.{AllByRecursion};
 ghost use Rattle.std.specs.Prelude.{◌≡◌, ◌+◌, ◌<◌, ◌==◌, not, true, IfOk, IfSome, length, slice_index};
 ghost use Rattle.vtl_index.specs.Matches.{matched};
 ghost use Rattle.sql_meaning.specs.Profiles.{IsLawful};
+ghost use Rattle.sql_eval.specs.Origins.{AreSame};
 ghost use Rattle.sql_from.specs.Held.{base_held};
 ghost use Rattle.sql_from.specs.Joins.{with_number};
 ghost use Rattle.sql_from.specs.Partners.{Answers};
@@ -11,16 +12,15 @@ use crate::Sources;
 use crate::key_lookup::{KeyLookup, keyed};
 use crate::test_places::copied;
 use crate::ties::{are_same_ties, lead_of_tie, tied_columns};
-use sql_eval::{Existence, Tie};
+use sql_eval::{Existence, Origin, Tie};
 use std::alloc::{AllocError, Global};
 use std::sync::ledger::Ledger;
 use vtl_decimal::Profile;
 use vtl_index::Steps;
-use vtl_text::Txt;
 
 /// What an EXISTS asks, and an index of the rows of its table.
 pub(crate) struct PartnerIndex<'a> {
-    pub(crate) table: Txt,
+    pub(crate) table: Origin,
     pub(crate) ties: Vec<Tie>,
     pub(crate) p: Profile,
     pub(crate) keys: KeyLookup<'a>,
@@ -57,17 +57,17 @@ impl<'a> PartnerIndex<'a> {
         let Some(lead) = lead_of_tie(sources, *tie) else {
             return Ok(None);
         };
-        let Some(own) = sources.held().get(&test.table) else {
+        let Some(own) = sources.held().origin(&test.table)? else {
             return Ok(None);
         };
         match tied_columns(alloc, sources, lead, &test.ties)? {
             Some(keys) => {
                 let table = sources.table(lead);
                 Ok(Some(PartnerIndex {
-                    table: test.table.share()?,
+                    table: test.table.copy(alloc)?,
                     ties: copied(alloc, &test.ties)?,
                     p: *p,
-                    keys: keyed(alloc, own, lead, table, &keys, p, steps)?,
+                    keys: keyed(alloc, own.table(), lead, table, &keys, p, steps)?,
                 }))
             }
             None => Ok(None),
@@ -76,11 +76,11 @@ impl<'a> PartnerIndex<'a> {
 
     /// Whether it is known to be the index for an EXISTS.
     pub(crate) fn is_for(&self, test: &Existence, p: &Profile) -> bool
-        ensures table { result ≡ true → self.now.table ≡ test.now.table }
+        ensures table { result ≡ true → AreSame self.now.table test.now.table }
         ensures ties { result ≡ true → self.now.ties.items ≡ test.now.ties.items }
         ensures p { result ≡ true → self.now.p ≡ p.now }
     {
-        self.table == test.table
+        self.table.is_same(&test.table)
             && are_same_ties(&self.ties, &test.ties)
             && is_same_profile(&self.p, p)
     }

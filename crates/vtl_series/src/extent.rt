@@ -1,7 +1,7 @@
 // How far a series reaches.
 
 /// From where to where a series has a row for each period.
-#[derive(Clone, Copy, Debug, PartialEq, Eq)]
+#[derive(Clone, Copy, Debug, PartialEq, Eq, PartialOrd, Ord)]
 pub enum Extent {
     /// From its own first period to its own last.
     Single,
