@@ -13,12 +13,12 @@ use Rattle.vtl_index.specs.Matches.{Matched, matched}
 use Rattle.vtl_index.specs.RowIndex.{RowLookup, found_rows}
 use Rattle.vtl_index.specs.RowKeys.{has_null, key_at}
 use Rattle.vtl_index.specs.declared.row_keys.NullKeys.TheVariants.{NotFound}
-use Rattle.vtl_rows.specs.Named.{NamedTables, table_of}
+use Rattle.vtl_rows.specs.Named.{NamedTables}
 use Rattle.vtl_rows.proofs.Placed.{all_places}
 use Rattle.sql_tree.specs.Trees.{Exp}
 use Rattle.sql_eval.specs.Placed.{has_partner}
-use Rattle.sql_meaning.specs.Tables.{rows_of}
 use Rattle.sql_meaning.specs.Profiles.{AreOfProfile, IsLawful, IsRowOfProfile}
+use Rattle.sql_eval.specs.Origins.{rows_at}
 use Rattle.sql_from.specs.Held.{IsHeld, base_held, rows_held}
 use Rattle.sql_from.specs.Joins.{Test, numbers_to, passes, with_number}
 use Rattle.sql_from.specs.Keys.{ArePaired, all_paired, asked_columns, last_of, linked_count, own_columns}
@@ -32,6 +32,7 @@ use Rattle.sql_from.specs.declared.partner_index.PartnerIndex.{PartnerIndex}
 use Rattle.sql_from.specs.declared.key_pairs.KeyPair.{KeyPair}
 use Rattle.sql_from.proofs.Equalities.{same_keys}
 use Rattle.sql_from.proofs.Marks.{other_number}
+use Rattle.sql_from.proofs.GivenTables.{origin_ranged}
 
 pub ranged_row : (p : Settings) (rows : List Row) → AreOfProfile p rows → (i : ℕ) → IsRowOfProfile p (row_at rows i)
 ranged_row p [] all i = tt
@@ -74,7 +75,7 @@ no_faults f h (x ∷ xs) = λ i. join (h x i) (no_faults f h xs i)
 
 -- ---- tables that are held
 ranged : (p : Settings) (held : NamedTables) → IsLawful (base_held p held) → (t : Listed) → IsHeld held t → AreOfProfile p t.rows
-ranged p held lawful t h = subst (AreOfProfile p) (sym h.1) (lawful.ranged h.0)
+ranged p held lawful t h = h p lawful.ranged
 
 got_part : (ts : List Listed) (i : ℕ) (t : Listed) → slice_get ts i ≡ Some t → part_at ts i ≡ t
 got_part [] i t e = cc
@@ -128,11 +129,8 @@ any_numbered t rows [] = refl
 any_numbered t rows (j ∷ js) = ap (λ b. t (row_at rows j) || b) (any_numbered t rows js)
 
 module _ (p : Settings) (s : Sourced) (x : PartnerIndex) (lead : ℕ) (own table : Listed) (keys : List KeyPair)
-    (lawful : IsLawful (base_held p s.held)) (within : lead < length s.sources) (own_held : Some own ≡ table_of x.table s.held) (table_got : slice_get (parts_of s.sources) lead ≡ Some table) (table_held : IsHeld s.held table)
+    (lawful : IsLawful (base_held p s.held)) (within : lead < length s.sources) (own_rows : rows_at (rows_held s.held) x.table ≡ own.rows) (table_got : slice_get (parts_of s.sources) lead ≡ Some table) (table_held : IsHeld s.held table)
     (tied : AreTiedBy s lead x.ties.items keys) (keyed : IsKeyed own lead table keys p x.keys) (p_is : x.p ≡ p) where
-  own_rows : rows_held s.held x.table ≡ own.rows
-  own_rows = ap rows_of (sym own_held)
-
   partner_row : ℕ → Row
   partner_row number = row_at table.rows number
 
@@ -147,6 +145,6 @@ module _ (p : Settings) (s : Sourced) (x : PartnerIndex) (lead : ℕ) (own table
         ∙ (λ i. list_any (λ inner. (tied p inner front last whole ∙ ap (λ (u : Listed). all_paired p inner (row_at u.rows number) keys) lead_is) i) (own_rows i))
         ∙ sym (any_numbered t own.rows (numbers_to (length own.rows)) ∙ ap (list_any t) (all_places own.rows))
         ∙ any_kept (λ j. t (row_at own.rows j)) (numbers_to (length own.rows))
-        ∙ ap (λ js. not (length js == 0)) (sym (keyed_finds p own lead table keys x.keys keyed lawful.scale (ranged p s.held lawful own (x.table, sym own_rows)) (ranged p s.held lawful table table_held) number (λ j. t (row_at own.rows j)) (λ j. refl)))
+        ∙ ap (λ js. not (length js == 0)) (sym (keyed_finds p own lead table keys x.keys keyed lawful.scale (subst (AreOfProfile p) own_rows (origin_ranged p s.held x.table lawful.ranged)) (ranged p s.held lawful table table_held) number (λ j. t (row_at own.rows j)) (λ j. refl)))
         ∙ ap (λ n. not (length (matched x.keys.matches (slice_index (with_number front last) n)) == 0)) (sym keyed.lead_is);
   }

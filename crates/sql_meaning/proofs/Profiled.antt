@@ -42,6 +42,7 @@ use Rattle.vtl_cell.proofs.Keys.{window_order}
 use Rattle.vtl_cell.proofs.Readings.{read_kind}
 use Rattle.vtl_cell.specs.Literals.{integer_cell, number_cell, with_sign, written}
 use Rattle.vtl_rows.specs.Tables.{cells_at}
+use Rattle.vtl_time.specs.Periods.{YearPart}
 use Rattle.vtl_scalar.proofs.ProfileLemmas.{Gives, number_gives, value_is_of_profile}
 use Rattle.sql_tree.specs.Trees as tree
 use Rattle.sql_tree.specs.Trees.{Branches, Exp, Exps, JoinTree, QueryTree, ScriptTree, SelectTree, StatementTree, Text, ValueTree}
@@ -387,6 +388,10 @@ pub append_is : (p : Settings) (x y : Row) → IsRowOfProfile p x → IsRowOfPro
 append_is p [] y h i = i
 append_is p (v ∷ x) y h i = (h.0, append_is p x y h.1 i)
 
+-- cells of a row with a period behind them
+pub dated_is : (p : Settings) (places : List ℕ) (r : Row) → IsRowOfProfile p r → (period : YearPart) → IsRowOfProfile p (cells_at places r ++ c.Period period ∷ [])
+dated_is p places r h period = append_is p (cells_at places r) (c.Period period ∷ []) (cells_are p places r h) (tt, tt)
+
 nulls_are : (p : Settings) (n : ℕ) → IsRowOfProfile p (nulls n)
 nulls_are p zero = tt
 nulls_are p (suc n) = (tt, nulls_are p n)
@@ -397,7 +402,7 @@ module _ (b : Base) (fit : TablesOfProfile b) where
 
   -- the rows of a source
   pub source_is : (s : Source) → AreOfProfile q (rows_from b s)
-  source_is s = given_all (IsRowOfProfile q) (λ places r h period. append_is q (cells_at places r) (c.Period period ∷ []) (cells_are q places r h) (tt, tt)) s.series (columns_named b.tables s.table) (b.rows s.table) (fit s.table)
+  source_is s = given_all (IsRowOfProfile q) (dated_is q) s.series (columns_named b.tables s.table) (b.rows s.table) (fit s.table)
 
   pub joined_are : (js : List JoinTree) (f : Joined) → AreOfProfile q f.rows → AreOfProfile q (fold (with_join b) f js).rows
   joined_are [] f all = all
