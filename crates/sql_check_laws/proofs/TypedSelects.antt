@@ -12,13 +12,14 @@ use Rattle.sql_tree.specs.Trees as tree
 use Rattle.sql_tree.specs.Trees.{Text, ItemTree, JoinTree, QueryTree, SelectTree, ValueTree}
 use Rattle.sql_tree.specs.declared.parts.Source.{Source}
 use Rattle.sql_check_parts.specs.Expressions.{Site, site}
-use Rattle.sql_check_parts.specs.Queries.{first_scope, groups_of, has_misnamed, has_null_column, item_breaks, join_condition, join_source, joins_break, kinds_of, lacks_kind, most_columns, names_of, query_breaks, query_names, same_names, select_breaks, shared_kinds, source_breaks, sources_break, union_breaks, value_breaks}
+use Rattle.sql_check_parts.specs.Queries.{first_scope, groups_of, has_unnamed, has_null_column, item_breaks, join_condition, join_source, joins_break, kinds_of, lacks_kind, most_columns, names_of, query_breaks, query_names, same_names, select_breaks, shared_kinds, source_breaks, sources_break, union_breaks, value_breaks}
 use Rattle.sql_check_parts.specs.Queries as queries
-use Rattle.sql_check_parts.specs.Scopes.{Grouping, Scope, Tables, columns_of, fits_table, misnames_series, repeats, with_source}
+use Rattle.sql_check_parts.specs.Scopes.{Grouping, Scope, Tables, columns_of, fits_table, lacks_names, repeats, with_source}
 use Rattle.sql_check_parts.specs.Windows.{column_breaks}
 use Rattle.sql_check_parts.specs.Rules.{broken}
 use Rattle.sql_check_parts.specs.declared.rules.SqlRule.{SqlRule}
 use Rattle.sql_check_parts.specs.declared.rules.SqlRule.TheVariants as rule
+use Rattle.sql_check_parts.proofs.SeriesColumns.{named_where_fits}
 use Rattle.sql_check_parts.proofs.Unbroken.{none_behind, none_both, unbroken, unbroken_both}
 use Rattle.sql_check_laws.specs.Both.{Iff, besides_null}
 use Rattle.sql_check_laws.specs.Selects.{AreJoinsTyped, IsColumnKind, IsItemTyped, IsJoinCondition, IsQueryTyped, IsQueryWhole, IsSelectTyped, IsSourceTyped, IsValueTyped, whole_site}
@@ -72,21 +73,22 @@ select_typed p tables s =
       from = λ t. all.from ((t.source, t.joins), ((((t.condition, t.group), t.having), t.items), t.names));
     }
 
--- each SERIES of a typed select fits its table
-joins_fit : (p : Settings) (tables : Tables) (before : Scope) (js : List JoinTree) → AreJoinsTyped p tables before js → list_any (misnames_series tables) (map join_source js) ≡ false
-joins_fit p tables before [] t = refl
-joins_fit p tables before (j ∷ js) t =
-    ap (λ b. not b || list_any (misnames_series tables) (map join_source js)) t.0.1
-    ∙ joins_fit p tables (with_source tables before (join_source j)) js t.2
+-- the table of each SERIES of a typed select has what it names
+joins_named : (p : Settings) (tables : Tables) (before : Scope) (js : List JoinTree) → AreJoinsTyped p tables before js → list_any (lacks_names tables) (map join_source js) ≡ false
+joins_named p tables before [] t = refl
+joins_named p tables before (j ∷ js) t =
+    ap (λ b. b || list_any (lacks_names tables) (map join_source js)) (named_where_fits tables (join_source j) t.0.1)
+    ∙ joins_named p tables (with_source tables before (join_source j)) js t.2
 
-series_fit : (p : Settings) (tables : Tables) (s : SelectTree) → IsSelectTyped p tables s → has_misnamed tables s ≡ false
-series_fit p tables s t =
-    ap (λ b. not b || list_any (misnames_series tables) (map join_source s.joins)) t.source.1
-    ∙ joins_fit p tables (first_scope tables s) s.joins t.joins
+all_named : (p : Settings) (tables : Tables) (s : SelectTree) → IsSelectTyped p tables s → has_unnamed tables s ≡ false
+all_named p tables s t =
+    let source = t.source in
+    ap (λ b. b || list_any (lacks_names tables) (map join_source s.joins)) (named_where_fits tables s.source source.1)
+    ∙ joins_named p tables (first_scope tables s) s.joins t.joins
 
-none_misnamed : (p : Settings) (tables : Tables) (q : QueryTree) → AllByRecursion (IsSelectTyped p tables) q → list_any (has_misnamed tables) q ≡ false
-none_misnamed p tables [] t = refl
-none_misnamed p tables (s ∷ ss) t = ap (λ b. b || list_any (has_misnamed tables) ss) (series_fit p tables s t.0) ∙ none_misnamed p tables ss t.1
+none_unnamed : (p : Settings) (tables : Tables) (q : QueryTree) → AllByRecursion (IsSelectTyped p tables) q → list_any (has_unnamed tables) q ≡ false
+none_unnamed p tables [] t = refl
+none_unnamed p tables (s ∷ ss) t = ap (λ b. b || list_any (has_unnamed tables) ss) (all_named p tables s t.0) ∙ none_unnamed p tables ss t.1
 
 -- ---- queries
 
@@ -101,11 +103,11 @@ module _ (p : Settings) (tables : Tables) (q : QueryTree) where
   abbrev unlike : Bool
   unlike = not (list_all (λ s. same_names (query_names q) (names_of s)) q) || list_any is_none (shared_kinds tables q)
 
-  abbrev misnamed : Bool
-  misnamed = list_any (has_misnamed tables) q
+  abbrev unnamed : Bool
+  unnamed = list_any (has_unnamed tables) q
 
   abbrev null : Bool
-  null = has_null_column misnamed (shared_kinds tables q)
+  null = has_null_column unnamed (shared_kinds tables q)
 
   abbrev many : Bool
   many = nat_lt most_columns (length (query_names q))
@@ -129,7 +131,7 @@ module _ (p : Settings) (tables : Tables) (q : QueryTree) where
 
   -- where each SERIES fits its table, the test of null columns is that of their kinds
   asked : AllByRecursion (IsSelectTyped p tables) q → null ≡ list_any lacks_kind (shared_kinds tables q)
-  asked t = ap (λ m. not m && list_any lacks_kind (shared_kinds tables q)) (none_misnamed p tables q t)
+  asked t = ap (λ m. not m && list_any lacks_kind (shared_kinds tables q)) (none_unnamed p tables q t)
 
   pub query_typed : Iff (besides_null (query_breaks p tables q) ≡ []) (IsQueryTyped p tables q)
   query_typed =

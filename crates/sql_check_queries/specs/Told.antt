@@ -45,12 +45,12 @@ pub record IsFirst (first : SelectTold) (u : Union) : Type 0 where
   pub same : u.same_names ≡ true
   pub fault_is : u.fault ≡ first.fault
 
--- the rules of a union's columns, where it is known whether the selects have the same names, and whether a SERIES of theirs does not
--- fit its table
-abbrev pub columns_breaks : List Text → List (Option Kind) → (same misnamed : Bool) → List SqlRule
-columns_breaks names kinds same misnamed =
+-- the rules of a union's columns, where it is known whether the selects have the same names, and whether a SERIES of theirs names what
+-- its table does not have
+abbrev pub columns_breaks : List Text → List (Option Kind) → (same unnamed : Bool) → List SqlRule
+columns_breaks names kinds same unnamed =
     broken ((rule.UnlikeSelects, not same || list_any is_none kinds)
-    ∷ (rule.NullColumn, has_null_column misnamed kinds)
+    ∷ (rule.NullColumn, has_null_column unnamed kinds)
     ∷ (rule.CodesOrCount, nat_lt most_columns (length names)) ∷ [])
 
 -- a union with selects behind those before

@@ -2,11 +2,11 @@
 ghost use Rattle.std.specs.List.{list_any};
 ghost use Rattle.std.specs.Prelude.{◌≡◌, [], None, map, IfOk, OnOk};
 ghost use Rattle.sql_tree.specs.View.{query_tree, select_tree};
-ghost use Rattle.sql_check_parts.specs.Queries.{has_misnamed};
+ghost use Rattle.sql_check_parts.specs.Queries.{has_unnamed};
 ghost use Rattle.sql_check_queries.specs.Told.{Grows, IsQueryTold, IsUnion};
 
 use crate::selects::select;
-use crate::sources::has_misnamed;
+use crate::sources::has_unnamed;
 use crate::unions::Union;
 use sql_check_parts::{SqlRule, Tables};
 use sql_tree::{Query, Select};
@@ -56,16 +56,16 @@ fn union(
     Ok(union)
 }
 
-// Whether a SERIES of a select does not fit its table.
-fn any_misnamed(alloc: Global, tables: &Tables, selects: &[Select]) -> Result<bool, AllocError>
-    ensures { IfOk result (λ b. b ≡ list_any (has_misnamed tables.now) (map select_tree selects.now)) }
+// Whether a SERIES of a select names what its table does not have.
+fn any_unnamed(tables: &Tables, selects: &[Select]) -> bool
+    ensures { result ≡ list_any (has_unnamed tables.now) (map select_tree selects.now) }
 {
     for select in selects {
-        if has_misnamed(alloc, tables, select)? {
-            return Ok(true);
+        if has_unnamed(tables, select) {
+            return true;
         }
     }
-    Ok(false)
+    false
 }
 
 fn no_columns(alloc: Global) -> QueryTold
@@ -94,10 +94,10 @@ pub fn query(
         return Ok(no_columns(alloc));
     };
     let union = union(alloc, profile, tables, first, rest)?;
-    let misnamed = any_misnamed(alloc, tables, selects)?;
+    let unnamed = any_unnamed(tables, selects);
     Ok(QueryTold {
         kinds: union.kinds(alloc)?,
-        fault: union.least_fault(misnamed),
+        fault: union.least_fault(unnamed),
         names: union.names,
     })
 }

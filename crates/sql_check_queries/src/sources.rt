@@ -3,14 +3,15 @@ ghost use Rattle.std.specs.List.{list_any};
 ghost use Rattle.std.specs.Prelude.{◌≡◌, map, IfOk, OnOk};
 ghost use Rattle.sql_tree.specs.View.{join_tree, select_tree};
 ghost use Rattle.sql_check_parts.specs.Expressions.{site};
-ghost use Rattle.sql_check_parts.specs.Queries.{has_misnamed, join_breaks, join_condition, join_source, joined_scope, joins_break, source_breaks};
+ghost use Rattle.sql_check_parts.specs.Queries.{has_unnamed, join_breaks, join_condition, join_source, joined_scope, joins_break, source_breaks};
 ghost use Rattle.sql_check_parts.specs.Rules.{least};
-ghost use Rattle.sql_check_parts.specs.Scopes.{misnames_series, with_source};
+ghost use Rattle.sql_check_parts.specs.Scopes.{lacks_names, with_source};
 ghost use Rattle.sql_check_queries.specs.Told.{HasSources};
 
 use sql_check_expressions::{Site, condition};
 use sql_check_parts::{
-    Scope, SqlRule, Tables, Test, columns_from, least_broken, lesser, misnames_series,
+    Scope, SqlRule, Tables, Test, columns_from, lacks_names, least_broken, lesser,
+    misnames_series,
 };
 use sql_tree::{Join, Select, Source};
 use std::alloc::{AllocError, Global};
@@ -69,30 +70,23 @@ pub fn join_source(join: &Join) -> &Source
     }
 }
 
-// Whether a SERIES among the sources of joins does not fit its table.
-fn any_misnamed(alloc: Global, tables: &Tables, joins: &[Join]) -> Result<bool, AllocError>
-    ensures { IfOk result (λ b. b ≡ list_any (misnames_series tables.now) (map join_source (map join_tree joins.now))) }
+// Whether a SERIES among the sources of joins names what its table does not have.
+fn any_unnamed(tables: &Tables, joins: &[Join]) -> bool
+    ensures { result ≡ list_any (lacks_names tables.now) (map join_source (map join_tree joins.now)) }
 {
     for join in joins {
-        if misnames_series(alloc, tables, join_source(join))? {
-            return Ok(true);
+        if lacks_names(tables, join_source(join)) {
+            return true;
         }
     }
-    Ok(false)
+    false
 }
 
-/// Whether a SERIES of a select does not fit its table. It fails only if memory runs out.
-pub(crate) fn has_misnamed(
-    alloc: Global,
-    tables: &Tables,
-    select: &Select,
-) -> Result<bool, AllocError>
-    ensures { IfOk result (λ b. b ≡ has_misnamed tables.now (select_tree select.now)) }
+/// Whether a SERIES of a select names what its table does not have.
+pub(crate) fn has_unnamed(tables: &Tables, select: &Select) -> bool
+    ensures { result ≡ has_unnamed tables.now (select_tree select.now) }
 {
-    if misnames_series(alloc, tables, &select.from)? {
-        return Ok(true);
-    }
-    any_misnamed(alloc, tables, select.joins.as_slice())
+    lacks_names(tables, &select.from) || any_unnamed(tables, select.joins.as_slice())
 }
 
 // The condition of a join among the sources up to its own.

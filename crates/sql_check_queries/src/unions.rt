@@ -69,10 +69,10 @@ fn any_lacks_kind(shared: &[Option<Kind>]) -> bool
     shared.iter().any(|kind| is_null_kind(or_null(*kind)))
 }
 
-fn has_null_column(misnamed: bool, shared: &[Option<Kind>]) -> bool
-    ensures { result ≡ has_null_column misnamed shared.now }
+fn has_null_column(unnamed: bool, shared: &[Option<Kind>]) -> bool
+    ensures { result ≡ has_null_column unnamed shared.now }
 {
-    !misnamed && any_lacks_kind(shared)
+    !unnamed && any_lacks_kind(shared)
 }
 
 impl Union {
@@ -100,10 +100,10 @@ impl Union {
         self.fault = lesser(self.fault, other.fault);
     }
 
-    /// The least of the rules that the selects break, alone and together; it is told whether a SERIES of theirs does not
-    /// fit its table.
-    pub(crate) fn least_fault(&self, misnamed: bool) -> Option<SqlRule>
-        ensures { result ≡ lesser self.now.fault (least (columns_breaks self.now.names self.now.shared.items self.now.same_names misnamed)) }
+    /// The least of the rules that the selects break, alone and together; it is told whether a SERIES of theirs names
+    /// what its table does not have.
+    pub(crate) fn least_fault(&self, unnamed: bool) -> Option<SqlRule>
+        ensures { result ≡ lesser self.now.fault (least (columns_breaks self.now.names self.now.shared.items self.now.same_names unnamed)) }
     {
         let shared = self.shared.as_slice();
         let own = least_broken(&[
@@ -113,7 +113,7 @@ impl Union {
             },
             Test {
                 rule: SqlRule::NullColumn,
-                is_broken: has_null_column(misnamed, shared),
+                is_broken: has_null_column(unnamed, shared),
             },
             Test {
                 rule: SqlRule::CodesOrCount,

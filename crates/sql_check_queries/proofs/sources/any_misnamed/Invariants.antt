@@ -1,9 +1,0 @@
-use Rattle.std.proofs.Common.{◌≡◌, drop, map}
-use Rattle.std.specs.List.{list_any}
-use Rattle.sql_tree.specs.View.{join_tree}
-use Rattle.sql_check_parts.specs.Queries.{join_source}
-use Rattle.sql_check_parts.specs.Scopes.{misnames_series}
-use Rattle.sql_check_queries.proofs.sources.any_misnamed.Given as goal
-
-abbrev pub invariant-loop-join : goal.invariant-loop-join
-invariant-loop-join l = list_any (misnames_series l.tables) (map join_source (map join_tree (drop l.join-index l.joins))) ≡ list_any (misnames_series l.tables) (map join_source (map join_tree l.joins))
