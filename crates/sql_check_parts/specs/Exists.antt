@@ -1,8 +1,9 @@
 -- The equalities of EXISTS.
-use Rattle.std.specs.Prelude.{Bool, true, false, not, ◌&&◌, List, [], ◌∷◌, ◌++◌, Option}
+use Rattle.std.specs.Prelude.{Bool, true, false, not, ◌&&◌, ◌||◌, List, [], ◌∷◌, ◌++◌, Option}
 use Rattle.std.specs.List.{flat_map}
 use Rattle.std.specs.Option.{is_none}
 use Rattle.vtl_cell.specs.Kinds.{same_kind}
+use Rattle.vtl_cell.specs.Literals.{is_null_kind}
 use Rattle.vtl_cell.specs.declared.kind.Kind.{Kind}
 use Rattle.sql_tree.specs.Trees.{Text}
 use Rattle.sql_tree.specs.declared.parts.Column.{Column}
@@ -37,9 +38,13 @@ abbrev pub same_side : Bool → Bool → Bool
 same_side true b = b
 same_side false b = not b
 
+-- the same kind; a column that has none is told by another rule, and goes with any
+abbrev pub kinds_tie : Kind → Kind → Bool
+kinds_tie a b = same_kind a b || (is_null_kind a || is_null_kind b)
+
 -- one side is of the inner source and the other one of an outer source, and their kinds are the same
 abbrev pub is_tie : Scope → Inner → Equality → Bool
-is_tie s i e = not (same_side (is_inner i e.left) (is_inner i e.right)) && same_kind (or_null (kind_inside s i e.left)) (or_null (kind_inside s i e.right))
+is_tie s i e = not (same_side (is_inner i e.left) (is_inner i e.right)) && kinds_tie (or_null (kind_inside s i e.left)) (or_null (kind_inside s i e.right))
 
 -- an equality ties the inner source to an outer one
 abbrev pub equality_breaks : Scope → Option Grouping → Inner → Equality → List SqlRule

@@ -73,10 +73,14 @@ columns_within table (Some s) = columns_chosen table (series_names s)
 abbrev pub columns_from : Tables → Source → Option Columns
 columns_from tables s = option_map (λ table. columns_within table s.series) (columns_of tables s.table)
 
--- the names of a SERIES are columns of its table and differ, and it is ON periods
+-- the names of a SERIES are columns of its table
+abbrev pub has_names : Columns → Series → Bool
+has_names table s = list_all (λ name. is_some (value_among table name)) (series_names s)
+
+-- they are, and differ, and it is ON periods
 abbrev pub series_fits : Columns → Series → Bool
 series_fits table s =
-    list_all (λ name. is_some (value_among table name)) (series_names s)
+    has_names table s
     && (not (repeats (series_names s)) && same_kind (or_null (value_among table s.on)) k.Period)
 
 abbrev pub maybe_series_fits : Columns → Option Series → Bool
@@ -94,6 +98,14 @@ fits_table tables s = maybe_series_fits (or_nothing (columns_of tables s.table))
 
 abbrev pub misnames_series : Tables → Source → Bool
 misnames_series tables s = not (fits_table tables s)
+
+abbrev pub maybe_has_names : Columns → Option Series → Bool
+maybe_has_names table None = true
+maybe_has_names table (Some s) = has_names table s
+
+-- whether a source is a SERIES that names what its table does not have
+abbrev pub lacks_names : Tables → Source → Bool
+lacks_names tables s = not (maybe_has_names (or_nothing (columns_of tables s.table)) s.series)
 
 -- ---- sources
 

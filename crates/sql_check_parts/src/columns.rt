@@ -4,7 +4,7 @@
 // SQL has no limit of size. What GROUP BY names is a set in the definition, since nothing looks at its order.
 ghost use Rattle.std.specs.List.{list_all};
 ghost use Rattle.std.specs.Prelude.{◌≡◌, length, zip, is_some, IfOk, OnOk};
-ghost use Rattle.sql_check_parts.specs.Scopes.{add_column, columns_chosen, columns_within, repeats, series_fits, series_names, value_among};
+ghost use Rattle.sql_check_parts.specs.Scopes.{add_column, columns_chosen, has_names, repeats, series_fits, series_names, value_among};
 ghost use Rattle.sql_check_parts.specs.Told.{distinct_columns};
 
 use crate::or_null;
@@ -63,18 +63,25 @@ impl Columns {
         self.kinds.put(name.share()?, kind)
     }
 
-    /// The columns of a SERIES over the table. It fails only if memory runs out.
-    pub(crate) fn of_series(&self, alloc: Global, series: &Series) -> Result<Columns, AllocError>
-        ensures { IfOk result (λ columns. columns ≡ columns_chosen self.now (series_names series.now)) }
+    // The columns of these names, each with its kind in the table.
+    fn chosen(&self, alloc: Global, names: &[Txt]) -> Result<Columns, AllocError>
+        ensures { IfOk result (λ columns. columns ≡ columns_chosen self.now names.now) }
     {
         let mut columns = Columns {
             kinds: ByName::new(alloc),
         };
-        for name in series.by.as_slice() {
+        for name in names {
             columns.add(name, or_null(self.kind(name)))?;
         }
-        columns.add(&series.on, or_null(self.kind(&series.on)))?;
         Ok(columns)
+    }
+
+    /// The columns of a SERIES over the table. It fails only if memory runs out.
+    pub(crate) fn of_series(&self, alloc: Global, series: &Series) -> Result<Columns, AllocError>
+        ensures { IfOk result (λ columns. columns ≡ columns_chosen self.now (series_names series.now)) }
+    {
+        let names = series_names(alloc, series)?;
+        self.chosen(alloc, &names)
     }
 
     // Whether the table has all of these columns.
@@ -89,14 +96,23 @@ impl Columns {
         true
     }
 
+    /// Whether the table has the columns that a SERIES names.
+    #[tactic(auto, using(crate::proofs::SeriesColumns::names_parted))]
+    pub(crate) fn has_names(&self, series: &Series) -> bool
+        ensures { result ≡ has_names self.now series.now }
+    {
+        self.has_all(series.by.as_slice()) && self.kind(&series.on).is_some()
+    }
+
     /// Whether the names of a SERIES are columns of the table and differ, and it is ON periods. It fails only if memory
     /// runs out.
     pub(crate) fn fits(&self, alloc: Global, series: &Series) -> Result<bool, AllocError>
         ensures { IfOk result (λ b. b ≡ series_fits self.now series.now) }
     {
         let names = series_names(alloc, series)?;
+        let repeated = repeats(alloc, &names)?;
         let is_of_periods = is_same_kind(or_null(self.kind(&series.on)), Kind::Period);
-        Ok(self.has_all(&names) && !repeats(alloc, &names)? && is_of_periods)
+        Ok(self.has_names(series) && !repeated && is_of_periods)
     }
 }
 

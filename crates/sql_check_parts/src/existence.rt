@@ -1,7 +1,7 @@
 // EXISTS.
 ghost use Rattle.std.specs.List.{flat_map};
 ghost use Rattle.std.specs.Prelude.{◌≡◌, ◌&&◌, not, option_and_then, IfOk};
-ghost use Rattle.sql_check_parts.specs.Exists.{equality_breaks, exists_breaks, inner_of, is_inner, is_tie, kind_inside, same_side, side_breaks};
+ghost use Rattle.sql_check_parts.specs.Exists.{equality_breaks, exists_breaks, inner_of, is_inner, is_tie, kind_inside, kinds_tie, same_side, side_breaks};
 ghost use Rattle.sql_check_parts.specs.Rules.{least};
 ghost use Rattle.sql_check_parts.specs.Scopes.{value_among};
 ghost use Rattle.sql_check_parts.specs.Windows.{is_ungrouped};
@@ -14,7 +14,7 @@ use crate::{
 use sql_tree::{Column, Equality, Source};
 use std::alloc::{AllocError, Global};
 use std::marker::Model;
-use vtl_cell::{Kind, is_same_kind};
+use vtl_cell::{Kind, is_null_kind, is_same_kind};
 use vtl_text::Txt;
 
 // The source of EXISTS: its alias, and its columns, if its table is there.
@@ -109,6 +109,13 @@ fn side_fault(
     ]))
 }
 
+// Whether kinds are the same. A column that has none is told by another rule, and goes with any.
+fn kinds_tie(a: Kind, b: Kind) -> bool
+    ensures { result ≡ kinds_tie a b }
+{
+    is_same_kind(a, b) || is_null_kind(a) || is_null_kind(b)
+}
+
 // Whether an equality is between a column of the inner source and one of an outer source, of the same kind.
 fn is_tie(scope: &Scope, inner: &InnerSource, equality: &Equality) -> bool
     ensures { result ≡ is_tie scope.now inner.now equality.now }
@@ -116,7 +123,7 @@ fn is_tie(scope: &Scope, inner: &InnerSource, equality: &Equality) -> bool
     let left = or_null(kind_inside(scope, inner, &equality.left));
     let right = or_null(kind_inside(scope, inner, &equality.right));
     let apart = is_inner(inner, &equality.left) != is_inner(inner, &equality.right);
-    apart && is_same_kind(left, right)
+    apart && kinds_tie(left, right)
 }
 
 #[tactic(auto, using(crate::proofs::Least::least_append))]

@@ -2,7 +2,7 @@
 ghost use Rattle.std.specs.Option.{is_none};
 ghost use Rattle.std.specs.Prelude.{◌≡◌, IfOk, option_map};
 ghost use Rattle.sql_check_parts.specs.Given.{columns_given};
-ghost use Rattle.sql_check_parts.specs.Scopes.{columns_from, columns_of, misnames_series, value_among};
+ghost use Rattle.sql_check_parts.specs.Scopes.{columns_from, lacks_names, misnames_series, value_among};
 
 use crate::{Columns, Tables};
 use sql_tree::Source;
@@ -59,5 +59,18 @@ pub fn misnames_series(alloc: Global, tables: &Tables, source: &Source) -> Resul
     match tables.columns(&source.table) {
         Some(columns) => Ok(!columns.fits(alloc, series)?),
         None => Ok(true),
+    }
+}
+
+/// Whether a source is a SERIES that names what its table does not have; a table that is not there has nothing.
+pub fn lacks_names(tables: &Tables, source: &Source) -> bool
+    ensures { result ≡ lacks_names tables.now source.now }
+{
+    let Some(series) = &source.series else {
+        return false;
+    };
+    match tables.columns(&source.table) {
+        Some(columns) => !columns.has_names(series),
+        None => true,
     }
 }

@@ -53,13 +53,13 @@ impl<'a> Scope<'a> {
     pub fn add(&mut self, alias: &Txt, columns: Option<GivenColumns<'a>>) -> Result<(), AllocError>
         ensures { OnOk result (self.new ≡ add_source self.old alias.now (option_map columns_given columns.entry)) }
     {
-        match columns {
-            Some(columns) if !self.has(alias) => {
-                self.sources.put(alias.share()?, columns)?;
-                Ok(())
-            }
-            _ => Ok(()),
+        let Some(columns) = columns else {
+            return Ok(());
+        };
+        if self.has(alias) {
+            return Ok(());
         }
+        self.sources.put(alias.share()?, columns)
     }
 
     // The columns of the source of an alias.

@@ -1,15 +1,17 @@
 // The sources of a select, and the conditions of its joins.
+ghost use Rattle.std.specs.List.{list_any};
 ghost use Rattle.std.specs.Prelude.{◌≡◌, map, IfOk, OnOk};
 ghost use Rattle.sql_tree.specs.View.{join_tree, select_tree};
 ghost use Rattle.sql_check_parts.specs.Expressions.{site};
-ghost use Rattle.sql_check_parts.specs.Queries.{join_breaks, join_condition, join_source, joined_scope, joins_break, source_breaks};
+ghost use Rattle.sql_check_parts.specs.Queries.{has_unnamed, join_breaks, join_condition, join_source, joined_scope, joins_break, source_breaks};
 ghost use Rattle.sql_check_parts.specs.Rules.{least};
-ghost use Rattle.sql_check_parts.specs.Scopes.{with_source};
+ghost use Rattle.sql_check_parts.specs.Scopes.{lacks_names, with_source};
 ghost use Rattle.sql_check_queries.specs.Told.{HasSources};
 
 use sql_check_expressions::{Site, condition};
 use sql_check_parts::{
-    Scope, SqlRule, Tables, Test, columns_from, least_broken, lesser, misnames_series,
+    Scope, SqlRule, Tables, Test, columns_from, lacks_names, least_broken, lesser,
+    misnames_series,
 };
 use sql_tree::{Join, Select, Source};
 use std::alloc::{AllocError, Global};
@@ -66,6 +68,25 @@ pub fn join_source(join: &Join) -> &Source
     match join {
         Join::On { source, .. } | Join::Cross(source) => source,
     }
+}
+
+// Whether a SERIES among the sources of joins names what its table does not have.
+fn any_unnamed(tables: &Tables, joins: &[Join]) -> bool
+    ensures { result ≡ list_any (lacks_names tables.now) (map join_source (map join_tree joins.now)) }
+{
+    for join in joins {
+        if lacks_names(tables, join_source(join)) {
+            return true;
+        }
+    }
+    false
+}
+
+/// Whether a SERIES of a select names what its table does not have.
+pub(crate) fn has_unnamed(tables: &Tables, select: &Select) -> bool
+    ensures { result ≡ has_unnamed tables.now (select_tree select.now) }
+{
+    lacks_names(tables, &select.from) || any_unnamed(tables, select.joins.as_slice())
 }
 
 // The condition of a join among the sources up to its own.

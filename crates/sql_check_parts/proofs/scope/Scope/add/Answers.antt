@@ -9,18 +9,18 @@ pub put-requires : goal.put-requires
 put-requires c =
     let es = c.self.inside.sources in
     let alias = c.args.alias.now in
-    ap (λ name. is_among name (keys_of es)) c.in_ok-share-in-Some.ensures
+    ap (λ name. is_among name (keys_of es)) c.in_ok-share.ensures
     ∙ sym (names_kept columns_given alias es)
     ∙ ap (λ l. is_among alias (keys_of l)) c.self.view_is
-    ∙ sym c.has.ensures ∙ c.if-not-has.true
+    ∙ sym c.has.ensures ∙ c.if-has.false
 
-pub returns-in_ok-put-in-Some : goal.returns-in_ok-put-in-Some
-returns-in_ok-put-in-Some c =
+pub returns : goal.returns
+returns c =
     let es = c.self.inside.sources in
     let alias = c.args.alias.now in
     let columns = columns_given c.in-Some.columns in
-    let free = sym c.has.ensures ∙ c.if-not-has.true in
-    ap (map (with_value columns_given)) (put_as es _ _ alias _ c.in_ok-put-in-Some.ensures.put c.in_ok-share-in-Some.ensures)
+    let free = sym c.has.ensures ∙ c.if-has.false in
+    ap (map (with_value columns_given)) (put_as es _ _ alias _ c.put.ensures.put c.in_ok-share.ensures)
     ∙ map_push (with_value columns_given) es (alias, c.in-Some.columns)
     ∙ ap (λ l. l ++ (alias, columns) ∷ []) c.self.view_is
     ∙ sym (ap (λ b. if b then c.args.self.now else c.args.self.now ++ (alias, columns) ∷ []) free)
