@@ -82,7 +82,7 @@ module _ (s : Sourced) (source : Source) (typed : IsSourceTyped (tables_held s.h
   last_counted = ap (λ t. length t.rows) last_table
 
   columns_found : columns_given (tables_held s.held) source ≡ columns_held table
-  columns_found = source_columns_are s.held source typed.0 typed.1.1
+  columns_found = source_columns_are s.held source typed.0 typed.2
 
   pub columns_count : length (columns_given (tables_held s.held) source) ≡ length table.columns
   columns_count = ap length columns_found ∙ length-map table.columns column_entry

@@ -141,7 +141,7 @@ module _ (held : NamedTables) (p : Settings) (a b : Text) (t u : Listed) (apart 
 module _ (p : Settings) (s : Sourced) (source : Source) (typed : IsSourceTyped (tables_held s.held) (scope_held s.sources) source) (kind : JoinKind) (e : Exp) (joins : JoinsTwo p s (tree.on kind source e)) where
   pub joins_linked : IsLinked (with_table s source) 0 e
   joins_linked =
-      go s.sources joins.one typed.1.0 (subst (λ (z : Scope). Fits (site p (tables_held s.held) z) None e) (sym (scope_more s source typed)) joins.typed.0) joins.equal
+      go s.sources joins.one typed.1 (subst (λ (z : Scope). Fits (site p (tables_held s.held) z) None e) (sym (scope_more s source typed)) joins.typed.0) joins.equal
     where
       go : (ss : NamedTables) → length ss ≡ 1 → is_among source.alias (keys_of (scope_held ss)) ≡ false
           → Fits (site p (tables_held s.held) (scope_held (ss ++ (source.alias, table_given s.held source) ∷ []))) None e

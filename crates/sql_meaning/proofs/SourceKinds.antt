@@ -128,7 +128,7 @@ known (Some columns) e = refl
 pub source_added : (tables : Tables) (scope : Scope) (s : Source) → IsSourceTyped tables scope s → (columns_from tables s ≡ Some (columns_given tables s)) × (with_source tables scope s ≡ scope ++ (s.alias, columns_given tables s) ∷ [])
 source_added tables scope s h =
     let there = known (columns_from tables s) (within (columns_of tables s.table) h.0) in
-    (there, ap (add_source scope s.alias) there ∙ ap (λ b. cond b scope (scope ++ (s.alias, columns_given tables s) ∷ [])) h.1.0)
+    (there, ap (add_source scope s.alias) there ∙ ap (λ b. cond b scope (scope ++ (s.alias, columns_given tables s) ∷ [])) h.1)
   where
     within : (o : Option Columns) → IsSome o → IsSome (option_map (λ table. columns_within table s.series) o)
     within None e = e
@@ -145,7 +145,7 @@ module _ (b : Base) (fit : TablesFit b) where
   table_fits scope s e =
       let table = columns_named b.tables s.table in
       subst (λ columns. RowsFit (kinds_of columns) (rows_from b s)) (sym (given_columns b.tables s e.0))
-      (given_fit s.series table (b.rows s.table) e.1.1 (fit s.table table (known (columns_of b.tables s.table) e.0)))
+      (given_fit s.series table (b.rows s.table) e.2 (fit s.table table (known (columns_of b.tables s.table) e.0)))
 
   abbrev sofar : Scope → List Row → Option Fault → Joined
   sofar scope rows fault = record { scope = scope; rows = rows; fault = fault }

@@ -26,7 +26,7 @@ unwrap-table-requires c =
 pub put-requires : goal.put-requires
 put-requires c =
     ap (λ n. list_any (same_text n) (keys_of c.self.inside.sources)) c.in_ok-share.ensures
-    ∙ ap (list_any (same_text c.args.source.now.alias)) (sym (keys_are c.self.inside.sources) ∙ ap (λ s. keys_of (scope_held s.sources)) c.self.view_is) ∙ c.requires.1.0
+    ∙ ap (list_any (same_text c.args.source.now.alias)) (sym (keys_are c.self.inside.sources) ∙ ap (λ s. keys_of (scope_held s.sources)) c.self.view_is) ∙ c.requires.1
 
 pub invariant_of-result : goal.invariant_of-result
 invariant_of-result c =
