@@ -1,6 +1,6 @@
 -- The columns of a SERIES, and that its rows fit them where its table's rows fit the table's.
 use Rattle.std.proofs.Common.{◌≡◌, ℕ, zero, suc, Bool, true, false, cond, not, ◌&&◌, ◌||◌, List, [], ◌∷◌, ◌++◌, map, append_assoc, Option, Some, None, refl, ap, sym, ◌∙◌, subst}
-use Rattle.std.specs.Prelude.{IsSome, fold, is_some, option_map}
+use Rattle.std.specs.Prelude.{IsSome, fold, is_some}
 use Rattle.std.specs.List.{AllByRecursion, list_all, list_any, position_or_len}
 use Rattle.std.specs.Map.{keys_of, lookup}
 use Rattle.std.specs.Cmp.Lexicographic.{nat_list_eq_equiv}
@@ -23,7 +23,7 @@ use Rattle.vtl_rows.specs.Tables.{cells_at, fits_kinds}
 use Rattle.sql_tree.specs.Trees.{Text}
 use Rattle.sql_tree.specs.declared.parts.Series.{Series}
 use Rattle.sql_tree.specs.declared.parts.Source.{Source}
-use Rattle.sql_check_parts.specs.Scopes.{Columns, Tables, add_column, columns_chosen, columns_from, columns_of, columns_within, is_among, maybe_series_fits, or_nothing, or_null, repeats, series_fits, series_names, value_among}
+use Rattle.sql_check_parts.specs.Scopes.{Columns, Tables, add_column, columns_of, columns_within, is_among, maybe_series_fits, maybe_within, or_nothing, or_null, repeats, series_fits, series_names, value_among}
 use Rattle.sql_meaning.specs.Tables.{RowsFit, columns_given, columns_named, extent_of, given_rows, kinds_of, place_among, series_over}
 use Rattle.sql_meaning.proofs.Lists.{under}
 use Rattle.sql_meaning.proofs.RowKinds.{fits_beside}
@@ -145,8 +145,9 @@ given_all P kept (Some s) table rows all =
 
 -- the columns of a source whose table is there
 pub given_columns : (tables : Tables) (s : Source) → IsSome (columns_of tables s.table) → columns_given tables s ≡ columns_within (columns_named tables s.table) s.series
-given_columns tables s h = go (columns_of tables s.table) h
+given_columns tables s h = go s.series (columns_of tables s.table) h
   where
-    go : (o : Option Columns) → IsSome o → or_nothing (option_map (λ table. columns_within table s.series) o) ≡ columns_within (or_nothing o) s.series
-    go None e = cc
-    go (Some table) e = refl
+    go : (x : Option Series) (o : Option Columns) → IsSome o → or_nothing (maybe_within x o) ≡ columns_within (or_nothing o) x
+    go None o e = refl
+    go (Some x) None e = cc
+    go (Some x) (Some table) e = refl

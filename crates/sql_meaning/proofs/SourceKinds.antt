@@ -17,11 +17,12 @@ use Rattle.vtl_rows.specs.Tables.{fits_kinds}
 use Rattle.sql_tree.specs.Trees as tree
 use Rattle.sql_tree.specs.Trees.{Exp, JoinTree, SelectTree, Text}
 use Rattle.sql_tree.specs.declared.parts.Column.{Column}
+use Rattle.sql_tree.specs.declared.parts.Series.{Series}
 use Rattle.sql_tree.specs.declared.parts.Source.{Source}
 use Rattle.sql_tree.specs.declared.word_groups.JoinKind.{JoinKind}
 use Rattle.sql_tree.specs.declared.word_groups.JoinKind.TheVariants as joining
 use Rattle.sql_check_parts.specs.Queries.{first_scope, joined_scope, scope_of}
-use Rattle.sql_check_parts.specs.Scopes.{Columns, Scope, Tables, add_source, columns_from, columns_of, columns_within, found, or_nothing, placed, row_of, with_source}
+use Rattle.sql_check_parts.specs.Scopes.{Columns, Scope, Tables, add_source, columns_from, columns_of, found, maybe_within, or_nothing, placed, row_of, with_source}
 use Rattle.sql_check_parts.proofs.Places.{found_placed}
 use Rattle.sql_check_laws.specs.Selects.{AreJoinsTyped, IsSelectTyped, IsSourceTyped}
 use Rattle.sql_meaning.specs.From.{Joined, beside, condition_fault, fault_at, holds, is_met, joined, joined_by, joined_rows, kept, nulls, or_alone, pairs, pairs_by, partners, partners_or_alone, source_rows, unmet, with_join}
@@ -127,12 +128,13 @@ known (Some columns) e = refl
 -- a source whose table is known, and whose alias is new, stands behind the others
 pub source_added : (tables : Tables) (scope : Scope) (s : Source) → IsSourceTyped tables scope s → (columns_from tables s ≡ Some (columns_given tables s)) × (with_source tables scope s ≡ scope ++ (s.alias, columns_given tables s) ∷ [])
 source_added tables scope s h =
-    let there = known (columns_from tables s) (within (columns_of tables s.table) h.0) in
+    let there = known (columns_from tables s) (within s.series (columns_of tables s.table) h.0) in
     (there, ap (add_source scope s.alias) there ∙ ap (λ b. cond b scope (scope ++ (s.alias, columns_given tables s) ∷ [])) h.1)
   where
-    within : (o : Option Columns) → IsSome o → IsSome (option_map (λ table. columns_within table s.series) o)
-    within None e = e
-    within (Some table) e = tt
+    within : (x : Option Series) (o : Option Columns) → IsSome o → IsSome (maybe_within x o)
+    within None o e = e
+    within (Some x) None e = e
+    within (Some x) (Some table) e = refl
 
 pub kinds_added : (scope : Scope) (alias : Text) (columns : Columns) → row_of (scope ++ (alias, columns) ∷ []) ≡ row_of scope ++ kinds_of columns
 kinds_added scope alias columns = flat_map-append (λ s. map (λ e. e.1) s.1) scope ((alias, columns) ∷ []) ∙ ap (λ l. row_of scope ++ l) (append-nil (kinds_of columns))
