@@ -2,7 +2,7 @@
 use Rattle.std.proofs.Common.{◌≡◌, Bool, true, false, not, ◌&&◌, ◌||◌, cond, List, [], ◌∷◌, map, Some, None, Ok, refl, ap, sym, ◌∙◌, subst, arith}
 use Rattle.std.specs.List.{AllByRecursion, filter, list_all, list_any}
 use Rattle.grammar_forms.specs.Written.{Each}
-use Rattle.vtl_cell.specs.Kinds.{is_null, kind_of, same_kind}
+use Rattle.vtl_cell.specs.Kinds.{is_null, kind_of}
 use Rattle.vtl_cell.specs.Order.{same_cell}
 use Rattle.vtl_cell.specs.Outcome.{fault_in, faults_by, join, unless}
 use Rattle.vtl_cell.specs.Outcomes.{is_true}
@@ -22,7 +22,7 @@ use Rattle.vtl_meaning.proofs.ValueKinds.{cell_is_of}
 use Rattle.sql_tree.specs.Formed.{IsEquality, IsExp, IsName}
 use Rattle.sql_tree.specs.Trees.{Text, exists}
 use Rattle.sql_check_laws.specs.Fits.{Fits, IsCondition, Ties}
-use Rattle.sql_check_parts.specs.Exists.{Inner, inner_of}
+use Rattle.sql_check_parts.specs.Exists.{Inner, inner_of, kinds_tie}
 use Rattle.sql_check_parts.specs.Expressions.{site}
 use Rattle.sql_check_parts.specs.Scopes.{columns_of as table_columns}
 use Rattle.sql_meaning.specs.From.{fault_at, holds}
@@ -48,7 +48,7 @@ equal_scalars p (c.Day x) (c.Day y) e n = refl
 equal_scalars p (c.Period x) (c.Period y) e n = refl
 equal_scalars p u v e n = cc
 
-kinds_equal : (kind : Kind) → same_kind kind kind ≡ true
+kinds_equal : (kind : Kind) → kinds_tie kind kind ≡ true
 kinds_equal k.Null = refl
 kinds_equal k.Bool = refl
 kinds_equal k.Int = refl
@@ -145,7 +145,7 @@ module _ (b : Base) (xs ys : List Component) (ax : AreApart xs) (ay : AreApart y
     all_ties (u ∷ us) i j = (one_tie u i.0 j.0, all_ties us i.1 j.1)
 
     exists_fits : Fits (site b.settings b.tables (one_scope xs)) None (exists (source_as second_alias other) (map tied zs))
-    exists_fits = (rw known refl, subst (λ n. AllByRecursion (Ties (one_scope xs) None n) (map tied zs)) (sym inner_is) (all_ties zs ours theirs))
+    exists_fits = ((rw known refl, refl), subst (λ n. AllByRecursion (Ties (one_scope xs) None n) (map tied zs)) (sym inner_is) (all_ties zs ours theirs))
 
     pub matched_fits : (wanted : Bool) → IsCondition (site b.settings b.tables (one_scope xs)) None (is_matched wanted zs other)
     matched_fits true = (exists_fits, refl)
@@ -158,5 +158,5 @@ ties_printed [] n = tt
 ties_printed (z ∷ zs) n = (((second_is_name, n.0), (first_is_name, n.0)), ties_printed zs n.1)
 
 pub matched_printed : (wanted : Bool) (zs : List Component) (other : Text) → IsName other → HaveNames zs → IsExp printable_depth (is_matched wanted zs other)
-matched_printed true zs other o n = (((o, second_is_name), ties_printed zs n), omega arith)
-matched_printed false zs other o n = ((refl, ((o, second_is_name), ties_printed zs n)), omega arith)
+matched_printed true zs other o n = (((o, tt, second_is_name), ties_printed zs n), omega arith)
+matched_printed false zs other o n = ((refl, ((o, tt, second_is_name), ties_printed zs n)), omega arith)
