@@ -34,7 +34,6 @@ use Rattle.sql_check_laws.specs.Fits.{IsMaybeCondition}
 use Rattle.sql_check_laws.specs.Selects.{AreJoinsTyped}
 use Rattle.sql_check_parts.specs.Expressions.{site}
 use Rattle.sql_check_parts.specs.Queries.{joined_scope, scope_of}
-use Rattle.sql_check_parts.specs.Scopes.{add_source}
 use Rattle.sql_meaning.specs.From.{kept_of, pairs, source_rows, with_join}
 use Rattle.sql_meaning.specs.Scripts.{Data, base_of, tables_in}
 use Rattle.expressions_to_sql.specs.Names.{AreNamesFormed, Names}
@@ -57,6 +56,7 @@ use Rattle.joins_to_sql.proofs.ShownColumns.{filter_exactly, joined_columns}
 use Rattle.selects_to_sql.proofs.SelectItems.{AllRows, GivesRows, IsFrom}
 use Rattle.selects_to_sql.proofs.Selects.{IsPointOf, IsTest, expressions_give}
 use Rattle.selects_to_sql.proofs.Unions.{one_exactly}
+use Rattle.sql_check_parts.proofs.SeriesColumns.{add_table}
 
 -- ---- a row of points one behind the other
 
@@ -159,7 +159,7 @@ module _ (p : Settings) (before : Data) where
   crosses_typed [] (x ∷ xs) i done e few h = absurd h
   crosses_typed (d ∷ ds) [] i done e few h = absurd h
   crosses_typed (d ∷ ds) (x ∷ xs) i done e few h = (
-    (ap is_some h.0.known, alias_new before done x d i e (omega (arith, few)) h.0),
+    (ap is_some h.0.known, alias_new before done x d i e (omega (arith, few)) h.0, refl),
     tt,
     subst (λ z. AreJoinsTyped p (tables_in before) z (crosses (suc i) xs)) (sym (source_behind before done x d i e (omega (arith, few)) h.0))
         (crosses_typed ds xs (suc i) (done ++ columns_of d.structure ∷ []) (next_number i done (columns_of d.structure) e) (omega (arith, few)) h.1),
@@ -169,7 +169,7 @@ module _ (p : Settings) (before : Data) where
   crosses_printed [] [] i few h = tt
   crosses_printed [] (x ∷ xs) i few h = absurd h
   crosses_printed (d ∷ ds) [] i few h = absurd h
-  crosses_printed (d ∷ ds) (x ∷ xs) i few h = ((h.0.word, alias_is_name i (omega (arith, few))), crosses_printed ds xs (suc i) (omega (arith, few)) h.1)
+  crosses_printed (d ∷ ds) (x ∷ xs) i few h = ((h.0.word, tt, alias_is_name i (omega (arith, few))), crosses_printed ds xs (suc i) (omega (arith, few)) h.1)
 
 -- ---- the select
 
@@ -210,7 +210,7 @@ module _ (p : Settings) (law : Translates p) (before : Data) (d : DataSet) (ds :
 
   scope_is : (test : Option Exp) → scope_of (tables_in before) (select test) ≡ many_scope 0 yss
   scope_is test =
-      ap (λ z. joined_scope (tables_in before) (add_source [] (alias_of 0) z) (crosses 1 xs)) held.0.known
+      ap (λ z. joined_scope (tables_in before) (add_table [] (alias_of 0) z) (crosses 1 xs)) held.0.known
       ∙ crossed_scope p before ds xs 1 first refl few held.1
       ∙ ap (many_scope 0) (all_done p before ds first)
 
@@ -218,7 +218,7 @@ module _ (p : Settings) (law : Translates p) (before : Data) (d : DataSet) (ds :
   rows_joined : (test : Option Exp) → source_rows (base_of p before) (select test) ≡ kept_of (base_of p before) test (joined_of (many_scope 0 yss) (map row_with ts) None)
   rows_joined test =
       let b = base_of p before in
-      ap (λ z. kept_of b test (fold (with_join b) (joined_of (add_source [] (alias_of 0) z) (b.rows x) None) (crosses 1 xs))) held.0.known
+      ap (λ z. kept_of b test (fold (with_join b) (joined_of (add_table [] (alias_of 0) z) (b.rows x) None) (crosses 1 xs))) held.0.known
       ∙ ap (λ l. kept_of b test (fold (with_join b) (joined_of (many_scope 0 first) l None) (crosses 1 xs))) (rows_held p before x d held.0 ∙ sym (first_rows d))
       ∙ ap (kept_of b test) (crossed_joins p before ds xs 1 first (crossed_with ([] ∷ []) (operand_points d)) refl few held.1)
       ∙ ap (λ z. kept_of b test (joined_of (many_scope 0 z) (map row_with (fold crossed_with (crossed_with ([] ∷ []) (operand_points d)) (map operand_points ds))) None)) (all_done p before ds first)
@@ -267,9 +267,9 @@ module _ (p : Settings) (law : Translates p) (before : Data) (d : DataSet) (ds :
     from_is : IsFrom p before (many_scope 0 yss) (select test)
     from_is = record {
       scope = scope_is test;
-      source = ((ap is_some held.0.known, refl), (held.0.word, alias_is_name 0 (omega arith)));
+      source = ((ap is_some held.0.known, refl, refl), (held.0.word, tt, alias_is_name 0 (omega arith)));
       joins = (
-        subst (λ z. AreJoinsTyped p (tables_in before) (add_source [] (alias_of 0) z) (crosses 1 xs)) (sym held.0.known) (crosses_typed p before ds xs 1 first refl few held.1),
+        subst (λ z. AreJoinsTyped p (tables_in before) (add_table [] (alias_of 0) z) (crosses 1 xs)) (sym held.0.known) (crosses_typed p before ds xs 1 first refl few held.1),
         crosses_printed p before ds xs 1 few held.1,
       );
       condition = (fits, printed);

@@ -39,7 +39,7 @@ use Rattle.sql_tree.specs.Trees.{Exp, JoinTree, SelectTree, Text, on}
 use Rattle.sql_tree.specs.declared.word_groups.JoinKind.TheVariants as joining
 use Rattle.sql_check_laws.specs.Selects.{AreJoinsTyped}
 use Rattle.sql_check_parts.specs.Queries.{first_scope, scope_of}
-use Rattle.sql_check_parts.specs.Scopes.{Scope, add_source, columns_of as table_columns}
+use Rattle.sql_check_parts.specs.Scopes.{Scope, columns_of as table_columns}
 use Rattle.sql_meaning.specs.From as from
 use Rattle.sql_meaning.specs.From.{fault_at, holds, pairs, partners, source_rows}
 use Rattle.sql_meaning.specs.Scripts.{Data, base_of, tables_in}
@@ -57,6 +57,7 @@ use Rattle.selects_to_sql.proofs.Givens.{AreGiven}
 use Rattle.selects_to_sql.proofs.SelectItems.{AllRows, GivesRows, IsFrom}
 use Rattle.selects_to_sql.proofs.Selects.{IsPointOf, IsTest, condition_fits, expression_printed, expressions_give, maybe_fits, maybe_printed}
 use Rattle.selects_to_sql.proofs.Sources.{first_is_name, second_is_name, two_formed, two_names, two_scope}
+use Rattle.sql_check_parts.proofs.SeriesColumns.{add_table}
 
 -- ---- the partners of a row are the one point with its key
 
@@ -160,8 +161,8 @@ module _ (p : Settings) (law : Translates p) (before : Data) (x y : Text) (a b s
 
   pub scope_is : (condition : Option CompExp) → scope_of (tables_in before) (it condition) ≡ scope
   scope_is condition =
-      ap (λ o. add_source (add_source [] first_alias o) second_alias (table_columns (tables_in before) y)) (known_there p law before x a d there named.0 set.well_formed na)
-      ∙ ap (add_source ((first_alias, entries (columns_of a)) ∷ []) second_alias) (known_there p law before y b e here named.1 other.well_formed nb)
+      ap (λ o. add_table (add_table [] first_alias o) second_alias (table_columns (tables_in before) y)) (known_there p law before x a d there named.0 set.well_formed na)
+      ∙ ap (add_table ((first_alias, entries (columns_of a)) ∷ []) second_alias) (known_there p law before y b e here named.1 other.well_formed nb)
 
   pub names : Names at scope columns
   names = two_names (columns_of a) (columns_of b) (columns_apart a set.well_formed) (columns_apart b other.well_formed)
@@ -247,15 +248,15 @@ module _ (p : Settings) (law : Translates p) (before : Data) (x y : Text) (a b s
       let second : (table_columns (tables_in before) y ≡ Some (entries (columns_of b))) = known_there p law before y b e here named.1 other.well_formed nb in
       let boolean = ap (meets k.Bool) (conjunction_kind p columns (map (agrees_on (columns_of a) (columns_of b)) (identifiers_of b)) parts) in
       let fits = condition_fits p law at columns formed scope names (tables_in before) (agree a b) agree_typed boolean agree_written in
-      rw first (rw second ((refl, refl), fits, tt))
+      rw first (rw second ((refl, refl, refl), fits, tt))
 
   pub from_is : (condition : Option CompExp) → IsTest p columns condition → IsFrom p before scope (it condition)
   from_is condition test =
       let known : (table_columns (tables_in before) x ≡ Some (entries (columns_of a))) = known_there p law before x a d there named.0 set.well_formed na in
       record {
         scope = scope_is condition;
-        source = ((rw known refl, refl), (named.0, first_is_name));
-        joins = (joins_typed condition, (((named.1, second_is_name), expression_printed p law at columns formed (agree a b) agree_typed agree_written), tt));
+        source = ((rw known refl, refl, refl), (named.0, tt, first_is_name));
+        joins = (joins_typed condition, (((named.1, tt, second_is_name), expression_printed p law at columns formed (agree a b) agree_typed agree_written), tt));
         condition = (maybe_fits p law at columns formed scope names (tables_in before) condition test, maybe_printed p law at columns formed condition test);
       }
 

@@ -1,7 +1,7 @@
 -- The columns that a SERIES names.
 use Rattle.std.proofs.Common.{◌≡◌, ◌∙◌, ◌+◌, ◌<◌, ℕ, Bool, true, false, not, ◌&&◌, ◌∷◌, ◌++◌, List, [], Some, None, take, get_or, length, refl, ap}
 use Rattle.std.specs.List.{fold, list_all}
-use Rattle.std.specs.Prelude.{Option, is_some}
+use Rattle.std.specs.Prelude.{Option, is_some, option_map}
 use Rattle.std.proofs.lemmas.List.Folds.{list_all-append}
 use Rattle.std.proofs.lemmas.List.Sums.{fold_more}
 use Rattle.vtl_cell.specs.Kinds.{same_kind}
@@ -10,11 +10,16 @@ use Rattle.vtl_cell.specs.declared.kind.Kind.TheVariants as k
 use Rattle.sql_tree.specs.Trees.{Text}
 use Rattle.sql_tree.specs.declared.parts.Series.{Series}
 use Rattle.sql_tree.specs.declared.parts.Source.{Source}
-use Rattle.sql_check_parts.specs.Scopes.{Columns, Tables, add_column, columns_chosen, columns_of, fits_table, has_names, lacks_names, maybe_has_names, maybe_series_fits, or_nothing, or_null, repeats, series_fits, series_names, value_among}
+use Rattle.sql_check_parts.specs.Scopes.{Columns, Scope, Tables, add_column, add_source, columns_chosen, columns_of, columns_within, fits_table, has_names, lacks_names, maybe_has_names, maybe_series_fits, or_nothing, or_null, repeats, series_fits, series_names, value_among}
+use Rattle.sql_check_parts.proofs.SeriesColumns.{add_table}
 
 and_left : (a b : Bool) → (a && b) ≡ true → a ≡ true
 and_left true b e = refl
 and_left false b e = e
+
+-- one more source that is a table with its own columns
+abbrev pub add_table : Scope → Text → Option Columns → Scope
+add_table scope alias columns = add_source scope alias (option_map (λ table. columns_within table None) columns)
 
 -- one more name
 pub chosen_more : (table : Columns) (names : List Text) (i : ℕ) (d : Text) → i < length names

@@ -1,5 +1,5 @@
 -- EXISTS over the identifiers that two tables have.
-use Rattle.std.proofs.Common.{◌≡◌, Bool, true, false, not, ◌&&◌, ◌||◌, cond, List, [], ◌∷◌, map, Some, None, Ok, refl, ap, sym, ◌∙◌, subst, arith}
+use Rattle.std.proofs.Common.{◌≡◌, Bool, true, false, not, ◌&&◌, ◌||◌, cond, List, [], ◌∷◌, map, Option, option_map, Some, None, Ok, refl, ap, sym, ◌∙◌, subst, arith}
 use Rattle.std.specs.List.{AllByRecursion, filter, list_all, list_any}
 use Rattle.grammar_forms.specs.Written.{Each}
 use Rattle.vtl_cell.specs.Kinds.{is_null, kind_of, same_kind}
@@ -24,7 +24,7 @@ use Rattle.sql_tree.specs.Trees.{Text, exists}
 use Rattle.sql_check_laws.specs.Fits.{Fits, IsCondition, Ties}
 use Rattle.sql_check_parts.specs.Exists.{Inner, inner_of}
 use Rattle.sql_check_parts.specs.Expressions.{site}
-use Rattle.sql_check_parts.specs.Scopes.{columns_of as table_columns}
+use Rattle.sql_check_parts.specs.Scopes.{Columns, columns_of as table_columns, columns_within}
 use Rattle.sql_meaning.specs.From.{fault_at, holds}
 use Rattle.sql_meaning.specs.Outcomes.{operated}
 use Rattle.sql_meaning.specs.Tables.{Base}
@@ -74,7 +74,7 @@ module _ (b : Base) (xs ys : List Component) (ax : AreApart xs) (ay : AreApart y
   inner_entries = record { alias = second_alias; columns = Some (entries ys) }
 
   inner_is : inner ≡ inner_entries
-  inner_is = ap (λ o. record { alias = second_alias; columns = o }) known
+  inner_is = ap (λ (o : Option Columns). record { alias = second_alias; columns = option_map (λ table. columns_within table None) o }) known
 
   -- the value of an equality
   tie_is : (z : Component) (r q : Row) → IsIdentifierAt z.name z.kind xs → IsIdentifierAt z.name z.kind ys → is_point xs r ≡ true → is_point ys q ≡ true → is_tied v inner r q (tied z) ≡ same_cell (column_of (place_of z.name ys) q) (column_of (place_of z.name xs) r)
@@ -145,7 +145,7 @@ module _ (b : Base) (xs ys : List Component) (ax : AreApart xs) (ay : AreApart y
     all_ties (u ∷ us) i j = (one_tie u i.0 j.0, all_ties us i.1 j.1)
 
     exists_fits : Fits (site b.settings b.tables (one_scope xs)) None (exists (source_as second_alias other) (map tied zs))
-    exists_fits = (rw known refl, subst (λ n. AllByRecursion (Ties (one_scope xs) None n) (map tied zs)) (sym inner_is) (all_ties zs ours theirs))
+    exists_fits = ((rw known refl, refl), subst (λ n. AllByRecursion (Ties (one_scope xs) None n) (map tied zs)) (sym inner_is) (all_ties zs ours theirs))
 
     pub matched_fits : (wanted : Bool) → IsCondition (site b.settings b.tables (one_scope xs)) None (is_matched wanted zs other)
     matched_fits true = (exists_fits, refl)
@@ -158,5 +158,5 @@ ties_printed [] n = tt
 ties_printed (z ∷ zs) n = (((second_is_name, n.0), (first_is_name, n.0)), ties_printed zs n.1)
 
 pub matched_printed : (wanted : Bool) (zs : List Component) (other : Text) → IsName other → HaveNames zs → IsExp printable_depth (is_matched wanted zs other)
-matched_printed true zs other o n = (((o, second_is_name), ties_printed zs n), omega arith)
-matched_printed false zs other o n = ((refl, ((o, second_is_name), ties_printed zs n)), omega arith)
+matched_printed true zs other o n = (((o, tt, second_is_name), ties_printed zs n), omega arith)
+matched_printed false zs other o n = ((refl, ((o, tt, second_is_name), ties_printed zs n)), omega arith)
