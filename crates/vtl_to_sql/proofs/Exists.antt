@@ -3,6 +3,7 @@ use Rattle.std.proofs.Common.{◌≡◌, Bool, true, false, not, ◌&&◌, ◌||
 use Rattle.std.specs.List.{AllByRecursion, filter, list_all, list_any}
 use Rattle.grammar_forms.specs.Written.{Each}
 use Rattle.vtl_cell.specs.Kinds.{is_null, kind_of, same_kind}
+use Rattle.vtl_cell.specs.Literals.{is_null_kind}
 use Rattle.vtl_cell.specs.Order.{same_cell}
 use Rattle.vtl_cell.specs.Outcome.{fault_in, faults_by, join, unless}
 use Rattle.vtl_cell.specs.Outcomes.{is_true}
@@ -138,7 +139,7 @@ module _ (b : Base) (xs ys : List Component) (ax : AreApart xs) (ay : AreApart y
     one_tie z i j =
         let left = kind_found (place_of z.name ys) z.name z.kind ys j.column ay in
         let right = kind_found (place_of z.name xs) z.name z.kind xs i.column ax in
-        ((rw left refl, refl), (rw right refl, refl), rw left (rw right (kinds_equal z.kind)))
+        ((rw left refl, refl), (rw right refl, refl), rw left (rw right (ap (λ b. b || (is_null_kind z.kind || is_null_kind z.kind)) (kinds_equal z.kind))))
 
     all_ties : (us : List Component) → AreIdentifiersAt xs us → AreIdentifiersAt ys us → AllByRecursion (Ties (one_scope xs) None inner_entries) (map tied us)
     all_ties [] i j = tt
