@@ -34,6 +34,7 @@ use Rattle.vtl_meaning.proofs.Places.{all_back, all_more, columns_split}
 use Rattle.vtl_meaning.proofs.TurnedKept.{filter_map_drawn}
 use Rattle.sql_tree.specs.Formed.{IsName}
 use Rattle.sql_tree.specs.Trees.{Text}
+use Rattle.sql_check_parts.specs.Scopes.{add_source}
 use Rattle.sql_meaning.specs.From.{condition_fault, kept, source_rows}
 use Rattle.sql_meaning.specs.Scripts.{Data, base_of}
 use Rattle.sql_meaning.specs.Values.{at_rows, null_test, value as sql_value}
@@ -52,7 +53,6 @@ use Rattle.selects_to_sql.proofs.SelectItems.{AreItems, GivesRows, Valued, each_
 use Rattle.selects_to_sql.proofs.Selects.{IsPointOf, expression_items, valued}
 use Rattle.selects_to_sql.proofs.Sources.{one_formed, one_scope}
 use Rattle.selects_to_sql.proofs.Unions.{AllGive, union_there}
-use Rattle.sql_check_parts.proofs.SeriesColumns.{add_table}
 
 -- what is made of each item that passes a test
 passing : {X Y : Type 0} (p : X → Bool) (f : X → Y) (xs : List X) → map f (filter (λ x. not (p x)) xs) ≡ flat_map (λ x. option_to_list (cond (p x) None (Some (f x)))) xs
@@ -144,7 +144,7 @@ module _ (p : Settings) (law : Translates p) (before : Data) (name : Text) (a s 
 
     kept_rows : source_rows (base_of p before) (unpivoted_select p a s name x) ≡ Ok (filter (λ r. not (is_empty x r)) d)
     kept_rows =
-        ap (λ t. unless (condition_fault (at_rows (base_of p before) t) (Some (is_filled x.name)) ((base_of p before).rows name)) (kept (at_rows (base_of p before) t) (Some (is_filled x.name)) ((base_of p before).rows name))) (ap (add_table [] first_alias) (known_there p law before name a d there named set.well_formed na))
+        ap (λ t. unless (condition_fault (at_rows (base_of p before) t) (Some (is_filled x.name)) ((base_of p before).rows name)) (kept (at_rows (base_of p before) t) (Some (is_filled x.name)) ((base_of p before).rows name))) (ap (add_source [] first_alias) (known_there p law before name a d there named set.well_formed na))
         ∙ ap (λ l. unless (condition_fault (at_rows (base_of p before) (one_scope xs)) (Some (is_filled x.name)) l) (kept (at_rows (base_of p before) (one_scope xs)) (Some (is_filled x.name)) l)) (rows_there p law before name a d there named set.well_formed na)
         ∙ exactly_kept P (λ r. sql_value (at_rows (base_of p before) (one_scope xs)) (is_filled x.name) r []) (λ r. not (is_empty x r)) d filled_value set.typed
 

@@ -27,7 +27,7 @@ use Rattle.sql_check_laws.specs.Fits.{IsMaybeCondition}
 use Rattle.sql_check_laws.specs.Selects.{AreJoinsTyped}
 use Rattle.sql_check_parts.specs.Expressions.{site}
 use Rattle.sql_check_parts.specs.Queries.{first_scope, joined_scope, scope_of}
-use Rattle.sql_check_parts.specs.Scopes.{Scope}
+use Rattle.sql_check_parts.specs.Scopes.{Scope, add_source}
 use Rattle.sql_meaning.specs.From.{kept_of, source_rows, with_join}
 use Rattle.sql_meaning.specs.Scripts.{Data, base_of, tables_in}
 use Rattle.sql_meaning.specs.Tables.{Base}
@@ -52,7 +52,6 @@ use Rattle.selects_to_sql.proofs.OneOperand.{same_functions}
 use Rattle.selects_to_sql.proofs.SelectItems.{AllRows, GivesRows, IsFrom}
 use Rattle.selects_to_sql.proofs.Selects.{IsPointOf, IsTest, expressions_give, maybe_fits, maybe_printed}
 use Rattle.selects_to_sql.proofs.Unions.{one_exactly}
-use Rattle.sql_check_parts.proofs.SeriesColumns.{add_table}
 
 module _ (p : Settings) (law : Translates p) (before : Data) (r : DataSet) (w : IsStructure r.structure) (named : HaveNames (columns_of r.structure)) (leads : AllByRecursion (λ q. is_point (columns_of r.structure) q ≡ true) r.points) (x : Text) (here : IsHeld before x r) (f : Structure → List Component) (kind : JoinKind) (one : IsOneSided kind) (ds : List DataSet) (xs : List Text) (few : length (length (columns_of r.structure) ∷ map width_of (structures_of ds)) < 2 ^ 64) (held : AreHeld before xs ds) where
   abbrev first : List Component
@@ -149,18 +148,18 @@ module _ (p : Settings) (law : Translates p) (before : Data) (r : DataSet) (w : 
         select = select_of p naming es s (source_as (alias_of 0) x) it test
 
         scope_is : scope_of (tables_in before) select ≡ scope
-        scope_is = ap (λ z. joined_scope (tables_in before) (add_table [] (alias_of 0) z) it) here.known ∙ chained_scope p law before first f ws few kind one ds xs 1 (length first) [] start tied held
+        scope_is = ap (λ z. joined_scope (tables_in before) (add_source [] (alias_of 0) z) it) here.known ∙ chained_scope p law before first f ws few kind one ds xs 1 (length first) [] start tied held
 
         rows_given : source_rows b select ≡ left
         rows_given =
-            ap (λ z. kept_of b test (fold (with_join b) (joined_of (add_table [] (alias_of 0) z) (b.rows x) None) it)) here.known
+            ap (λ z. kept_of b test (fold (with_join b) (joined_of (add_source [] (alias_of 0) z) (b.rows x) None) it)) here.known
             ∙ ap (λ l. kept_of b test (fold (with_join b) (state p law before first f ws few kind one [] l) it)) (rows_held p before x r here)
             ∙ ap (kept_of b test) joined_is
             ∙ kept
 
         joins_typed : AreJoinsTyped p (tables_in before) (first_scope (tables_in before) select) it
         joins_typed =
-            subst (λ z. AreJoinsTyped p (tables_in before) (add_table [] (alias_of 0) z) it) (sym here.known)
+            subst (λ z. AreJoinsTyped p (tables_in before) (add_source [] (alias_of 0) z) it) (sym here.known)
             (chained_typed p law before first f ws few kind one ds xs 1 (length first) [] start tied held)
 
         from_is : IsFrom p before scope select

@@ -34,6 +34,7 @@ use Rattle.sql_check_laws.specs.Fits.{IsMaybeCondition}
 use Rattle.sql_check_laws.specs.Selects.{AreJoinsTyped}
 use Rattle.sql_check_parts.specs.Expressions.{site}
 use Rattle.sql_check_parts.specs.Queries.{joined_scope, scope_of}
+use Rattle.sql_check_parts.specs.Scopes.{add_source}
 use Rattle.sql_meaning.specs.From.{kept_of, pairs, source_rows, with_join}
 use Rattle.sql_meaning.specs.Scripts.{Data, base_of, tables_in}
 use Rattle.expressions_to_sql.specs.Names.{AreNamesFormed, Names}
@@ -56,7 +57,6 @@ use Rattle.joins_to_sql.proofs.ShownColumns.{filter_exactly, joined_columns}
 use Rattle.selects_to_sql.proofs.SelectItems.{AllRows, GivesRows, IsFrom}
 use Rattle.selects_to_sql.proofs.Selects.{IsPointOf, IsTest, expressions_give}
 use Rattle.selects_to_sql.proofs.Unions.{one_exactly}
-use Rattle.sql_check_parts.proofs.SeriesColumns.{add_table}
 
 -- ---- a row of points one behind the other
 
@@ -210,7 +210,7 @@ module _ (p : Settings) (law : Translates p) (before : Data) (d : DataSet) (ds :
 
   scope_is : (test : Option Exp) → scope_of (tables_in before) (select test) ≡ many_scope 0 yss
   scope_is test =
-      ap (λ z. joined_scope (tables_in before) (add_table [] (alias_of 0) z) (crosses 1 xs)) held.0.known
+      ap (λ z. joined_scope (tables_in before) (add_source [] (alias_of 0) z) (crosses 1 xs)) held.0.known
       ∙ crossed_scope p before ds xs 1 first refl few held.1
       ∙ ap (many_scope 0) (all_done p before ds first)
 
@@ -218,7 +218,7 @@ module _ (p : Settings) (law : Translates p) (before : Data) (d : DataSet) (ds :
   rows_joined : (test : Option Exp) → source_rows (base_of p before) (select test) ≡ kept_of (base_of p before) test (joined_of (many_scope 0 yss) (map row_with ts) None)
   rows_joined test =
       let b = base_of p before in
-      ap (λ z. kept_of b test (fold (with_join b) (joined_of (add_table [] (alias_of 0) z) (b.rows x) None) (crosses 1 xs))) held.0.known
+      ap (λ z. kept_of b test (fold (with_join b) (joined_of (add_source [] (alias_of 0) z) (b.rows x) None) (crosses 1 xs))) held.0.known
       ∙ ap (λ l. kept_of b test (fold (with_join b) (joined_of (many_scope 0 first) l None) (crosses 1 xs))) (rows_held p before x d held.0 ∙ sym (first_rows d))
       ∙ ap (kept_of b test) (crossed_joins p before ds xs 1 first (crossed_with ([] ∷ []) (operand_points d)) refl few held.1)
       ∙ ap (λ z. kept_of b test (joined_of (many_scope 0 z) (map row_with (fold crossed_with (crossed_with ([] ∷ []) (operand_points d)) (map operand_points ds))) None)) (all_done p before ds first)
@@ -269,7 +269,7 @@ module _ (p : Settings) (law : Translates p) (before : Data) (d : DataSet) (ds :
       scope = scope_is test;
       source = ((ap is_some held.0.known, refl, refl), (held.0.word, tt, alias_is_name 0 (omega arith)));
       joins = (
-        subst (λ z. AreJoinsTyped p (tables_in before) (add_table [] (alias_of 0) z) (crosses 1 xs)) (sym held.0.known) (crosses_typed p before ds xs 1 first refl few held.1),
+        subst (λ z. AreJoinsTyped p (tables_in before) (add_source [] (alias_of 0) z) (crosses 1 xs)) (sym held.0.known) (crosses_typed p before ds xs 1 first refl few held.1),
         crosses_printed p before ds xs 1 few held.1,
       );
       condition = (fits, printed);

@@ -15,7 +15,7 @@ use Rattle.vtl_meaning.proofs.OwnColumns.{columns_apart}
 use Rattle.vtl_meaning.proofs.Places.{all_append}
 use Rattle.sql_tree.specs.Formed.{IsName}
 use Rattle.sql_tree.specs.Trees.{Text}
-use Rattle.sql_check_parts.specs.Scopes.{columns_of as table_columns, is_among, with_source}
+use Rattle.sql_check_parts.specs.Scopes.{add_source, columns_of as table_columns, is_among, with_source}
 use Rattle.sql_meaning.specs.Scripts.{Data, base_of, no_table, tables_in}
 use Rattle.selects_to_sql.specs.Writable.{HaveNames}
 use Rattle.selects_to_sql.specs.Queries.{alias_of, source_as}
@@ -24,7 +24,6 @@ use Rattle.selects_to_sql.specs.Runs.{IsTable, entries, held}
 use Rattle.selects_to_sql.proofs.Exact.{set_turned}
 use Rattle.joins_to_sql.proofs.ManySources.{AllApart, alias_free, all_columns, many_scope, scope_more}
 use Rattle.selects_to_sql.proofs.Running.{columns_there}
-use Rattle.sql_check_parts.proofs.SeriesColumns.{add_table}
 
 -- a table has the columns and the points of a data set
 pub record IsHeld (now : Data) (x : Text) (d : DataSet) : Type 0 where
@@ -77,7 +76,7 @@ module _ (now : Data) (done : List (List Component)) (x : Text) (d : DataSet) (i
   pub source_behind : with_source (tables_in now) (many_scope 0 done) (source_as (alias_of i) x) ≡ many_scope 0 (done ++ ys ∷ [])
   source_behind =
       let same : i ≡ 0 + length done = omega (arith, number) in
-      ap (add_table (many_scope 0 done) (alias_of i)) here.known
+      ap (add_source (many_scope 0 done) (alias_of i)) here.known
       ∙ ap (λ u. if u then many_scope 0 done else many_scope 0 done ++ (alias_of i, entries ys) ∷ []) alias_new
       ∙ ap (λ j. many_scope 0 done ++ (alias_of j, entries ys) ∷ []) same
       ∙ sym (scope_more 0 done ys)

@@ -31,7 +31,7 @@ use Rattle.sql_tree.specs.Formed.{IsMaybeExp, IsName}
 use Rattle.sql_tree.specs.Trees.{Exp, ItemTree, Text}
 use Rattle.sql_check_laws.specs.Fits.{IsMaybeCondition}
 use Rattle.sql_check_parts.specs.Expressions.{site}
-use Rattle.sql_check_parts.specs.Scopes.{columns_of as table_columns}
+use Rattle.sql_check_parts.specs.Scopes.{add_source, columns_of as table_columns}
 use Rattle.sql_meaning.specs.From.{condition_fault, kept, source_rows}
 use Rattle.sql_meaning.specs.Scripts.{Data, base_of, no_table, tables_in}
 use Rattle.sql_meaning.specs.Values.{at_rows, value as sql_value}
@@ -49,7 +49,6 @@ use Rattle.selects_to_sql.proofs.SelectItems.{AllRows, GivesRows, IsFrom}
 use Rattle.selects_to_sql.proofs.Selects.{IsPointOf, IsTest, condition_fits, expression_printed, expressions_give}
 use Rattle.selects_to_sql.proofs.Unions.{one_exactly}
 use Rattle.selects_to_sql.proofs.Sources.{AreApart, first_is_name, not_first, one_formed, one_names, one_scope}
-use Rattle.sql_check_parts.proofs.SeriesColumns.{add_table}
 
 pub same_functions : {A B : Type 0} (f g : A → B) → ((x : A) → f x ≡ g x) → f ≡ g
 same_functions f g h = λ i. λ x. h x i
@@ -120,7 +119,7 @@ module _ (p : Settings) (law : Translates p) (before : Data) (name : Text) (a : 
   one_from items condition fits printed =
       let known : (table_columns (tables_in before) name ≡ Some (entries xs)) = known_there in
       record {
-        scope = ap (add_table [] first_alias) known;
+        scope = ap (add_source [] first_alias) known;
         source = ((rw known refl, refl, refl), (named, tt, first_is_name));
         joins = (tt, tt);
         condition = (fits, printed);
@@ -145,7 +144,7 @@ module _ (p : Settings) (law : Translates p) (before : Data) (name : Text) (a : 
 
       kept_rows : source_rows (base_of p before) (select_of p of_one es s (source_as first_alias name) [] (Some (to_sql p of_one e))) ≡ filter_of p e d
       kept_rows =
-          ap (λ t. unless (condition_fault (at_rows (base_of p before) t) (Some (to_sql p of_one e)) ((base_of p before).rows name)) (kept (at_rows (base_of p before) t) (Some (to_sql p of_one e)) ((base_of p before).rows name))) (ap (add_table [] first_alias) known_there)
+          ap (λ t. unless (condition_fault (at_rows (base_of p before) t) (Some (to_sql p of_one e)) ((base_of p before).rows name)) (kept (at_rows (base_of p before) t) (Some (to_sql p of_one e)) ((base_of p before).rows name))) (ap (add_source [] first_alias) known_there)
           ∙ ap (λ l. unless (condition_fault (at_rows (base_of p before) (one_scope xs)) (Some (to_sql p of_one e)) l) (kept (at_rows (base_of p before) (one_scope xs)) (Some (to_sql p of_one e)) l)) rows_there
           ∙ ap (λ f. unless (faults_by (λ r. fault_in (f r)) d) (filter (λ r. is_true (f r)) d)) (same_functions (λ r. sql_value (at_rows (base_of p before) (one_scope xs)) (to_sql p of_one e) r []) (value p e) at_each)
 

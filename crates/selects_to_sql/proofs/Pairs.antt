@@ -39,7 +39,7 @@ use Rattle.sql_tree.specs.Trees.{Exp, JoinTree, SelectTree, Text, on}
 use Rattle.sql_tree.specs.declared.word_groups.JoinKind.TheVariants as joining
 use Rattle.sql_check_laws.specs.Selects.{AreJoinsTyped}
 use Rattle.sql_check_parts.specs.Queries.{first_scope, scope_of}
-use Rattle.sql_check_parts.specs.Scopes.{Scope, columns_of as table_columns}
+use Rattle.sql_check_parts.specs.Scopes.{Scope, add_source, columns_of as table_columns}
 use Rattle.sql_meaning.specs.From as from
 use Rattle.sql_meaning.specs.From.{fault_at, holds, pairs, partners, source_rows}
 use Rattle.sql_meaning.specs.Scripts.{Data, base_of, tables_in}
@@ -57,7 +57,6 @@ use Rattle.selects_to_sql.proofs.Givens.{AreGiven}
 use Rattle.selects_to_sql.proofs.SelectItems.{AllRows, GivesRows, IsFrom}
 use Rattle.selects_to_sql.proofs.Selects.{IsPointOf, IsTest, condition_fits, expression_printed, expressions_give, maybe_fits, maybe_printed}
 use Rattle.selects_to_sql.proofs.Sources.{first_is_name, second_is_name, two_formed, two_names, two_scope}
-use Rattle.sql_check_parts.proofs.SeriesColumns.{add_table}
 
 -- ---- the partners of a row are the one point with its key
 
@@ -161,8 +160,8 @@ module _ (p : Settings) (law : Translates p) (before : Data) (x y : Text) (a b s
 
   pub scope_is : (condition : Option CompExp) → scope_of (tables_in before) (it condition) ≡ scope
   scope_is condition =
-      ap (λ o. add_table (add_table [] first_alias o) second_alias (table_columns (tables_in before) y)) (known_there p law before x a d there named.0 set.well_formed na)
-      ∙ ap (add_table ((first_alias, entries (columns_of a)) ∷ []) second_alias) (known_there p law before y b e here named.1 other.well_formed nb)
+      ap (λ o. add_source (add_source [] first_alias o) second_alias (table_columns (tables_in before) y)) (known_there p law before x a d there named.0 set.well_formed na)
+      ∙ ap (add_source ((first_alias, entries (columns_of a)) ∷ []) second_alias) (known_there p law before y b e here named.1 other.well_formed nb)
 
   pub names : Names at scope columns
   names = two_names (columns_of a) (columns_of b) (columns_apart a set.well_formed) (columns_apart b other.well_formed)

@@ -1,7 +1,7 @@
 -- The columns that a SERIES names.
 use Rattle.std.proofs.Common.{◌≡◌, ◌∙◌, ◌+◌, ◌<◌, ℕ, Bool, true, false, not, ◌&&◌, ◌∷◌, ◌++◌, List, [], Some, None, take, get_or, length, refl, ap}
 use Rattle.std.specs.List.{fold, list_all}
-use Rattle.std.specs.Prelude.{Option, is_some, option_map}
+use Rattle.std.specs.Prelude.{Option, is_some}
 use Rattle.std.proofs.lemmas.List.Folds.{list_all-append}
 use Rattle.std.proofs.lemmas.List.Sums.{fold_more}
 use Rattle.vtl_cell.specs.Kinds.{same_kind}
@@ -10,16 +10,12 @@ use Rattle.vtl_cell.specs.declared.kind.Kind.TheVariants as k
 use Rattle.sql_tree.specs.Trees.{Text}
 use Rattle.sql_tree.specs.declared.parts.Series.{Series}
 use Rattle.sql_tree.specs.declared.parts.Source.{Source}
-use Rattle.sql_check_parts.specs.Scopes.{Columns, Scope, Tables, add_column, add_source, columns_chosen, columns_of, columns_within, fits_table, has_names, lacks_names, maybe_has_names, maybe_series_fits, or_nothing, or_null, repeats, series_fits, series_names, value_among}
+use Rattle.sql_check_parts.specs.Scopes.{Columns, Tables, add_column, columns_chosen, columns_of, columns_within, fits_table, has_names, maybe_within, lacks_names, maybe_has_names, maybe_series_fits, or_nothing, or_null, repeats, series_fits, series_names, value_among}
 use Rattle.sql_check_parts.proofs.SeriesColumns.{add_table}
 
 and_left : (a b : Bool) → (a && b) ≡ true → a ≡ true
 and_left true b e = refl
 and_left false b e = e
-
--- one more source that is a table with its own columns
-abbrev pub add_table : Scope → Text → Option Columns → Scope
-add_table scope alias columns = add_source scope alias (option_map (λ table. columns_within table None) columns)
 
 -- one more name
 pub chosen_more : (table : Columns) (names : List Text) (i : ℕ) (d : Text) → i < length names
@@ -46,6 +42,15 @@ none_named s = go s.by
 
 pub none_fits : (s : Series) → series_fits [] s ≡ false
 none_fits s = ap (λ b. b && (not (repeats (series_names s)) && same_kind (or_null (value_among {V = Kind} [] s.on)) k.Period)) (none_named s)
+
+-- the columns of a source, where its table is there and where it is not
+pub within_some : (o : Option Series) (table : Columns) → maybe_within o (Some table) ≡ Some (columns_within table o)
+within_some None table = refl
+within_some (Some s) table = refl
+
+pub within_none : (o : Option Series) → maybe_within o None ≡ None
+within_none None = refl
+within_none (Some s) = refl
 
 -- a SERIES that fits has its names
 pub named_where_fits : (tables : Tables) (s : Source) → fits_table tables s ≡ true → lacks_names tables s ≡ false

@@ -69,9 +69,14 @@ abbrev pub columns_within : Columns → Option Series → Columns
 columns_within table None = table
 columns_within table (Some s) = columns_chosen table (series_names s)
 
+-- the same of a table that may not be there
+abbrev pub maybe_within : Option Series → Option Columns → Option Columns
+maybe_within None table = table
+maybe_within (Some s) table = option_map (λ t. columns_within t (Some s)) table
+
 -- the columns of a source, where its table is there
 abbrev pub columns_from : Tables → Source → Option Columns
-columns_from tables s = option_map (λ table. columns_within table s.series) (columns_of tables s.table)
+columns_from tables s = maybe_within s.series (columns_of tables s.table)
 
 -- the names of a SERIES are columns of its table
 abbrev pub has_names : Columns → Series → Bool

@@ -33,7 +33,7 @@ use Rattle.sql_tree.specs.Trees.{Exp, Text}
 use Rattle.sql_check_laws.specs.Fits.{Fits, IsMaybeCondition}
 use Rattle.sql_check_parts.specs.Expressions.{site}
 use Rattle.sql_check_parts.specs.Kinds.{kind_in}
-use Rattle.sql_check_parts.specs.Scopes.{columns_of as table_columns}
+use Rattle.sql_check_parts.specs.Scopes.{add_source, columns_of as table_columns}
 use Rattle.sql_meaning.specs.From.{condition_fault, kept, source_rows}
 use Rattle.sql_meaning.specs.Scripts.{Data, base_of, tables_in}
 use Rattle.sql_meaning.specs.Values.{at_rows, value as sql_value}
@@ -52,7 +52,6 @@ use Rattle.selects_to_sql.proofs.SelectItems.{AreItems, IsItem, Valued, each_by,
 use Rattle.selects_to_sql.proofs.Selects.{IsPointOf, expression_items, valued}
 use Rattle.selects_to_sql.proofs.Sources.{one_formed, one_scope}
 use Rattle.selects_to_sql.proofs.Unions.{one_exactly}
-use Rattle.sql_check_parts.proofs.SeriesColumns.{add_table}
 
 -- ---- columns of the same names and kinds
 
@@ -230,7 +229,7 @@ module _ (p : Settings) (law : Translates p) (before : Data) (x y : Text) (a b s
 
   matched_are : (es : List Exp) (wanted : Bool) → source_rows (base_of p before) (select_as (items_as es (columns_of s)) (source_as first_alias x) [] (Some (is_matched wanted common y))) ≡ Ok (filter (is_answer (base_of p before) xs ys (columns_apart a sa.well_formed) (columns_apart b sb.well_formed) y known common ours theirs e there sb.typed wanted) d)
   matched_are es wanted =
-      ap (λ t. unless (condition_fault (at_rows (base_of p before) t) (Some (is_matched wanted common y)) ((base_of p before).rows x)) (kept (at_rows (base_of p before) t) (Some (is_matched wanted common y)) ((base_of p before).rows x))) (ap (add_table [] first_alias) (known_there p law before x a d tx nx sa.well_formed na))
+      ap (λ t. unless (condition_fault (at_rows (base_of p before) t) (Some (is_matched wanted common y)) ((base_of p before).rows x)) (kept (at_rows (base_of p before) t) (Some (is_matched wanted common y)) ((base_of p before).rows x))) (ap (add_source [] first_alias) (known_there p law before x a d tx nx sa.well_formed na))
       ∙ ap (λ l. unless (condition_fault (at_rows (base_of p before) (one_scope xs)) (Some (is_matched wanted common y)) l) (kept (at_rows (base_of p before) (one_scope xs)) (Some (is_matched wanted common y)) l)) (rows_there p law before x a d tx nx sa.well_formed na)
       ∙ matched_rows (base_of p before) xs ys (columns_apart a sa.well_formed) (columns_apart b sb.well_formed) y known common ours theirs e there sb.typed wanted d sa.typed
 

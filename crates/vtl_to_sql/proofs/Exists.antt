@@ -1,5 +1,5 @@
 -- EXISTS over the identifiers that two tables have.
-use Rattle.std.proofs.Common.{◌≡◌, Bool, true, false, not, ◌&&◌, ◌||◌, cond, List, [], ◌∷◌, map, Option, option_map, Some, None, Ok, refl, ap, sym, ◌∙◌, subst, arith}
+use Rattle.std.proofs.Common.{◌≡◌, Bool, true, false, not, ◌&&◌, ◌||◌, cond, List, [], ◌∷◌, map, Some, None, Ok, refl, ap, sym, ◌∙◌, subst, arith}
 use Rattle.std.specs.List.{AllByRecursion, filter, list_all, list_any}
 use Rattle.grammar_forms.specs.Written.{Each}
 use Rattle.vtl_cell.specs.Kinds.{is_null, kind_of, same_kind}
@@ -25,7 +25,7 @@ use Rattle.sql_tree.specs.Trees.{Text, exists}
 use Rattle.sql_check_laws.specs.Fits.{Fits, IsCondition, Ties}
 use Rattle.sql_check_parts.specs.Exists.{Inner, inner_of}
 use Rattle.sql_check_parts.specs.Expressions.{site}
-use Rattle.sql_check_parts.specs.Scopes.{Columns, columns_of as table_columns, columns_within}
+use Rattle.sql_check_parts.specs.Scopes.{columns_of as table_columns}
 use Rattle.sql_meaning.specs.From.{fault_at, holds}
 use Rattle.sql_meaning.specs.Outcomes.{operated}
 use Rattle.sql_meaning.specs.Tables.{Base}
@@ -75,7 +75,7 @@ module _ (b : Base) (xs ys : List Component) (ax : AreApart xs) (ay : AreApart y
   inner_entries = record { alias = second_alias; columns = Some (entries ys) }
 
   inner_is : inner ≡ inner_entries
-  inner_is = ap (λ (o : Option Columns). record { alias = second_alias; columns = option_map (λ table. columns_within table None) o }) known
+  inner_is = ap (λ o. record { alias = second_alias; columns = o }) known
 
   -- the value of an equality
   tie_is : (z : Component) (r q : Row) → IsIdentifierAt z.name z.kind xs → IsIdentifierAt z.name z.kind ys → is_point xs r ≡ true → is_point ys q ≡ true → is_tied v inner r q (tied z) ≡ same_cell (column_of (place_of z.name ys) q) (column_of (place_of z.name xs) r)

@@ -24,6 +24,7 @@ use Rattle.sql_tree.specs.Trees.{Exp, Text}
 use Rattle.sql_meaning.specs.From.{condition_fault, kept, source_rows}
 use Rattle.sql_meaning.specs.Scripts.{Data, base_of}
 use Rattle.sql_meaning.specs.Values.{at_rows}
+use Rattle.sql_check_parts.specs.Scopes.{add_source}
 use Rattle.selects_to_sql.specs.Writable.{HaveNames}
 use Rattle.selects_to_sql.specs.Queries.{first_alias}
 use Rattle.vtl_to_sql.specs.Sets.{is_matched, matched_select, shown_query, shown_select}
@@ -38,7 +39,6 @@ use Rattle.selects_to_sql.proofs.SelectItems.{GivesRows, gives_same}
 use Rattle.selects_to_sql.proofs.Selects.{IsPointOf}
 use Rattle.selects_to_sql.proofs.Sources.{one_scope}
 use Rattle.selects_to_sql.proofs.Unions.{one_exactly}
-use Rattle.sql_check_parts.proofs.SeriesColumns.{add_table}
 
 -- ---- an operand in the columns of the result
 
@@ -101,7 +101,7 @@ module _ (p : Settings) (law : Translates p) (before : Data) (x : Text) (a s : S
 
     matched_are : (wanted : Bool) → source_rows (base_of p before) (matched_select p wanted a s x y) ≡ Ok (filter (answer wanted) d)
     matched_are wanted =
-        ap (λ t. unless (condition_fault (at_rows (base_of p before) t) (Some (condition wanted)) ((base_of p before).rows x)) (kept (at_rows (base_of p before) t) (Some (condition wanted)) ((base_of p before).rows x))) (ap (add_table [] first_alias) (known_there p law before x a d there named set.well_formed na))
+        ap (λ t. unless (condition_fault (at_rows (base_of p before) t) (Some (condition wanted)) ((base_of p before).rows x)) (kept (at_rows (base_of p before) t) (Some (condition wanted)) ((base_of p before).rows x))) (ap (add_source [] first_alias) (known_there p law before x a d there named set.well_formed na))
         ∙ ap (λ l. unless (condition_fault (at_rows (base_of p before) (one_scope xs)) (Some (condition wanted)) l) (kept (at_rows (base_of p before) (one_scope xs)) (Some (condition wanted)) l)) (rows_there p law before x a d there named set.well_formed na)
         ∙ matched_rows (base_of p before) xs ys (columns_apart a set.well_formed) (columns_apart b other.well_formed) y (known_there p law before y b e here name other.well_formed nb) (identifiers_of s) ids_there theirs e (rows_there p law before y b e here name other.well_formed nb) other.typed wanted d set.typed
 
