@@ -11,7 +11,6 @@ use Rattle.sql_tree.specs.Trees.{Text}
 use Rattle.sql_tree.specs.declared.parts.Series.{Series}
 use Rattle.sql_tree.specs.declared.parts.Source.{Source}
 use Rattle.sql_check_parts.specs.Scopes.{Columns, Tables, add_column, columns_chosen, columns_of, columns_within, fits_table, has_names, maybe_within, lacks_names, maybe_has_names, maybe_series_fits, or_nothing, or_null, repeats, series_fits, series_names, value_among}
-use Rattle.sql_check_parts.proofs.SeriesColumns.{add_table}
 
 and_left : (a b : Bool) → (a && b) ≡ true → a ≡ true
 and_left true b e = refl
