@@ -77,13 +77,13 @@ select_typed p tables s =
 joins_named : (p : Settings) (tables : Tables) (before : Scope) (js : List JoinTree) → AreJoinsTyped p tables before js → list_any (lacks_names tables) (map join_source js) ≡ false
 joins_named p tables before [] t = refl
 joins_named p tables before (j ∷ js) t =
-    ap (λ b. b || list_any (lacks_names tables) (map join_source js)) (named_where_fits tables (join_source j) t.0.1)
+    ap (λ b. b || list_any (lacks_names tables) (map join_source js)) (named_where_fits tables (join_source j) t.0.2)
     ∙ joins_named p tables (with_source tables before (join_source j)) js t.2
 
 all_named : (p : Settings) (tables : Tables) (s : SelectTree) → IsSelectTyped p tables s → has_unnamed tables s ≡ false
 all_named p tables s t =
     let source = t.source in
-    ap (λ b. b || list_any (lacks_names tables) (map join_source s.joins)) (named_where_fits tables s.source source.1)
+    ap (λ b. b || list_any (lacks_names tables) (map join_source s.joins)) (named_where_fits tables s.source source.2)
     ∙ joins_named p tables (first_scope tables s) s.joins t.joins
 
 none_unnamed : (p : Settings) (tables : Tables) (q : QueryTree) → AllByRecursion (IsSelectTyped p tables) q → list_any (has_unnamed tables) q ≡ false

@@ -10,7 +10,7 @@ use Rattle.vtl_cell.specs.declared.kind.Kind.TheVariants as k
 use Rattle.sql_tree.specs.Trees.{Text}
 use Rattle.sql_tree.specs.declared.parts.Series.{Series}
 use Rattle.sql_tree.specs.declared.parts.Source.{Source}
-use Rattle.sql_check_parts.specs.Scopes.{Columns, Tables, add_column, columns_chosen, columns_of, fits_table, has_names, lacks_names, maybe_has_names, maybe_series_fits, or_nothing, or_null, repeats, series_fits, series_names, value_among}
+use Rattle.sql_check_parts.specs.Scopes.{Columns, Tables, add_column, columns_chosen, columns_of, columns_within, fits_table, has_names, maybe_within, lacks_names, maybe_has_names, maybe_series_fits, or_nothing, or_null, repeats, series_fits, series_names, value_among}
 
 and_left : (a b : Bool) → (a && b) ≡ true → a ≡ true
 and_left true b e = refl
@@ -41,6 +41,15 @@ none_named s = go s.by
 
 pub none_fits : (s : Series) → series_fits [] s ≡ false
 none_fits s = ap (λ b. b && (not (repeats (series_names s)) && same_kind (or_null (value_among {V = Kind} [] s.on)) k.Period)) (none_named s)
+
+-- the columns of a source, where its table is there and where it is not
+pub within_some : (o : Option Series) (table : Columns) → maybe_within o (Some table) ≡ Some (columns_within table o)
+within_some None table = refl
+within_some (Some s) table = refl
+
+pub within_none : (o : Option Series) → maybe_within o None ≡ None
+within_none None = refl
+within_none (Some s) = refl
 
 -- a SERIES that fits has its names
 pub named_where_fits : (tables : Tables) (s : Source) → fits_table tables s ≡ true → lacks_names tables s ≡ false

@@ -60,7 +60,8 @@ impl Columns {
         if self.kinds.has(name) {
             return Ok(());
         }
-        self.kinds.put(name.share()?, kind)
+        self.kinds.put(name.share()?, kind)?;
+        Ok(())
     }
 
     // The columns of these names, each with its kind in the table.

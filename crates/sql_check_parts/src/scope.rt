@@ -59,7 +59,8 @@ impl<'a> Scope<'a> {
         if self.has(alias) {
             return Ok(());
         }
-        self.sources.put(alias.share()?, columns)
+        self.sources.put(alias.share()?, columns)?;
+        Ok(())
     }
 
     // The columns of the source of an alias.

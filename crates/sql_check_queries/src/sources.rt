@@ -10,8 +10,7 @@ ghost use Rattle.sql_check_queries.specs.Told.{HasSources};
 
 use sql_check_expressions::{Site, condition};
 use sql_check_parts::{
-    Scope, SqlRule, Tables, Test, columns_from, lacks_names, least_broken, lesser,
-    misnames_series,
+    Scope, SqlRule, Tables, Test, columns_from, lacks_names, least_broken, lesser, misnames_series,
 };
 use sql_tree::{Join, Select, Source};
 use std::alloc::{AllocError, Global};

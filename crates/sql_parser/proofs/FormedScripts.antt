@@ -120,7 +120,7 @@ has-given =
 
 has-source : Has f.IsSource g.source
 unfolding g.source Is-given
-has-source = gives-as gv (λ p. Is-given p.0 × f.IsName p.1) f.IsSource _ (λ a p. (p.0.0, (p.0.1, p.1))) (gives-seq gv Is-given f.IsName has-given (gives-after gv f.IsName has-name))
+has-source = gives-as gv (λ p. Is-given p.0 × f.IsName p.1) f.IsSource _ (λ a p. (p.0.0, p.0.1, p.1)) (gives-seq gv Is-given f.IsName has-given (gives-after gv f.IsName has-name))
 
 has-equality : Has f.IsEquality g.equality
 unfolding g.equality

@@ -88,7 +88,7 @@ given-all table None t h = (t, tt)
 given-all table (Some x) t h = (tt, (t, series-all x h))
 
 source-all : (x : Source) → IsSource x → AllFormed (written_source x)
-source-all x h = both (written_given x.table x.series) (t.Word w.As ∷ (t.Name x.alias ∷ [])) (given-all x.table x.series h.0 h.1.0) (tt, (h.1.1, tt))
+source-all x h = both (written_given x.table x.series) (t.Word w.As ∷ (t.Name x.alias ∷ [])) (given-all x.table x.series h.0 h.1) (tt, (h.2, tt))
 
 equality-all : (x : Equality) → IsEquality x → AllFormed (written_equality x)
 equality-all x h = both (written_column x.left) (t.Word w.Equal ∷ written_column x.right) (column-all x.left h.0) (tt, column-all x.right h.1)

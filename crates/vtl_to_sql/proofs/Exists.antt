@@ -2,7 +2,8 @@
 use Rattle.std.proofs.Common.{◌≡◌, Bool, true, false, not, ◌&&◌, ◌||◌, cond, List, [], ◌∷◌, map, Some, None, Ok, refl, ap, sym, ◌∙◌, subst, arith}
 use Rattle.std.specs.List.{AllByRecursion, filter, list_all, list_any}
 use Rattle.grammar_forms.specs.Written.{Each}
-use Rattle.vtl_cell.specs.Kinds.{is_null, kind_of}
+use Rattle.vtl_cell.specs.Kinds.{is_null, kind_of, same_kind}
+use Rattle.vtl_cell.specs.Literals.{is_null_kind}
 use Rattle.vtl_cell.specs.Order.{same_cell}
 use Rattle.vtl_cell.specs.Outcome.{fault_in, faults_by, join, unless}
 use Rattle.vtl_cell.specs.Outcomes.{is_true}
@@ -22,7 +23,7 @@ use Rattle.vtl_meaning.proofs.ValueKinds.{cell_is_of}
 use Rattle.sql_tree.specs.Formed.{IsEquality, IsExp, IsName}
 use Rattle.sql_tree.specs.Trees.{Text, exists}
 use Rattle.sql_check_laws.specs.Fits.{Fits, IsCondition, Ties}
-use Rattle.sql_check_parts.specs.Exists.{Inner, inner_of, kinds_tie}
+use Rattle.sql_check_parts.specs.Exists.{Inner, inner_of}
 use Rattle.sql_check_parts.specs.Expressions.{site}
 use Rattle.sql_check_parts.specs.Scopes.{columns_of as table_columns}
 use Rattle.sql_meaning.specs.From.{fault_at, holds}
@@ -48,7 +49,7 @@ equal_scalars p (c.Day x) (c.Day y) e n = refl
 equal_scalars p (c.Period x) (c.Period y) e n = refl
 equal_scalars p u v e n = cc
 
-kinds_equal : (kind : Kind) → kinds_tie kind kind ≡ true
+kinds_equal : (kind : Kind) → same_kind kind kind ≡ true
 kinds_equal k.Null = refl
 kinds_equal k.Bool = refl
 kinds_equal k.Int = refl
@@ -138,7 +139,7 @@ module _ (b : Base) (xs ys : List Component) (ax : AreApart xs) (ay : AreApart y
     one_tie z i j =
         let left = kind_found (place_of z.name ys) z.name z.kind ys j.column ay in
         let right = kind_found (place_of z.name xs) z.name z.kind xs i.column ax in
-        ((rw left refl, refl), (rw right refl, refl), rw left (rw right (kinds_equal z.kind)))
+        ((rw left refl, refl), (rw right refl, refl), rw left (rw right (ap (λ b. b || (is_null_kind z.kind || is_null_kind z.kind)) (kinds_equal z.kind))))
 
     all_ties : (us : List Component) → AreIdentifiersAt xs us → AreIdentifiersAt ys us → AllByRecursion (Ties (one_scope xs) None inner_entries) (map tied us)
     all_ties [] i j = tt

@@ -20,7 +20,7 @@ returns c =
     let alias = c.args.alias.now in
     let columns = columns_given c.in-Some.columns in
     let free = sym c.has.ensures ∙ c.if-has.false in
-    ap (map (with_value columns_given)) (put_as es _ _ alias _ c.put.ensures.put c.in_ok-share.ensures)
+    ap (map (with_value columns_given)) (put_as es _ _ alias _ c.in_ok-put.ensures.put c.in_ok-share.ensures)
     ∙ map_push (with_value columns_given) es (alias, c.in-Some.columns)
     ∙ ap (λ l. l ++ (alias, columns) ∷ []) c.self.view_is
     ∙ sym (ap (λ b. if b then c.args.self.now else c.args.self.now ++ (alias, columns) ∷ []) free)
