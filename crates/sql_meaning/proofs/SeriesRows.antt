@@ -80,13 +80,15 @@ module _ (e : Extent) (on : ℕ) (by : List ℕ) (rows others : List Row) (p : P
       let seen = seen-Perm e p (own_same key) in
       λ n. filter (λ i. some_same (λ j. true) f on (own_same key) n && (some_same (λ j. nat_le j i) f on seen n && some_same (λ j. nat_le i j) f on seen n)) (range_with_len 0 (10000 * parts_in_year f))
 
-  tuple_same : (λ (key : Row). flat_map (series_at e on rows (rows_by by rows key) key) frequencies) ≡ (λ (key : Row). flat_map (series_at e on others (rows_by by others key) key) frequencies)
-  tuple_same = λ n key. flat_map (λ f. map (dated f key) (numbers_same key f n)) frequencies
+  -- the rows of a tuple's series
+  abbrev made : List Row → Row → List Row
+  made rs key = flat_map (series_at e on rs (rows_by by rs key) key) frequencies
+
+  made_same : made rows ≡ made others
+  made_same = λ n key. flat_map (λ f. map (dated f key) (numbers_same key f n)) frequencies
 
   ordered : Perm (series_rows e on by rows) (series_rows e on by others)
-  ordered =
-      chain (Perm-flat_map (λ (key : Row). flat_map (series_at e on rows (rows_by by rows key) key) frequencies) (keys-Perm by p))
-      (Perm-same (flat_map (λ (key : Row). flat_map (series_at e on rows (rows_by by rows key) key) frequencies) (keys_by by others)) (series_rows e on by others) (ap (λ F. flat_map F (keys_by by others)) tuple_same))
+  ordered = chain (Perm-flat_map (made rows) (keys-Perm by p)) (Perm-same (flat_map (made rows) (keys_by by others)) (series_rows e on by others) (ap (λ (F : Row → List Row). flat_map F (keys_by by others)) made_same))
 
 pub series_order : (e : Extent) (on : ℕ) (by : List ℕ) {rows others : List Row} → Perm rows others → Perm (series_rows e on by rows) (series_rows e on by others)
 series_order e on by {rows} {others} p = ordered e on by rows others p
