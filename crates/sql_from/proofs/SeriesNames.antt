@@ -1,9 +1,10 @@
 -- The places of the columns of the source of EXISTS, by their names.
-use Rattle.std.proofs.Common.{◌≡◌, ℕ, zero, suc, ◌+◌, Bool, true, false, cond, not, List, [], ◌∷◌, ◌++◌, map, length, length-append, Option, Some, None, refl, sym, ap, ◌∙◌, subst, arith}
+use Rattle.std.proofs.Common.{◌≡◌, ℕ, zero, suc, ◌+◌, ◌<◌, Bool, true, false, cond, not, List, [], ◌∷◌, ◌++◌, map, length, get_or, take, Option, Some, None, refl, sym, ap, ◌∙◌, subst, arith}
 use Rattle.std.specs.Prelude.{option_and_then, unwrap_or}
 use Rattle.std.specs.List.{fold}
 use Rattle.std.specs.Map.{keys_of}
-use Rattle.std.proofs.lemmas.List.{append-nil, length-map, map-append}
+use Rattle.std.proofs.lemmas.List.{append-nil, length-map}
+use Rattle.std.proofs.lemmas.List.Sums.{fold_more}
 use Rattle.vtl_text.specs.Texts.{same_text}
 use Rattle.vtl_cell.specs.declared.kind.Kind.{Kind}
 use Rattle.sql_tree.specs.Trees.{Text}
@@ -48,6 +49,10 @@ names_numbered table done (name ∷ names) =
 -- the names of a SERIES, each once, have the numbers of its columns
 pub series_numbered : (table : Columns) (s : Series) → fold and_number [] (series_names s) ≡ numbered 0 (columns_within table (Some s))
 series_numbered table s = names_numbered table [] (series_names s)
+
+-- one name more
+pub numbers_more : (names : List Text) (i : ℕ) (name : Text) (before after : Named ℕ) → i < length names → name ≡ get_or names i name → before ≡ fold and_number [] (take i names) → after ≡ and_number before name → after ≡ fold and_number [] (take (i + 1) names)
+numbers_more names i name before after h is so_far more = more ∙ (λ k. and_number (so_far k) (is k)) ∙ sym (fold_more and_number [] names i name h)
 
 -- ---- places
 

@@ -12,7 +12,7 @@ ghost use Rattle.sql_from.specs.Held.{rows_held};
 ghost use Rattle.sql_from.specs.Sources.{or_nothing, series_table, table_given};
 
 use crate::series_places::series_places;
-use crate::series_table::series_table;
+use crate::series_table::table_of_series;
 use crate::{HeldTable, HeldTables};
 use sql_eval::Origin;
 use sql_tree::{Series, Source};
@@ -192,7 +192,7 @@ impl<'a> Given<'a> {
         let Some(places) = &origin.series else {
             return Ok(());
         };
-        match series_table(alloc, table, places)? {
+        match table_of_series(alloc, table, places)? {
             Some(made) => self.put(alloc, origin, made),
             None => Ok(()),
         }

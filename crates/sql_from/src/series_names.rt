@@ -20,18 +20,30 @@ fn put_once(names: &mut ByName<usize>, name: &Txt) -> Result<(), AllocError>
         return Ok(());
     }
     let number = names.len();
-    names.put(name.share()?, number)
+    names.put(name.share()?, number)?;
+    Ok(())
 }
 
-// The names of a SERIES, each once, with their numbers.
-fn names_once(alloc: Global, series: &Series) -> Result<ByName<usize>, AllocError>
-    ensures { IfOk result (λ names. names ≡ fold and_number [] (series_names series.now)) }
+// Names, each once, with their numbers.
+fn numbered_names(alloc: Global, names: &[Txt]) -> Result<ByName<usize>, AllocError>
+    ensures { IfOk result (λ numbers. numbers ≡ fold and_number [] names.now) }
 {
-    let mut names = ByName::new(alloc);
-    for name in series.by.as_slice() {
-        put_once(&mut names, name)?;
+    let mut numbers = ByName::new(alloc);
+    for name in names {
+        put_once(&mut numbers, name)?;
     }
-    put_once(&mut names, &series.on)?;
+    Ok(numbers)
+}
+
+// The names of a SERIES, as its columns stand.
+fn names_of(alloc: Global, series: &Series) -> Result<Vec<Txt>, AllocError>
+    ensures { IfOk result (λ names. names.items ≡ series_names series.now) }
+{
+    let mut names = Vec::new(alloc);
+    for name in series.by.as_slice() {
+        names.push(name.share()?)?;
+    }
+    names.push(series.on.share()?)?;
     Ok(names)
 }
 
@@ -55,11 +67,12 @@ pub(crate) fn place_in_series(
 ) -> Result<usize, AllocError>
     ensures { IfOk result (λ place. (columns : Columns) → place ≡ (if is_own then place_among (columns_within columns (Some series.now)) name.now else length (columns_within columns (Some series.now)))) }
 {
-    let names = names_once(alloc, series)?;
+    let names = names_of(alloc, series)?;
+    let numbers = numbered_names(alloc, &names)?;
     if is_own {
-        Ok(number_of(&names, name))
+        Ok(number_of(&numbers, name))
     } else {
-        Ok(names.len())
+        Ok(numbers.len())
     }
 }
 

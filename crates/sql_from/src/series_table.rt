@@ -46,7 +46,7 @@ fn has_series(table: &Table, series: &SeriesPlaces) -> bool
 
 /// The table of a SERIES over a table; none where the table has not its columns. It takes room for all its rows at once,
 /// and time for the rows of both. It fails only if memory runs out.
-pub(crate) fn series_table(
+pub(crate) fn table_of_series(
     alloc: Global,
     table: &HeldTable,
     series: &SeriesPlaces,
