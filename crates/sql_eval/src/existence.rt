@@ -5,7 +5,7 @@ ghost use Rattle.sql_eval.specs.Origins.{IsOriginOf};
 ghost use Rattle.sql_eval.specs.Resolves.{place_at, side_of, tie_of};
 
 use crate::names::place_at;
-use crate::origin::origin;
+use crate::origin::origin_of;
 use crate::{Existence, Level, Names, Side, Tie};
 use sql_tree::{Column, Equality, Source};
 use std::alloc::{AllocError, Global};
@@ -70,7 +70,7 @@ pub(crate) fn existence<N: Names>(
     ensures ties { IfOk result (λ x. x.ties.items ≡ map (tie_of (place_at (N.scope names.now) level.now) (inner_of (N.tables names.now) source.now)) equalities.now) }
 {
     Ok(Existence {
-        table: origin(alloc, names, source)?,
+        table: origin_of(alloc, names, source)?,
         ties: ties(alloc, names, level, source, equalities)?,
     })
 }

@@ -141,7 +141,11 @@ fn series_of<N: Names>(
 }
 
 /// What a source has its rows of, whatever rows the tables have. It fails only if memory runs out.
-pub fn origin<N: Names>(alloc: Global, names: &N, source: &Source) -> Result<Origin, AllocError>
+pub(crate) fn origin_of<N: Names>(
+    alloc: Global,
+    names: &N,
+    source: &Source,
+) -> Result<Origin, AllocError>
     ensures { IfOk result (IsOriginOf (N.tables names.now) source.now) }
 {
     Ok(Origin {

@@ -44,7 +44,7 @@ named_rows held name = go (table_of name held)
     go None = refl
     go (Some t) = refl
 
-named_columns : (held : NamedTables) (name : Text) → columns_named (tables_held held) name ≡ columns_held (table_named held name)
+pub named_columns : (held : NamedTables) (name : Text) → columns_named (tables_held held) name ≡ columns_held (table_named held name)
 named_columns held name = ap columns_or_nothing (columns_are held name) ∙ go (table_of name held)
   where
     go : (o : Option Listed) → columns_or_nothing (option_map columns_held o) ≡ columns_held (or_nothing o)
