@@ -26,10 +26,11 @@ use Rattle.sql_meaning.proofs.Lists.{under}
 use Rattle.sql_meaning.proofs.Profiled.{dated_is, source_is}
 use Rattle.sql_meaning.proofs.SeriesColumns.{entry_named, given_columns, series_columns}
 use Rattle.sql_meaning.proofs.SeriesRows.{series_all}
-use Rattle.sql_eval.specs.Origins.{IsSeriesOf, rows_at, rows_by}
+use Rattle.sql_eval.specs.Origins.{AreSame, AreSameSeries, IsSeriesOf, rows_at, rows_by}
 use Rattle.sql_eval.specs.declared.origin.Origin.{Origin}
 use Rattle.sql_eval.specs.declared.origin.SeriesPlaces.{SeriesPlaces}
-use Rattle.sql_from.specs.Given.{HasPlaces, IsOriginIn, IsTableOf, filled}
+use Rattle.sql_from.specs.Given.{HasPlaces, IsMade, IsOriginIn, IsTableOf, filled}
+use Rattle.sql_from.specs.declared.given.MadeSeries.{MadeSeries}
 use Rattle.sql_from.specs.Held.{IsHeld, base_held, columns_held, rows_held, tables_held}
 use Rattle.sql_from.specs.Sources.{given_table, or_nothing, series_table, table_given, table_named}
 use Rattle.sql_from.proofs.Named.{same_text-is}
@@ -137,6 +138,27 @@ origin_table held s name own t o there of is = go o.series of.series is
     go : (x : Option SeriesPlaces) → HasPlaces (columns_held own) s x → IfSome x (λ y. t ≡ filled y (table_named held o.table)) → t ≡ series_table s own
     go None h e = absurd h
     go (Some y) h e = e ∙ ap (filled y) named ∙ filled_is s own y h
+
+-- an origin that is the same has the same table
+pub made_is : (held : NamedTables) (m : MadeSeries) (o : Origin) → IsMade held m → AreSame m.origin o → IsTableOf held o m.table
+made_is held m o made same = go m.origin.series o.series same.series made
+  where
+    go : (x y : Option SeriesPlaces) → AreSameSeries x y → IfSome x (λ s. m.table ≡ filled s (table_named held m.origin.table)) → IfSome y (λ s. m.table ≡ filled s (table_named held o.table))
+    go None None s e = tt
+    go None (Some y) s e = absurd s
+    go (Some x) None s e = absurd s
+    go (Some x) (Some y) s e =
+        e
+        ∙ (λ i. record {
+          columns = map (column_at (table_named held (same.table i)).columns) (s.by i ++ s.on i ∷ []);
+          rows = series_rows (s.extent i) (s.on i) (s.by i) (table_named held (same.table i)).rows;
+        })
+
+-- what is made of the places of an origin is its table
+pub table_made : (held : NamedTables) (s : Series) (name : Text) (own t : Listed) (o : Origin) (x : SeriesPlaces) → table_of name held ≡ Some own → IsOriginIn own name s o → o.series ≡ Some x → t ≡ filled x own → IsTableOf held o t
+table_made held s name own t o x there of is e =
+    let named : table_named held o.table ≡ own = ap (table_named held) of.table ∙ ap or_nothing there in
+    subst (λ (z : Option SeriesPlaces). IfSome z (λ y. t ≡ filled y (table_named held o.table))) (sym is) (e ∙ ap (filled x) (sym named))
 
 -- and it has the rows of the origin
 pub origin_rows_are : (held : NamedTables) (o : Origin) (t : Listed) → is_some o.series ≡ true → IsTableOf held o t → t.rows ≡ rows_at (rows_held held) o
