@@ -1,5 +1,5 @@
 -- The columns of a SERIES, and that its rows fit them where its table's rows fit the table's.
-use Rattle.std.proofs.Common.{◌≡◌, ℕ, zero, suc, Bool, true, false, cond, not, ◌&&◌, ◌||◌, List, [], ◌∷◌, ◌++◌, map, append_assoc, Option, Some, None, refl, ap, sym, ◌∙◌, subst}
+use Rattle.std.proofs.Common.{◌≡◌, ℕ, zero, suc, ◌+◌, Bool, true, false, cond, not, ◌&&◌, ◌||◌, List, [], ◌∷◌, ◌++◌, map, append_assoc, Option, Some, None, refl, ap, sym, ◌∙◌, subst}
 use Rattle.std.specs.Prelude.{IsSome, fold, is_some}
 use Rattle.std.specs.List.{AllByRecursion, list_all, list_any, position_or_len}
 use Rattle.std.specs.Map.{keys_of, lookup}
@@ -60,7 +60,10 @@ chosen_behind table (name ∷ names) done apart free =
     ∙ chosen_behind table names (done ++ entry_named table name ∷ []) parts.1 (all_free name (kind_named table name) done names parts.0 free.1)
     ∙ append_assoc done (entry_named table name ∷ []) (map (entry_named table) names)
 
-nothing_before : (names : List Text) → AllByRecursion (λ name. is_among name (keys_of []) ≡ false) names
+abbrev no_columns : Columns
+no_columns = []
+
+nothing_before : (names : List Text) → AllByRecursion (λ name. is_among name (keys_of no_columns) ≡ false) names
 nothing_before [] = tt
 nothing_before (name ∷ names) = (refl, nothing_before names)
 
@@ -86,7 +89,7 @@ series_parts table s h =
 
 -- each name of a SERIES that fits its table is a column
 pub series_columns : (table : Columns) (s : Series) → series_fits table s ≡ true → columns_within table (Some s) ≡ map (entry_named table) (series_names s)
-series_columns table s h = chosen_behind table (series_names s) [] (series_parts table s h).0 (nothing_before (series_names s))
+series_columns table s h = chosen_behind table (series_names s) no_columns (series_parts table s h).0 (nothing_before (series_names s))
 
 kinds_named : (table : Columns) (names : List Text) → kinds_of (map (entry_named table) names) ≡ map (kind_named table) names
 kinds_named table [] = refl
