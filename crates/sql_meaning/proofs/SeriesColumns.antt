@@ -107,14 +107,14 @@ named_fits : (table : Columns) (r : Row) (name : Text) → fits_kinds (kinds_of 
 named_fits [] [] name h = refl
 named_fits [] (v ∷ vs) name h = cc
 named_fits (x ∷ xs) [] name h = cc
-named_fits (x ∷ xs) (v ∷ vs) name h = go (same_text name x.0)
+named_fits (x ∷ xs) (v ∷ vs) name h =
+    let parts = split_and (is_of x.1 v) (fits_kinds (kinds_of xs) vs) h in
+    go (same_text name x.0) parts.0 (named_fits xs vs name parts.1)
   where
-    parts : (is_of x.1 v ≡ true) × (fits_kinds (kinds_of xs) vs ≡ true)
-    parts = split_and (is_of x.1 v) (fits_kinds (kinds_of xs) vs) h
-
-    go : (b : Bool) → is_of (or_null (cond b (Some x.1) (value_among xs name))) (column_of (cond (not b) (1 + place_among xs name) 0) (v ∷ vs)) ≡ true
-    go true = parts.0
-    go false = named_fits xs vs name parts.1
+    go : (b : Bool) → is_of x.1 v ≡ true → is_of (kind_named xs name) (column_of (place_among xs name) vs) ≡ true
+        → is_of (or_null (cond b (Some x.1) (value_among xs name))) (column_of (cond (not b) (1 + place_among xs name) 0) (v ∷ vs)) ≡ true
+    go true one rest = one
+    go false one rest = rest
 
 all_named : (table : Columns) (r : Row) → fits_kinds (kinds_of table) r ≡ true → (names : List Text) → fits_kinds (map (kind_named table) names) (cells_at (map (place_among table) names) r) ≡ true
 all_named table r h [] = refl
