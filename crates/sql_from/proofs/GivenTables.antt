@@ -1,5 +1,5 @@
 -- The tables of sources: those that are held, and those of SERIES over them.
-use Rattle.std.proofs.Common.{◌≡◌, ℕ, suc, ◌+◌, Bool, true, false, cond, not, List, [], ◌∷◌, ◌++◌, map, length, Option, Some, None, IsSome, refl, sym, ap, ◌∙◌, subst}
+use Rattle.std.proofs.Common.{◌≡◌, ℕ, suc, ◌+◌, Bool, true, false, cond, not, List, [], ◌∷◌, ◌++◌, map, length, Option, Some, None, IsSome, refl, sym, ap, ◌∙◌, subst, arith}
 use Rattle.std.specs.Prelude.{IfSome, is_some, option_map, ◌&&◌}
 use Rattle.std.specs.List.{AllByRecursion, list_all}
 use Rattle.std.proofs.lemmas.List.{map-append}
@@ -85,7 +85,9 @@ entry_at (x ∷ xs) name known = go (same_text name x.name) refl known (entry_at
     go : (b : Bool) → same_text name x.name ≡ b → is_some (cond b (Some x.kind) (value_among rest name)) ≡ true → (is_some (value_among rest name) ≡ true → column_entry (column_at xs (place_among rest name)) ≡ entry_named rest name)
         → column_entry (column_at (x ∷ xs) (cond (not b) (1 + place_among rest name) 0)) ≡ (name, or_null (cond b (Some x.kind) (value_among rest name)))
     go true same there ih = ap (λ (n : Text). (n, x.kind)) (sym (same_text-is name x.name same))
-    go false same there ih = ih there
+    go false same there ih =
+        let next : suc (place_among rest name) ≡ 1 + place_among rest name = omega arith in
+        ap (λ n. column_entry (column_at (x ∷ xs) n)) (sym next) ∙ ih there
 
 all_entries : (t : Listed) (names : List Text) → list_all (λ name. is_some (value_among (columns_held t) name)) names ≡ true
     → map column_entry (map (λ name. column_at t.columns (place_among (columns_held t) name)) names) ≡ map (entry_named (columns_held t)) names

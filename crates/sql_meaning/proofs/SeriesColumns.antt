@@ -1,5 +1,5 @@
 -- The columns of a SERIES, and that its rows fit them where its table's rows fit the table's.
-use Rattle.std.proofs.Common.{◌≡◌, ℕ, zero, suc, ◌+◌, Bool, true, false, cond, not, ◌&&◌, ◌||◌, List, [], ◌∷◌, ◌++◌, map, append_assoc, Option, Some, None, refl, ap, sym, ◌∙◌, subst}
+use Rattle.std.proofs.Common.{◌≡◌, ℕ, zero, suc, ◌+◌, Bool, true, false, cond, not, ◌&&◌, ◌||◌, List, [], ◌∷◌, ◌++◌, map, append_assoc, Option, Some, None, refl, ap, sym, ◌∙◌, subst, arith}
 use Rattle.std.specs.Prelude.{IsSome, fold, is_some}
 use Rattle.std.specs.List.{AllByRecursion, list_all, list_any, position_or_len}
 use Rattle.std.specs.Map.{keys_of, lookup}
@@ -114,7 +114,7 @@ named_fits (x ∷ xs) (v ∷ vs) name h =
     go : (b : Bool) → is_of x.1 v ≡ true → is_of (kind_named xs name) (column_of (place_among xs name) vs) ≡ true
         → is_of (or_null (cond b (Some x.1) (value_among xs name))) (column_of (cond (not b) (1 + place_among xs name) 0) (v ∷ vs)) ≡ true
     go true one rest = one
-    go false one rest = rest
+    go false one rest = let next : suc (place_among xs name) ≡ 1 + place_among xs name = omega arith in subst (λ n. is_of (kind_named xs name) (column_of n (v ∷ vs)) ≡ true) next rest
 
 all_named : (table : Columns) (r : Row) → fits_kinds (kinds_of table) r ≡ true → (names : List Text) → fits_kinds (map (kind_named table) names) (cells_at (map (place_among table) names) r) ≡ true
 all_named table r h [] = refl
