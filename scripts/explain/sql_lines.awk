@@ -86,7 +86,10 @@ function sql_names_here(number, rule,    token, told, first, end) {
     if (rule == 2) told = name_fact(first, token_text[first + (symbol[first] == "CREATE" ? 2 : 1)])
     if (rule == 4 && symbol[first] == "EXPORT") told = listed_fact(first + 2, end, token_text[first + 1])
     else if (rule == 4) told = columns_fact(first, end)
-    for (token = first; token <= end; token++) if (rule == 1) told = with_fact(told, unknown_table(token))
+    for (token = first; token <= end; token++) {
+        if (rule == 1) told = with_fact(told, unknown_table(token))
+        if (rule == 13) told = with_fact(told, series_fact(token))
+    }
     gather_aliases(first, end)
     if (rule == 2) told = with_fact(told, twice)
     for (token = first; token <= end; token++) {
@@ -141,20 +144,48 @@ function listed_fact(token, end, table,    names, seen, told, name) {
 # A source or an export that no statement further up makes.
 function unknown_table(token,    name) {
     name = token_text[token + 1]
-    if (symbol[token] !~ /^(FROM|JOIN|EXPORT)$/ || name in made_by) return ""
+    if (symbol[token] !~ /^(FROM|JOIN|SERIES|EXPORT)$/ || symbol[token + 1] != "name" || name in made_by) return ""
     return with_nearest(name, made_by) " is made by no statement further up"
+}
+
+# Where the list of a SERIES ends, behind its token.
+function series_end(token) {
+    while (symbol[token] !~ /^(SINGLE|ALL|;)$/ && token < tokens) token++
+    return token
+}
+
+# What a SERIES names that its table lacks, or twice, and the kind of its ON where that is told and no PERIOD.
+function series_fact(token,    table, on, end, told) {
+    if (symbol[token] != "SERIES") return ""
+    table = token_text[token + 1]
+    on = token_text[token + 3]
+    end = series_end(token)
+    told = listed_fact(token + 2, end, table)
+    if ((table, on) in kind && kind[table, on] != "PERIOD") told = with_fact(told, code(on) " is " kind[table, on])
+    return told
+}
+
+# The columns of a SERIES, with a line feed after each.
+function series_columns(token,    end, list) {
+    end = series_end(token)
+    for (token += 2; token < end; token++) if (symbol[token] == "name") list = list token_text[token] "\n"
+    return list
 }
 
 # The table of each alias of a statement, or none where two selects use it for different ones; `twice` tells an alias that
 # comes twice in a select.
-function gather_aliases(token, end,    alias, table, in_select) {
+function gather_aliases(token, end,    alias, table, in_select, series, as) {
     for (; token <= end; token++) {
         if (symbol[token] == "SELECT" && symbol[token - 2] != "EXISTS") split("", in_select)
-        if (symbol[token] !~ /^(FROM|JOIN)$/ || symbol[token + 2] != "AS") continue
-        table = token_text[token + 1]
-        alias = token_text[token + 3]
+        if (symbol[token] !~ /^(FROM|JOIN)$/) continue
+        series = symbol[token + 1] == "SERIES"
+        as = series ? series_end(token + 1) + 1 : token + 2
+        if (symbol[as] != "AS") continue
+        table = token_text[token + 1 + series]
+        alias = token_text[as + 1]
         if (alias in in_select && symbol[token - 4] != "EXISTS") twice = code(alias) " stands twice"
         if (symbol[token - 4] != "EXISTS") in_select[alias]
+        if (series) series_of[alias] = series_columns(token + 1)
         if (!(alias in source_of)) source_of[alias] = table
         else if (source_of[alias] != table) source_of[alias] = ""
     }
@@ -165,9 +196,9 @@ function unknown_column(alias, column,    table, names) {
     if (!(alias in source_of)) return with_nearest(alias, source_of) " is no alias of this statement"
     table = source_of[alias]
     if (!(table in columns)) return ""
-    include(names, columns[table], "\n")
+    include(names, alias in series_of ? series_of[alias] : columns[table], "\n")
     delete names[""]
-    return column in names ? "" : code(table) " has no column " with_nearest(column, names)
+    return column in names ? "" : (alias in series_of ? "the SERIES " code(alias) : code(table)) " has no column " with_nearest(column, names)
 }
 
 # The kind of a column of an INPUT.

@@ -147,6 +147,7 @@ fn source(alias: &Txt, table: &Txt) -> Result<Source, AllocError>
 {
     Ok(Source {
         table: table.share()?,
+        series: None,
         alias: alias.share()?,
     })
 }

@@ -165,7 +165,7 @@ module _ (p : Settings) (law : Translates p) (before : Data) (r : DataSet) (w : 
         from_is : IsFrom p before scope select
         from_is = record {
           scope = scope_is;
-          source = ((ap is_some here.known, refl), (here.word, alias_is_name 0 (omega arith)));
+          source = ((ap is_some here.known, refl, refl), (here.word, tt, alias_is_name 0 (omega arith)));
           joins = (joins_typed, chained_printed p law before first f ws few kind one ds xs 1 (length first) [] start tied held);
           condition = (fits, printed);
         }

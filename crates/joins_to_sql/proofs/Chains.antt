@@ -315,10 +315,10 @@ module _ (p : Settings) (law : Translates p) (before : Data) (first : List Compo
     join_typed =
         let boolean = ap (meets k.Bool) (tied_kind p first (all_columns done) d.structure n (sym many) f t.ours t.theirs) in
         let fits = condition_fits p law at all formed (many_scope 0 (first ∷ after_it)) names (tables_in before) (all_tied first f o) tied boolean written in
-        ((ap is_some known, alias_new before (first ∷ done) x d i number few_so_far here), subst (λ z. IsCondition (site p (tables_in before) z) None tie) (sym source_more) fits, tt)
+        ((ap is_some known, alias_new before (first ∷ done) x d i number few_so_far here, refl), subst (λ z. IsCondition (site p (tables_in before) z) None tie) (sym source_more) fits, tt)
 
     pub join_printed : IsJoin printable_depth (on kind (source_as (alias_of i) x) tie)
-    join_printed = ((here.word, alias_is_name i few_so_far), expression_printed p law at all formed (all_tied first f o) tied written)
+    join_printed = ((here.word, tt, alias_is_name i few_so_far), expression_printed p law at all formed (all_tied first f o) tied written)
 
   -- ---- all operands
 

@@ -159,7 +159,7 @@ module _ (p : Settings) (before : Data) where
   crosses_typed [] (x ∷ xs) i done e few h = absurd h
   crosses_typed (d ∷ ds) [] i done e few h = absurd h
   crosses_typed (d ∷ ds) (x ∷ xs) i done e few h = (
-    (ap is_some h.0.known, alias_new before done x d i e (omega (arith, few)) h.0),
+    (ap is_some h.0.known, alias_new before done x d i e (omega (arith, few)) h.0, refl),
     tt,
     subst (λ z. AreJoinsTyped p (tables_in before) z (crosses (suc i) xs)) (sym (source_behind before done x d i e (omega (arith, few)) h.0))
         (crosses_typed ds xs (suc i) (done ++ columns_of d.structure ∷ []) (next_number i done (columns_of d.structure) e) (omega (arith, few)) h.1),
@@ -169,7 +169,7 @@ module _ (p : Settings) (before : Data) where
   crosses_printed [] [] i few h = tt
   crosses_printed [] (x ∷ xs) i few h = absurd h
   crosses_printed (d ∷ ds) [] i few h = absurd h
-  crosses_printed (d ∷ ds) (x ∷ xs) i few h = ((h.0.word, alias_is_name i (omega (arith, few))), crosses_printed ds xs (suc i) (omega (arith, few)) h.1)
+  crosses_printed (d ∷ ds) (x ∷ xs) i few h = ((h.0.word, tt, alias_is_name i (omega (arith, few))), crosses_printed ds xs (suc i) (omega (arith, few)) h.1)
 
 -- ---- the select
 
@@ -267,7 +267,7 @@ module _ (p : Settings) (law : Translates p) (before : Data) (d : DataSet) (ds :
     from_is : IsFrom p before (many_scope 0 yss) (select test)
     from_is = record {
       scope = scope_is test;
-      source = ((ap is_some held.0.known, refl), (held.0.word, alias_is_name 0 (omega arith)));
+      source = ((ap is_some held.0.known, refl, refl), (held.0.word, tt, alias_is_name 0 (omega arith)));
       joins = (
         subst (λ z. AreJoinsTyped p (tables_in before) (add_source [] (alias_of 0) z) (crosses 1 xs)) (sym held.0.known) (crosses_typed p before ds xs 1 first refl few held.1),
         crosses_printed p before ds xs 1 few held.1,

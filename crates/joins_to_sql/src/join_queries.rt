@@ -28,6 +28,7 @@ fn source(operand: &Aliased<'_>) -> Result<Source, AllocError>
 {
     Ok(Source {
         table: operand.table.share()?,
+        series: None,
         alias: operand.alias.share()?,
     })
 }

@@ -120,7 +120,7 @@ module _ (p : Settings) (law : Translates p) (before : Data) (name : Text) (a : 
       let known : (table_columns (tables_in before) name ≡ Some (entries xs)) = known_there in
       record {
         scope = ap (add_source [] first_alias) known;
-        source = ((rw known refl, refl), (named, first_is_name));
+        source = ((rw known refl, refl, refl), (named, tt, first_is_name));
         joins = (tt, tt);
         condition = (fits, printed);
       }

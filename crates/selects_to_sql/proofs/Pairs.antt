@@ -247,15 +247,15 @@ module _ (p : Settings) (law : Translates p) (before : Data) (x y : Text) (a b s
       let second : (table_columns (tables_in before) y ≡ Some (entries (columns_of b))) = known_there p law before y b e here named.1 other.well_formed nb in
       let boolean = ap (meets k.Bool) (conjunction_kind p columns (map (agrees_on (columns_of a) (columns_of b)) (identifiers_of b)) parts) in
       let fits = condition_fits p law at columns formed scope names (tables_in before) (agree a b) agree_typed boolean agree_written in
-      rw first (rw second ((refl, refl), fits, tt))
+      rw first (rw second ((refl, refl, refl), fits, tt))
 
   pub from_is : (condition : Option CompExp) → IsTest p columns condition → IsFrom p before scope (it condition)
   from_is condition test =
       let known : (table_columns (tables_in before) x ≡ Some (entries (columns_of a))) = known_there p law before x a d there named.0 set.well_formed na in
       record {
         scope = scope_is condition;
-        source = ((rw known refl, refl), (named.0, first_is_name));
-        joins = (joins_typed condition, (((named.1, second_is_name), expression_printed p law at columns formed (agree a b) agree_typed agree_written), tt));
+        source = ((rw known refl, refl, refl), (named.0, tt, first_is_name));
+        joins = (joins_typed condition, (((named.1, tt, second_is_name), expression_printed p law at columns formed (agree a b) agree_typed agree_written), tt));
         condition = (maybe_fits p law at columns formed scope names (tables_in before) condition test, maybe_printed p law at columns formed condition test);
       }
 

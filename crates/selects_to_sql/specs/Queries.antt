@@ -35,7 +35,7 @@ abbrev pub alias_of : ℕ → Text
 alias_of i = first_alias ++ dollar ∷ decimal i
 
 abbrev pub source_as : (alias table : Text) → Source
-source_as alias table = record { table = table; alias = alias }
+source_as alias table = record { table = table; series = None; alias = alias }
 
 -- the columns of one source
 abbrev pub of_one : Naming

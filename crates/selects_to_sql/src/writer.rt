@@ -154,6 +154,7 @@ impl Writer {
     {
         Ok(Source {
             table: table.share()?,
+            series: None,
             alias: self.first.share()?,
         })
     }
@@ -164,6 +165,7 @@ impl Writer {
     {
         Ok(Source {
             table: table.share()?,
+            series: None,
             alias: self.second.share()?,
         })
     }

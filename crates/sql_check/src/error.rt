@@ -8,7 +8,7 @@ pub enum SqlTypeErr {
     Mistyped {
         /// The first such statement, counted from 1 with SET.
         statement: usize,
-        /// The least rule that it breaks, from 1 (`UnknownTable`) to 12 (`CodesOrCount`).
+        /// The least rule that it breaks, from 1 (`UnknownTable`) to 13 (`MisnamedSeries`).
         rule: u8,
     },
     /// There was not enough memory.

@@ -58,6 +58,7 @@ pub(crate) fn count_all(group: &Option<Grouping>) -> Told
 
 // EXISTS.
 pub(crate) fn existence(
+    alloc: Global,
     at: &Site,
     group: &Option<Grouping>,
     source: &Source,
@@ -65,7 +66,14 @@ pub(crate) fn existence(
 ) -> Result<Told, AllocError>
     ensures { IfOk result (IsTold k.Bool (exists_breaks at.now.tables at.now.scope group.now source.now equalities.now)) }
 {
-    let fault = exists(at.tables, at.scope, group, source, equalities.as_slice())?;
+    let fault = exists(
+        alloc,
+        at.tables,
+        at.scope,
+        group,
+        source,
+        equalities.as_slice(),
+    )?;
     Ok(truth(fault))
 }
 

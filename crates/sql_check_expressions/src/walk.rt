@@ -58,7 +58,9 @@ pub fn expression(
             let other = expression(alloc, at, group, other)?;
             case(branches, other)
         }
-        SqlExpr::Exists { source, equalities } => existence(at, group, source, equalities),
+        SqlExpr::Exists { source, equalities } => {
+            existence(alloc, at, group, source, equalities)
+        }
     }
 }
 

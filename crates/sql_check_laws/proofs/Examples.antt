@@ -1,5 +1,5 @@
 -- Examples of the definitions, each by computation.
-use Rattle.std.proofs.Common.{◌≡◌, [], ◌∷◌, refl}
+use Rattle.std.proofs.Common.{◌≡◌, false, [], ◌∷◌, refl}
 use Rattle.vtl_cell.specs.declared.kind.Kind.TheVariants as k
 use Rattle.sql_tree.specs.declared.statements.SqlInput.{SqlInput}
 use Rattle.sql_check_parts.specs.Statements.{input_columns}
@@ -8,7 +8,7 @@ use Rattle.sql_check_parts.specs.Statements.{input_columns}
 abbrev three : SqlInput
 three = record {
   name = 97 ∷ [];
-  columns = record { name = 98 ∷ []; kind = k.Int; codes = [] } ∷ record { name = 97 ∷ []; kind = k.Text; codes = [] } ∷ record { name = 99 ∷ []; kind = k.Num; codes = [] } ∷ [];
+  columns = record { name = 98 ∷ []; kind = k.Int; not_null = false; codes = [] } ∷ record { name = 97 ∷ []; kind = k.Text; not_null = false; codes = [] } ∷ record { name = 99 ∷ []; kind = k.Num; not_null = false; codes = [] } ∷ [];
   key = (97 ∷ []) ∷ [];
 }
 

@@ -18,7 +18,7 @@ use Rattle.sql_check_parts.specs.Expressions.{Site, all_break, branches_break, b
 use Rattle.sql_check_parts.specs.Kinds.{kind_in, kinds_in, operator_kind, value_kinds}
 use Rattle.sql_check_parts.specs.Literals.{constant_value, has_no_value, literal_kind, literal_value, literals_fit}
 use Rattle.sql_check_parts.specs.Queries.{condition_at, maybe_condition}
-use Rattle.sql_check_parts.specs.Scopes.{Grouping, Scope, columns_of, found}
+use Rattle.sql_check_parts.specs.Scopes.{Grouping, Scope, columns_of, fits_table, found}
 use Rattle.sql_check_parts.specs.Windows as windows
 use Rattle.sql_check_parts.specs.Windows.{argument, call_kind, column_breaks, frame_misplaced, is_misplaced, is_ungrouped, key_breaks, order_misplaced, window_breaks}
 use Rattle.sql_check_parts.specs.declared.rules.SqlRule.TheVariants as rule
@@ -60,7 +60,7 @@ mutual
   expression_fits at g (tree.case_when bs e) =
       three (branches_fit at g bs) (expression_fits at g e) (test rule.UnfitKind refl (sure (is_some (common_kind (value_kinds at.scope bs (kind_in at.scope e ∷ []))))))
   expression_fits at g (tree.exists s es) =
-      two (test rule.UnknownTable refl (sure (is_some (columns_of at.tables s.table))))
+      two (two_tests rule.UnknownTable rule.MisnamedSeries refl refl (sure (is_some (columns_of at.tables s.table))) (sure (fits_table at.tables s)))
       (each (equality_breaks at.scope g (inner_of at.tables s)) (equality_ties at.scope g (inner_of at.tables s)) es)
 
   all_fit : (at : Site) (g : Option Grouping) (es : Exps) → Reads (all_break at g es) (AllFit at g es)

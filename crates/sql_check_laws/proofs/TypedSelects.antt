@@ -12,23 +12,24 @@ use Rattle.sql_tree.specs.Trees as tree
 use Rattle.sql_tree.specs.Trees.{Text, ItemTree, JoinTree, QueryTree, SelectTree, ValueTree}
 use Rattle.sql_tree.specs.declared.parts.Source.{Source}
 use Rattle.sql_check_parts.specs.Expressions.{Site, site}
-use Rattle.sql_check_parts.specs.Queries.{first_scope, groups_of, item_breaks, join_condition, join_source, joins_break, kinds_of, lacks_kind, most_columns, names_of, query_breaks, query_names, same_names, select_breaks, shared_kinds, source_breaks, sources_break, union_breaks, value_breaks}
+use Rattle.sql_check_parts.specs.Queries.{first_scope, groups_of, has_unnamed, has_null_column, item_breaks, join_condition, join_source, joins_break, kinds_of, lacks_kind, most_columns, names_of, query_breaks, query_names, same_names, select_breaks, shared_kinds, source_breaks, sources_break, union_breaks, value_breaks}
 use Rattle.sql_check_parts.specs.Queries as queries
-use Rattle.sql_check_parts.specs.Scopes.{Grouping, Scope, Tables, columns_of, repeats, with_source}
+use Rattle.sql_check_parts.specs.Scopes.{Grouping, Scope, Tables, columns_of, fits_table, lacks_names, repeats, with_source}
 use Rattle.sql_check_parts.specs.Windows.{column_breaks}
 use Rattle.sql_check_parts.specs.Rules.{broken}
 use Rattle.sql_check_parts.specs.declared.rules.SqlRule.{SqlRule}
 use Rattle.sql_check_parts.specs.declared.rules.SqlRule.TheVariants as rule
+use Rattle.sql_check_parts.proofs.SeriesColumns.{named_where_fits}
 use Rattle.sql_check_parts.proofs.Unbroken.{none_behind, none_both, unbroken, unbroken_both}
 use Rattle.sql_check_laws.specs.Both.{Iff, besides_null}
 use Rattle.sql_check_laws.specs.Selects.{AreJoinsTyped, IsColumnKind, IsItemTyped, IsJoinCondition, IsQueryTyped, IsQueryWhole, IsSelectTyped, IsSourceTyped, IsValueTyped, whole_site}
-use Rattle.sql_check_laws.proofs.BothWays.{Reads, all_true, no_rule, at_most, behind, each, neither, none_any, besides_before, besides_behind, same, sure, test, three, two, two_tests}
+use Rattle.sql_check_laws.proofs.BothWays.{Reads, all_true, no_rule, at_most, behind, each, neither, none_any, besides_before, besides_behind, same, sure, test, three, three_tests, two, two_tests}
 use Rattle.sql_check_laws.proofs.FittingExpressions.{column_seen, condition_fits, expression_fits, maybe_condition_fits, window_typed}
 
 -- ---- sources
 
 source_typed : (tables : Tables) (before : Scope) (s : Source) → Reads (source_breaks tables before s) (IsSourceTyped tables before s)
-source_typed tables before s = two_tests rule.UnknownTable rule.MisnamedTable refl refl (sure (is_some (columns_of tables s.table))) same
+source_typed tables before s = three_tests rule.UnknownTable rule.MisnamedTable rule.MisnamedSeries refl refl refl (sure (is_some (columns_of tables s.table))) same (sure (fits_table tables s))
 
 join_condition_fits : (at : Site) (j : JoinTree) → Reads (join_condition at j) (IsJoinCondition at j)
 join_condition_fits at (tree.on kind s e) = condition_fits at None e
@@ -72,6 +73,23 @@ select_typed p tables s =
       from = λ t. all.from ((t.source, t.joins), ((((t.condition, t.group), t.having), t.items), t.names));
     }
 
+-- the table of each SERIES of a typed select has what it names
+joins_named : (p : Settings) (tables : Tables) (before : Scope) (js : List JoinTree) → AreJoinsTyped p tables before js → list_any (lacks_names tables) (map join_source js) ≡ false
+joins_named p tables before [] t = refl
+joins_named p tables before (j ∷ js) t =
+    ap (λ b. b || list_any (lacks_names tables) (map join_source js)) (named_where_fits tables (join_source j) t.0.2)
+    ∙ joins_named p tables (with_source tables before (join_source j)) js t.2
+
+all_named : (p : Settings) (tables : Tables) (s : SelectTree) → IsSelectTyped p tables s → has_unnamed tables s ≡ false
+all_named p tables s t =
+    let source = t.source in
+    ap (λ b. b || list_any (lacks_names tables) (map join_source s.joins)) (named_where_fits tables s.source source.2)
+    ∙ joins_named p tables (first_scope tables s) s.joins t.joins
+
+none_unnamed : (p : Settings) (tables : Tables) (q : QueryTree) → AllByRecursion (IsSelectTyped p tables) q → list_any (has_unnamed tables) q ≡ false
+none_unnamed p tables [] t = refl
+none_unnamed p tables (s ∷ ss) t = ap (λ b. b || list_any (has_unnamed tables) ss) (all_named p tables s t.0) ∙ none_unnamed p tables ss t.1
+
 -- ---- queries
 
 -- besides the test of null columns, the others are as if it were not there
@@ -85,8 +103,11 @@ module _ (p : Settings) (tables : Tables) (q : QueryTree) where
   abbrev unlike : Bool
   unlike = not (list_all (λ s. same_names (query_names q) (names_of s)) q) || list_any is_none (shared_kinds tables q)
 
+  abbrev unnamed : Bool
+  unnamed = list_any (has_unnamed tables) q
+
   abbrev null : Bool
-  null = list_any lacks_kind (shared_kinds tables q)
+  null = has_null_column unnamed (shared_kinds tables q)
 
   abbrev many : Bool
   many = nat_lt most_columns (length (query_names q))
@@ -105,12 +126,16 @@ module _ (p : Settings) (tables : Tables) (q : QueryTree) where
   few : Iff (many ≡ false) (length (query_names q) ≤ most_columns)
   few = at_most most_columns (length (query_names q))
 
-  kinds_told : Iff (null ≡ false) (AllByRecursion IsColumnKind (shared_kinds tables q))
+  kinds_told : Iff (list_any lacks_kind (shared_kinds tables q) ≡ false) (AllByRecursion IsColumnKind (shared_kinds tables q))
   kinds_told = none_any lacks_kind (λ kind. same {A = IsColumnKind kind}) (shared_kinds tables q)
+
+  -- where each SERIES fits its table, the test of null columns is that of their kinds
+  asked : AllByRecursion (IsSelectTyped p tables) q → null ≡ list_any lacks_kind (shared_kinds tables q)
+  asked t = ap (λ m. not m && list_any lacks_kind (shared_kinds tables q)) (none_unnamed p tables q t)
 
   pub query_typed : Iff (besides_null (query_breaks p tables q) ≡ []) (IsQueryTyped p tables q)
   query_typed =
-      let union = union_breaks (query_names q) (shared_kinds tables q) q in
+      let union = union_breaks tables (query_names q) (shared_kinds tables q) q in
       let own = two_tests rule.UnlikeSelects rule.CodesOrCount refl refl alike few in
       record {
         to = λ h.
@@ -129,15 +154,18 @@ module _ (p : Settings) (tables : Tables) (q : QueryTree) where
 
   pub query_whole : Iff (query_breaks p tables q ≡ []) (IsQueryWhole p tables q)
   query_whole =
-      let union = union_breaks (query_names q) (shared_kinds tables q) q in
+      let union = union_breaks tables (query_names q) (shared_kinds tables q) q in
       let last = (rule.CodesOrCount, many) ∷ [] in
       let rest = (rule.NullColumn, null) ∷ last in
       record {
-        to = λ h. (query_typed.to (ap besides_null h), kinds_told.to (unbroken rule.NullColumn null last (unbroken rule.UnlikeSelects unlike rest (none_behind all_break union h)).1).0);
+        to = λ h.
+            let typed = query_typed.to (ap besides_null h) in
+            let told = (unbroken rule.NullColumn null last (unbroken rule.UnlikeSelects unlike rest (none_behind all_break union h)).1).0 in
+            (typed, kinds_told.to (sym (asked typed.selects) ∙ told));
         from = λ t.
             none_both all_break union (all_typed.from t.0.selects)
             (unbroken_both rule.UnlikeSelects unlike rest (alike.from (t.0.names, t.0.kinds))
-            (unbroken_both rule.NullColumn null last (kinds_told.from t.1)
+            (unbroken_both rule.NullColumn null last (asked t.0.selects ∙ kinds_told.from t.1)
             (unbroken_both rule.CodesOrCount many [] (few.from t.0.few) refl)));
       }
 

@@ -17,7 +17,7 @@ use Rattle.sql_check_parts.specs.Exists.{Inner, inner_of, is_inner, is_tie, kind
 use Rattle.sql_check_parts.specs.Expressions.{Site}
 use Rattle.sql_check_parts.specs.Kinds.{kind_in, kinds_in, operator_kind, value_kinds}
 use Rattle.sql_check_parts.specs.Literals.{constant_value, literal_kind, literal_value, literals_fit}
-use Rattle.sql_check_parts.specs.Scopes.{Grouping, Scope, columns_of, found}
+use Rattle.sql_check_parts.specs.Scopes.{Grouping, Scope, columns_of, fits_table, found}
 use Rattle.sql_check_parts.specs.Windows as windows
 use Rattle.sql_check_parts.specs.Windows.{argument, call_kind, frame_misplaced, is_ungrouped, order_misplaced}
 
@@ -51,7 +51,7 @@ abbrev mutual
   Fits at g tree.count_all = IsSome g
   Fits at g (tree.aggregate f e) = Fits at None e × IsSome (aggregate_kind f (kind_in at.scope e)) × IsSome g
   Fits at g (tree.case_when bs e) = BranchesFit at g bs × Fits at g e × IsSome (common_kind (value_kinds at.scope bs (kind_in at.scope e ∷ [])))
-  Fits at g (tree.exists s es) = IsSome (columns_of at.tables s.table) × AllByRecursion (Ties at.scope g (inner_of at.tables s)) es
+  Fits at g (tree.exists s es) = (IsSome (columns_of at.tables s.table) × (fits_table at.tables s ≡ true)) × AllByRecursion (Ties at.scope g (inner_of at.tables s)) es
 
   pub AllFit : Site → Option Grouping → Exps → Type 0
   AllFit at g tree.no_exps = Unit {0}

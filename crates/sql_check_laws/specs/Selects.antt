@@ -10,14 +10,14 @@ use Rattle.sql_tree.specs.Trees.{Text, ItemTree, JoinTree, QueryTree, SelectTree
 use Rattle.sql_tree.specs.declared.parts.Source.{Source}
 use Rattle.sql_check_parts.specs.Expressions.{Site, site}
 use Rattle.sql_check_parts.specs.Queries.{first_scope, groups_of, join_source, lacks_kind, most_columns, names_of, query_names, same_names, scope_of, shared_kinds}
-use Rattle.sql_check_parts.specs.Scopes.{Columns, Grouping, Scope, Tables, columns_of, is_among, repeats, with_source}
+use Rattle.sql_check_parts.specs.Scopes.{Columns, Grouping, Scope, Tables, columns_of, fits_table, is_among, repeats, with_source}
 use Rattle.sql_check_laws.specs.Fits.{Fits, IsCondition, IsMaybeCondition, IsSeen, IsWindowTyped}
 
 -- ---- sources
 
--- a source: its table is known, and no source before it has its alias
+-- a source: its table is known, no source before it has its alias, and a SERIES fits its table
 abbrev pub IsSourceTyped : Tables → Scope → Source → Type 0
-IsSourceTyped tables before s = IsSome (columns_of tables s.table) × (is_among s.alias (keys_of before) ≡ false)
+IsSourceTyped tables before s = IsSome (columns_of tables s.table) × (is_among s.alias (keys_of before) ≡ false) × (fits_table tables s ≡ true)
 
 abbrev pub IsJoinCondition : Site → JoinTree → Type 0
 IsJoinCondition at (tree.on kind s e) = IsCondition at None e

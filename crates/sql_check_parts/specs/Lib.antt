@@ -1,5 +1,6 @@
 pub mod Rules
 pub mod Scopes
+pub mod Given
 pub mod Literals
 pub mod Kinds
 pub mod Windows

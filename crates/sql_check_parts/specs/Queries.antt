@@ -1,5 +1,5 @@
 -- The rules that selects and queries break, and the columns that a query gives.
-use Rattle.std.specs.Prelude.{ℕ, Bool, false, not, ◌||◌, List, [], ◌∷◌, ◌++◌, map, fold, zip, length, nat_lt, Option, Some, None, is_some, option_and_then, if◌then◌else◌}
+use Rattle.std.specs.Prelude.{ℕ, Bool, false, not, ◌&&◌, ◌||◌, List, [], ◌∷◌, ◌++◌, map, fold, zip, length, nat_lt, Option, Some, None, is_some, option_and_then, if◌then◌else◌}
 use Rattle.std.specs.Cmp.Lexicographic.{pointwise}
 use Rattle.std.specs.List.{flat_map, list_all, list_any}
 use Rattle.std.specs.Map.{keys_of}
@@ -15,7 +15,7 @@ use Rattle.sql_check_parts.specs.Expressions.{Site, breaks, condition_breaks, ha
 use Rattle.sql_check_parts.specs.Kinds.{kind_in}
 use Rattle.sql_check_parts.specs.Rules.{broken}
 use Rattle.vtl_text.specs.Texts.{same_text}
-use Rattle.sql_check_parts.specs.Scopes.{Columns, Grouping, Scope, Tables, columns_of, grouping_of, is_among, is_empty, or_null, repeats, with_source}
+use Rattle.sql_check_parts.specs.Scopes.{Columns, Grouping, Scope, Tables, columns_of, grouping_of, is_among, is_empty, lacks_names, misnames_series, or_null, repeats, with_source}
 use Rattle.sql_check_parts.specs.Windows.{column_breaks, window_breaks, window_kind}
 use Rattle.sql_check_parts.specs.declared.limits.TheConstants.{MOST_COLUMNS}
 use Rattle.sql_check_parts.specs.declared.rules.SqlRule.{SqlRule}
@@ -32,9 +32,12 @@ maybe_condition at g (Some e) = condition_at at g e
 
 -- ---- sources
 
--- a source: its table is known, and no source before it has its alias
+-- a source: its table is known, no source before it has its alias, and a SERIES fits its table
 abbrev pub source_breaks : Tables → Scope → Source → List SqlRule
-source_breaks tables before s = broken ((rule.UnknownTable, is_none (columns_of tables s.table)) ∷ (rule.MisnamedTable, is_among s.alias (keys_of before)) ∷ [])
+source_breaks tables before s =
+    broken ((rule.UnknownTable, is_none (columns_of tables s.table))
+    ∷ (rule.MisnamedTable, is_among s.alias (keys_of before))
+    ∷ (rule.MisnamedSeries, misnames_series tables s) ∷ [])
 
 abbrev pub join_source : JoinTree → Source
 join_source (tree.on kind s e) = s
@@ -63,6 +66,14 @@ first_scope tables s = with_source tables [] s.source
 
 abbrev pub scope_of : Tables → SelectTree → Scope
 scope_of tables s = joined_scope tables (first_scope tables s) s.joins
+
+-- all sources of a select, from the left
+abbrev pub all_sources : SelectTree → List Source
+all_sources s = s.source ∷ map join_source s.joins
+
+-- whether a SERIES of the select names what its table does not have
+abbrev pub has_unnamed : Tables → SelectTree → Bool
+has_unnamed tables s = list_any (lacks_names tables) (all_sources s)
 
 abbrev pub sources_break : Settings → Tables → SelectTree → List SqlRule
 sources_break p tables s = source_breaks tables [] s.source ++ joins_break p tables (first_scope tables s) s.joins
@@ -154,13 +165,18 @@ lacks_kind kind = is_null_kind (or_null kind)
 abbrev pub most_columns : ℕ
 most_columns = MOST_COLUMNS
 
+-- An item is null alone. What a SERIES names that its table does not have is of no kind, and items of it are not null: so this is
+-- not asked where one does.
+abbrev pub has_null_column : (unnamed : Bool) → List (Option Kind) → Bool
+has_null_column unnamed kinds = not unnamed && list_any lacks_kind kinds
+
 -- the selects: they have the same names, and items of one place share a kind, which is not that of null alone; there are not too
 -- many items
-abbrev pub union_breaks : List Text → List (Option Kind) → QueryTree → List SqlRule
-union_breaks names kinds q =
+abbrev pub union_breaks : Tables → List Text → List (Option Kind) → QueryTree → List SqlRule
+union_breaks tables names kinds q =
     broken ((rule.UnlikeSelects, not (list_all (λ s. same_names names (names_of s)) q) || list_any is_none kinds)
-    ∷ (rule.NullColumn, list_any lacks_kind kinds)
+    ∷ (rule.NullColumn, has_null_column (list_any (has_unnamed tables) q) kinds)
     ∷ (rule.CodesOrCount, nat_lt most_columns (length names)) ∷ [])
 
 abbrev pub query_breaks : Settings → Tables → QueryTree → List SqlRule
-query_breaks p tables q = flat_map (select_breaks p tables) q ++ union_breaks (query_names q) (shared_kinds tables q) q
+query_breaks p tables q = flat_map (select_breaks p tables) q ++ union_breaks tables (query_names q) (shared_kinds tables q) q

@@ -17,6 +17,7 @@ number_of rule.MisplacedWindow = 9
 number_of rule.NullColumn = 10
 number_of rule.UntiedEquality = 11
 number_of rule.CodesOrCount = 12
+number_of rule.MisnamedSeries = 13
 
 -- rules, each with whether it is broken
 abbrev pub Tests : Type 0

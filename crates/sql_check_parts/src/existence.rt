@@ -1,42 +1,50 @@
 // EXISTS.
 ghost use Rattle.std.specs.List.{flat_map};
 ghost use Rattle.std.specs.Prelude.{◌≡◌, ◌&&◌, not, option_and_then, IfOk};
-ghost use Rattle.sql_check_parts.specs.Exists.{equality_breaks, exists_breaks, inner_of, is_inner, is_tie, kind_inside, same_side, side_breaks};
+ghost use Rattle.sql_check_parts.specs.Exists.{equality_breaks, exists_breaks, inner_of, is_inner, is_tie, kind_inside, kinds_tie, same_side, side_breaks};
 ghost use Rattle.sql_check_parts.specs.Rules.{least};
 ghost use Rattle.sql_check_parts.specs.Scopes.{value_among};
 ghost use Rattle.sql_check_parts.specs.Windows.{is_ungrouped};
 
 use crate::scope::is_ungrouped;
-use crate::{Columns, Grouping, Scope, SqlRule, Tables, Test, least_broken, lesser, or_null};
+use crate::{
+    GivenColumns, Grouping, Scope, SqlRule, Tables, Test, columns_from, least_broken, lesser,
+    misnames_series, or_null,
+};
 use sql_tree::{Column, Equality, Source};
-use std::alloc::AllocError;
+use std::alloc::{AllocError, Global};
 use std::marker::Model;
-use vtl_cell::{Kind, is_same_kind};
+use vtl_cell::{Kind, is_null_kind, is_same_kind};
 use vtl_text::Txt;
 
-// The source of EXISTS: its alias, and the columns of its table, if there is one.
+// The source of EXISTS: its alias, and its columns, if its table is there.
 #[derive(Drop)]
 struct InnerSource<'a> {
     alias: &'a Txt,
-    columns: Option<&'a Columns>,
+    columns: Option<GivenColumns<'a>>,
 }
 
 impl<'a> Model for InnerSource<'a> {
-    ghost use Rattle.std.specs.Option.{option_copied};
+    ghost use Rattle.std.specs.Prelude.{option_map};
+    ghost use Rattle.sql_check_parts.specs.Given.{columns_given};
     ghost use Rattle.sql_check_parts.specs.Exists as exists;
 
     ghost Value = { exists.Inner };
 
-    ghost view = { λ i. record { alias = i.alias.now; columns = option_copied i.columns } };
+    ghost view = { λ i. record { alias = i.alias.now; columns = option_map columns_given i.columns } };
 }
 
-fn inner_of<'a>(tables: &'a Tables, source: &'a Source) -> InnerSource<'a>
-    ensures { result ≡ inner_of tables.now source.now }
+fn inner_of<'a>(
+    alloc: Global,
+    tables: &'a Tables,
+    source: &'a Source,
+) -> Result<InnerSource<'a>, AllocError>
+    ensures { IfOk result (λ inner. inner ≡ inner_of tables.now source.now) }
 {
-    InnerSource {
+    Ok(InnerSource {
         alias: &source.alias,
-        columns: tables.columns(&source.table),
-    }
+        columns: columns_from(alloc, tables, source)?,
+    })
 }
 
 fn is_inner(inner: &InnerSource, column: &Column) -> bool
@@ -48,7 +56,7 @@ fn is_inner(inner: &InnerSource, column: &Column) -> bool
 fn inner_kind(inner: &InnerSource, column: &Column) -> Option<Kind>
     ensures { result ≡ option_and_then (λ columns. value_among columns column.now.name) inner.now.columns }
 {
-    match inner.columns {
+    match &inner.columns {
         Some(columns) => columns.kind(&column.name),
         None => None,
     }
@@ -101,6 +109,13 @@ fn side_fault(
     ]))
 }
 
+// Whether kinds are the same. A column that has none is told by another rule, and goes with any.
+fn kinds_tie(a: Kind, b: Kind) -> bool
+    ensures { result ≡ kinds_tie a b }
+{
+    is_same_kind(a, b) || is_null_kind(a) || is_null_kind(b)
+}
+
 // Whether an equality is between a column of the inner source and one of an outer source, of the same kind.
 fn is_tie(scope: &Scope, inner: &InnerSource, equality: &Equality) -> bool
     ensures { result ≡ is_tie scope.now inner.now equality.now }
@@ -108,7 +123,7 @@ fn is_tie(scope: &Scope, inner: &InnerSource, equality: &Equality) -> bool
     let left = or_null(kind_inside(scope, inner, &equality.left));
     let right = or_null(kind_inside(scope, inner, &equality.right));
     let apart = is_inner(inner, &equality.left) != is_inner(inner, &equality.right);
-    apart && is_same_kind(left, right)
+    apart && kinds_tie(left, right)
 }
 
 #[tactic(auto, using(crate::proofs::Least::least_append))]
@@ -148,6 +163,7 @@ fn equalities_fault(
 /// EXISTS: the least of the rules that it breaks. It fails only if memory runs out.
 #[tactic(auto, using(crate::proofs::Least::least_append))]
 pub fn exists(
+    alloc: Global,
     tables: &Tables,
     scope: &Scope,
     group: &Option<Grouping>,
@@ -156,11 +172,18 @@ pub fn exists(
 ) -> Result<Option<SqlRule>, AllocError>
     ensures { IfOk result (λ fault. fault ≡ least (exists_breaks tables.now scope.now group.now source.now equalities.now)) }
 {
-    let inner = inner_of(tables, source);
-    let unknown = least_broken(&[Test {
-        rule: SqlRule::UnknownTable,
-        is_broken: inner.columns.is_none(),
-    }]);
+    let inner = inner_of(alloc, tables, source)?;
+    let misnamed = misnames_series(alloc, tables, source)?;
+    let own = least_broken(&[
+        Test {
+            rule: SqlRule::UnknownTable,
+            is_broken: tables.columns(&source.table).is_none(),
+        },
+        Test {
+            rule: SqlRule::MisnamedSeries,
+            is_broken: misnamed,
+        },
+    ]);
     let rest = equalities_fault(scope, group, &inner, equalities)?;
-    Ok(lesser(unknown, rest))
+    Ok(lesser(own, rest))
 }

@@ -10,6 +10,7 @@
 
 mod columns;
 mod existence;
+mod given;
 mod grouping;
 mod limits;
 mod literals;
@@ -22,6 +23,7 @@ mod windows;
 
 pub use columns::{Columns, repeats};
 pub use existence::exists;
+pub use given::{GivenColumns, columns_from, lacks_names, misnames_series};
 pub use grouping::Grouping;
 pub use limits::{MOST_COLUMNS, MOST_INPUT_COLUMNS};
 pub use literals::{constant, constant_value, list_fault, literal_value, literals_fit};

@@ -10,7 +10,7 @@ use std::marker::Model;
 /// A rule of typing, named by what breaks it.
 #[derive(Clone, Copy, Debug, PartialEq, Eq)]
 pub enum SqlRule {
-    /// A query has a source, or an EXPORT a table, that no earlier statement gives.
+    /// A source, a SERIES or an EXISTS is of a table, or an EXPORT has one, that no earlier statement gives.
     UnknownTable = 1,
     /// A table has a name that is taken, a source has the alias of another, or the name of a file is no word.
     MisnamedTable = 2,
@@ -34,6 +34,8 @@ pub enum SqlRule {
     UntiedEquality = 11,
     /// Codes stand where they may not, or there are too many columns.
     CodesOrCount = 12,
+    /// A SERIES names a column that its table does not have, or one twice, or is ON a column that holds no periods.
+    MisnamedSeries = 13,
 }
 
 impl SqlRule {

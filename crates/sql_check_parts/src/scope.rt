@@ -1,13 +1,14 @@
 // The sources of a select.
 ghost use Rattle.std.specs.Map.{keys_of, lookup};
 ghost use Rattle.std.specs.Option.{option_copied};
-ghost use Rattle.std.specs.Prelude.{◌≡◌, [], IfOk, OnOk};
+ghost use Rattle.std.specs.Prelude.{◌≡◌, [], option_map, IfOk, OnOk};
 ghost use Rattle.vtl_text.specs.Texts.{same_text};
+ghost use Rattle.sql_check_parts.specs.Given.{columns_given};
 ghost use Rattle.sql_check_parts.specs.Scopes.{add_source, column_kind, found, is_among};
 ghost use Rattle.sql_check_parts.specs.Told.{IsTold};
 ghost use Rattle.sql_check_parts.specs.Windows.{column_breaks, is_ungrouped};
 
-use crate::{Columns, Grouping, SqlRule, Test, Told, least_broken, or_null};
+use crate::{GivenColumns, Grouping, SqlRule, Test, Told, least_broken, or_null};
 use sql_tree::Column;
 use std::alloc::{AllocError, Global};
 use std::marker::Model;
@@ -18,16 +19,17 @@ use vtl_text::{ByName, Txt};
 /// tables.
 #[derive(Drop)]
 pub struct Scope<'a> {
-    sources: ByName<&'a Columns>,
+    sources: ByName<GivenColumns<'a>>,
 }
 
 impl<'a> Model for Scope<'a> {
     ghost use Rattle.std.specs.Prelude.{map};
+    ghost use Rattle.sql_check_parts.specs.Given.{columns_given};
     ghost use Rattle.sql_check_parts.specs.Scopes as scopes;
 
     ghost Value = { scopes.Scope };
 
-    ghost view = { λ s. map (λ e. (e.0, e.1.now)) s.sources };
+    ghost view = { λ s. map (λ e. (e.0, columns_given e.1)) s.sources };
 }
 
 impl<'a> Scope<'a> {
@@ -48,23 +50,24 @@ impl<'a> Scope<'a> {
     }
 
     /// Adds a source, unless it has no columns or its alias is there already. It fails only if memory runs out.
-    pub fn add(&mut self, alias: &Txt, columns: Option<&'a Columns>) -> Result<(), AllocError>
-        ensures { OnOk result (self.new ≡ add_source self.old alias.now (option_copied columns.entry)) }
+    pub fn add(&mut self, alias: &Txt, columns: Option<GivenColumns<'a>>) -> Result<(), AllocError>
+        ensures { OnOk result (self.new ≡ add_source self.old alias.now (option_map columns_given columns.entry)) }
     {
-        match columns {
-            Some(columns) if !self.has(alias) => {
-                self.sources.put(alias.share()?, columns)?;
-                Ok(())
-            }
-            _ => Ok(()),
+        let Some(columns) = columns else {
+            return Ok(());
+        };
+        if self.has(alias) {
+            return Ok(());
         }
+        self.sources.put(alias.share()?, columns)?;
+        Ok(())
     }
 
     // The columns of the source of an alias.
-    fn columns(&self, alias: &Txt) -> Option<&Columns>
-        ensures { option_copied result ≡ lookup (same_text alias.now) self.now }
+    fn columns(&self, alias: &Txt) -> Option<&GivenColumns<'a>>
+        ensures { option_map columns_given (option_copied result) ≡ lookup (same_text alias.now) self.now }
     {
-        self.sources.get(alias).copied()
+        self.sources.get(alias)
     }
 
     /// The kind of a column.

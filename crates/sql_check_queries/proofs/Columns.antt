@@ -15,7 +15,7 @@ use Rattle.sql_check_parts.proofs.Unbroken.{none_before, none_behind, none_least
 pub names_differ : (p : Settings) (tables : Tables) (q : QueryTree) → least (query_breaks p tables q) ≡ None → repeats (query_names q) ≡ false
 names_differ p tables [] h = refl
 names_differ p tables (s ∷ ss) h =
-    let all = none_before (flat_map (select_breaks p tables) (s ∷ ss)) (union_breaks (query_names (s ∷ ss)) (shared_kinds tables (s ∷ ss)) (s ∷ ss)) (none_least (query_breaks p tables (s ∷ ss)) h) in
+    let all = none_before (flat_map (select_breaks p tables) (s ∷ ss)) (union_breaks tables (query_names (s ∷ ss)) (shared_kinds tables (s ∷ ss)) (s ∷ ss)) (none_least (query_breaks p tables (s ∷ ss)) h) in
     let first = none_before (select_breaks p tables s) (flat_map (select_breaks p tables) ss) all in
     let at = site p tables (scope_of tables s) in
     let parts = none_behind (sources_break p tables s) (parts_break at s) first in

@@ -6,7 +6,7 @@ use Rattle.vtl_decimal.specs.Settings.{Settings}
 use Rattle.vtl_cell.specs.declared.kind.Kind.{Kind}
 use Rattle.sql_tree.specs.Trees.{Text, ItemTree, QueryTree, SelectTree}
 use Rattle.sql_check_parts.specs.Expressions.{Site}
-use Rattle.sql_check_parts.specs.Queries.{beside, item_breaks, item_kind, kinds_of, lacks_kind, most_columns, names_of, parts_break, query_breaks, query_names, same_names, scope_of, select_breaks, shared_kinds, sources_break}
+use Rattle.sql_check_parts.specs.Queries.{beside, has_null_column, item_breaks, item_kind, kinds_of, most_columns, names_of, parts_break, query_breaks, query_names, same_names, scope_of, select_breaks, shared_kinds, sources_break}
 use Rattle.sql_check_parts.specs.Rules.{broken, least, lesser}
 use Rattle.sql_check_parts.specs.Scopes.{Grouping, Tables, or_null}
 use Rattle.sql_check_parts.specs.declared.rules.SqlRule.{SqlRule}
@@ -45,11 +45,12 @@ pub record IsFirst (first : SelectTold) (u : Union) : Type 0 where
   pub same : u.same_names ≡ true
   pub fault_is : u.fault ≡ first.fault
 
--- the rules of a union's columns, where it is known whether the selects have the same names
-abbrev pub columns_breaks : List Text → List (Option Kind) → Bool → List SqlRule
-columns_breaks names kinds same =
+-- the rules of a union's columns, where it is known whether the selects have the same names, and whether a SERIES of theirs names what
+-- its table does not have
+abbrev pub columns_breaks : List Text → List (Option Kind) → (same unnamed : Bool) → List SqlRule
+columns_breaks names kinds same unnamed =
     broken ((rule.UnlikeSelects, not same || list_any is_none kinds)
-    ∷ (rule.NullColumn, list_any lacks_kind kinds)
+    ∷ (rule.NullColumn, has_null_column unnamed kinds)
     ∷ (rule.CodesOrCount, nat_lt most_columns (length names)) ∷ [])
 
 -- a union with selects behind those before

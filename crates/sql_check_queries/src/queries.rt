@@ -1,9 +1,12 @@
 // Queries.
+ghost use Rattle.std.specs.List.{list_any};
 ghost use Rattle.std.specs.Prelude.{◌≡◌, [], None, map, IfOk, OnOk};
 ghost use Rattle.sql_tree.specs.View.{query_tree, select_tree};
+ghost use Rattle.sql_check_parts.specs.Queries.{has_unnamed};
 ghost use Rattle.sql_check_queries.specs.Told.{Grows, IsQueryTold, IsUnion};
 
 use crate::selects::select;
+use crate::sources::has_unnamed;
 use crate::unions::Union;
 use sql_check_parts::{SqlRule, Tables};
 use sql_tree::{Query, Select};
@@ -53,6 +56,18 @@ fn union(
     Ok(union)
 }
 
+// Whether a SERIES of a select names what its table does not have.
+fn any_unnamed(tables: &Tables, selects: &[Select]) -> bool
+    ensures { result ≡ list_any (has_unnamed tables.now) (map select_tree selects.now) }
+{
+    for select in selects {
+        if has_unnamed(tables, select) {
+            return true;
+        }
+    }
+    false
+}
+
 fn no_columns(alloc: Global) -> QueryTold
     ensures names { result.names ≡ [] }
     ensures kinds { result.kinds ≡ [] }
@@ -74,13 +89,15 @@ pub fn query(
 ) -> Result<QueryTold, AllocError>
     ensures { IfOk result (IsQueryTold profile.now tables.now (query_tree query.now)) }
 {
-    let Some((first, rest)) = query.selects.as_slice().split_first() else {
+    let selects = query.selects.as_slice();
+    let Some((first, rest)) = selects.split_first() else {
         return Ok(no_columns(alloc));
     };
     let union = union(alloc, profile, tables, first, rest)?;
+    let unnamed = any_unnamed(tables, selects);
     Ok(QueryTold {
         kinds: union.kinds(alloc)?,
-        fault: union.least_fault(),
+        fault: union.least_fault(unnamed),
         names: union.names,
     })
 }

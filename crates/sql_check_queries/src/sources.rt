@@ -1,14 +1,17 @@
 // The sources of a select, and the conditions of its joins.
+ghost use Rattle.std.specs.List.{list_any};
 ghost use Rattle.std.specs.Prelude.{◌≡◌, map, IfOk, OnOk};
 ghost use Rattle.sql_tree.specs.View.{join_tree, select_tree};
 ghost use Rattle.sql_check_parts.specs.Expressions.{site};
-ghost use Rattle.sql_check_parts.specs.Queries.{join_breaks, join_condition, join_source, joined_scope, joins_break, source_breaks};
+ghost use Rattle.sql_check_parts.specs.Queries.{has_unnamed, join_breaks, join_condition, join_source, joined_scope, joins_break, source_breaks};
 ghost use Rattle.sql_check_parts.specs.Rules.{least};
-ghost use Rattle.sql_check_parts.specs.Scopes.{with_source};
+ghost use Rattle.sql_check_parts.specs.Scopes.{lacks_names, with_source};
 ghost use Rattle.sql_check_queries.specs.Told.{HasSources};
 
 use sql_check_expressions::{Site, condition};
-use sql_check_parts::{Scope, SqlRule, Tables, Test, least_broken, lesser};
+use sql_check_parts::{
+    Scope, SqlRule, Tables, Test, columns_from, lacks_names, least_broken, lesser, misnames_series,
+};
 use sql_tree::{Join, Select, Source};
 use std::alloc::{AllocError, Global};
 use vtl_decimal::Profile;
@@ -21,10 +24,16 @@ pub(crate) struct SourcesTold<'a> {
 }
 
 // The rules of a source after others.
-fn source_fault(tables: &Tables, before: &Scope, source: &Source) -> Option<SqlRule>
-    ensures { result ≡ least (source_breaks tables.now before.now source.now) }
+fn source_fault(
+    alloc: Global,
+    tables: &Tables,
+    before: &Scope,
+    source: &Source,
+) -> Result<Option<SqlRule>, AllocError>
+    ensures { IfOk result (λ fault. fault ≡ least (source_breaks tables.now before.now source.now)) }
 {
-    least_broken(&[
+    let misnamed = misnames_series(alloc, tables, source)?;
+    Ok(least_broken(&[
         Test {
             rule: SqlRule::UnknownTable,
             is_broken: tables.columns(&source.table).is_none(),
@@ -33,17 +42,22 @@ fn source_fault(tables: &Tables, before: &Scope, source: &Source) -> Option<SqlR
             rule: SqlRule::MisnamedTable,
             is_broken: before.has(&source.alias),
         },
-    ])
+        Test {
+            rule: SqlRule::MisnamedSeries,
+            is_broken: misnamed,
+        },
+    ]))
 }
 
 fn add_source<'a>(
+    alloc: Global,
     tables: &'a Tables,
     scope: &mut Scope<'a>,
     source: &Source,
 ) -> Result<(), AllocError>
     ensures { OnOk result (scope.new ≡ with_source tables.now scope.old source.now) }
 {
-    scope.add(&source.alias, tables.columns(&source.table))
+    scope.add(&source.alias, columns_from(alloc, tables, source)?)
 }
 
 /// The source of a join.
@@ -53,6 +67,25 @@ pub fn join_source(join: &Join) -> &Source
     match join {
         Join::On { source, .. } | Join::Cross(source) => source,
     }
+}
+
+// Whether a SERIES among the sources of joins names what its table does not have.
+fn any_unnamed(tables: &Tables, joins: &[Join]) -> bool
+    ensures { result ≡ list_any (lacks_names tables.now) (map join_source (map join_tree joins.now)) }
+{
+    for join in joins {
+        if lacks_names(tables, join_source(join)) {
+            return true;
+        }
+    }
+    false
+}
+
+/// Whether a SERIES of a select names what its table does not have.
+pub(crate) fn has_unnamed(tables: &Tables, select: &Select) -> bool
+    ensures { result ≡ has_unnamed tables.now (select_tree select.now) }
+{
+    lacks_names(tables, &select.from) || any_unnamed(tables, select.joins.as_slice())
 }
 
 // The condition of a join among the sources up to its own.
@@ -87,8 +120,8 @@ fn add_join<'a>(
     ensures fault { IfOk result (λ fault. fault ≡ least (join_breaks profile.now tables.now scope.old (join_tree join.now))) }
 {
     let source = join_source(join);
-    let own = source_fault(tables, scope, source);
-    add_source(tables, scope, source)?;
+    let own = source_fault(alloc, tables, scope, source)?;
+    add_source(alloc, tables, scope, source)?;
     let condition = join_condition(alloc, profile, tables, scope, join)?;
     Ok(lesser(own, condition))
 }
@@ -122,8 +155,8 @@ pub(crate) fn sources<'a>(
     ensures { IfOk result (HasSources profile.now tables.now (select_tree select.now)) }
 {
     let mut scope = Scope::new(alloc);
-    let first = source_fault(tables, &scope, &select.from);
-    add_source(tables, &mut scope, &select.from)?;
+    let first = source_fault(alloc, tables, &scope, &select.from)?;
+    add_source(alloc, tables, &mut scope, &select.from)?;
     let joins = add_joins(alloc, profile, tables, &mut scope, select.joins.as_slice())?;
     Ok(SourcesTold {
         scope,

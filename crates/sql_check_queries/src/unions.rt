@@ -3,7 +3,7 @@ ghost use Rattle.std.specs.List.{list_any};
 ghost use Rattle.std.specs.Option.{is_none};
 ghost use Rattle.std.specs.Prelude.{◌≡◌, ◌&&◌, Some, map, option_and_then, IfOk};
 ghost use Rattle.vtl_cell.specs.ScalarKinds.{shared_kind};
-ghost use Rattle.sql_check_parts.specs.Queries.{beside, lacks_kind, same_names};
+ghost use Rattle.sql_check_parts.specs.Queries.{beside, has_null_column, lacks_kind, same_names};
 ghost use Rattle.sql_check_parts.specs.Rules.{least, lesser};
 ghost use Rattle.sql_check_parts.specs.Scopes.{or_null};
 ghost use Rattle.sql_check_queries.specs.Told.{columns_breaks, IsFirst};
@@ -69,6 +69,12 @@ fn any_lacks_kind(shared: &[Option<Kind>]) -> bool
     shared.iter().any(|kind| is_null_kind(or_null(*kind)))
 }
 
+fn has_null_column(unnamed: bool, shared: &[Option<Kind>]) -> bool
+    ensures { result ≡ has_null_column unnamed shared.now }
+{
+    !unnamed && any_lacks_kind(shared)
+}
+
 impl Union {
     /// A first select. It fails only if memory runs out.
     pub(crate) fn of(alloc: Global, first: SelectTold) -> Result<Union, AllocError>
@@ -94,9 +100,10 @@ impl Union {
         self.fault = lesser(self.fault, other.fault);
     }
 
-    /// The least of the rules that the selects break, alone and together.
-    pub(crate) fn least_fault(&self) -> Option<SqlRule>
-        ensures { result ≡ lesser self.now.fault (least (columns_breaks self.now.names self.now.shared.items self.now.same_names)) }
+    /// The least of the rules that the selects break, alone and together; it is told whether a SERIES of theirs names
+    /// what its table does not have.
+    pub(crate) fn least_fault(&self, unnamed: bool) -> Option<SqlRule>
+        ensures { result ≡ lesser self.now.fault (least (columns_breaks self.now.names self.now.shared.items self.now.same_names unnamed)) }
     {
         let shared = self.shared.as_slice();
         let own = least_broken(&[
@@ -106,7 +113,7 @@ impl Union {
             },
             Test {
                 rule: SqlRule::NullColumn,
-                is_broken: any_lacks_kind(shared),
+                is_broken: has_null_column(unnamed, shared),
             },
             Test {
                 rule: SqlRule::CodesOrCount,

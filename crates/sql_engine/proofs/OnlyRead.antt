@@ -14,6 +14,7 @@ use Rattle.vtl_cell.specs.Row.{Row}
 use Rattle.sql_tree.specs.Trees as tree
 use Rattle.sql_tree.specs.Trees.{Branches, Exp, Exps, ItemTree, JoinTree, QueryTree, SelectTree, Text, ValueTree}
 use Rattle.sql_tree.specs.declared.parts.Column.{Column}
+use Rattle.sql_tree.specs.declared.parts.Source.{Source}
 use Rattle.sql_tree.specs.declared.windows.Over.{Over}
 use Rattle.sql_tree.specs.declared.windows.WindowCall.{WindowCall}
 use Rattle.sql_tree.specs.declared.windows.WindowCall.TheVariants as call
@@ -22,7 +23,7 @@ use Rattle.sql_check_parts.specs.Queries.{is_grouped, query_columns, scope_of}
 use Rattle.sql_check_parts.specs.Scopes.{Scope, row_of, with_source}
 use Rattle.sql_check_parts.specs.Exists.{inner_of}
 use Rattle.sql_meaning.specs.Outcomes.{all_values, cell_or_null, operated, row_at, row_fault}
-use Rattle.sql_meaning.specs.Tables.{Base, columns_named, kinds_of}
+use Rattle.sql_meaning.specs.Tables.{Base, columns_given, columns_named, given_rows, kinds_of, rows_from}
 use Rattle.sql_meaning.specs.Values.{View, at_groups, at_rows, chosen, is_tied, literal_cell, null_test, place_in, set_operator, value, values}
 use Rattle.sql_meaning.specs.From.{Joined, fault_at, first_of, holds, joined, joined_rows, kept_of, pairs, source_rows, with_join}
 use Rattle.sql_meaning.specs.Groups.{keys_by, rows_with}
@@ -55,6 +56,9 @@ module _ (b : Base) (other : Text → List Row) where
   abbrev Alike : Text → Type 0
   Alike name = b.rows name ≡ other name
 
+  source_alike : (s : Source) → Alike s.table → rows_from b s ≡ rows_from o s
+  source_alike s h = ap (given_rows s.series (columns_named b.tables s.table)) h
+
   -- ---- expressions
   mutual
     value_same : (scope : Scope) (place : Column → ℕ) (e : Exp) (r : Row) (g : List Row) → EachRead Alike e → value (view scope place) e r g ≡ value (view' scope place) e r g
@@ -68,7 +72,7 @@ module _ (b : Base) (other : Text → List Row) where
     value_same scope place tree.count_all r g h = refl
     value_same scope place (tree.aggregate f e) r g h = λ i. after (all_values (λ q. value_same scope (place_in scope) e q [] h i) g) (group_value b.settings f)
     value_same scope place (tree.case_when bs e) r g h = ap (λ m. after m (as_kind b.settings (kind_in scope (tree.case_when bs e)))) (chosen_same scope place bs r g h.0 (value_same scope place e r g h.1))
-    value_same scope place (tree.exists s es) r g h = ap (λ rows. Ok (c.Bool (list_any (λ inner. list_all (is_tied (view scope place) (inner_of b.tables s) r inner) es) rows))) h
+    value_same scope place (tree.exists s es) r g h = ap (λ rows. Ok (c.Bool (list_any (λ inner. list_all (is_tied (view scope place) (inner_of b.tables s) r inner) es) rows))) (source_alike s h)
 
     values_same : (scope : Scope) (place : Column → ℕ) (es : Exps) (r : Row) (g : List Row) → EachOfAll Alike es → values (view scope place) es r g ≡ values (view' scope place) es r g
     values_same scope place tree.no_exps r g h = refl
@@ -86,13 +90,13 @@ module _ (b : Base) (other : Text → List Row) where
 
   -- ---- FROM
   join_same : (f : Joined) (j : JoinTree) → EachOfJoin Alike j → with_join b f j ≡ with_join o f j
-  join_same f (tree.cross s) h = λ i. record { scope = with_source b.tables f.scope s; rows = pairs f.rows (h i); fault = f.fault }
+  join_same f (tree.cross s) h = λ i. record { scope = with_source b.tables f.scope s; rows = pairs f.rows (source_alike s h i); fault = f.fault }
   join_same f (tree.on kind s e) h =
       let now = with_source b.tables f.scope s in
       λ i. record {
         scope = now;
-        rows = joined_rows kind (holds_same now e h.1 i) (length (row_of f.scope)) (length (columns_named b.tables s.table)) f.rows (h.0 i);
-        fault = join f.fault (faults_by (faults_same now e h.1 i) (pairs f.rows (h.0 i)));
+        rows = joined_rows kind (holds_same now e h.1 i) (length (row_of f.scope)) (length (columns_given b.tables s)) f.rows (source_alike s h.0 i);
+        fault = join f.fault (faults_by (faults_same now e h.1 i) (pairs f.rows (source_alike s h.0 i)));
       }
 
   joins_same : (js : List JoinTree) (f : Joined) → AllByRecursion (EachOfJoin Alike) js → fold (with_join b) f js ≡ fold (with_join o) f js
@@ -100,7 +104,7 @@ module _ (b : Base) (other : Text → List Row) where
   joins_same (j ∷ js) f h = joins_same js (with_join b f j) h.1 ∙ ap (λ g. fold (with_join o) g js) (join_same f j h.0)
 
   joined_same : (s : SelectTree) → EachOfSelect Alike s → joined b s ≡ joined o s
-  joined_same s h = joins_same s.joins (first_of b s.source) h.joins ∙ ap (λ rows. fold (with_join o) (record { scope = with_source b.tables [] s.source; rows = rows; fault = None }) s.joins) h.source
+  joined_same s h = joins_same s.joins (first_of b s.source) h.joins ∙ ap (λ rows. fold (with_join o) (record { scope = with_source b.tables [] s.source; rows = rows; fault = None }) s.joins) (source_alike s.source h.source)
 
   kept_same : (e : Option Exp) (f : Joined) → EachOfMaybe Alike e → kept_of b e f ≡ kept_of o e f
   kept_same None f h = refl

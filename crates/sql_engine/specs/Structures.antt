@@ -1,5 +1,5 @@
 -- The structure that an INPUT declares.
-use Rattle.std.specs.Prelude.{List, [], ◌∷◌, map, Option, Some, None, if◌then◌else◌}
+use Rattle.std.specs.Prelude.{List, [], ◌∷◌, map, filter, Option, Some, None, if◌then◌else◌}
 use Rattle.sql_tree.specs.Trees.{Text}
 use Rattle.sql_tree.specs.declared.statements.InputColumn.{InputColumn}
 use Rattle.sql_tree.specs.declared.statements.SqlInput.{SqlInput}
@@ -24,3 +24,7 @@ component_of key x = record { name = x.name; role = role_in key x; kind = x.kind
 -- a component for each column, in the order in which they are listed
 abbrev pub structure_of : SqlInput → Structure
 structure_of s = record { components = map (component_of s.key) s.columns }
+
+-- the names of the columns that are NOT NULL, in the order in which they are listed
+abbrev pub not_null_of : SqlInput → List Text
+not_null_of s = map (λ x. x.name) (filter (λ x. x.not_null) s.columns)

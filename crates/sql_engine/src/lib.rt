@@ -22,4 +22,4 @@ mod structures;
 
 pub use engine::{run, run_as_made};
 pub use laws::{inputs_are_data_sets, queries_depend_on_what_they_read};
-pub use structures::structure_of;
+pub use structures::{not_null_of, structure_of};

@@ -4,7 +4,7 @@
 // more, and a table of the structure that the INPUT declares is one (`inputs_are_data_sets`).
 ghost use Rattle.std.specs.Prelude.{◌≡◌, IfOk, map};
 ghost use Rattle.sql_check_parts.specs.Scopes.{is_among};
-ghost use Rattle.sql_engine.specs.Structures.{component_of, listed_codes, role_in, structure_of};
+ghost use Rattle.sql_engine.specs.Structures.{component_of, listed_codes, not_null_of, role_in, structure_of};
 
 use sql_tree::{InputColumn, SqlInput};
 use std::alloc::{AllocError, Global};
@@ -69,4 +69,17 @@ pub fn structure_of(alloc: Global, input: &SqlInput) -> Result<Structure, AllocE
     Ok(Structure {
         components: List::of(components),
     })
+}
+
+/// The names of the columns of an INPUT that are NOT NULL, in order. It fails only if memory runs out.
+pub fn not_null_of(alloc: Global, input: &SqlInput) -> Result<Vec<Txt>, AllocError>
+    ensures { IfOk result (λ names. names.items ≡ not_null_of input.now) }
+{
+    let mut names = Vec::new(alloc);
+    for column in input.columns.as_slice() {
+        if column.not_null {
+            names.push(column.name.share()?)?;
+        }
+    }
+    Ok(names)
 }

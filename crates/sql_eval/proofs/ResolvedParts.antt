@@ -1,5 +1,5 @@
 -- Resolved expressions have the values of the expressions, part by part.
-use Rattle.std.proofs.Common.{rules, Box, Global, Vec, ◌≡◌, ◌∙◌, ◌+◌, ◌<◌, ◌≤◌, ℕ, Bool, true, false, cond, ◌&&◌, List, [], ◌∷◌, ◌++◌, length, get_or, drop, map, Result, Ok, Err, IfOk, refl, ap, sym, subst, append_assoc, append-nil}
+use Rattle.std.proofs.Common.{rules, Box, Global, Vec, ◌≡◌, ◌∙◌, ◌+◌, ◌<◌, ◌≤◌, ℕ, Bool, true, false, cond, ◌&&◌, List, [], ◌∷◌, ◌++◌, length, get_or, drop, map, Option, Some, None, Result, Ok, Err, IfOk, refl, ap, sym, subst, append_assoc, append-nil}
 use Rattle.std.proofs.lemmas.List.{drop_all, drop_more, map-append}
 use Rattle.std.specs.List.{list_all, list_any}
 use Rattle.vtl_cell.specs.Conversion.{as_kind}
@@ -19,6 +19,7 @@ use Rattle.vtl_cell.specs.declared.kind.Kind.TheVariants as k
 use Rattle.vtl_cell.specs.declared.operator.AggKind.{AggKind}
 use Rattle.vtl_cell.specs.declared.operator.ScalarOp.{ScalarOp}
 use Rattle.vtl_cell.specs.declared.operator.ScalarOp.TheVariants as op
+use Rattle.vtl_series.specs.Series.{series_rows}
 use Rattle.vtl_scalar.proofs.MemberLemmas.{membership_of_perm}
 use Rattle.vtl_cell.specs.AggregateKinds.{aggregate_kind}
 use Rattle.sql_tree.specs.Trees as tree
@@ -31,13 +32,16 @@ use Rattle.sql_tree.specs.declared.parts.Column.{Column}
 use Rattle.sql_tree.specs.declared.parts.Constant.{Constant}
 use Rattle.sql_tree.specs.declared.parts.Equality.{Equality}
 use Rattle.sql_tree.specs.declared.parts.Literal.{Literal}
+use Rattle.sql_tree.specs.declared.parts.Series.{Series}
 use Rattle.sql_tree.specs.declared.parts.Source.{Source}
 use Rattle.sql_check_parts.specs.Exists.{Inner, inner_of, is_inner}
 use Rattle.sql_check_parts.specs.Kinds.{given_kind, kind_in, kinds_in, value_kinds}
-use Rattle.sql_check_parts.specs.Scopes.{Scope, Tables, or_null}
+use Rattle.sql_check_parts.specs.Scopes.{Columns, Scope, Tables, or_null}
 use Rattle.sql_meaning.specs.Outcomes.{all_values, operated}
+use Rattle.sql_meaning.specs.Tables.{columns_named, given_rows}
 use Rattle.sql_meaning.specs.Values as meaning
 use Rattle.sql_meaning.specs.Values.{View, chosen, inner_scope, literal_cell, null_test, place_in, set_operator, value, values}
+use Rattle.sql_eval.specs.Origins.{AreSame, AreSameSeries, IsMaybeSeriesOf, IsOriginOf, rows_at, rows_by}
 use Rattle.sql_eval.specs.Placed.{Placed, aggregate, apply, asked, choose, const, is_tied, membership, membership_value, placed_choice, placed_value, placed_values, side_cell, there}
 use Rattle.sql_eval.specs.Resolves.{AllResolve, BranchesResolve, Resolves, Sight, place_at, side_of, sight, tie_of, view_over}
 use Rattle.sql_eval.specs.View.{branch_of, branches_of, placed_of, placeds_of}
@@ -46,6 +50,8 @@ use Rattle.sql_eval.specs.declared.kinded.Kinded.{Kinded}
 use Rattle.sql_eval.specs.declared.kinded.Operands.{Operands}
 use Rattle.sql_eval.specs.declared.names.Level.{Level}
 use Rattle.sql_eval.specs.declared.names.Level.TheVariants as levels
+use Rattle.sql_eval.specs.declared.origin.Origin.{Origin}
+use Rattle.sql_eval.specs.declared.origin.SeriesPlaces.{SeriesPlaces}
 use Rattle.sql_eval.specs.declared.resolved.Existence.{Existence}
 use Rattle.sql_eval.specs.declared.resolved.Resolved as resolved
 use Rattle.sql_eval.specs.declared.resolved.Resolved.{Resolved, Exists, Membership}
@@ -274,13 +280,34 @@ module _ (v : View) (i : Inner) (outer : Row) where
   ties_are [] inner = refl
   ties_are (e ∷ es) inner = λ j. tie_is inner e j && ties_are es inner j
 
-pub exists_resolves : (s : Sight) (source : Source) (es : List Equality) (z : Kinded) → z.kind ≡ k.Bool → placed_of z.exp ≡ there source.table (map (tie_of (place_at s.scope s.level) (inner_of s.tables source)) es) → Resolves s (tree.exists source es) z
-exists_resolves s source es z kind is = record {
+-- the rows of an origin are those of its source
+series_are : (columns : Columns) (s : Option Series) (x : Option SeriesPlaces) (rows : List Row) → IsMaybeSeriesOf columns s x → rows_by x rows ≡ given_rows s columns rows
+series_are columns None None rows h = refl
+series_are columns None (Some x) rows h = absurd h
+series_are columns (Some s) None rows h = absurd h
+series_are columns (Some s) (Some x) rows h = λ i. series_rows (h.extent i) (h.on i) (h.by i) rows
+
+pub origin_rows : (tables : Tables) (source : Source) (o : Origin) (rows : Text → List Row) → IsOriginOf tables source o → rows_at rows o ≡ given_rows source.series (columns_named tables source.table) (rows source.table)
+origin_rows tables source o rows h = ap (λ name. rows_by o.series (rows name)) h.table ∙ series_are (columns_named tables source.table) source.series o.series (rows source.table) h.series
+
+pub exists_resolves : (s : Sight) (source : Source) (es : List Equality) (z : Kinded) (o : Origin) → z.kind ≡ k.Bool → IsOriginOf s.tables source o → placed_of z.exp ≡ there o (map (tie_of (place_at s.scope s.level) (inner_of s.tables source)) es)
+    → Resolves s (tree.exists source es) z
+exists_resolves s source es z o kind of is = record {
   kind_is = kind;
   value_is = λ rows r g.
       ap (λ e. placed_value s.settings rows e r g) is
-      ∙ (λ j. Ok (c.Bool (list_any (λ inner. ties_are (view_over s rows) (inner_of s.tables source) r es inner j) (rows source.table))));
+      ∙ (λ j. Ok (c.Bool (list_any (λ inner. ties_are (view_over s rows) (inner_of s.tables source) r es inner j) (origin_rows s.tables source o rows of j))));
 }
+
+-- the same origins have the same rows
+pub same_rows : (o q : Origin) (rows : Text → List Row) → AreSame o q → rows_at rows o ≡ rows_at rows q
+same_rows o q rows h = ap (λ name. rows_by o.series (rows name)) h.table ∙ same_series o.series q.series (rows q.table) h.series
+  where
+    same_series : (x y : Option SeriesPlaces) (rs : List Row) → AreSameSeries x y → rows_by x rs ≡ rows_by y rs
+    same_series None None rs g = refl
+    same_series None (Some y) rs g = absurd g
+    same_series (Some x) None rs g = absurd g
+    same_series (Some x) (Some y) rs g = λ i. series_rows (g.extent i) (g.on i) (g.by i) rs
 
 -- ---- as the program has them
 

@@ -18,6 +18,8 @@ use Rattle.vtl_cell.specs.declared.operator.ScalarOp.{ScalarOp}
 use Rattle.vtl_cell.specs.declared.operator.ScalarOp.TheVariants as op
 use Rattle.sql_tree.specs.Trees.{Text}
 use Rattle.sql_meaning.specs.Outcomes.{all_values, operated}
+use Rattle.sql_eval.specs.Origins.{rows_at}
+use Rattle.sql_eval.specs.declared.origin.Origin.{Origin}
 use Rattle.sql_eval.specs.declared.resolved.Side.{Side}
 use Rattle.sql_eval.specs.declared.resolved.Side.TheVariants as side
 use Rattle.sql_eval.specs.declared.resolved.Tie.{Tie}
@@ -30,7 +32,7 @@ mutual
     -- a value, whether it is asked that it is not there, and the members of a set
     membership : Placed → Bool → List Cell → Placed
     choose : Kind → PlacedBranches → Placed
-    there : Text → List Tie → Placed
+    there : Origin → List Tie → Placed
     count_all : Placed
     aggregate : AggKind → Placed → Placed
 
@@ -53,9 +55,9 @@ side_cell outer inner (side.Outer i) = column_of i outer
 abbrev pub is_tied : Settings → Row → Row → Tie → Bool
 is_tied p outer inner t = is_true (scalar_of p op.Equal (side_cell outer inner t.left ∷ side_cell outer inner t.right ∷ []))
 
--- some row of the table makes every equality true
-abbrev pub has_partner : Settings → (Text → List Row) → Text → List Tie → Row → Bool
-has_partner p rows table ts outer = list_any (λ inner. list_all (is_tied p outer inner) ts) (rows table)
+-- some row of the table, or of the SERIES over it, makes every equality true
+abbrev pub has_partner : Settings → (Text → List Row) → Origin → List Tie → Row → Bool
+has_partner p rows table ts outer = list_any (λ inner. list_all (is_tied p outer inner) ts) (rows_at rows table)
 
 -- ---- sets
 

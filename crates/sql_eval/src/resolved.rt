@@ -1,8 +1,8 @@
 // Expressions whose names are resolved.
 
+use crate::Origin;
 use vtl_cell::{AggKind, Cell, Kind, ScalarOp};
 use vtl_scalar::Members;
-use vtl_text::Txt;
 
 /// A side of an equality of EXISTS.
 #[derive(Clone, Copy, Debug, PartialEq, Eq, PartialOrd, Ord)]
@@ -22,12 +22,12 @@ pub struct Tie {
     pub right: Side,
 }
 
-/// What EXISTS asks: whether some row of a table makes every equality true. They have an order, in which equal ones are
-/// found.
+/// What EXISTS asks: whether some row of a table, or of a SERIES, makes every equality true. They have an order, in which
+/// equal ones are found.
 #[derive(Drop, PartialEq, Eq, PartialOrd, Ord)]
 pub struct Existence {
-    /// The table.
-    pub table: Txt,
+    /// The table, or the SERIES over it.
+    pub table: Origin,
     /// The equalities.
     pub ties: Vec<Tie>,
 }

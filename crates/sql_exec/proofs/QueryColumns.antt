@@ -11,14 +11,14 @@ use Rattle.sql_check_parts.specs.Scopes.{with_source}
 use Rattle.sql_check_laws.specs.Selects.{IsSourceTyped}
 use Rattle.sql_meaning.specs.Tables.{column_entry}
 use Rattle.sql_from.specs.Held.{tables_held}
-use Rattle.sql_from.specs.Sources.{Sourced, scope_held, table_named}
+use Rattle.sql_from.specs.Sources.{Sourced, scope_held, table_given}
 use Rattle.sql_from.proofs.Standing.{scope_more}
 use Rattle.sql_exec.proofs.Steps.{zipped_more}
 
 -- ---- sources
 
 -- the scope of one source more
-pub scope_with : (before next : Sourced) (source : Source) → IsSourceTyped (tables_held before.held) (scope_held before.sources) source → next.sources ≡ before.sources ++ (source.alias, table_named before.held source.table) ∷ []
+pub scope_with : (before next : Sourced) (source : Source) → IsSourceTyped (tables_held before.held) (scope_held before.sources) source → next.sources ≡ before.sources ++ (source.alias, table_given before.held source) ∷ []
     → scope_held next.sources ≡ with_source (tables_held before.held) (scope_held before.sources) source
 scope_with before next source typed e = ap scope_held e ∙ scope_more before source typed
 

@@ -16,7 +16,7 @@ use crate::window_kinds::window_kind;
 use sql_check_parts::or_null;
 use sql_check_queries::{all_some, join_source, share_kinds};
 use sql_eval::{Level, Names, resolve};
-use sql_from::{HeldTables, Sources};
+use sql_from::{Given, Sources};
 use sql_tree::{Item, ItemValue, Select};
 use std::alloc::{AllocError, Global};
 use vtl_cell::Kind;
@@ -60,7 +60,7 @@ fn item_kinds<N: Names>(
 fn select_kinds(
     alloc: Global,
     p: &Profile,
-    tables: &HeldTables,
+    tables: &Given<'_>,
     select: &Select,
 ) -> Result<Vec<Kind>, AllocError>
     requires { IsSelectTyped p.now (tables_held tables.now) (select_tree select.now) }
@@ -77,7 +77,7 @@ fn select_kinds(
 fn share_others(
     alloc: Global,
     p: &Profile,
-    tables: &HeldTables,
+    tables: &Given<'_>,
     shared: &mut [Option<Kind>],
     others: &[Select],
 ) -> Result<(), AllocError>
@@ -107,7 +107,7 @@ fn known_kinds(alloc: Global, shared: &[Option<Kind>]) -> Result<Vec<Kind>, Allo
 pub(crate) fn query_kinds(
     alloc: Global,
     p: &Profile,
-    tables: &HeldTables,
+    tables: &Given<'_>,
     selects: &[Select],
 ) -> Result<Vec<Kind>, AllocError>
     requires { AllByRecursion (IsSelectTyped p.now (tables_held tables.now)) (map select_tree selects.now) }

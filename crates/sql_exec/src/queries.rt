@@ -27,7 +27,7 @@ ghost use Rattle.sql_exec.specs.Answers.{Gives};
 use crate::columns::{named_columns, query_kinds};
 use crate::output::Output;
 use crate::selects::add_selects;
-use sql_from::{ExecErr, HeldTables};
+use sql_from::{ExecErr, HeldTables, given_for};
 use sql_meaning::Plan;
 use std::alloc::Global;
 use std::sync::ledger::Ledger;
@@ -61,10 +61,11 @@ pub fn exec<L: Ledger>(
     ensures steps { (s : SelectTree) → query_tree plan.now.query ≡ s ∷ [] → is_indexed (indexed_in plan.now.ways 0) 0 ≡ true → IsPlainJoin s → steps.new ≤ steps.old + most_steps (base_held p.now tables.now) s }
 {
     let selects = plan.query().selects.as_slice();
-    let kinds = query_kinds(alloc, p, tables, selects)?;
+    let given = given_for(alloc, tables, selects)?;
+    let kinds = query_kinds(alloc, p, &given, selects)?;
     let columns = named_columns(alloc, selects[0].items.as_slice(), &kinds)?;
     let mut out = Output::new(alloc, columns);
-    add_selects(alloc, &mut out, plan, selects, &kinds, tables, p, steps)?;
+    add_selects(alloc, &mut out, plan, selects, &kinds, &given, p, steps)?;
     out.finish()
 }
 
@@ -87,5 +88,6 @@ pub fn source_rows<L: Ledger>(
     ensures rows { (s : SelectTree) → query_tree plan.now.query ≡ s ∷ [] → AnswersBy (λ t. t.rows) result (source_rows (base_held p.now tables.now) s) }
 {
     let selects = plan.query().selects.as_slice();
-    sql_from::source_rows(alloc, &selects[0], tables, p, steps)
+    let given = given_for(alloc, tables, selects)?;
+    sql_from::source_rows(alloc, &selects[0], &given, p, steps)
 }

@@ -31,7 +31,7 @@ use crate::output::Output;
 use crate::planned::PlannedSelects;
 use crate::simple_items::{add_simple, simple_items};
 use sql_check_queries::is_grouped;
-use sql_from::{HeldTables, Partners, Sources, TupleRows, asks, source_tuples};
+use sql_from::{Given, Partners, Sources, TupleRows, asks, source_tuples};
 use sql_groups::push_grouped;
 use sql_meaning::{Early, Plan};
 use sql_tree::{Item, ItemValue, Select};
@@ -185,7 +185,7 @@ fn add_select<L: Ledger>(
     by_index: &[usize],
     early: &[Early],
     kinds: &[Kind],
-    tables: &HeldTables,
+    tables: &Given<'_>,
     p: &Profile,
     steps: &mut Steps<L>,
 ) -> Result<(), ScalarErr>
@@ -211,7 +211,7 @@ pub(crate) fn add_selects<L: Ledger>(
     plan: &Plan,
     selects: &[Select],
     kinds: &[Kind],
-    tables: &HeldTables,
+    tables: &Given<'_>,
     p: &Profile,
     steps: &mut Steps<L>,
 ) -> Result<(), ScalarErr>

@@ -16,21 +16,22 @@ use Rattle.sql_meaning.specs.Plans.{IsEqualityJoin, conjuncts, conjuncts_of, try
 use Rattle.sql_meaning.specs.Values.{at_rows}
 use Rattle.sql_check_parts.specs.Queries.{first_scope, join_source}
 use Rattle.sql_check_parts.specs.Scopes.{Scope, with_source}
-use Rattle.sql_meaning.specs.Tables.{Base}
+use Rattle.sql_meaning.specs.Tables.{Base, rows_from}
 use Rattle.sql_meaning.proofs.Lists.{all_joined}
 use Rattle.sql_check_laws.specs.Selects.{AreJoinsTyped, IsJoinCondition, IsSourceTyped}
 use Rattle.sql_meaning.specs.declared.plan.Early.{Early}
 use Rattle.sql_from.specs.Asking.{asks, condition_asks}
-use Rattle.sql_from.specs.Held.{base_held, rows_held, tables_held}
+use Rattle.sql_from.specs.Held.{base_held, tables_held}
 use Rattle.sql_from.specs.Conditions.{all_of, conditions_at, due_at, kind_of, on_of, parts_at}
 use Rattle.sql_from.specs.Joins.{joined_tuples, marks_of}
 use Rattle.sql_from.specs.Keys.{AreLinked, IsLinked, last_of, linked_count}
-use Rattle.sql_from.specs.Sources.{IsWide, Sourced, parts_of, scope_held, table_named}
+use Rattle.sql_from.specs.Sources.{IsWide, Sourced, parts_of, scope_held, table_given}
 use Rattle.sql_from.specs.Standing.{StandsFor}
 use Rattle.sql_from.specs.Steps.{IsPlainJoin, JoinsTwo, joined_count, most_steps, two_counts}
 use Rattle.sql_from.specs.Tuples.{Numbered}
 use Rattle.sql_from.proofs.Fewer.{fewer_tried}
-use Rattle.sql_from.proofs.Standing.{named_rows, rows_joined, scope_tried, tried_at, with_table}
+use Rattle.sql_from.proofs.GivenTables.{source_rows_are}
+use Rattle.sql_from.proofs.Standing.{rows_joined, scope_tried, tried_at, with_table}
 use Rattle.sql_from.proofs.TwoSources.{counts_are, joins_linked}
 
 -- ---- parts of WHERE
@@ -98,14 +99,14 @@ only_join s j [] one e = e
 only_join s j (k ∷ js) one e = let many = ap (λ l. length l) e in absurd (omega (arith, one, many))
 
 -- a table of a source that is the only one
-pub first_counted : (held : NamedTables) (source : Source) (sources : NamedTables) → sources ≡ (source.alias, table_named held source.table) ∷ [] → length (part_at (parts_of sources) 0).rows ≡ length (rows_held held source.table)
-first_counted held source sources e = ap (λ (ss : NamedTables). length (part_at (parts_of ss) 0).rows) e ∙ ap (λ rows. length rows) (sym (named_rows held source.table))
+pub first_counted : (held : NamedTables) (source : Source) (sources : NamedTables) → sources ≡ (source.alias, table_given held source) ∷ [] → (p : Settings) → length (part_at (parts_of sources) 0).rows ≡ length (rows_from (base_held p held) source)
+first_counted held source sources e p = ap (λ (ss : NamedTables). length (part_at (parts_of ss) 0).rows) e ∙ ap (λ rows. length rows) (sym (source_rows_are p held source))
 
 -- before the join there is one source and no step, and behind it there are not too many
 pub record Taken (b : Base) (s : SelectTree) (early : List Early) (place : ℕ) (z : Sourced) (t : Numbered) (seen : Option Fault) (old new : ℕ) : Type 0 where
   pub none : place ≡ 0 → new ≡ old
   pub one : place ≡ 0 → length z.sources ≡ 1
-  pub counted : place ≡ 0 → length (part_at (parts_of z.sources) 0).rows ≡ length (b.rows s.source.table)
+  pub counted : place ≡ 0 → length (part_at (parts_of z.sources) 0).rows ≡ length (rows_from b s.source)
   pub stands : place ≡ 0 → StandsFor (tried_at b s early 0 (first_of b s.source)) z t seen
   pub most : new ≤ old + most_steps b s
 
@@ -137,7 +138,7 @@ module _ (p : Settings) (held : NamedTables) (s : SelectTree) (early : List Earl
       let most = bound f before (joins_two z z_held scope_is (taken.one start)) in
       let nothing = taken.none start in
       let left = taken.counted start in
-      let right = ap (λ (h : NamedTables). length (rows_held h (join_source j).table)) z_held in
+      let right : length (table_given z.held (join_source j)).rows ≡ length (rows_from b (join_source j)) = ap (λ (h : NamedTables). length (table_given h (join_source j)).rows) z_held ∙ ap (λ rows. length rows) (sym (source_rows_are p held (join_source j))) in
       let given = ap (λ (h : NamedTables). length (with_join (base_held p h) f j).rows) z_held in
       let fewer = fewer_tried b (at_rows b first.scope) j es first in
       let rows : length (joined b s).rows ≡ length (with_join b first j).rows = ap (λ js. length (fold (with_join b) first js).rows) only in

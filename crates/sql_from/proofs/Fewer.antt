@@ -10,7 +10,7 @@ use Rattle.sql_tree.specs.declared.word_groups.JoinKind.TheVariants as joining
 use Rattle.sql_meaning.specs.From.{Joined, beside, holds, is_met, joined_by, nulls, or_alone, partners, partners_or_alone, unmet, with_join}
 use Rattle.sql_meaning.specs.Plans.{try_early}
 use Rattle.sql_check_parts.specs.Scopes.{row_of, with_source}
-use Rattle.sql_meaning.specs.Tables.{Base, columns_named}
+use Rattle.sql_meaning.specs.Tables.{Base, columns_given, rows_from}
 use Rattle.sql_meaning.specs.Values.{View, at_rows}
 
 -- what is made of a part of a list
@@ -110,10 +110,10 @@ module _ (b : Base) (v : View) (j : JoinTree) where
       go : (j : JoinTree) → length (with_join b (try_early v f e) j).rows ≤ length (with_join b f j).rows
       go (tree.on kind s on) =
           let at = at_rows b (with_source b.tables f.scope s) in
-          let m = length (columns_named b.tables s.table) in
+          let m = length (columns_given b.tables s) in
           let n = length (row_of f.scope) in
-          fewer_joined kind (λ x y. holds at on (x ++ y)) beside (λ x. x ++ nulls m) (λ y. nulls n ++ y) (holds v e) f.rows (b.rows s.table)
-      go (tree.cross s) = fewer_made (λ x. map (beside x) (b.rows s.table)) (holds v e) f.rows
+          fewer_joined kind (λ x y. holds at on (x ++ y)) beside (λ x. x ++ nulls m) (λ y. nulls n ++ y) (holds v e) f.rows (rows_from b s)
+      go (tree.cross s) = fewer_made (λ x. map (beside x) (rows_from b s)) (holds v e) f.rows
 
   pub fewer_tried : (es : List Exp) (f : Joined) → length (with_join b (fold (try_early v) f es) j).rows ≤ length (with_join b f j).rows
   fewer_tried [] f = omega arith

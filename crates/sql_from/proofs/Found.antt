@@ -13,12 +13,12 @@ use Rattle.vtl_index.specs.Matches.{Matched, matched}
 use Rattle.vtl_index.specs.RowIndex.{RowLookup, found_rows}
 use Rattle.vtl_index.specs.RowKeys.{has_null, key_at}
 use Rattle.vtl_index.specs.declared.row_keys.NullKeys.TheVariants.{NotFound}
-use Rattle.vtl_rows.specs.Named.{NamedTables, table_of}
+use Rattle.vtl_rows.specs.Named.{NamedTables}
 use Rattle.vtl_rows.proofs.Placed.{all_places}
 use Rattle.sql_tree.specs.Trees.{Exp}
 use Rattle.sql_eval.specs.Placed.{has_partner, is_tied}
-use Rattle.sql_meaning.specs.Tables.{rows_of}
 use Rattle.sql_meaning.specs.Profiles.{AreOfProfile, IsLawful, IsRowOfProfile}
+use Rattle.sql_eval.specs.Origins.{rows_at}
 use Rattle.sql_from.specs.Held.{IsHeld, base_held, rows_held}
 use Rattle.sql_from.specs.Joins.{Test, numbers_to, passes, with_number}
 use Rattle.sql_from.specs.Conditions.{conditions_at}
@@ -34,6 +34,7 @@ use Rattle.sql_from.specs.declared.partner_index.PartnerIndex.{PartnerIndex}
 use Rattle.sql_from.specs.declared.key_pairs.KeyPair.{KeyPair}
 use Rattle.sql_from.proofs.Equalities.{same_keys}
 use Rattle.sql_from.proofs.Marks.{other_number}
+use Rattle.sql_from.proofs.GivenTables.{origin_ranged}
 use Rattle.sql_from.proofs.Turned.{turns_sound, turns_true}
 
 pub ranged_row : (p : Settings) (rows : List Row) → AreOfProfile p rows → (i : ℕ) → IsRowOfProfile p (row_at rows i)
@@ -77,7 +78,7 @@ no_faults f h (x ∷ xs) = λ i. join (h x i) (no_faults f h xs i)
 
 -- ---- tables that are held
 pub ranged : (p : Settings) (held : NamedTables) → IsLawful (base_held p held) → (t : Listed) → IsHeld held t → AreOfProfile p t.rows
-ranged p held lawful t h = subst (AreOfProfile p) (sym h.1) (lawful.ranged h.0)
+ranged p held lawful t h = h p lawful.ranged
 
 got_part : (ts : List Listed) (i : ℕ) (t : Listed) → slice_get ts i ≡ Some t → part_at ts i ≡ t
 got_part [] i t e = cc
@@ -166,13 +167,13 @@ any_implied t u h (x ∷ xs) = go (t x) (u x) refl refl (any_implied t u h xs)
     go false false p q ih = ih
 
 module _ (s : Sourced) (x : PartnerIndex) (lead : ℕ) (table : Listed) (keys : List KeyPair)
-    (lawful : IsLawful (base_held x.p s.held)) (within : lead < length s.sources) (own_held : Some (listed x.rows.now) ≡ table_of x.table s.held)
+    (lawful : IsLawful (base_held x.p s.held)) (within : lead < length s.sources) (own_rows : rows_at (rows_held s.held) x.table ≡ x.rows.now.rows)
     (table_got : slice_get (parts_of s.sources) lead ≡ Some table) (table_held : IsHeld s.held table) (keyed : IsKeyed (listed x.rows.now) lead table keys x.p x.keys) where
   abbrev own : List Row
   own = x.rows.now.rows
 
-  own_is : rows_held s.held x.table ≡ own
-  own_is = ap rows_of (sym own_held)
+  own_ranged : AreOfProfile x.p own
+  own_ranged = subst (AreOfProfile x.p) own_rows (origin_ranged x.p s.held x.table lawful.ranged)
 
   abbrev numbers : List ℕ
   numbers = numbers_to (length own)
@@ -183,7 +184,7 @@ module _ (s : Sourced) (x : PartnerIndex) (lead : ℕ) (table : Listed) (keys : 
 
   partner_among : (front : List ℕ) (last : ℕ) → has_partner x.p (rows_held s.held) x.table x.ties.items (combined (parts_of s.sources) (with_number front last)) ≡ list_any (is_partner s x front last) numbers
   partner_among front last =
-      ap (list_any (is_tied_to front last)) own_is
+      ap (list_any (is_tied_to front last)) own_rows
       ∙ sym (any_numbered (is_tied_to front last) own numbers ∙ ap (list_any (is_tied_to front last)) (all_places own))
 
   -- the columns of the key are equal
@@ -193,7 +194,7 @@ module _ (s : Sourced) (x : PartnerIndex) (lead : ℕ) (table : Listed) (keys : 
   partners_by_key : (front : List ℕ) (last : ℕ) → partners_at x front last ≡ filter (has_key front last) numbers
   partners_by_key front last =
       ap (λ n. matched x.keys.matches (slice_index (with_number front last) n)) keyed.lead_is
-      ∙ keyed_finds x.p (listed x.rows.now) lead table keys x.keys keyed lawful.scale (ranged x.p s.held lawful (listed x.rows.now) (x.table, sym own_is)) (ranged x.p s.held lawful table table_held)
+      ∙ keyed_finds x.p (listed x.rows.now) lead table keys x.keys keyed lawful.scale own_ranged (ranged x.p s.held lawful table table_held)
       (slice_index (with_number front last) lead) (has_key front last) (λ j. refl)
 
   key_in : (front : List ℕ) (last j : ℕ) → all_paired x.p (row_at own j) (row_in s lead (with_number front last)) keys ≡ has_key front last j

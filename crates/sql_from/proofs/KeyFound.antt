@@ -8,15 +8,15 @@ use Rattle.vtl_decimal.specs.Settings.{Settings}
 use Rattle.vtl_index.specs.RowIndex.{found_rows}
 use Rattle.vtl_index.specs.RowKeys.{key_at}
 use Rattle.vtl_index.specs.declared.row_keys.NullKeys.TheVariants.{NotFound}
-use Rattle.vtl_rows.specs.Named.{NamedTables, table_of}
+use Rattle.vtl_rows.specs.Named.{NamedTables}
 use Rattle.vtl_rows.specs.Places.{row_at}
 use Rattle.vtl_rows.specs.Tables.{Listed}
 use Rattle.vtl_rows.proofs.Placed.{all_places}
 use Rattle.sql_eval.specs.Placed.{is_tied}
 use Rattle.sql_meaning.specs.Profiles.{AreOfProfile, IsLawful}
-use Rattle.sql_meaning.specs.Tables.{rows_of}
 use Rattle.sql_eval.specs.declared.resolved.Side.TheVariants as side
 use Rattle.sql_eval.specs.declared.resolved.Tie.{Tie}
+use Rattle.sql_eval.specs.Origins.{rows_at}
 use Rattle.sql_from.specs.Held.{base_held, rows_held}
 use Rattle.sql_from.specs.Joins.{numbers_to}
 use Rattle.sql_from.specs.KeyPartners.{AnswersAt, AreTiedAs, IsTiedAs, asking_of}
@@ -26,6 +26,7 @@ use Rattle.sql_from.specs.declared.key_pairs.KeyPair.{KeyPair}
 use Rattle.sql_from.proofs.Conjunctions.{last_and}
 use Rattle.sql_from.proofs.Equalities.{equal_sym}
 use Rattle.sql_from.proofs.Found.{any_kept, any_numbered, found_is}
+use Rattle.sql_from.proofs.GivenTables.{origin_ranged}
 
 -- ---- equalities
 
@@ -45,13 +46,10 @@ tied_as_more ties i t keys keys' pair h at before is more p inner key =
     ∙ ap (all_paired p inner key) (sym more)
 
 -- ---- the look-up of the partners of a key
-module _ (p : Settings) (held : NamedTables) (x : KeyIndex) (own : Listed) (keys : List KeyPair) (lawful : IsLawful (base_held p held)) (own_held : Some own ≡ table_of x.test.now.table held)
+module _ (p : Settings) (held : NamedTables) (x : KeyIndex) (own : Listed) (keys : List KeyPair) (lawful : IsLawful (base_held p held)) (own_rows : rows_at (rows_held held) x.test.now.table ≡ own.rows)
     (tied : AreTiedAs x.test.now.ties.items keys) (asked : x.asked.items ≡ asked_columns keys) (indexed : x.index ≡ record { rows = own.rows; key = own_columns keys; nulls = NotFound; p = p }) where
-  own_rows : rows_held held x.test.now.table ≡ own.rows
-  own_rows = ap rows_of (sym own_held)
-
   ranged : AreOfProfile p own.rows
-  ranged = subst (AreOfProfile p) own_rows (lawful.ranged x.test.now.table)
+  ranged = subst (AreOfProfile p) own_rows (origin_ranged p held x.test.now.table lawful.ranged)
 
   pub key_answers : AnswersAt (asking_of held p) x
   key_answers key of_profile =

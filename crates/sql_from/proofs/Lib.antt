@@ -11,6 +11,8 @@ pub mod Marks
 pub mod Named
 pub mod Parted
 pub mod Sited
+pub mod GivenTables
+pub mod SeriesNames
 pub mod Walks
 pub mod Means
 pub mod Standing

@@ -167,19 +167,6 @@ module _ (alias : Text) (x : Column) where
   abbrev place_alone : Option Columns → ℕ
   place_alone columns = place_in (inner_scope (record { alias = alias; columns = columns })) x
 
-  alone_wide : (columns : List TableColumn) → length (row_of {V = Kind} ((alias, map column_entry columns) ∷ [])) ≡ length columns
-  alone_wide columns = ap length (append-nil (map (λ e. e.1) (map column_entry columns))) ∙ length-map (map column_entry columns) (λ e. e.1) ∙ length-map columns column_entry
-
-  pub inner_named : (columns : List TableColumn) (known : Option Columns) → known ≡ Some (map column_entry columns) → same_text x.source alias ≡ true → unwrap_or (value_among (numbered 0 (map column_entry columns)) x.name) (length columns) ≡ place_alone known
-  inner_named columns known e s =
-      sym (ap place_alone e ∙ ap (λ b. unwrap_or (option_and_then (λ named. value_among named x.name) (cond b (Some (numbered 0 (map column_entry columns))) None)) (length (row_of {V = Kind} ((alias, map column_entry columns) ∷ [])))) s
-      ∙ ap (unwrap_or (value_among (numbered 0 (map column_entry columns)) x.name)) (alone_wide columns))
-
-  pub inner_other : (columns : List TableColumn) (known : Option Columns) → known ≡ Some (map column_entry columns) → same_text x.source alias ≡ false → length columns ≡ place_alone known
-  inner_other columns known e s =
-      sym (ap place_alone e ∙ ap (λ b. unwrap_or (option_and_then (λ named. value_among named x.name) (cond b (Some (numbered 0 (map column_entry columns))) None)) (length (row_of {V = Kind} ((alias, map column_entry columns) ∷ [])))) s
-      ∙ alone_wide columns)
-
   pub inner_nowhere : (known : Option Columns) → known ≡ None → 0 ≡ place_alone known
   inner_nowhere known e = sym (ap place_alone e ∙ go (same_text x.source alias))
     where

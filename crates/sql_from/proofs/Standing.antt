@@ -25,30 +25,31 @@ use Rattle.sql_tree.specs.Trees.{Exp, JoinTree, SelectTree, Text}
 use Rattle.sql_tree.specs.declared.parts.Source.{Source}
 use Rattle.sql_tree.specs.declared.word_groups.JoinKind.{JoinKind}
 use Rattle.sql_check_parts.specs.Queries.{join_source, joined_scope}
-use Rattle.sql_check_parts.specs.Scopes.{Columns, or_nothing as columns_or_nothing, row_of, with_source}
+use Rattle.sql_check_parts.specs.Scopes.{Columns, row_of, with_source}
 use Rattle.sql_check_laws.specs.Selects.{AreJoinsTyped, IsSourceTyped}
 use Rattle.sql_meaning.specs.Profiles.{IsLawful}
 use Rattle.sql_meaning.specs.From.{Joined, first_of, joined_rows, kept_of, pairs, with_join}
 use Rattle.sql_meaning.specs.Plans.{early_at, planned_joins, try_early}
-use Rattle.sql_meaning.specs.Tables.{Base, column_entry, columns_named, rows_of}
+use Rattle.sql_meaning.specs.Tables.{Base, column_entry, columns_given}
 use Rattle.sql_meaning.specs.Values.{View, at_rows, value}
 use Rattle.sql_meaning.specs.declared.plan.Early.{Early}
 use Rattle.sql_meaning.proofs.SourceKinds.{source_added}
 use Rattle.sql_meaning.proofs.UpToOrder.{join_assoc, join_none}
 use Rattle.sql_from.specs.Conditions.{all_of, conditions_at, due_at, filtered, kind_of, on_of}
-use Rattle.sql_from.specs.Held.{base_held, columns_held, rows_held, tables_held}
+use Rattle.sql_from.specs.Held.{base_held, columns_held, tables_held}
 use Rattle.sql_from.specs.Joins.{crossed_tuples, joined_tuples, kept_fault, kept_tuples, marks_of, numbers_to, pairs_fault, singles}
 use Rattle.sql_from.specs.Keys.{last_of as last_source}
 use Rattle.sql_from.specs.Rows.{combined, width_of}
 use Rattle.vtl_scalar.specs.Seen.{answer_of}
-use Rattle.sql_from.specs.Sources.{IsWide, Sourced, or_nothing, parts_of, scope_held, table_named}
+use Rattle.sql_from.specs.Sources.{IsWide, Sourced, parts_of, scope_held, table_given}
 use Rattle.sql_from.specs.Standing.{MayLookUp, StandsFor, condition_at, rows_for, sight_of}
 use Rattle.sql_from.specs.Steps.{is_listed}
 use Rattle.sql_from.specs.Tuples.{Numbered}
 use Rattle.sql_from.proofs.Marks.{other_number, same_number}
 use Rattle.sql_from.proofs.Means.{cross_means, crossed_wide, faults_through, joined_wide, kept_means, marks_many, single_rows, singles_wide, step_faults, step_means}
 use Rattle.sql_from.proofs.Parted.{get_behind}
-use Rattle.sql_from.proofs.Sited.{columns_are, row_wide, table_there}
+use Rattle.sql_from.proofs.GivenTables.{source_columns_are, source_rows_are}
+use Rattle.sql_from.proofs.Sited.{row_wide}
 use Rattle.sql_from.proofs.Turns.{all_kept, fault_in_turn, joined_none, joined_one, kept_in_turn, no_fault_kept, pairs_none, pairs_one}
 
 last_of : {X : Type 0} (P : X → Type 0) (xs : List X) (x : X) → AllByRecursion P (xs ++ x ∷ []) → P x
@@ -57,19 +58,12 @@ last_of P (y ∷ xs) x all = last_of P xs x all.1
 
 -- ---- the table of a source
 
-pub named_rows : (held : NamedTables) (name : Text) → rows_held held name ≡ (table_named held name).rows
-named_rows held name = go (table_of name held)
-  where
-    go : (o : Option Listed) → rows_of o ≡ (or_nothing o).rows
-    go None = refl
-    go (Some t) = refl
-
 abbrev pub with_table : Sourced → Source → Sourced
-with_table s source = record { held = s.held; sources = s.sources ++ (source.alias, table_named s.held source.table) ∷ [] }
+with_table s source = record { held = s.held; sources = s.sources ++ (source.alias, table_given s.held source) ∷ [] }
 
 module _ (s : Sourced) (source : Source) (typed : IsSourceTyped (tables_held s.held) (scope_held s.sources) source) where
   abbrev table : Listed
-  table = table_named s.held source.table
+  table = table_given s.held source
 
   abbrev next : Sourced
   next = with_table s source
@@ -84,13 +78,13 @@ module _ (s : Sourced) (source : Source) (typed : IsSourceTyped (tables_held s.h
       let n : length next.sources - 1 ≡ length (parts_of s.sources) = omega (arith, many, one) in
       (λ i. part_at (parts_more i) (n i)) ∙ get_behind (parts_of s.sources) table [] (record { columns = []; rows = [] })
 
-  pub last_counted : length (last_source next).rows ≡ length (rows_held s.held source.table)
-  last_counted = ap (λ t. length t.rows) last_table ∙ ap length (sym (named_rows s.held source.table))
+  pub last_counted : length (last_source next).rows ≡ length table.rows
+  last_counted = ap (λ t. length t.rows) last_table
 
-  columns_found : columns_named (tables_held s.held) source.table ≡ columns_held table
-  columns_found = ap columns_or_nothing (columns_are s.held source.table ∙ ap (option_map columns_held) (table_there s.held source.table typed.0))
+  columns_found : columns_given (tables_held s.held) source ≡ columns_held table
+  columns_found = source_columns_are s.held source typed.0 typed.2
 
-  pub columns_count : length (columns_named (tables_held s.held) source.table) ≡ length table.columns
+  pub columns_count : length (columns_given (tables_held s.held) source) ≡ length table.columns
   columns_count = ap length columns_found ∙ length-map table.columns column_entry
 
   pub scope_more : scope_held next.sources ≡ with_source (tables_held s.held) (scope_held s.sources) source
@@ -122,10 +116,7 @@ module _ (s : Sourced) (source : Source) (typed : IsSourceTyped (tables_held s.h
     width_is : width_of ts ≡ length (row_of f.scope)
     width_is = sym (row_wide s.sources) ∙ ap (λ scope. length (row_of scope)) before.scope
 
-    module _ (count : ℕ) (counted : count ≡ length (rows_held s.held source.table)) where
-      count_is : count ≡ length table.rows
-      count_is = counted ∙ ap length (named_rows s.held source.table)
-
+    module _ (count : ℕ) (count_is : count ≡ length table.rows) where
       pub on_stands : (kind : JoinKind) (e : Exp) (marks : List ℕ) (t' : Numbered) (seen' : Option Fault) → marks ≡ marks_of ts → t'.width ≡ t.width + 1
           → t'.tuples ≡ joined_tuples kind (condition_at p next e) marks count t.tuples → seen' ≡ join seen (pairs_fault (condition_at p next e) count t.tuples)
           → StandsFor (with_join (base_held p s.held) f (tree.on kind source e)) next t' seen'
@@ -142,12 +133,12 @@ module _ (s : Sourced) (source : Source) (typed : IsSourceTyped (tables_held s.h
                 ap (map (combined (parts_of next.sources))) is
                 ∙ (λ i. map (combined (parts_more i)) (joined_tuples kind (λ x. v (combined (parts_more i) x)) (m i) (count_is i) t.tuples))
                 ∙ step_means ts table table_wide v kind t.tuples whole_parts
-                ∙ (λ i. joined_rows kind (λ r. is_true (value (at_rows b (scope_is i)) e r [])) (width_is i) (sym columns_count i) (before.rows i) (sym (named_rows s.held source.table) i));
+                ∙ (λ i. joined_rows kind (λ r. is_true (value (at_rows b (scope_is i)) e r [])) (width_is i) (sym columns_count i) (before.rows i) (sym (source_rows_are p s.held source) i));
             fault =
                 fault ∙ (λ i. join (before.fault i)
                 ((ap (λ (us : List Listed). pairs_fault (λ x. v (combined us x)) count t.tuples) parts_more ∙ ap (λ n. pairs_fault (λ x. v (combined (ts ++ table ∷ []) x)) n t.tuples) count_is
                 ∙ step_faults ts table table_wide v t.tuples whole_parts
-                ∙ (λ j. faults_by (λ r. fault_in (value (at_rows b (scope_is j)) e r [])) (pairs (before.rows j) (sym (named_rows s.held source.table) j)))) i));
+                ∙ (λ j. faults_by (λ r. fault_in (value (at_rows b (scope_is j)) e r [])) (pairs (before.rows j) (sym (source_rows_are p s.held source) j)))) i));
           }
 
       pub cross_stands : (t' : Numbered) (seen' : Option Fault) → t'.width ≡ t.width + 1 → t'.tuples ≡ crossed_tuples count t.tuples → seen' ≡ seen → StandsFor (with_join (base_held p s.held) f (tree.cross source)) next t' seen'
@@ -162,25 +153,24 @@ module _ (s : Sourced) (source : Source) (typed : IsSourceTyped (tables_held s.h
                 ap (map (combined (parts_of next.sources))) is
                 ∙ (λ i. map (combined (parts_more i)) (crossed_tuples (count_is i) t.tuples))
                 ∙ cross_means ts table table_wide v t.tuples whole_parts
-                ∙ (λ i. pairs (before.rows i) (sym (named_rows s.held source.table) i));
+                ∙ (λ i. pairs (before.rows i) (sym (source_rows_are p s.held source) i));
             fault = same ∙ before.fault;
           }
 
 -- ---- the first source
 
 pub first_stands : (p : Settings) (held : NamedTables) (source : Source) (t : Numbered) (s : Sourced) (count : ℕ) → IsSourceTyped (tables_held held) [] source → s ≡ with_table (record { held = held; sources = [] }) source → AllByRecursion IsWide (parts_of s.sources)
-    → count ≡ length (rows_held held source.table) → t.width ≡ 1 → t.tuples ≡ singles count → StandsFor (first_of (base_held p held) source) s t None
+    → count ≡ length (table_given held source).rows → t.width ≡ 1 → t.tuples ≡ singles count → StandsFor (first_of (base_held p held) source) s t None
 first_stands p held source t s count typed is wide counted w tuples =
     let none : Sourced = record { held = held; sources = [] } in
-    let u = table_named held source.table in
+    let u = table_given held source in
     let all : AllByRecursion IsWide (u ∷ []) = subst (λ (z : Sourced). AllByRecursion IsWide (parts_of z.sources)) is wide in
-    let n : count ≡ length u.rows = counted ∙ ap length (named_rows held source.table) in
     subst (λ (z : Sourced). StandsFor (first_of (base_held p held) source) z t None) (sym is) (record {
       scope = scope_more none source typed;
       width = w;
       whole = subst (λ xs. AllByRecursion (λ x. length x ≡ 1) xs) (sym tuples) (singles_wide (numbers_to count));
       wide = all;
-      rows = ap (map (combined (u ∷ []))) (tuples ∙ ap singles n) ∙ single_rows u all.0 ∙ sym (named_rows held source.table);
+      rows = ap (map (combined (u ∷ []))) (tuples ∙ ap singles counted) ∙ single_rows u all.0 ∙ sym (source_rows_are p held source);
       fault = refl;
     })
 
@@ -227,7 +217,7 @@ all_tried p s (e ∷ es) t seen f before t' seen' w is fault =
 -- ---- a join, and what is tried on its tuples
 
 pub join_stands : (s : Sourced) (j : JoinTree) (typed : IsSourceTyped (tables_held s.held) (scope_held s.sources) (join_source j)) (p : Settings) (t : Numbered) (seen : Option Fault) (f : Joined) → StandsFor f s t seen
-    → AllByRecursion IsWide (parts_of (with_table s (join_source j)).sources) → (count : ℕ) → count ≡ length (rows_held s.held (join_source j).table) → (marks : List ℕ) (t' : Numbered) (seen' : Option Fault) → marks ≡ marks_of (parts_of s.sources) → t'.width ≡ t.width + 1
+    → AllByRecursion IsWide (parts_of (with_table s (join_source j)).sources) → (count : ℕ) → count ≡ length (table_given s.held (join_source j)).rows → (marks : List ℕ) (t' : Numbered) (seen' : Option Fault) → marks ≡ marks_of (parts_of s.sources) → t'.width ≡ t.width + 1
     → t'.tuples ≡ joined_tuples (kind_of j) (conditions_at p (with_table s (join_source j)) (on_of j)) marks count t.tuples → seen' ≡ join seen (pairs_fault (conditions_at p (with_table s (join_source j)) (on_of j)) count t.tuples)
     → StandsFor (with_join (base_held p s.held) f j) (with_table s (join_source j)) t' seen'
 join_stands s (tree.on kind source e) typed p t seen f before wide count counted marks t' seen' m w is fault =

@@ -27,7 +27,7 @@ use Rattle.sql_meaning.proofs.Lists.{all_parted}
 use Rattle.sql_from.specs.Held.{columns_held, tables_held}
 use Rattle.sql_from.specs.Keys.{IsLinked, are_linked, is_link, linked_count, spot_of, stands_in}
 use Rattle.sql_from.specs.Rows.{picks_from}
-use Rattle.sql_from.specs.Sources.{Sourced, parts_of, scope_held, table_named}
+use Rattle.sql_from.specs.Sources.{Sourced, parts_of, scope_held, table_given}
 use Rattle.sql_from.specs.Steps.{JoinsTwo, two_counts}
 use Rattle.sql_from.proofs.Marks.{same_number}
 use Rattle.sql_from.proofs.Named.{same_text-is}
@@ -144,19 +144,19 @@ module _ (p : Settings) (s : Sourced) (source : Source) (typed : IsSourceTyped (
       go s.sources joins.one typed.1 (subst (λ (z : Scope). Fits (site p (tables_held s.held) z) None e) (sym (scope_more s source typed)) joins.typed.0) joins.equal
     where
       go : (ss : NamedTables) → length ss ≡ 1 → is_among source.alias (keys_of (scope_held ss)) ≡ false
-          → Fits (site p (tables_held s.held) (scope_held (ss ++ (source.alias, table_named s.held source.table) ∷ []))) None e
+          → Fits (site p (tables_held s.held) (scope_held (ss ++ (source.alias, table_given s.held source) ∷ []))) None e
           → AllByRecursion (λ x. is_side_equality source.alias x ≡ true) (conjuncts e)
-          → IsLinked (record { held = s.held; sources = ss ++ (source.alias, table_named s.held source.table) ∷ [] }) 0 e
+          → IsLinked (record { held = s.held; sources = ss ++ (source.alias, table_given s.held source) ∷ [] }) 0 e
       go [] n other fits all = absurd (omega (arith, n))
       go (x ∷ y ∷ ss) n other fits all = absurd (omega (arith, n))
       go (x ∷ []) n other fits all = record {
         before = omega arith;
-        links = links s.held p x.0 source.alias x.1 (table_named s.held source.table) (sym (or_false (same_text source.alias x.0)) ∙ other) e fits all;
+        links = links s.held p x.0 source.alias x.1 (table_given s.held source) (sym (or_false (same_text source.alias x.0)) ∙ other) e fits all;
       }
 
   pub counts_are : linked_count (with_table s source) 0 ≡ two_counts s (tree.on kind source e)
   counts_are = λ i. first s.sources joins.one i + last_counted s source typed i
     where
-      first : (ss : NamedTables) → length ss ≡ 1 → length (part_at (parts_of (ss ++ (source.alias, table_named s.held source.table) ∷ [])) 0).rows ≡ length (part_at (parts_of ss) 0).rows
+      first : (ss : NamedTables) → length ss ≡ 1 → length (part_at (parts_of (ss ++ (source.alias, table_given s.held source) ∷ [])) 0).rows ≡ length (part_at (parts_of ss) 0).rows
       first [] n = absurd (omega (arith, n))
       first (x ∷ ss) n = refl

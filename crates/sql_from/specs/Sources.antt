@@ -4,11 +4,14 @@ use Rattle.std.specs.List.{AllByRecursion}
 use Rattle.vtl_cell.specs.declared.cell.Cell.{Cell}
 use Rattle.vtl_cell.specs.declared.cell.Cell.TheVariants.{Null}
 use Rattle.vtl_rows.specs.Named.{NamedTables, table_of}
-use Rattle.vtl_rows.specs.Tables.{Listed}
+use Rattle.vtl_rows.specs.Tables.{Listed, column_at}
 use Rattle.vtl_rows.specs.declared.gather.Pick.{Pick}
 use Rattle.sql_tree.specs.Trees.{Text}
-use Rattle.sql_check_parts.specs.Scopes.{Named, Scope}
-use Rattle.sql_from.specs.Held.{IsHeld, tables_held}
+use Rattle.sql_tree.specs.declared.parts.Series.{Series}
+use Rattle.sql_tree.specs.declared.parts.Source.{Source}
+use Rattle.sql_check_parts.specs.Scopes.{Named, Scope, series_names}
+use Rattle.sql_meaning.specs.Tables.{place_among, series_over}
+use Rattle.sql_from.specs.Held.{IsHeld, columns_held, tables_held}
 use Rattle.sql_from.specs.Rows.{picks_from}
 use Rattle.sql_from.specs.declared.sources.SourceTable.{SourceTable}
 
@@ -32,6 +35,18 @@ or_nothing (Some t) = t
 
 abbrev pub table_named : NamedTables → Text → Listed
 table_named held name = or_nothing (table_of name held)
+
+-- the table of a SERIES over a table: a column for each of its names
+abbrev pub series_table : Series → Listed → Listed
+series_table s t = record { columns = map (λ name. column_at t.columns (place_among (columns_held t) name)) (series_names s); rows = series_over s (columns_held t) t.rows }
+
+abbrev pub given_table : Option Series → Listed → Listed
+given_table None t = t
+given_table (Some s) t = series_table s t
+
+-- the table of a source: one that is held, or that of a SERIES over it
+abbrev pub table_given : NamedTables → Source → Listed
+table_given held s = given_table s.series (table_named held s.table)
 
 -- ---- places
 

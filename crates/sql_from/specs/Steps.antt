@@ -10,11 +10,11 @@ use Rattle.sql_meaning.specs.From.{joined}
 use Rattle.sql_meaning.specs.Plans.{IsEqualityJoin}
 use Rattle.sql_check_parts.specs.Queries.{is_grouped, join_source}
 use Rattle.sql_check_parts.specs.Scopes.{with_source}
-use Rattle.sql_meaning.specs.Tables.{Base}
+use Rattle.sql_meaning.specs.Tables.{Base, rows_from}
 use Rattle.sql_check_laws.specs.Selects.{IsJoinCondition}
 use Rattle.sql_from.specs.Asking.{condition_asks, item_asks}
-use Rattle.sql_from.specs.Held.{rows_held, tables_held}
-use Rattle.sql_from.specs.Sources.{Sourced, parts_of, scope_held}
+use Rattle.sql_from.specs.Held.{tables_held}
+use Rattle.sql_from.specs.Sources.{Sourced, parts_of, scope_held, table_given}
 
 -- whether a join is listed, by its place
 abbrev pub is_listed : Option (Bor (List ℕ)) → ℕ → Bool
@@ -32,11 +32,11 @@ pub record IsPlainJoin (s : SelectTree) : Type 0 where
 
 -- how many rows the source of a join has
 abbrev pub joined_count : Base → JoinTree → ℕ
-joined_count b j = length (b.rows (join_source j).table)
+joined_count b j = length (rows_from b (join_source j))
 
 -- one for each row of each source, and one for each row that FROM gives
 abbrev pub most_steps : Base → SelectTree → ℕ
-most_steps b s = length (b.rows s.source.table) + sum (map (joined_count b) s.joins) + length (joined b s).rows
+most_steps b s = length (rows_from b s.source) + sum (map (joined_count b) s.joins) + length (joined b s).rows
 
 -- ---- one source more
 
@@ -48,4 +48,4 @@ pub record JoinsTwo (p : Settings) (s : Sourced) (j : JoinTree) : Type 0 where
 
 -- how many rows both have
 abbrev pub two_counts : Sourced → JoinTree → ℕ
-two_counts s j = length (part_at (parts_of s.sources) 0).rows + length (rows_held s.held (join_source j).table)
+two_counts s j = length (part_at (parts_of s.sources) 0).rows + length (table_given s.held (join_source j)).rows

@@ -9,7 +9,7 @@ ghost use Rattle.vtl_rows.specs.Places.{row_at};
 ghost use Rattle.sql_eval.specs.Placed.{has_partner, is_tied, side_cell};
 ghost use Rattle.sql_from.specs.Held.{rows_held};
 
-use crate::{HeldTables, OuterRow};
+use crate::{Given, OuterRow};
 use sql_eval::{Existence, Side, Tie};
 use std::alloc::{AllocError, Global};
 use vtl_cell::{Cell, ScalarOp};
@@ -109,16 +109,17 @@ pub(crate) fn is_among<R: OuterRow>(
 /// memory runs out.
 pub fn has_partner<R: OuterRow>(
     alloc: Global,
-    tables: &HeldTables,
+    tables: &Given<'_>,
     test: &Existence,
     outer: &R,
     p: &Profile,
 ) -> Result<bool, AllocError>
     ensures { IfOk result (λ b. b ≡ has_partner p.now (rows_held tables.now) test.now.table test.now.ties.items (R.lends outer.now)) }
 {
-    let Some(table) = tables.get(&test.table) else {
+    let Some(held) = tables.origin(&test.table)? else {
         return Ok(false);
     };
+    let table = held.table();
     for i in 0..table.len() {
         if all_tied(alloc, &test.ties, table.row(i), outer, p)? {
             return Ok(true);

@@ -6,10 +6,11 @@
 ghost use Rattle.std.specs.List.{AllByRecursion};
 ghost use Rattle.std.specs.Prelude.{◌≡◌, ◌<◌, ◌==◌, not, true, IfOk, IfSome, length};
 ghost use Rattle.sql_meaning.specs.Profiles.{IsLawful};
+ghost use Rattle.sql_eval.specs.Origins.{AreSame};
 ghost use Rattle.sql_from.specs.Held.{base_held};
 ghost use Rattle.sql_from.specs.KeyPartners.{AnswersAt, AreTiedAs, IsTiedAs, asking_of, found_for};
 
-use crate::HeldTables;
+use crate::Given;
 use crate::key_pairs::{KeyPair, asked_columns, own_columns};
 use crate::ties::are_same_ties;
 use sql_eval::{Existence, Side, Tie};
@@ -76,7 +77,7 @@ impl<'a> KeyIndex<'a> {
     /// none. It takes a step for each row of the table. It fails only if memory runs out.
     pub(crate) fn of<L: Ledger>(
         alloc: Global,
-        held: &'a HeldTables,
+        held: &'a Given<'a>,
         test: &'a Existence,
         p: &Profile,
         steps: &mut Steps<L>,
@@ -87,14 +88,14 @@ impl<'a> KeyIndex<'a> {
         if test.ties.is_empty() {
             return Ok(None);
         }
-        let Some(own) = held.get(&test.table) else {
+        let Some(own) = held.origin(&test.table)? else {
             return Ok(None);
         };
         match tied_pairs(alloc, &test.ties)? {
             Some(keys) => {
                 let columns = own_columns(alloc, &keys)?;
                 let asked = asked_columns(alloc, &keys)?;
-                let index = RowIndex::of(alloc, own, columns, NullKeys::NotFound, p, steps)?;
+                let index = RowIndex::of(alloc, own.table(), columns, NullKeys::NotFound, p, steps)?;
                 Ok(Some(KeyIndex { test, asked, index }))
             }
             None => Ok(None),
@@ -103,10 +104,10 @@ impl<'a> KeyIndex<'a> {
 
     /// Whether it is known to be the index for an EXISTS.
     pub(crate) fn is_for(&self, test: &Existence) -> bool
-        ensures table { result ≡ true → self.now.test.now.table ≡ test.now.table }
+        ensures table { result ≡ true → AreSame self.now.test.now.table test.now.table }
         ensures ties { result ≡ true → self.now.test.now.ties.items ≡ test.now.ties.items }
     {
-        self.test.table == test.table && are_same_ties(&self.test.ties, &test.ties)
+        self.test.table.is_same(&test.table) && are_same_ties(&self.test.ties, &test.ties)
     }
 
     /// Whether a row of the table is found for a key. It takes no memory.

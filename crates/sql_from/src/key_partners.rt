@@ -10,7 +10,7 @@ ghost use Rattle.sql_meaning.specs.Profiles.{IsLawful, IsRowOfProfile};
 ghost use Rattle.sql_from.specs.Held.{base_held, rows_held};
 ghost use Rattle.sql_from.specs.KeyPartners.{AnswersAt, asking_of};
 
-use crate::HeldTables;
+use crate::Given;
 use crate::key_index::KeyIndex;
 use crate::partner_index::is_same_profile;
 use crate::test_places::TestPlaces;
@@ -25,7 +25,7 @@ use vtl_index::Steps;
 /// Look-ups for the EXISTS that are asked at groups, with their keys, made once for all groups. A contract sees the tables
 /// that the program holds, and the profile of the keys.
 pub struct KeyPartners<'a> {
-    held: &'a HeldTables,
+    held: &'a Given<'a>,
     p: Profile,
     indexes: Vec<KeyIndex<'a>>,
     places: TestPlaces,
@@ -59,7 +59,7 @@ fn push_index<'a, L: Ledger>(
     alloc: Global,
     indexes: &mut Vec<KeyIndex<'a>>,
     places: &mut TestPlaces,
-    held: &'a HeldTables,
+    held: &'a Given<'a>,
     test: &'a Existence,
     p: &Profile,
     steps: &mut Steps<L>,
@@ -80,7 +80,7 @@ fn push_index<'a, L: Ledger>(
 
 impl<'a> KeyPartners<'a> {
     /// No look-ups, over the tables that the program holds, for keys of a profile.
-    pub fn none(alloc: Global, held: &'a HeldTables, p: &Profile) -> KeyPartners<'a>
+    pub fn none(alloc: Global, held: &'a Given<'a>, p: &Profile) -> KeyPartners<'a>
         ensures held { result.held ≡ held.now }
         ensures settings { result.settings ≡ p.now }
     {

@@ -1,6 +1,7 @@
 //! FROM and WHERE of a select of the SQL dialect, on tables that the program holds.
 //!
-//! `HeldTables` has the tables by name, and the columns of each by name. A row of FROM is kept as a tuple of row numbers, one for each source, and no cell of it is copied: `TupleRow` lends
+//! `HeldTables` has the tables by name, and the columns of each by name; `Given` has besides the tables of the SERIES of a
+//! query, which are made once when it is begun (`given_for`) and then are tables like any other. A row of FROM is kept as a tuple of row numbers, one for each source, and no cell of it is copied: `TupleRow` lends
 //! the cells to the evaluator (`sql_eval`), and `Sources` says where those of each column stand, worked out once for a
 //! select. Where the rows are those of the only source, each once and in order, its table is lent (`lent_table.rt`).
 //! How the rows are found that go together with a tuple is left to the trait `Pairing`: each row is tried, or, where the
@@ -21,6 +22,7 @@ mod conditions;
 mod counting;
 mod early;
 mod existence;
+mod given;
 mod held_tables;
 mod joining;
 mod key_index;
@@ -37,6 +39,10 @@ mod partnered_row;
 mod partners;
 mod placed_lists;
 mod selects;
+mod series_names;
+mod series_places;
+mod series_reads;
+mod series_table;
 mod source_condition;
 mod sources;
 mod test_places;
@@ -47,6 +53,7 @@ mod tuples;
 
 pub use asking::asks;
 pub use existence::has_partner;
+pub use given::Given;
 pub use held_tables::{HeldTable, HeldTables};
 pub use key_partners::KeyPartners;
 pub use outer_row::OuterRow;
@@ -54,6 +61,7 @@ pub use partnered_row::PartneredRow;
 pub use partners::Partners;
 pub use placed_lists::{no_lists, put_at};
 pub use selects::{ExecErr, source_rows, source_tuples};
+pub use series_reads::given_for;
 pub use sources::Sources;
 pub use tuple_row::TupleRow;
 pub use tuple_rows::TupleRows;

@@ -2,6 +2,7 @@
 ghost use Rattle.std.specs.List.{AllByRecursion};
 ghost use Rattle.std.specs.Prelude.{◌≡◌, ◌+◌, ◌<◌, true, IfOk, IfSome, length};
 ghost use Rattle.sql_meaning.specs.Profiles.{IsLawful};
+ghost use Rattle.sql_eval.specs.Origins.{AreSame};
 ghost use Rattle.sql_eval.specs.Placed.{has_partner};
 ghost use Rattle.sql_from.specs.Held.{base_held, rows_held};
 ghost use Rattle.sql_from.specs.Joins.{with_number};
@@ -14,18 +15,17 @@ use crate::key_lookup::{KeyLookup, keyed};
 use crate::test_places::copied;
 use crate::ties::{are_same_ties, lead_of_ties, tied_columns};
 use crate::{Sources, TupleRow};
-use sql_eval::{Existence, Tie};
+use sql_eval::{Existence, Origin, Tie};
 use std::alloc::{AllocError, Global};
 use std::sync::ledger::Ledger;
 use vtl_decimal::Profile;
 use vtl_index::Steps;
 use vtl_rows::Table;
-use vtl_text::Txt;
 
 /// What an EXISTS asks, its table, and an index of the table's rows by the equalities that ask one source. Where all ask this
 /// source, the index is whole; else the others are tried on the rows that are found.
 pub(crate) struct PartnerIndex<'a> {
-    pub(crate) table: Txt,
+    pub(crate) table: Origin,
     pub(crate) ties: Vec<Tie>,
     pub(crate) p: Profile,
     pub(crate) rows: &'a Table,
@@ -63,13 +63,14 @@ impl<'a> PartnerIndex<'a> {
         let Some(lead) = lead_of_ties(sources, &test.ties) else {
             return Ok(None);
         };
-        let Some(rows) = sources.held().get(&test.table) else {
+        let Some(own) = sources.held().origin(&test.table)? else {
             return Ok(None);
         };
+        let rows = own.table();
         let (keys, is_whole) = tied_columns(alloc, sources, lead, &test.ties)?;
         let table = sources.table(lead);
         Ok(Some(PartnerIndex {
-            table: test.table.share()?,
+            table: test.table.copy(alloc)?,
             ties: copied(alloc, &test.ties)?,
             p: *p,
             rows,
@@ -80,11 +81,11 @@ impl<'a> PartnerIndex<'a> {
 
     /// Whether it is known to be the index for an EXISTS.
     pub(crate) fn is_for(&self, test: &Existence, p: &Profile) -> bool
-        ensures table { result ≡ true → self.now.table ≡ test.now.table }
+        ensures table { result ≡ true → AreSame self.now.table test.now.table }
         ensures ties { result ≡ true → self.now.ties.items ≡ test.now.ties.items }
         ensures p { result ≡ true → self.now.p ≡ p.now }
     {
-        self.table == test.table
+        self.table.is_same(&test.table)
             && are_same_ties(&self.ties, &test.ties)
             && is_same_profile(&self.p, p)
     }

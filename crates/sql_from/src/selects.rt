@@ -18,7 +18,7 @@ ghost use Rattle.sql_from.specs.Held.{base_held, tables_held};
 ghost use Rattle.sql_from.specs.Keys.{AreLinked, last_of, linked_count};
 ghost use Rattle.sql_from.specs.Lookups.{Finds};
 ghost use Rattle.sql_from.specs.Joins.{joined_tuples, kept_fault, kept_tuples};
-ghost use Rattle.sql_from.specs.Sources.{scope_held, table_named};
+ghost use Rattle.sql_from.specs.Sources.{scope_held, table_given};
 ghost use Rattle.sql_from.specs.Standing.{MayLookUp, StandsFor, rows_for, sight_of};
 ghost use Rattle.sql_from.specs.Together.{IsJoinedBy};
 ghost use Rattle.sql_from.specs.Steps.{IsPlainJoin, JoinsTwo, is_listed, most_steps, two_counts};
@@ -29,7 +29,7 @@ use crate::early::{conjuncts_of, due_parts};
 use crate::joining::{join_each, join_found, keep};
 use crate::key_lookup::{JoinLookup, lookup_of};
 use crate::pairs::Walked;
-use crate::{HeldTables, Sources, TupleRows, Tuples};
+use crate::{Given, Sources, TupleRows, Tuples};
 use sql_meaning::Early;
 use sql_tree::{Join, JoinKind, Select, Source, SqlExpr};
 use std::alloc::{AllocError, Global};
@@ -278,15 +278,15 @@ impl Drop for Joining<'_> {
 fn first_source<'a>(
     alloc: Global,
     source: &Source,
-    tables: &'a HeldTables,
+    tables: &'a Given<'a>,
 ) -> Result<Joining<'a>, AllocError>
     requires { IsSourceTyped (tables_held tables.now) [] source.now }
     ensures held { IfOk result (λ j. j.sources.held ≡ tables.now) }
-    ensures source { IfOk result (λ j. j.sources.sources ≡ (source.now.alias, table_named tables.now source.now.table) ∷ []) }
+    ensures source { IfOk result (λ j. j.sources.sources ≡ (source.now.alias, table_given tables.now source.now) ∷ []) }
     ensures stands { IfOk result (λ j. (p : Settings) → StandsFor (first_of (base_held p tables.now) source.now) j.sources j.walked.rows (seen_of j.walked.seen)) }
 {
     let sources = Sources::over(alloc, tables).with(alloc, source)?;
-    let count = sources.count_of(source);
+    let count = sources.last_count();
     Ok(Joining {
         sources,
         walked: Walked {
@@ -375,7 +375,7 @@ impl<'a> Joining<'a> {
 fn joined<'a, L: Ledger>(
     alloc: Global,
     select: &Select,
-    tables: &'a HeldTables,
+    tables: &'a Given<'a>,
     by_index: Option<&[usize]>,
     early: &[Early],
     p: &Profile,
@@ -423,7 +423,7 @@ fn joined<'a, L: Ledger>(
 pub fn source_tuples<'a, L: Ledger>(
     alloc: Global,
     select: &Select,
-    tables: &'a HeldTables,
+    tables: &'a Given<'a>,
     by_index: Option<&[usize]>,
     early: &[Early],
     p: &Profile,
@@ -445,7 +445,7 @@ pub fn source_tuples<'a, L: Ledger>(
 pub fn source_rows<L: Ledger>(
     alloc: Global,
     select: &Select,
-    tables: &HeldTables,
+    tables: &Given<'_>,
     p: &Profile,
     steps: &mut Steps<L>,
 ) -> Result<Table, ExecErr>

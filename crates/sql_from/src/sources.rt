@@ -4,26 +4,28 @@
 // look-up by place and the table that is made at the end.
 ghost use Rattle.std.specs.List.{AllByRecursion};
 ghost use Rattle.std.specs.Option.{option_map};
-ghost use Rattle.std.specs.Prelude.{◌≡◌, ◌+◌, ◌<◌, ◌≤◌, ◌^◌, ◌++◌, ◌∷◌, [], length, map, slice_get, unwrap_or, Some, IfOk, IfSome, OnOk};
+ghost use Rattle.std.specs.Prelude.{◌≡◌, ◌+◌, ◌<◌, ◌≤◌, ◌^◌, ◌++◌, ◌∷◌, [], length, map, slice_get, Some, IfOk, IfSome, OnOk};
 ghost use Rattle.vtl_cell.specs.Row.{column_of};
 ghost use Rattle.vtl_cell.specs.declared.cell.Cell.TheVariants.{Null};
 ghost use Rattle.vtl_rows.specs.Places.{row_at};
 ghost use Rattle.vtl_rows.specs.Tables.{listed};
-ghost use Rattle.sql_check_parts.specs.Scopes.{found, numbered, placed, value_among};
+ghost use Rattle.sql_check_parts.specs.Scopes.{found, placed};
 ghost use Rattle.sql_check_laws.specs.Selects.{IsSourceTyped};
 ghost use Rattle.sql_meaning.specs.Tables.{column_entry};
 ghost use Rattle.sql_from.specs.Columns.{columns_below, line_feed, source_columns};
-ghost use Rattle.sql_from.specs.Held.{IsHeld, columns_held, rows_held, tables_held};
+ghost use Rattle.sql_from.specs.Held.{IsHeld, tables_held};
 ghost use Rattle.sql_from.specs.Joins.{marks_of};
 ghost use Rattle.sql_from.specs.Keys.{IsSpot, last_of, spot_of};
 ghost use Rattle.sql_from.specs.Partners.{IsPickOf};
 ghost use Rattle.sql_from.specs.Rows.{combined, picks_at, picks_from, width_of};
-ghost use Rattle.sql_from.specs.Sources.{IsWide, parts_of, scope_held, table_named};
+ghost use Rattle.sql_from.specs.Sources.{IsWide, parts_of, scope_held, table_given};
 
 use crate::columns::ColumnAt;
-use crate::{HeldTable, HeldTables};
-use sql_eval::Names;
-use sql_tree::{Column, Source};
+use crate::series_names::{place_in_series, place_in_table};
+use crate::series_places::series_places;
+use crate::{Given, HeldTable};
+use sql_eval::{Names, SeriesPlaces};
+use sql_tree::{Column, Series, Source};
 use std::alloc::{AllocError, Global};
 use std::marker::Model;
 use vtl_cell::{Cell, Kind};
@@ -43,11 +45,11 @@ impl Drop for SourceTable<'_> {
     }
 }
 
-/// All tables that the program holds, and the sources of a select from the left, each an alias with its table. Where
+/// All tables that are given, and the sources of a select from the left, each an alias with its table. Where
 /// the cell of each column stands is worked out once for a select. A contract sees the tables by name, and the sources
 /// by alias.
 pub struct Sources<'a> {
-    held: &'a HeldTables,
+    held: &'a Given<'a>,
     sources: ByName<SourceTable<'a>>,
     picks: Vec<Pick>,
     null: Cell,
@@ -112,8 +114,8 @@ fn push_columns(
 }
 
 impl<'a> Sources<'a> {
-    /// No sources, over the tables that the program holds.
-    pub fn over(alloc: Global, held: &'a HeldTables) -> Sources<'a>
+    /// No sources, over the tables that are given.
+    pub fn over(alloc: Global, held: &'a Given<'a>) -> Sources<'a>
         ensures held { result.held ≡ held.now }
         ensures sources { result.sources ≡ [] }
     {
@@ -130,7 +132,7 @@ impl<'a> Sources<'a> {
         requires { IsSourceTyped (tables_held self.held) (scope_held self.sources) source.now }
         ensures held { IfOk result (λ s. s.held ≡ self.entry.held) }
         ensures wide { IfOk result (λ s. AllByRecursion IsWide (parts_of s.sources)) }
-        ensures sources { IfOk result (λ s. s.sources ≡ self.entry.sources ++ (source.now.alias, table_named self.entry.held source.now.table) ∷ []) }
+        ensures sources { IfOk result (λ s. s.sources ≡ self.entry.sources ++ (source.now.alias, table_given self.entry.held source.now) ∷ []) }
     {
         let Sources {
             held,
@@ -140,7 +142,7 @@ impl<'a> Sources<'a> {
         } = self;
         let mut sources = sources;
         let mut picks = picks;
-        let table = held.held(&source.table).unwrap();
+        let table = held.source(alloc, source)?.unwrap();
         let first = picks.len();
         push_picks(&mut picks, sources.len(), table.table().columns().len())?;
         sources.put(source.alias.share()?, SourceTable { table, first })?;
@@ -152,8 +154,8 @@ impl<'a> Sources<'a> {
         })
     }
 
-    /// The tables that the program holds.
-    pub fn held(&self) -> &'a HeldTables
+    /// The tables that are given.
+    pub fn held(&self) -> &'a Given<'a>
         ensures { result.now ≡ self.now.held }
     {
         self.held
@@ -167,7 +169,7 @@ impl<'a> Sources<'a> {
         self.sources.len()
     }
 
-    /// The table of the source at a place, which is one of the tables that the program holds.
+    /// The table of the source at a place. Its integers are of the profile where those of all tables are.
     pub fn table(&self, i: usize) -> &'a Table
         requires { i < length self.now.sources }
         ensures source { slice_get (parts_of self.now.sources) i ≡ Some (listed result.now) }
@@ -175,16 +177,6 @@ impl<'a> Sources<'a> {
     {
         let (_, source) = self.sources.at(i);
         source.table.table()
-    }
-
-    // How many rows the table of a source has.
-    pub(crate) fn count_of(&self, source: &Source) -> usize
-        ensures { result ≡ length (rows_held self.now.held source.now.table) }
-    {
-        match self.held.get(&source.table) {
-            Some(table) => table.len(),
-            None => 0,
-        }
     }
 
     // How many rows the table of the last source has.
@@ -293,16 +285,6 @@ impl<'a> Sources<'a> {
     }
 }
 
-// The place of a column in a table; another one where it has no such column.
-fn place_or(table: &HeldTable, name: &Txt, other: usize) -> usize
-    ensures { result ≡ unwrap_or (value_among (numbered 0 (columns_held table.now)) name.now) other }
-{
-    match table.column(name) {
-        Some(known) => known.place,
-        None => other,
-    }
-}
-
 // The cell of a column in a row of a table; the null that is lent where it has no such row.
 fn cell_of<'r>(table: &'r Table, number: usize, column: usize, null: &'r Cell) -> &'r Cell
     requires { null.now ≡ Null }
@@ -337,15 +319,28 @@ impl<'a> Names for Sources<'a> {
         }
     }
 
-    fn inner_place(&self, source: &Source, column: &Column) -> usize {
-        let Some(table) = self.held.held(&source.table) else {
-            return 0;
+    fn inner_place(
+        &self,
+        alloc: Global,
+        source: &Source,
+        column: &Column,
+    ) -> Result<usize, AllocError> {
+        let Some(table) = self.held.held().held(&source.table) else {
+            return Ok(0);
         };
-        let wide = table.table().columns().len();
-        if column.source == source.alias {
-            place_or(table, &column.name, wide)
-        } else {
-            wide
+        let is_own = column.source == source.alias;
+        match &source.series {
+            Some(series) => place_in_series(alloc, series, &column.name, is_own),
+            None => Ok(place_in_table(table, &column.name, is_own)),
         }
+    }
+
+    fn series_places(
+        &self,
+        alloc: Global,
+        table: &Txt,
+        series: &Series,
+    ) -> Result<SeriesPlaces, AllocError> {
+        series_places(alloc, self.held.held().held(table), series)
     }
 }

@@ -42,7 +42,7 @@ impl TestPlaces {
         place: usize,
     ) -> Result<(), AllocError> {
         let copy = Existence {
-            table: test.table.share()?,
+            table: test.table.copy(alloc)?,
             ties: copied(alloc, &test.ties)?,
         };
         self.places.insert(copy, place)?;

@@ -7,7 +7,7 @@ ghost use Rattle.sql_meaning.specs.Profiles.{IsLawful};
 use crate::asked::Asked;
 use crate::items::GroupSelect;
 use sql_eval::{Existence, Resolved};
-use sql_from::{HeldTables, KeyPartners, Partners, Sources, TupleRows};
+use sql_from::{Given, KeyPartners, Partners, Sources, TupleRows};
 use std::alloc::{AllocError, Global};
 use std::sync::ledger::Ledger;
 use vtl_decimal::Profile;
@@ -33,7 +33,7 @@ impl Drop for GroupPartners<'_> {
 // The look-ups for EXISTS at keys.
 fn key_partners<'a, L: Ledger>(
     alloc: Global,
-    held: &'a HeldTables,
+    held: &'a Given<'a>,
     tests: &[&'a Existence],
     p: &Profile,
     steps: &mut Steps<L>,

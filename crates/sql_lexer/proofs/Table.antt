@@ -22,7 +22,7 @@ pub placed : (word : Word) → word_at (place word) ≡ word
 placed w.NotEqual = refl
 placed _ = refl
 
-pub place-below : (word : Word) → nat_lt (place word) 102 ≡ true
+pub place-below : (word : Word) → nat_lt (place word) 106 ≡ true
 place-below w.NotEqual = refl
 place-below _ = refl
 
@@ -81,7 +81,7 @@ shorter i other r s lt e = by (split (length (spelling (word_at i))) (length (sp
     split m n = grind arith
 
     behind : not (is_front (spelling (word_at i)) (spelling other)) ≡ true
-    behind = subst (λ v. not (is_front (spelling (word_at i)) (spelling v)) ≡ true) (placed other) (ordered-at WORDS i (place other) ordered lt (ltb-true (place other) 102 (place-below other)))
+    behind = subst (λ v. not (is_front (spelling (word_at i)) (spelling v)) ≡ true) (placed other) (ordered-at WORDS i (place other) ordered lt (ltb-true (place other) 106 (place-below other)))
 
     by : (length (spelling (word_at i)) ≤ length (spelling other)) ⊎ (length (spelling other) < length (spelling (word_at i))) → length (spelling other) < length (spelling (word_at i))
     by (inl le) = absurd (false≢true (ap not (sym (front-is (spelling (word_at i)) r (spelling other) s e le)) ∙ behind))
@@ -138,7 +138,7 @@ all-told : list_all (λ word. list_all (λ longer. is_told word longer) WORDS) W
 all-told = refl
 
 at-place : (p : Word → Bool) → list_all p WORDS ≡ true → (word : Word) → p word ≡ true
-at-place p all word = subst (λ v. p v ≡ true) (placed word) (none-at p WORDS (place word) all (ltb-true (place word) 102 (place-below word)))
+at-place p all word = subst (λ v. p v ≡ true) (placed word) (none-at p WORDS (place word) all (ltb-true (place word) 106 (place-below word)))
 
 next-is : (xs ys : List ℕ) (c : ℕ) (rest behind : List ℕ) → length xs < length ys → xs ++ c ∷ rest ≡ ys ++ behind → next_of xs ys ≡ Some c
 next-is [] [] c rest behind lt e = absurd (omega arith)

@@ -186,6 +186,10 @@ pub enum Word {
     Over,
     /// `PARTITION`
     Partition,
+    /// `PERIOD_FREQ`
+    PeriodFrequency,
+    /// `PERIOD_SHIFT`
+    PeriodShift,
     /// `PERIOD`
     Period,
     /// `PRECEDING`
@@ -210,8 +214,12 @@ pub enum Word {
     Scale,
     /// `SELECT`
     Select,
+    /// `SERIES`
+    Series,
     /// `SET`
     Set,
+    /// `SINGLE`
+    Single,
     /// `SUBSTR`
     Substr,
     /// `SUM`

@@ -6,7 +6,7 @@ ghost use Rattle.sql_lexer.specs.Front.{IsWordOf};
 use crate::Word;
 
 // All of them, each before those that it begins with.
-const WORDS: [Word; 102] = [
+const WORDS: [Word; 106] = [
     Word::NotEqual,
     Word::LessOrEqual,
     Word::GreaterOrEqual,
@@ -83,6 +83,8 @@ const WORDS: [Word; 102] = [
     Word::Or,
     Word::Over,
     Word::Partition,
+    Word::PeriodFrequency,
+    Word::PeriodShift,
     Word::Period,
     Word::Preceding,
     Word::Rank,
@@ -95,7 +97,9 @@ const WORDS: [Word; 102] = [
     Word::Rtrim,
     Word::Scale,
     Word::Select,
+    Word::Series,
     Word::Set,
+    Word::Single,
     Word::Substr,
     Word::Sum,
     Word::Table,
@@ -193,6 +197,8 @@ impl Word {
             Word::Or => "OR",
             Word::Over => "OVER",
             Word::Partition => "PARTITION",
+            Word::PeriodFrequency => "PERIOD_FREQ",
+            Word::PeriodShift => "PERIOD_SHIFT",
             Word::Period => "PERIOD",
             Word::Preceding => "PRECEDING",
             Word::Rank => "RANK",
@@ -205,7 +211,9 @@ impl Word {
             Word::Rtrim => "RTRIM",
             Word::Scale => "SCALE",
             Word::Select => "SELECT",
+            Word::Series => "SERIES",
             Word::Set => "SET",
+            Word::Single => "SINGLE",
             Word::Substr => "SUBSTR",
             Word::Sum => "SUM",
             Word::Table => "TABLE",

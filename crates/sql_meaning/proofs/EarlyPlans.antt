@@ -26,7 +26,7 @@ use Rattle.sql_meaning.specs.Early.{IsSafe, MayBeEarly, NamesEarly, NamesOnly, a
 use Rattle.sql_meaning.specs.From.{Joined, beside, fault_at, first_of, holds, joined, joined_rows, kept_of, nulls, pairs, source_rows, with_join}
 use Rattle.sql_meaning.specs.Plans.{IsAt, IsEqualityJoin, IsFirst, IsPlan, NamesConjunct, NamesJoin, SelectsStand, Ways, conjuncts, conjuncts_of, early_at, early_in, indexed_in, is_indexed, planned_joins, planned_source_rows, try_early, with_index}
 use Rattle.sql_meaning.specs.Profiles.{AreOfProfile, IsLawful, IsRowOfProfile}
-use Rattle.sql_meaning.specs.Tables.{Base, RowsFit, columns_named, kinds_of}
+use Rattle.sql_meaning.specs.Tables.{Base, RowsFit, columns_given, kinds_of, rows_from}
 use Rattle.sql_meaning.specs.Values.{View, at_rows}
 use Rattle.sql_meaning.specs.declared.plan.Early.{Early}
 use Rattle.sql_meaning.specs.declared.plan.Indexed.{Indexed}
@@ -35,9 +35,10 @@ use Rattle.sql_meaning.proofs.IndexedJoins.{index_same}
 use Rattle.sql_meaning.proofs.LeftValues.{value_narrow}
 use Rattle.sql_meaning.proofs.Lists.{all_joined, under}
 use Rattle.sql_meaning.proofs.Planned.{Same_refl, entries_here, equality_here, joins_by_index, next_behind}
-use Rattle.sql_meaning.proofs.Profiled.{append_is, joined_are}
+use Rattle.sql_meaning.proofs.Profiled.{append_is, joined_are, source_is}
 use Rattle.sql_meaning.proofs.SafeValues.{no_faults}
-use Rattle.sql_meaning.proofs.SourceKinds.{first_fits, fits_beside, from_fits, kinds_now, left_alone, pairs_all, source_added, table_fits}
+use Rattle.sql_meaning.proofs.RowKinds.{fits_beside}
+use Rattle.sql_meaning.proofs.SourceKinds.{first_fits, from_fits, kinds_now, left_alone, pairs_all, source_added, table_fits}
 use Rattle.sql_meaning.proofs.UpToOrder.{join_none}
 
 -- ---- lists
@@ -162,25 +163,25 @@ module _ (b : Base) (lawful : IsLawful b) where
 
   -- ---- a join of rows that are cut
 
-  pairs_ranged : (rows : List Row) (s : Source) → AreOfProfile b.settings rows → AreOfProfile b.settings (pairs rows (b.rows s.table))
+  pairs_ranged : (rows : List Row) (s : Source) → AreOfProfile b.settings rows → AreOfProfile b.settings (pairs rows (rows_from b s))
   pairs_ranged rows s all =
-      pairs_all (IsRowOfProfile b.settings) (IsRowOfProfile b.settings) (IsRowOfProfile b.settings) (λ x y. true) beside (λ x. x) (λ y. y) (append_is b.settings) (λ x h. h) (λ y h. h) rows (b.rows s.table) all (lawful.ranged s.table)
+      pairs_all (IsRowOfProfile b.settings) (IsRowOfProfile b.settings) (IsRowOfProfile b.settings) (λ x y. true) beside (λ x. x) (λ y. y) (append_is b.settings) (λ x h. h) (λ y h. h) rows (rows_from b s) all (source_is b lawful.ranged s)
 
   module _ (f : Joined) (st : Stage f) (s : Source) (known : IsSourceTyped b.tables f.scope s) where
     abbrev next : Scope
     next = with_source b.tables f.scope s
 
     abbrev theirs : List Kind
-    theirs = kinds_of (columns_named b.tables s.table)
+    theirs = kinds_of (columns_given b.tables s)
 
     -- conjuncts of the sources so far are true of a longer row where they are of its first part
     hold_same : (es : List Exp) → AllByRecursion (NamesOnly (keys_of f.scope)) es → (x y : Row) → fits_kinds (row_of f.scope) x ≡ true → fits_kinds (row_of f.scope ++ theirs) (x ++ y) ≡ true → all_hold next es (x ++ y) ≡ all_hold f.scope es x
     hold_same [] names x y h g = refl
     hold_same (e ∷ es) names x y h g =
         let added = source_added b.tables f.scope s known in
-        let width : length (x ++ y) ≡ length (row_of (f.scope ++ (s.alias, columns_named b.tables s.table) ∷ [])) = fits_width (row_of f.scope ++ theirs) (x ++ y) g ∙ ap length (sym (kinds_now b lawful.fit f.scope s known) ∙ ap row_of added.1) in
+        let width : length (x ++ y) ≡ length (row_of (f.scope ++ (s.alias, columns_given b.tables s) ∷ [])) = fits_width (row_of f.scope ++ theirs) (x ++ y) g ∙ ap length (sym (kinds_now b lawful.fit f.scope s known) ∙ ap row_of added.1) in
         let one : holds (at_rows b next) e (x ++ y) ≡ holds (at_rows b f.scope) e x =
-        ap (λ scope. holds (at_rows b scope) e (x ++ y)) added.1 ∙ ap is_true (value_narrow b f.scope ((s.alias, columns_named b.tables s.table) ∷ []) x y (fits_width (row_of f.scope) x h) width e names.0) in
+        ap (λ scope. holds (at_rows b scope) e (x ++ y)) added.1 ∙ ap is_true (value_narrow b f.scope ((s.alias, columns_given b.tables s) ∷ []) x y (fits_width (row_of f.scope) x h) width e names.0) in
         λ i. one i && hold_same es names.1 x y h g i
 
     beside_same : (es : List Exp) → AllByRecursion (NamesOnly (keys_of f.scope)) es → (x y : Row) → fits_kinds (row_of f.scope) x ≡ true → fits_kinds theirs y ≡ true → all_hold next es (x ++ y) ≡ all_hold f.scope es x
@@ -190,28 +191,28 @@ module _ (b : Base) (lawful : IsLawful b) where
     joined_cut kind e es safe full names =
         let v = at_rows b next in
         let n = length (row_of f.scope) in
-        let m = length (columns_named b.tables s.table) in
+        let m = length (columns_given b.tables s) in
         let mine = filter (all_hold f.scope es) f.rows in
-        let rows : joined_rows kind (holds v e) n m mine (b.rows s.table) ≡ filter (all_hold next es) (joined_rows kind (holds v e) n m f.rows (b.rows s.table)) =
+        let rows : joined_rows kind (holds v e) n m mine (rows_from b s) ≡ filter (all_hold next es) (joined_rows kind (holds v e) n m f.rows (rows_from b s)) =
         joined_filtered (λ x. fits_kinds (row_of f.scope) x ≡ true) (λ y. fits_kinds theirs y ≡ true) (all_hold f.scope es) (all_hold next es) (λ x y. holds v e (x ++ y)) beside (λ x. x ++ nulls m) (λ y. nulls n ++ y)
-        (beside_same es names) (λ x h. hold_same es names x (nulls m) h (left_alone b lawful.fit f.scope s known x h)) (b.rows s.table) (table_fits b lawful.fit f.scope s known) kind f.rows full st.fit in
-        let fault : faults_by (fault_at v e) (pairs mine (b.rows s.table)) ≡ faults_by (fault_at v e) (pairs f.rows (b.rows s.table)) =
-        no_faults b lawful.scale next e safe (pairs mine (b.rows s.table)) (pairs_ranged mine s (AllByRecursion-filter (IsRowOfProfile b.settings) (all_hold f.scope es) f.rows st.ranged))
-        ∙ sym (no_faults b lawful.scale next e safe (pairs f.rows (b.rows s.table)) (pairs_ranged f.rows s st.ranged)) in
+        (beside_same es names) (λ x h. hold_same es names x (nulls m) h (left_alone b lawful.fit f.scope s known x h)) (rows_from b s) (table_fits b lawful.fit f.scope s known) kind f.rows full st.fit in
+        let fault : faults_by (fault_at v e) (pairs mine (rows_from b s)) ≡ faults_by (fault_at v e) (pairs f.rows (rows_from b s)) =
+        no_faults b lawful.scale next e safe (pairs mine (rows_from b s)) (pairs_ranged mine s (AllByRecursion-filter (IsRowOfProfile b.settings) (all_hold f.scope es) f.rows st.ranged))
+        ∙ sym (no_faults b lawful.scale next e safe (pairs f.rows (rows_from b s)) (pairs_ranged f.rows s st.ranged)) in
         λ i. record { scope = next; rows = rows i; fault = join f.fault (fault i) }
 
     crossed_cut : (es : List Exp) → AllByRecursion (NamesOnly (keys_of f.scope)) es → with_join b (cut es f) (tree.cross s) ≡ cut es (with_join b f (tree.cross s))
     crossed_cut es names =
         let n = length (row_of f.scope) in
-        let m = length (columns_named b.tables s.table) in
-        let rows : pairs (filter (all_hold f.scope es) f.rows) (b.rows s.table) ≡ filter (all_hold next es) (pairs f.rows (b.rows s.table)) =
+        let m = length (columns_given b.tables s) in
+        let rows : pairs (filter (all_hold f.scope es) f.rows) (rows_from b s) ≡ filter (all_hold next es) (pairs f.rows (rows_from b s)) =
         pairs_filtered (λ x. fits_kinds (row_of f.scope) x ≡ true) (λ y. fits_kinds theirs y ≡ true) (all_hold f.scope es) (all_hold next es) (λ x y. true) beside (λ x. x ++ nulls m) (λ y. nulls n ++ y)
-        (beside_same es names) (λ x h. hold_same es names x (nulls m) h (left_alone b lawful.fit f.scope s known x h)) (b.rows s.table) (table_fits b lawful.fit f.scope s known) f.rows st.fit in
+        (beside_same es names) (λ x h. hold_same es names x (nulls m) h (left_alone b lawful.fit f.scope s known x h)) (rows_from b s) (table_fits b lawful.fit f.scope s known) f.rows st.fit in
         λ i. record { scope = next; rows = rows i; fault = f.fault }
 
     -- the aliases so far, and that of this source
     keys_next : keys_of next ≡ keys_of f.scope ++ s.alias ∷ []
-    keys_next = ap keys_of (source_added b.tables f.scope s known).1 ∙ map-append (λ (x : Text × List (Text × Kind)). x.0) f.scope ((s.alias, columns_named b.tables s.table) ∷ [])
+    keys_next = ap keys_of (source_added b.tables f.scope s known).1 ∙ map-append (λ (x : Text × List (Text × Kind)). x.0) f.scope ((s.alias, columns_given b.tables s) ∷ [])
 
     names_next : (es : List Exp) → AllByRecursion (NamesOnly (keys_of f.scope)) es → AllByRecursion (NamesOnly (keys_of next)) es
     names_next es names = under {P = NamesOnly (keys_of f.scope)} {Q = NamesOnly (keys_of next)} (λ e h. under {P = λ (x : Column). is_among x.source (keys_of f.scope) ≡ true} {Q = λ (x : Column). is_among x.source (keys_of next) ≡ true} (λ x g. ap (is_among x.source) keys_next ∙ more x.source (keys_of f.scope) g) (columns_in e) h) es names
@@ -236,7 +237,7 @@ module _ (b : Base) (lawful : IsLawful b) where
     ranged = joined_are b lawful.ranged (tree.cross s ∷ []) f st.ranged;
   }
   stage_next f (tree.on kind s e) js st h safe = record {
-    fault = (λ i. join (st.fault i) (no_faults b lawful.scale (with_source b.tables f.scope s) e safe (pairs f.rows (b.rows s.table)) (pairs_ranged f.rows s st.ranged) i));
+    fault = (λ i. join (st.fault i) (no_faults b lawful.scale (with_source b.tables f.scope s) e safe (pairs f.rows (rows_from b s)) (pairs_ranged f.rows s st.ranged) i));
     fit = from_fits b lawful.fit (tree.on kind s e ∷ []) f.scope f.rows f.fault (h.0, h.1, tt) st.fit;
     ranged = joined_are b lawful.ranged (tree.on kind s e ∷ []) f st.ranged;
   }
@@ -350,7 +351,7 @@ module _ (b : Base) (lawful : IsLawful b) where
       let first = first_of b s.source in
       let F = joined b s in
       let P = ImpliedBy (at_rows b F.scope) s.condition in
-      let start : Stage first = record { fault = refl; fit = first_fits b lawful.fit s.source typed.source; ranged = lawful.ranged s.source.table } in
+      let start : Stage first = record { fault = refl; fit = first_fits b lawful.fit s.source typed.source; ranged = source_is b lawful.ranged s.source } in
       let keyed : keys_of first.scope ≡ aliases_left s 0 = ap keys_of (source_added b.tables [] s.source typed.source).1 in
       let ended = planned_cut s indexed equal early may P (all_implied (at_rows b F.scope) s.condition) (all_safe s.condition safe.condition) s.joins 0 first [] refl keyed start typed.joins safe.joins (inl refl) tt tt in
       ap (λ g. kept_of b s.condition (planned_joins b s indexed early 0 g s.joins)) (sym (cut_none first))

@@ -19,7 +19,7 @@ use Rattle.sql_check_parts.specs.Scopes.{Columns}
 use Rattle.sql_meaning.specs.Tables.{Base}
 
 abbrev pub source : Text → Text → Source
-source table alias = record { table = table; alias = alias }
+source table alias = record { table = table; series = None; alias = alias }
 
 -- ---- two sources, of the tables T and S
 

@@ -17,7 +17,7 @@ use Rattle.sql_meaning.specs.From.{Joined, condition_fault, fault_at, first_of, 
 use Rattle.sql_meaning.specs.Groups.{keys_by, rows_with}
 use Rattle.sql_meaning.specs.Outcomes.{row_at, row_fault}
 use Rattle.sql_meaning.specs.Selects.{Wanted, at_key, group_item, group_rows, grouped_rows, having_fault, item_value, kept_keys, plain_rows, query_value, rows_in, second_phase, select_value}
-use Rattle.sql_meaning.specs.Tables.{Base, kinds_of}
+use Rattle.sql_meaning.specs.Tables.{Base, kinds_of, rows_from}
 use Rattle.sql_meaning.specs.Values.{View, at_groups, at_rows}
 use Rattle.sql_meaning.specs.Windows.{told_apart}
 use Rattle.sql_meaning.proofs.UpToOrder.{faults_by-append, join_assoc, join_none}
@@ -63,7 +63,7 @@ module _ (b : Base) where
   joins_fault (tree.cross s ∷ js) f = joins_fault js (with_join b f (tree.cross s))
   joins_fault (tree.on kind s e ∷ js) f =
       let v = at_rows b (with_source b.tables f.scope s) in
-      let rows = pairs f.rows (b.rows s.table) in
+      let rows = pairs f.rows (rows_from b s) in
       let next = with_join b f (tree.on kind s e) in
       joins_fault js next
       ∙ join_assoc f.fault (faults_by (fault_at v e) rows) (one_by_one (at_joins b next js))

@@ -22,7 +22,7 @@ use Rattle.sql_check_parts.specs.Scopes.{row_of, with_source}
 use Rattle.sql_meaning.specs.From.{Joined, fault_at, holds, joined_rows, pairs, with_join}
 use Rattle.sql_meaning.specs.Outcomes.{operated}
 use Rattle.sql_meaning.specs.Plans.{IsEqualityJoin, are_sides, conjuncts, is_side_equality, with_index}
-use Rattle.sql_meaning.specs.Tables.{Base, columns_named}
+use Rattle.sql_meaning.specs.Tables.{Base, columns_given, rows_from}
 use Rattle.sql_meaning.specs.Values.{View, at_rows, cell_at, value}
 use Rattle.sql_meaning.proofs.UpToOrder.{join_none}
 
@@ -129,9 +129,9 @@ index_same b f (tree.on kind s e) h =
     let all : Row → Bool = λ r. list_all (λ x. holds v x r) (conjuncts e) in
     let same : all ≡ holds v e = λ i r. sym (conjoined v s.alias r e h).all_hold i in
     let sound : (r : Row) → fault_at v e r ≡ None = λ r. ap fault_in (conjoined v s.alias r e h).truth_of.1 in
-    let fault : f.fault ≡ join f.fault (faults_by (fault_at v e) (pairs f.rows (b.rows s.table))) = sym (join_none f.fault) ∙ ap (join f.fault) (sym (no_faults (fault_at v e) sound (pairs f.rows (b.rows s.table)))) in
+    let fault : f.fault ≡ join f.fault (faults_by (fault_at v e) (pairs f.rows (rows_from b s))) = sym (join_none f.fault) ∙ ap (join f.fault) (sym (no_faults (fault_at v e) sound (pairs f.rows (rows_from b s)))) in
     λ i. record {
       scope = v.scope;
-      rows = joined_rows kind (same i) (length (row_of f.scope)) (length (columns_named b.tables s.table)) f.rows (b.rows s.table);
+      rows = joined_rows kind (same i) (length (row_of f.scope)) (length (columns_given b.tables s)) f.rows (rows_from b s);
       fault = fault i;
     }

@@ -26,7 +26,7 @@ use Rattle.sql_check_parts.specs.Kinds.{given_kind, kind_in, kinds_in, value_kin
 use Rattle.sql_check_parts.specs.Scopes.{Named, Scope, Sources, found, is_among, numbered, or_null, placed, placed_from, row_of, value_among}
 use Rattle.sql_meaning.specs.Early.{NamesOnly, columns_in, columns_of, columns_within, outer_columns, outer_of}
 use Rattle.sql_meaning.specs.Outcomes.{operated}
-use Rattle.sql_meaning.specs.Tables.{Base}
+use Rattle.sql_meaning.specs.Tables.{Base, rows_from}
 use Rattle.sql_meaning.specs.Values.{View, at_rows, cell_at, chosen, inner_scope, is_tied, literal_cell, null_test, place_in, set_operator, side_cell, value, values}
 use Rattle.sql_meaning.proofs.Lists.{all_parted}
 
@@ -175,7 +175,7 @@ module _ (b : Base) (scope more : Scope) (x y : Row) (first : length x ≡ lengt
     value_left (tree.case_when bs e) h =
         let two = all_parted IsLeft (columns_within bs) (columns_in e) h in
         λ i. after (chosen_left bs two.0 (value_left e two.1) i) (as_kind b.settings (kind_left (tree.case_when bs e) h i))
-    value_left (tree.exists s es) h = λ i. Ok (c.Bool (list_any (λ inner. all_tied (inner_of b.tables s) inner es h i) (b.rows s.table)))
+    value_left (tree.exists s es) h = λ i. Ok (c.Bool (list_any (λ inner. all_tied (inner_of b.tables s) inner es h i) (rows_from b s)))
 
     values_left : (es : Exps) → AllByRecursion IsLeft (columns_of es) → values wide es (x ++ y) [] ≡ values narrow es x []
     values_left tree.no_exps h = refl

@@ -3,6 +3,9 @@ pub mod ExampleParts
 pub mod ScriptExamples
 pub mod SelectExamples
 pub mod UpToOrder
+pub mod RowKinds
+pub mod SeriesRows
+pub mod SeriesColumns
 pub mod Orders
 pub mod Places
 pub mod ScriptOrders

@@ -25,6 +25,7 @@ use Rattle.sql_tree.specs.Trees as tree
 use Rattle.sql_tree.specs.Trees.{Branches, Exp, Exps, ItemTree, JoinTree, QueryTree, SelectTree, Text, ValueTree}
 use Rattle.sql_tree.specs.declared.parts.Column.{Column}
 use Rattle.sql_tree.specs.declared.windows.Window.{Window}
+use Rattle.sql_tree.specs.declared.parts.Source.{Source}
 use Rattle.sql_tree.specs.declared.word_groups.JoinKind.{JoinKind}
 use Rattle.sql_tree.specs.declared.word_groups.JoinKind.TheVariants as joining
 use Rattle.sql_check_parts.specs.Kinds.{kind_in}
@@ -32,13 +33,14 @@ use Rattle.sql_check_parts.specs.Queries.{is_grouped, query_columns, scope_of}
 use Rattle.sql_check_parts.specs.Scopes.{Scope, row_of, with_source}
 use Rattle.sql_check_parts.specs.Exists.{inner_of}
 use Rattle.sql_meaning.specs.Outcomes.{operated, row_at, row_fault}
-use Rattle.sql_meaning.specs.Tables.{Base, columns_named, kinds_of}
+use Rattle.sql_meaning.specs.Tables.{Base, columns_given, columns_named, kinds_of, rows_from}
 use Rattle.sql_meaning.specs.Values.{View, at_groups, at_rows, chosen, is_tied, literal_cell, null_test, place_in, set_operator, value, values}
 use Rattle.sql_meaning.specs.From.{Joined, condition_fault, fault_at, beside, holds, is_met, joined, joined_by, joined_rows, kept, kept_of, or_alone, pairs, pairs_by, partners, partners_or_alone, nulls, source_rows, unmet, with_join}
 use Rattle.sql_meaning.specs.Groups.{keys_by, rows_with}
 use Rattle.sql_meaning.specs.Orders.{SameRows, with_rows}
 use Rattle.sql_meaning.specs.Selects.{Wanted, appended, at_key, group_item, grouped_rows, having_fault, item_value, kept_keys, key_value, plain_rows, query_value, row_value, rows_in, second_phase, select_value}
 use Rattle.sql_meaning.specs.Windows.{call_value, keys_of, told_apart, partition_of, partition_places, place_within, window_value}
+use Rattle.sql_meaning.proofs.SeriesColumns.{given-Perm}
 use Rattle.sql_meaning.proofs.UpToOrder.{Same_after, Same_unless, all_values_same, count_by-Perm, faults_by-Perm, once-Perm, told_apart-Perm}
 
 -- ---- joins of lists
@@ -130,6 +132,10 @@ module _ (b : Base) (other : Text → List Row) (same : SameRows b.rows other) w
   abbrev view' : Scope → (Column → ℕ) → View
   view' scope place = record { base = o; scope = scope; place = place }
 
+  -- ---- sources
+  source_same : (s : Source) → Perm (rows_from b s) (rows_from o s)
+  source_same s = given-Perm s.series (columns_named b.tables s.table) (same s.table)
+
   -- ---- expressions
   mutual
     pub value_same : (scope : Scope) (place : Column → ℕ) (e : Exp) (r : Row) (g h : List Row) → Perm g h → value (view scope place) e r g ≡ value (view' scope place) e r h
@@ -145,7 +151,7 @@ module _ (b : Base) (other : Text → List Row) (same : SameRows b.rows other) w
         let pointwise : (λ q. value (at_rows b scope) e q []) ≡ (λ q. value (at_rows o scope) e q []) = λ i q. value_same scope (place_in scope) e q [] [] empty i in
         all_values_same (λ q. value (at_rows b scope) e q []) (λ q. value (at_rows o scope) e q []) g h (group_value b.settings f) pointwise p (λ us vs. group-Perm b.settings f us vs)
     value_same scope place (tree.case_when bs e) r g h p = ap (λ m. after m (as_kind b.settings (kind_in scope (tree.case_when bs e)))) (chosen_same scope place bs r g h p (value_same scope place e r g h p))
-    value_same scope place (tree.exists s es) r g h p = ap (λ t. Ok (c.Bool t)) (list_any-Perm (λ inner. list_all (is_tied (view scope place) (inner_of b.tables s) r inner) es) (same s.table))
+    value_same scope place (tree.exists s es) r g h p = ap (λ t. Ok (c.Bool t)) (list_any-Perm (λ inner. list_all (is_tied (view scope place) (inner_of b.tables s) r inner) es) (source_same s))
 
     values_same : (scope : Scope) (place : Column → ℕ) (es : Exps) (r : Row) (g h : List Row) → Perm g h → values (view scope place) es r g ≡ values (view' scope place) es r h
     values_same scope place tree.no_exps r g h p = refl
@@ -168,15 +174,15 @@ module _ (b : Base) (other : Text → List Row) (same : SameRows b.rows other) w
   joined_same : (js : List JoinTree) (scope : Scope) (left left' : List Row) (fault fault' : Option Fault) → Perm left left' → fault ≡ fault' → SameJoined (fold (with_join b) (from scope left fault) js) (fold (with_join o) (from scope left' fault') js)
   joined_same [] scope left left' fault fault' p e = record { scope = refl; rows = p; fault = e }
   joined_same (tree.cross s ∷ js) scope left left' fault fault' p e =
-      joined_same js (with_source b.tables scope s) (pairs left (b.rows s.table)) (pairs left' (other s.table)) fault fault' (pairs-Perm beside p (same s.table)) e
+      joined_same js (with_source b.tables scope s) (pairs left (rows_from b s)) (pairs left' (rows_from o s)) fault fault' (pairs-Perm beside p (source_same s)) e
   joined_same (tree.on kind s x ∷ js) scope left left' fault fault' p e =
       let now = with_source b.tables scope s in
       let n = length (row_of scope) in
-      let m = length (columns_named b.tables s.table) in
-      let q = same s.table in
-      joined_same js now (joined_rows kind (holds (at_rows b now) x) n m left (b.rows s.table)) (joined_rows kind (holds (at_rows o now) x) n m left' (other s.table))
-      (join fault (faults_by (fault_at (at_rows b now) x) (pairs left (b.rows s.table)))) (join fault' (faults_by (fault_at (at_rows o now) x) (pairs left' (other s.table))))
-      (subst (λ t. Perm (joined_rows kind (holds (at_rows b now) x) n m left (b.rows s.table)) (joined_rows kind t n m left' (other s.table))) (holds_same now x) (joined_by-Perm (λ y z. holds (at_rows b now) x (y ++ z)) beside (λ y. y ++ nulls m) (λ z. nulls n ++ z) left left' (b.rows s.table) (other s.table) p q kind))
+      let m = length (columns_given b.tables s) in
+      let q = source_same s in
+      joined_same js now (joined_rows kind (holds (at_rows b now) x) n m left (rows_from b s)) (joined_rows kind (holds (at_rows o now) x) n m left' (rows_from o s))
+      (join fault (faults_by (fault_at (at_rows b now) x) (pairs left (rows_from b s)))) (join fault' (faults_by (fault_at (at_rows o now) x) (pairs left' (rows_from o s))))
+      (subst (λ t. Perm (joined_rows kind (holds (at_rows b now) x) n m left (rows_from b s)) (joined_rows kind t n m left' (rows_from o s))) (holds_same now x) (joined_by-Perm (λ y z. holds (at_rows b now) x (y ++ z)) beside (λ y. y ++ nulls m) (λ z. nulls n ++ z) left left' (rows_from b s) (rows_from o s) p q kind))
       (λ i. join (e i) (condition_faults now x (pairs-Perm beside p q) i))
 
   kept_same : (scope : Scope) (e : Option Exp) {rows rows' : List Row} → Perm rows rows' → Perm (kept (at_rows b scope) e rows) (kept (at_rows o scope) e rows')
@@ -195,7 +201,7 @@ module _ (b : Base) (other : Text → List Row) (same : SameRows b.rows other) w
 
   pub source_rows_same : (s : SelectTree) → Same (source_rows b s) (source_rows o s)
   source_rows_same s =
-      kept_of_same s.condition (joined b s) (joined o s) (joined_same s.joins (with_source b.tables [] s.source) (b.rows s.source.table) (other s.source.table) None None (same s.source.table) refl)
+      kept_of_same s.condition (joined b s) (joined o s) (joined_same s.joins (with_source b.tables [] s.source) (rows_from b s.source) (rows_from o s.source) None None (source_same s.source) refl)
 
   -- ---- items of rows
   module _ (scope : Scope) (rows rows' : List Row) (p : Perm rows rows') where

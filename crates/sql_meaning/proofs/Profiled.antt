@@ -42,9 +42,11 @@ use Rattle.vtl_cell.proofs.Keys.{window_order}
 use Rattle.vtl_cell.proofs.Readings.{read_kind}
 use Rattle.vtl_cell.specs.Literals.{integer_cell, number_cell, with_sign, written}
 use Rattle.vtl_rows.specs.Tables.{cells_at}
+use Rattle.vtl_time.specs.Periods.{YearPart}
 use Rattle.vtl_scalar.proofs.ProfileLemmas.{Gives, number_gives, value_is_of_profile}
 use Rattle.sql_tree.specs.Trees as tree
 use Rattle.sql_tree.specs.Trees.{Branches, Exp, Exps, JoinTree, QueryTree, ScriptTree, SelectTree, StatementTree, Text, ValueTree}
+use Rattle.sql_tree.specs.declared.parts.Source.{Source}
 use Rattle.sql_tree.specs.declared.parts.Column.{Column}
 use Rattle.sql_tree.specs.declared.parts.Constant.{Constant}
 use Rattle.sql_tree.specs.declared.parts.Constant.TheVariants as constant
@@ -65,10 +67,11 @@ use Rattle.sql_meaning.specs.Outcomes.{all_values, cell_or_null, operated, row_a
 use Rattle.sql_meaning.specs.Profiles.{AreOfProfile, HeldOfProfile, InputsOfProfile, IsRowOfProfile, TablesOfProfile}
 use Rattle.sql_meaning.specs.Scripts.{Data, Inputs, Made, NamedFault, Table, and_table, base_of, created, input_table, no_table, or_named, rows_read, statement_made, statements_made, table_named}
 use Rattle.sql_meaning.specs.Selects.{Wanted, at_key, group_item, grouped_rows, having_fault, item_value, kept_keys, key_value, plain_rows, query_value, row_value, rows_in, second_phase, select_value}
-use Rattle.sql_meaning.specs.Tables.{Base, columns_named, kinds_of}
+use Rattle.sql_meaning.specs.Tables.{Base, columns_given, columns_named, kinds_of, rows_from}
 use Rattle.sql_meaning.specs.Values.{View, at_groups, at_rows, cell_at, chosen, constant_cell, literal_cell, place_in, set_operator, value, values}
 use Rattle.sql_meaning.specs.Windows.{Stand, call_value, cells_of, count_of, default_cell, framed, keys_of, partition_of, partition_places, stand_in, told_apart, window_value}
 use Rattle.sql_meaning.proofs.Lists.{all_once, under}
+use Rattle.sql_meaning.proofs.SeriesColumns.{given_all}
 use Rattle.sql_meaning.proofs.OperatorKinds.{after_if, all_ok, branch_has, member_has, unless_has}
 use Rattle.sql_meaning.proofs.SourceKinds.{joined_all, pairs_all}
 use Rattle.sql_meaning.proofs.WindowKinds.{framed_all, get_or_all, shift_has}
@@ -385,6 +388,10 @@ pub append_is : (p : Settings) (x y : Row) → IsRowOfProfile p x → IsRowOfPro
 append_is p [] y h i = i
 append_is p (v ∷ x) y h i = (h.0, append_is p x y h.1 i)
 
+-- cells of a row with a period behind them
+pub dated_is : (p : Settings) (places : List ℕ) (r : Row) → IsRowOfProfile p r → (period : YearPart) → IsRowOfProfile p (cells_at places r ++ c.Period period ∷ [])
+dated_is p places r h period = append_is p (cells_at places r) (c.Period period ∷ []) (cells_are p places r h) (tt, tt)
+
 nulls_are : (p : Settings) (n : ℕ) → IsRowOfProfile p (nulls n)
 nulls_are p zero = tt
 nulls_are p (suc n) = (tt, nulls_are p n)
@@ -393,17 +400,21 @@ module _ (b : Base) (fit : TablesOfProfile b) where
   abbrev q : Settings
   q = b.settings
 
+  -- the rows of a source
+  pub source_is : (s : Source) → AreOfProfile q (rows_from b s)
+  source_is s = given_all (IsRowOfProfile q) (dated_is q) s.series (columns_named b.tables s.table) (b.rows s.table) (fit s.table)
+
   pub joined_are : (js : List JoinTree) (f : Joined) → AreOfProfile q f.rows → AreOfProfile q (fold (with_join b) f js).rows
   joined_are [] f all = all
   joined_are (tree.cross s ∷ js) f all =
       joined_are js (with_join b f (tree.cross s))
-      (pairs_all (IsRowOfProfile q) (IsRowOfProfile q) (IsRowOfProfile q) (λ x y. true) beside (λ x. x) (λ y. y) (append_is q) (λ x h. h) (λ y h. h) f.rows (b.rows s.table) all (fit s.table))
+      (pairs_all (IsRowOfProfile q) (IsRowOfProfile q) (IsRowOfProfile q) (λ x y. true) beside (λ x. x) (λ y. y) (append_is q) (λ x h. h) (λ y h. h) f.rows (rows_from b s) all (source_is s))
   joined_are (tree.on kind s e ∷ js) f all =
       let n = length (row_of f.scope) in
-      let m = length (columns_named b.tables s.table) in
+      let m = length (columns_given b.tables s) in
       let v = at_rows b (with_source b.tables f.scope s) in
       joined_are js (with_join b f (tree.on kind s e))
-      (joined_all (IsRowOfProfile q) (IsRowOfProfile q) (IsRowOfProfile q) (λ x y. holds v e (x ++ y)) beside (λ x. x ++ nulls m) (λ y. nulls n ++ y) (append_is q) (λ x h. append_is q x (nulls m) h (nulls_are q m)) (λ y h. append_is q (nulls n) y (nulls_are q n) h) kind f.rows (b.rows s.table) all (fit s.table))
+      (joined_all (IsRowOfProfile q) (IsRowOfProfile q) (IsRowOfProfile q) (λ x y. holds v e (x ++ y)) beside (λ x. x ++ nulls m) (λ y. nulls n ++ y) (append_is q) (λ x h. append_is q x (nulls m) h (nulls_are q m)) (λ y h. append_is q (nulls n) y (nulls_are q n) h) kind f.rows (rows_from b s) all (source_is s))
 
   kept_are : (v : View) (e : Option Exp) (rows : List Row) → AreOfProfile q rows → AreOfProfile q (kept v e rows)
   kept_are v None rows all = all
@@ -413,7 +424,7 @@ module _ (b : Base) (fit : TablesOfProfile b) where
   sources_are s =
       let f = joined b s in
       let v = at_rows b f.scope in
-      unless_has (AreOfProfile q) (join f.fault (condition_fault v s.condition f.rows)) (kept v s.condition f.rows) (kept_are v s.condition f.rows (joined_are s.joins (first_of b s.source) (fit s.source.table)))
+      unless_has (AreOfProfile q) (join f.fault (condition_fault v s.condition f.rows)) (kept v s.condition f.rows) (kept_are v s.condition f.rows (joined_are s.joins (first_of b s.source) (source_is s.source)))
 
   select_are : (kinds : List Kind) (s : SelectTree) → IfOk (select_value b kinds s) (AreOfProfile q)
   select_are kinds s =

@@ -113,7 +113,7 @@ module _ (b : Base) (scope : Scope) (kinds : List Kind) (items : List ItemTree) 
         let kept = kept_keys w members having keys in
         subst (RowsFit kinds) (unless_ok (join (having_fault w members having keys) (faults_by (row_fault (group_item w members) (zip items kinds)) kept)) (map (row_at (group_item w members) (zip items kinds)) kept) out is)
         (all_mapped (row_at (group_item w members) (zip items kinds)) SeesKey kinds
-        (λ key sees. row_fits b.settings scope (key_value w members) key items kinds up (under (λ i g. key_item_has i.value key g sees) items h))
+        (λ key sees. row_fits b.settings scope (key_value w members) key items kinds up (under {P = IsItemTyped here (Some (grouping_of group))} {Q = λ (i : ItemTree). HasKind (item_kind scope i) (key_value w members i.value key)} (λ i g. key_item_has i.value key g sees) items h))
         kept (kept_all having keys see))
 
   keys_see : (group : List Column) → AllByRecursion (SeesKey group) (keys_by (places group) rows)

@@ -1,5 +1,5 @@
 -- What the definitions give for whole scripts, by computing it.
-use Rattle.std.proofs.Common.{◌≡◌, [], ◌∷◌, None, Some, Ok, Err, refl}
+use Rattle.std.proofs.Common.{◌≡◌, false, [], ◌∷◌, None, Some, Ok, Err, refl}
 use Rattle.std.specs.Prelude.{codes}
 use Rattle.vtl_decimal.specs.declared.number.Fault.TheVariants.{DivZero}
 use Rattle.vtl_cell.specs.declared.cell.Cell.TheVariants.{Null}
@@ -21,7 +21,7 @@ abbrev b : Text
 b = codes "b"
 
 abbrev integers : Text → InputColumn
-integers name = record { name = name; kind = k.Int; codes = [] }
+integers name = record { name = name; kind = k.Int; not_null = false; codes = [] }
 
 -- ---- sums over an empty table
 
@@ -39,7 +39,7 @@ counted = record {
 abbrev sums_of_nothing : ScriptTree
 sums_of_nothing =
     tree.setting (codes "6") HalfUp
-    ∷ tree.input (record { name = codes "DS_1"; columns = record { name = codes "Id_1"; kind = k.Text; codes = [] } ∷ integers (codes "Me_1") ∷ []; key = codes "Id_1" ∷ [] })
+    ∷ tree.input (record { name = codes "DS_1"; columns = record { name = codes "Id_1"; kind = k.Text; not_null = false; codes = [] } ∷ integers (codes "Me_1") ∷ []; key = codes "Id_1" ∷ [] })
     ∷ tree.create (codes "U") (counted ∷ []) ∷ tree.export (record { name = codes "U"; order = [] }) ∷ []
 
 -- a grouped select without GROUP BY has one row, also over no rows

@@ -117,7 +117,7 @@ null_has_no_match = refl
 abbrev summed : SelectTree
 summed = record {
   items = item (codes "k") (in_t (codes "k")) ∷ item (codes "s") (tree.aggregate agg.Sum (in_t (codes "v"))) ∷ [];
-  source = record { table = codes "T"; alias = codes "t" };
+  source = record { table = codes "T"; series = None; alias = codes "t" };
   joins = [];
   condition = None;
   group = of_t (codes "k") ∷ [];

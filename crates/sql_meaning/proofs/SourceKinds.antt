@@ -17,16 +17,19 @@ use Rattle.vtl_rows.specs.Tables.{fits_kinds}
 use Rattle.sql_tree.specs.Trees as tree
 use Rattle.sql_tree.specs.Trees.{Exp, JoinTree, SelectTree, Text}
 use Rattle.sql_tree.specs.declared.parts.Column.{Column}
+use Rattle.sql_tree.specs.declared.parts.Series.{Series}
 use Rattle.sql_tree.specs.declared.parts.Source.{Source}
 use Rattle.sql_tree.specs.declared.word_groups.JoinKind.{JoinKind}
 use Rattle.sql_tree.specs.declared.word_groups.JoinKind.TheVariants as joining
 use Rattle.sql_check_parts.specs.Queries.{first_scope, joined_scope, scope_of}
-use Rattle.sql_check_parts.specs.Scopes.{Columns, Scope, Tables, add_source, columns_of, found, or_nothing, placed, row_of, with_source}
+use Rattle.sql_check_parts.specs.Scopes.{Columns, Scope, Tables, add_source, columns_from, columns_of, found, maybe_within, or_nothing, placed, row_of, with_source}
 use Rattle.sql_check_parts.proofs.Places.{found_placed}
 use Rattle.sql_check_laws.specs.Selects.{AreJoinsTyped, IsSelectTyped, IsSourceTyped}
 use Rattle.sql_meaning.specs.From.{Joined, beside, condition_fault, fault_at, holds, is_met, joined, joined_by, joined_rows, kept, nulls, or_alone, pairs, pairs_by, partners, partners_or_alone, source_rows, unmet, with_join}
-use Rattle.sql_meaning.specs.Tables.{Base, RowsFit, TablesFit, columns_named, kinds_of}
+use Rattle.sql_meaning.specs.Tables.{Base, RowsFit, TablesFit, columns_given, columns_named, kinds_of, rows_from}
 use Rattle.sql_meaning.specs.Values.{View, at_rows, place_in}
+use Rattle.sql_meaning.proofs.RowKinds.{fits_beside}
+use Rattle.sql_meaning.proofs.SeriesColumns.{given_columns, given_fit}
 
 -- ---- columns
 
@@ -50,15 +53,6 @@ column_fits scope r x kind h e = go (found (placed scope) x) (sym (found_placed 
         same w = cc
 
 -- ---- rows
-
-pub fits_beside : (ks js : List Kind) (r q : Row) → fits_kinds ks r ≡ true → fits_kinds js q ≡ true → fits_kinds (ks ++ js) (r ++ q) ≡ true
-fits_beside [] js [] q h i = i
-fits_beside [] js (v ∷ vs) q h i = cc
-fits_beside (x ∷ ks) js [] q h i = cc
-fits_beside (x ∷ ks) js (v ∷ vs) q h i =
-    let parts = split_and (is_of x v) (fits_kinds ks vs) h in
-    let rest = fits_beside ks js vs q parts.1 i in
-    λ n. parts.0 n && rest n
 
 pub null_is_of : (kind : Kind) → is_of kind c.Null ≡ true
 null_is_of k.Null = refl
@@ -127,15 +121,20 @@ pub unless_ok : {A : Type 0} (f : Option Fault) (x out : A) → unless f x ≡ O
 unless_ok None x out e = cc
 unless_ok (Some f) x out e = cc
 
+known : (o : Option Columns) → IsSome o → o ≡ Some (or_nothing o)
+known None e = cc
+known (Some columns) e = refl
+
 -- a source whose table is known, and whose alias is new, stands behind the others
-pub source_added : (tables : Tables) (scope : Scope) (s : Source) → IsSourceTyped tables scope s → (columns_of tables s.table ≡ Some (columns_named tables s.table)) × (with_source tables scope s ≡ scope ++ (s.alias, columns_named tables s.table) ∷ [])
+pub source_added : (tables : Tables) (scope : Scope) (s : Source) → IsSourceTyped tables scope s → (columns_from tables s ≡ Some (columns_given tables s)) × (with_source tables scope s ≡ scope ++ (s.alias, columns_given tables s) ∷ [])
 source_added tables scope s h =
-    let there = known (columns_of tables s.table) h.0 in
-    (there, ap (add_source scope s.alias) there ∙ ap (λ b. cond b scope (scope ++ (s.alias, columns_named tables s.table) ∷ [])) h.1)
+    let there = known (columns_from tables s) (within s.series (columns_of tables s.table) h.0) in
+    (there, ap (add_source scope s.alias) there ∙ ap (λ b. cond b scope (scope ++ (s.alias, columns_given tables s) ∷ [])) h.1)
   where
-    known : (o : Option Columns) → IsSome o → o ≡ Some (or_nothing o)
-    known None e = cc
-    known (Some columns) e = refl
+    within : (x : Option Series) (o : Option Columns) → IsSome o → IsSome (maybe_within x o)
+    within None o e = e
+    within (Some x) None e = e
+    within (Some x) (Some table) e = refl
 
 pub kinds_added : (scope : Scope) (alias : Text) (columns : Columns) → row_of (scope ++ (alias, columns) ∷ []) ≡ row_of scope ++ kinds_of columns
 kinds_added scope alias columns = flat_map-append (λ s. map (λ e. e.1) s.1) scope ((alias, columns) ∷ []) ∙ ap (λ l. row_of scope ++ l) (append-nil (kinds_of columns))
@@ -144,8 +143,11 @@ columns_wide : (columns : Columns) → length (kinds_of columns) ≡ length colu
 columns_wide columns = length-map columns (λ x. x.1)
 
 module _ (b : Base) (fit : TablesFit b) where
-  pub table_fits : (scope : Scope) (s : Source) → IsSourceTyped b.tables scope s → RowsFit (kinds_of (columns_named b.tables s.table)) (b.rows s.table)
-  table_fits scope s e = fit s.table (columns_named b.tables s.table) (source_added b.tables scope s e).0
+  pub table_fits : (scope : Scope) (s : Source) → IsSourceTyped b.tables scope s → RowsFit (kinds_of (columns_given b.tables s)) (rows_from b s)
+  table_fits scope s e =
+      let table = columns_named b.tables s.table in
+      subst (λ columns. RowsFit (kinds_of columns) (rows_from b s)) (sym (given_columns b.tables s e.0))
+      (given_fit s.series table (b.rows s.table) e.2 (fit s.table table (known (columns_of b.tables s.table) e.0)))
 
   abbrev sofar : Scope → List Row → Option Fault → Joined
   sofar scope rows fault = record { scope = scope; rows = rows; fault = fault }
@@ -153,7 +155,7 @@ module _ (b : Base) (fit : TablesFit b) where
   -- one more source
   module _ (scope : Scope) (s : Source) (e : IsSourceTyped b.tables scope s) where
     abbrev theirs : Columns
-    theirs = columns_named b.tables s.table
+    theirs = columns_given b.tables s
 
     abbrev before_kinds : List Kind
     before_kinds = row_of scope
@@ -170,27 +172,27 @@ module _ (b : Base) (fit : TablesFit b) where
     right_alone : (y : Row) → fits_kinds (kinds_of theirs) y ≡ true → fits_kinds all_kinds (nulls (length (row_of scope)) ++ y) ≡ true
     right_alone y h = fits_beside before_kinds (kinds_of theirs) (nulls (length (row_of scope))) y (nulls_fit before_kinds) h
 
-    cross_fits : (rows : List Row) → RowsFit before_kinds rows → RowsFit (row_of (with_source b.tables scope s)) (pairs rows (b.rows s.table))
-    cross_fits rows all = subst (λ ks. RowsFit ks (pairs rows (b.rows s.table))) (sym kinds_now)
+    cross_fits : (rows : List Row) → RowsFit before_kinds rows → RowsFit (row_of (with_source b.tables scope s)) (pairs rows (rows_from b s))
+    cross_fits rows all = subst (λ ks. RowsFit ks (pairs rows (rows_from b s))) (sym kinds_now)
         (pairs_all (λ r. fits_kinds before_kinds r ≡ true) (λ r. fits_kinds (kinds_of theirs) r ≡ true) (λ r. fits_kinds all_kinds r ≡ true) (λ x y. true) beside (λ x. x ++ nulls (length theirs)) (λ y. nulls (length (row_of scope)) ++ y)
-        (λ x y h i. fits_beside before_kinds (kinds_of theirs) x y h i) left_alone right_alone rows (b.rows s.table) all (table_fits scope s e))
+        (λ x y h i. fits_beside before_kinds (kinds_of theirs) x y h i) left_alone right_alone rows (rows_from b s) all (table_fits scope s e))
 
-    join_fits : (kind : JoinKind) (test : Row → Bool) (rows : List Row) → RowsFit before_kinds rows → RowsFit (row_of (with_source b.tables scope s)) (joined_rows kind test (length (row_of scope)) (length theirs) rows (b.rows s.table))
-    join_fits kind test rows all = subst (λ ks. RowsFit ks (joined_rows kind test (length (row_of scope)) (length theirs) rows (b.rows s.table))) (sym kinds_now)
+    join_fits : (kind : JoinKind) (test : Row → Bool) (rows : List Row) → RowsFit before_kinds rows → RowsFit (row_of (with_source b.tables scope s)) (joined_rows kind test (length (row_of scope)) (length theirs) rows (rows_from b s))
+    join_fits kind test rows all = subst (λ ks. RowsFit ks (joined_rows kind test (length (row_of scope)) (length theirs) rows (rows_from b s))) (sym kinds_now)
         (joined_all (λ r. fits_kinds before_kinds r ≡ true) (λ r. fits_kinds (kinds_of theirs) r ≡ true) (λ r. fits_kinds all_kinds r ≡ true) (λ x y. test (x ++ y)) beside (λ x. x ++ nulls (length theirs)) (λ y. nulls (length (row_of scope)) ++ y)
-        (λ x y h i. fits_beside before_kinds (kinds_of theirs) x y h i) left_alone right_alone kind rows (b.rows s.table) all (table_fits scope s e))
+        (λ x y h i. fits_beside before_kinds (kinds_of theirs) x y h i) left_alone right_alone kind rows (rows_from b s) all (table_fits scope s e))
 
   pub from_fits : (js : List JoinTree) (scope : Scope) (rows : List Row) (fault : Option Fault) → AreJoinsTyped b.settings b.tables scope js → RowsFit (row_of scope) rows → RowsFit (row_of (joined_scope b.tables scope js)) (fold (with_join b) (sofar scope rows fault) js).rows
   from_fits [] scope rows fault h all = all
   from_fits (tree.cross s ∷ js) scope rows fault h all =
-      from_fits js (with_source b.tables scope s) (pairs rows (b.rows s.table)) fault h.2 (cross_fits scope s h.0 rows all)
+      from_fits js (with_source b.tables scope s) (pairs rows (rows_from b s)) fault h.2 (cross_fits scope s h.0 rows all)
   from_fits (tree.on kind s x ∷ js) scope rows fault h all =
       let v = at_rows b (with_source b.tables scope s) in
-      from_fits js (with_source b.tables scope s) (joined_rows kind (holds v x) (length (row_of scope)) (length (columns_named b.tables s.table)) rows (b.rows s.table)) (join fault (faults_by (fault_at v x) (pairs rows (b.rows s.table)))) h.2
+      from_fits js (with_source b.tables scope s) (joined_rows kind (holds v x) (length (row_of scope)) (length (columns_given b.tables s)) rows (rows_from b s)) (join fault (faults_by (fault_at v x) (pairs rows (rows_from b s)))) h.2
       (join_fits scope s h.0 kind (holds v x) rows all)
 
-  pub first_fits : (s : Source) → IsSourceTyped b.tables [] s → RowsFit (row_of (with_source b.tables [] s)) (b.rows s.table)
-  first_fits s h = subst (λ ks. RowsFit ks (b.rows s.table)) (sym (kinds_now [] s h)) (table_fits [] s h)
+  pub first_fits : (s : Source) → IsSourceTyped b.tables [] s → RowsFit (row_of (with_source b.tables [] s)) (rows_from b s)
+  first_fits s h = subst (λ ks. RowsFit ks (rows_from b s)) (sym (kinds_now [] s h)) (table_fits [] s h)
 
   kept_fits : (v : View) (w : Option Exp) (ks : List Kind) (rows : List Row) → RowsFit ks rows → RowsFit ks (kept v w rows)
   kept_fits v None ks rows all = all
@@ -200,6 +202,6 @@ module _ (b : Base) (fit : TablesFit b) where
   pub source_rows_fit : (s : SelectTree) (rows : List Row) → IsSelectTyped b.settings b.tables s → source_rows b s ≡ Ok rows → RowsFit (row_of (scope_of b.tables s)) rows
   source_rows_fit s rows h is =
       let f = joined b s in
-      let all = from_fits s.joins (first_scope b.tables s) (b.rows s.source.table) None h.joins (first_fits s.source h.source) in
+      let all = from_fits s.joins (first_scope b.tables s) (rows_from b s.source) None h.joins (first_fits s.source h.source) in
       subst (RowsFit (row_of (scope_of b.tables s))) (unless_ok (join f.fault (condition_fault (at_rows b f.scope) s.condition f.rows)) (kept (at_rows b f.scope) s.condition f.rows) rows is)
       (kept_fits (at_rows b f.scope) s.condition (row_of (scope_of b.tables s)) f.rows all)

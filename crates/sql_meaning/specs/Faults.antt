@@ -14,7 +14,7 @@ use Rattle.sql_check_parts.specs.Scopes.{with_source}
 use Rattle.sql_meaning.specs.From.{Joined, fault_at, first_of, joined, kept, pairs, with_join}
 use Rattle.sql_meaning.specs.Groups.{keys_by, rows_with}
 use Rattle.sql_meaning.specs.Selects.{Wanted, at_key, group_item, item_value, kept_keys}
-use Rattle.sql_meaning.specs.Tables.{Base, kinds_of}
+use Rattle.sql_meaning.specs.Tables.{Base, kinds_of, rows_from}
 use Rattle.sql_meaning.specs.Values.{View, at_groups, at_rows}
 use Rattle.sql_meaning.specs.Windows.{told_apart}
 
@@ -42,7 +42,7 @@ at_each v e rows = map (fault_at v e) rows
 
 -- ON at each pair of the rows so far and those of its source
 abbrev pub at_join : Base → Joined → JoinTree → Evaluations
-at_join b f (tree.on kind s e) = at_each (at_rows b (with_source b.tables f.scope s)) e (pairs f.rows (b.rows s.table))
+at_join b f (tree.on kind s e) = at_each (at_rows b (with_source b.tables f.scope s)) e (pairs f.rows (rows_from b s))
 at_join b f (tree.cross s) = []
 
 abbrev pub at_joins : Base → Joined → List JoinTree → Evaluations

@@ -12,7 +12,7 @@ use Rattle.sql_tree.specs.declared.parts.Source.{Source}
 use Rattle.sql_tree.specs.declared.word_groups.JoinKind.{JoinKind}
 use Rattle.sql_tree.specs.declared.word_groups.JoinKind.TheVariants as joining
 use Rattle.sql_check_parts.specs.Scopes.{Scope, row_of, with_source}
-use Rattle.sql_meaning.specs.Tables.{Base, columns_named}
+use Rattle.sql_meaning.specs.Tables.{Base, columns_given, rows_from}
 use Rattle.sql_meaning.specs.Values.{View, at_rows, value}
 
 -- ---- conditions at rows
@@ -79,7 +79,7 @@ pub record Joined : Type 0 where
   pub fault : Option Fault
 
 abbrev pub first_of : Base → Source → Joined
-first_of b s = record { scope = with_source b.tables [] s; rows = b.rows s.table; fault = None }
+first_of b s = record { scope = with_source b.tables [] s; rows = rows_from b s; fault = None }
 
 -- ON is tried on each pair: one where it has a fault is no pair, and the fault is told
 abbrev pub join_on : JoinKind → View → Exp → ℕ → ℕ → Joined → List Row → Joined
@@ -91,8 +91,8 @@ join_on kind v e n m f right = record {
 
 abbrev pub with_join : Base → Joined → JoinTree → Joined
 with_join b f (tree.on kind s e) =
-    join_on kind (at_rows b (with_source b.tables f.scope s)) e (length (row_of f.scope)) (length (columns_named b.tables s.table)) f (b.rows s.table)
-with_join b f (tree.cross s) = record { scope = with_source b.tables f.scope s; rows = pairs f.rows (b.rows s.table); fault = f.fault }
+    join_on kind (at_rows b (with_source b.tables f.scope s)) e (length (row_of f.scope)) (length (columns_given b.tables s)) f (rows_from b s)
+with_join b f (tree.cross s) = record { scope = with_source b.tables f.scope s; rows = pairs f.rows (rows_from b s); fault = f.fault }
 
 abbrev pub joined : Base → SelectTree → Joined
 joined b s = fold (with_join b) (first_of b s.source) s.joins

@@ -17,7 +17,7 @@ use Rattle.sql_check_laws.specs.Selects.{IsSelectTyped}
 use Rattle.sql_meaning.specs.From.{Joined, fault_at, first_of, holds, joined_rows, kept_of, source_rows, with_join}
 use Rattle.sql_meaning.specs.Profiles.{IsLawful}
 use Rattle.sql_meaning.specs.Selects.{appended, second_phase}
-use Rattle.sql_meaning.specs.Tables.{Base, columns_named, kinds_of}
+use Rattle.sql_meaning.specs.Tables.{Base, columns_given, kinds_of, rows_from}
 use Rattle.sql_meaning.specs.Values.{View, at_rows}
 use Rattle.sql_meaning.specs.declared.plan.Early.{Early}
 use Rattle.sql_meaning.specs.declared.plan.Indexed.{Indexed}
@@ -69,7 +69,7 @@ with_index b f (tree.on kind s e) =
     let v = at_rows b (with_source b.tables f.scope s) in
     record {
       scope = v.scope;
-      rows = joined_rows kind (λ r. list_all (λ x. holds v x r) (conjuncts e)) (length (row_of f.scope)) (length (columns_named b.tables s.table)) f.rows (b.rows s.table);
+      rows = joined_rows kind (λ r. list_all (λ x. holds v x r) (conjuncts e)) (length (row_of f.scope)) (length (columns_given b.tables s)) f.rows (rows_from b s);
       fault = f.fault;
     }
 with_index b f (tree.cross s) = with_join b f (tree.cross s)

@@ -26,7 +26,7 @@ use Rattle.sql_check_parts.specs.Kinds.{kind_in}
 use Rattle.sql_check_parts.specs.Literals.{constant_value, literal_value}
 use Rattle.sql_check_parts.specs.Scopes.{Scope, found, or_nothing, placed, row_of}
 use Rattle.sql_meaning.specs.Outcomes.{all_values, operated}
-use Rattle.sql_meaning.specs.Tables.{Base}
+use Rattle.sql_meaning.specs.Tables.{Base, rows_from}
 
 -- ---- places
 
@@ -78,7 +78,7 @@ is_tied v i outer inner e = is_true (scalar_of v.base.settings op.Equal (side_ce
 
 -- some row of the inner table makes every equality true
 abbrev pub is_there : View → Source → List Equality → Row → Bool
-is_there v s es outer = list_any (λ inner. list_all (is_tied v (inner_of v.base.tables s) outer inner) es) (v.base.rows s.table)
+is_there v s es outer = list_any (λ inner. list_all (is_tied v (inner_of v.base.tables s) outer inner) es) (rows_from v.base s)
 
 -- ---- operators
 

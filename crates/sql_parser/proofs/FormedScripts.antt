@@ -28,6 +28,7 @@ use Rattle.sql_parser.proofs.Texts.{Answered}
 use Rattle.sql_tree.specs.Trees as tree
 use Rattle.sql_tree.specs.Trees.{Text, Exp, exps_of, branches_of, ItemTree, JoinTree, StatementTree, ScriptTree}
 use Rattle.sql_tree.specs.declared.parts.Column.{Column}
+use Rattle.sql_tree.specs.declared.parts.Series.{Series}
 use Rattle.sql_tree.specs.declared.parts.Source.{Source}
 use Rattle.sql_tree.specs.declared.parts.Equality.{Equality}
 use Rattle.sql_tree.specs.declared.parts.Numeral.TheVariants as numeral
@@ -98,9 +99,28 @@ has-columns : Has (Some-each f.IsColumn) g.columns
 unfolding g.columns
 has-columns = gives-listed gv f.IsColumn has-column
 
+Is-series : Series → Type 0
+Is-series x = f.IsMaybeSeries (Some x)
+
+has-series : Has Is-series g.series
+unfolding g.series Is-series
+has-series =
+    gives-as gv (λ p. f.IsName p.0 × (Each f.IsName p.1.0 × Any p.1.1)) Is-series _ (λ a p. (p.0, p.1.0))
+    (gives-seq gv f.IsName (λ p. Each f.IsName p.0 × Any p.1) (gives-after gv f.IsName has-name)
+    (gives-seq gv (Each f.IsName) Any (has-items_after f.IsName (has-brackets (Some-each f.IsName) has-names)) (gives-any gv _)))
+
+Is-given : Text × Option Series → Type 0
+Is-given p = f.IsName p.0 × f.IsMaybeSeries p.1
+
+has-given : Has Is-given g.given
+unfolding g.given Is-given Is-series
+has-given =
+    gives-or gv Is-given (gives-as gv f.IsName Is-given _ (λ a p. (p, tt)) has-name)
+    (gives-as gv (λ p. f.IsName p.0 × Is-series p.1) Is-given _ (λ a p. p) (gives-after gv (λ p. f.IsName p.0 × Is-series p.1) (gives-seq gv f.IsName Is-series has-name has-series)))
+
 has-source : Has f.IsSource g.source
-unfolding g.source
-has-source = gives-as gv (λ p. f.IsName p.0 × f.IsName p.1) f.IsSource _ (λ a p. p) (gives-seq gv f.IsName f.IsName has-name (gives-after gv f.IsName has-name))
+unfolding g.source Is-given
+has-source = gives-as gv (λ p. Is-given p.0 × f.IsName p.1) f.IsSource _ (λ a p. (p.0.0, p.0.1, p.1)) (gives-seq gv Is-given f.IsName has-given (gives-after gv f.IsName has-name))
 
 has-equality : Has f.IsEquality g.equality
 unfolding g.equality
@@ -222,7 +242,7 @@ module _ (m : ℕ) (part : Place → Expr) (parts : (p : Place) → Has (Within 
       gives-made gv (λ p. (f.is_function p.0 ≡ true) × Deep-each Fits p.1) (Within (suc m))
       (λ a b p e. limited-is (Within (suc m)) (suc m) (tree.call a.0 (exps_of a.1.tree)) (suc a.1.depth) b e (λ h. let fit = exps-fit a.1.depth a.1.tree p.1.1 in (((p.0, some-exps a.1.tree p.1.0, fit.0), omega (arith, fit.1)), h)))
       (gives-seq gv (λ o. f.is_function o ≡ true) (Deep-each Fits)
-      (gives-words gv (λ o. f.is_function o ≡ true) class g.functions_table (refl, (refl, (refl, (refl, (refl, (refl, (refl, (refl, (refl, (refl, (refl, (refl, (refl, (refl, (refl, tt))))))))))))))))
+      (gives-words gv (λ o. f.is_function o ≡ true) class g.functions_table (refl, (refl, (refl, (refl, (refl, (refl, (refl, (refl, (refl, (refl, (refl, (refl, (refl, (refl, (refl, (refl, (refl, tt))))))))))))))))))
       (has-brackets (Deep-each Fits) (gives-deep_listed gv Fits fits-more (λ ts a good h. (parts Whole ts a good h).0))))
 
   has-counted : Has (Within (suc m)) (g.counted (suc m) (part Whole))

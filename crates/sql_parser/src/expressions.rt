@@ -80,6 +80,8 @@ impl<F: Fn(Place, Tokens<'_>) -> Result<Node<'_>, Unread>> Grammar<F> {
             (Word::Length, ScalarOp::Length),
             (Word::Coalesce, ScalarOp::ValueOr),
             (Word::Between, ScalarOp::Between),
+            (Word::PeriodShift, ScalarOp::PeriodShift),
+            (Word::PeriodFrequency, ScalarOp::PeriodFrequency),
         ];
         let function = word(tokens, &table).ok_or(Unread::Absent)?;
         let operands = self.listed::<OperandList>(key(function.rest, Word::Open)?)?;

@@ -82,10 +82,15 @@ impl Part for ItemPart {
 }
 
 // A source after two words
-fn source_after(tokens: Tokens<'_>, first: Word, second: Word) -> Result<Front<'_, Source>, Unread>
+fn source_after(
+    alloc: Global,
+    tokens: Tokens<'_>,
+    first: Word,
+    second: Word,
+) -> Result<Front<'_, Source>, Unread>
     ensures { Answers ((after (two_keys first second) source).reads (kinds tokens.now)) result }
 {
-    source(two_keys(tokens, first, second)?)
+    source(alloc, two_keys(tokens, first, second)?)
 }
 
 // A join with a condition
@@ -98,7 +103,7 @@ fn join_on(alloc: Global, tokens: Tokens<'_>) -> Result<Front<'_, Join>, Unread>
         (Word::Full, JoinKind::Full),
     ];
     let kind = word(tokens, &table).ok_or(Unread::Absent)?;
-    let source = source(key(kind.rest, Word::Join)?)?;
+    let source = source(alloc, key(kind.rest, Word::Join)?)?;
     let condition = expression(alloc, key(source.rest, Word::On)?)?;
     Ok(Front {
         part: Join::On {
@@ -118,7 +123,7 @@ fn join(alloc: Global, tokens: Tokens<'_>) -> Result<Front<'_, Join>, Unread>
     if let Some(join) = optional(join_on(alloc, tokens))? {
         return Ok(join);
     }
-    let source = source_after(tokens, Word::Cross, Word::Join)?;
+    let source = source_after(alloc, tokens, Word::Cross, Word::Join)?;
     Ok(Front {
         part: Join::Cross(source.part),
         rest: source.rest,
@@ -156,7 +161,7 @@ impl ListKind for JoinList {
 fn sources(alloc: Global, tokens: Tokens<'_>) -> Result<Front<'_, (Source, Vec<Join>)>, Unread>
     ensures { AnswersBy joins_view (sources.reads (kinds tokens.now)) result }
 {
-    let source = source(tokens)?;
+    let source = source(alloc, tokens)?;
     let joins = more::<JoinList>(alloc, Vec::new(alloc), source.rest)?;
     Ok(Front {
         part: (source.part, joins.part),

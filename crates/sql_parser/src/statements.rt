@@ -3,7 +3,7 @@ ghost use Rattle.grammar_forms.specs.Forms.{after, before, maybe, «as»};
 ghost use Rattle.sql_lexer.specs.declared.token.Word.TheVariants as word;
 ghost use Rattle.sql_parser_parts.specs.Answers.{Answers, AnswersBy, item_views, kinds, vec_items};
 ghost use Rattle.sql_parser.specs.Parts.{setting_view};
-ghost use Rattle.sql_tree.specs.Grammar.{commas, create, export, in_brackets, input, input_column, items_after, items_or_none, key, name, names, query, setting, statement, texts, two_keys};
+ghost use Rattle.sql_tree.specs.Grammar.{commas, create, export, in_brackets, input, input_column, items_after, items_or_none, key, name, names, not_null, query, setting, statement, texts, two_keys};
 ghost use Rattle.sql_tree.specs.View.{select_tree, statement_tree};
 
 use crate::queries::query;
@@ -38,6 +38,20 @@ fn codes(alloc: Global, tokens: Tokens<'_>) -> Result<Front<'_, Vec<Txt>>, Unrea
     }
 }
 
+// `["NOT" "NULL"]`
+#[tactic(auto, unfolding(sql_tree::specs::Grammar::not_null))]
+fn not_null(tokens: Tokens<'_>) -> Result<Front<'_, bool>, Unread>
+    ensures { Answers (not_null.reads (kinds tokens.now)) result }
+{
+    match two_keys(tokens, Word::Not, Word::Null) {
+        Ok(rest) => Ok(Front { part: true, rest }),
+        Err(_) => Ok(Front {
+            part: false,
+            rest: tokens,
+        }),
+    }
+}
+
 // A column of an input
 #[tactic(auto, unfolding(sql_tree::specs::Grammar::input_column))]
 fn input_column(alloc: Global, tokens: Tokens<'_>) -> Result<Front<'_, InputColumn>, Unread>
@@ -53,11 +67,13 @@ fn input_column(alloc: Global, tokens: Tokens<'_>) -> Result<Front<'_, InputColu
         (Word::Period, Kind::Period),
     ];
     let kind = word(name.rest, &table).ok_or(Unread::Absent)?;
-    let codes = codes(alloc, kind.rest)?;
+    let not_null = not_null(kind.rest)?;
+    let codes = codes(alloc, not_null.rest)?;
     Ok(Front {
         part: InputColumn {
             name: name.part,
             kind: kind.part,
+            not_null: not_null.part,
             codes: List::of(codes.part),
         },
         rest: codes.rest,

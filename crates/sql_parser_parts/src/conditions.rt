@@ -53,7 +53,7 @@ pub fn membership(
 fn matched(alloc: Global, tokens: Tokens<'_>) -> Result<Front<'_, (Source, Vec<Equality>)>, Unread>
     ensures { AnswersBy with_items (matched.reads (kinds tokens.now)) result }
 {
-    let source = source(tokens)?;
+    let source = source(alloc, tokens)?;
     let equalities = equalities(alloc, source.rest)?;
     Ok(Front {
         part: (source.part, equalities.part),

@@ -2,15 +2,15 @@
 ghost use Rattle.grammar_forms.specs.Forms.{after, listed};
 ghost use Rattle.sql_lexer.specs.declared.token.Word.TheVariants as word;
 ghost use Rattle.sql_parser_parts.specs.Answers.{Answers, AnswersBy, AnswersTokens, kinds, vec_items};
-ghost use Rattle.sql_tree.specs.Grammar.{column, columns, const, constant_words_table, dec, equality, in_brackets, int, items_after, key, lit, literal_words_table, lits, name, names, number, of_table, one, signed_number, source, text, texts, two_keys};
+ghost use Rattle.sql_tree.specs.Grammar.{column, columns, const, constant_words_table, dec, equality, in_brackets, int, items_after, key, given, lit, literal_words_table, lits, name, names, number, of_table, one, series, signed_number, source, spans_table, text, texts, two_keys};
 
 use crate::front::{Front, Tokens, Unread, next, optional};
 use crate::lists::{Commas, ListKind, Part, listed};
 use crate::words::{flag, key, two_keys};
 use sql_lexer::{TokenKind, Word};
-use sql_tree::{Column, Constant, Equality, Literal, Numeral, Source};
+use sql_tree::{Column, Constant, Equality, Literal, Numeral, Series, Source, Span};
 use std::alloc::Global;
-use vtl_text::Txt;
+use vtl_text::{List, Txt};
 
 /// A name.
 pub fn name(tokens: Tokens<'_>) -> Result<Front<'_, Txt>, Unread>
@@ -78,16 +78,86 @@ pub fn column(tokens: Tokens<'_>) -> Result<Front<'_, Column>, Unread>
     })
 }
 
-/// `name "AS" name`
+// `["BY" "(" name { "," name } ")"]`
+fn names_after_by(alloc: Global, tokens: Tokens<'_>) -> Result<Front<'_, Vec<Txt>>, Unread>
+    ensures { AnswersBy vec_items ((items_after (key word.By) (in_brackets names)).reads (kinds tokens.now)) result }
+{
+    match key(tokens, Word::By) {
+        Ok(behind) => bracketed_names(alloc, behind),
+        Err(_) => Ok(Front {
+            part: Vec::new(alloc),
+            rest: tokens,
+        }),
+    }
+}
+
+// `"SINGLE" | "ALL"`
+#[tactic(auto, using(crate::proofs::Tables::tables))]
+fn span(tokens: Tokens<'_>) -> Result<Front<'_, Span>, Unread>
+    ensures { Answers ((of_table spans_table).reads (kinds tokens.now)) result }
+{
+    if let Ok(rest) = key(tokens, Word::Single) {
+        return Ok(Front {
+            part: Span::Single,
+            rest,
+        });
+    }
+    let rest = key(tokens, Word::All)?;
+    Ok(Front {
+        part: Span::All,
+        rest,
+    })
+}
+
+// `"ON" name ["BY" "(" name { "," name } ")"] ("SINGLE" | "ALL")`
+#[tactic(auto, unfolding(sql_tree::specs::Grammar::series))]
+fn series(alloc: Global, tokens: Tokens<'_>) -> Result<Front<'_, Series>, Unread>
+    ensures { Answers (series.reads (kinds tokens.now)) result }
+{
+    let on = name(key(tokens, Word::On)?)?;
+    let by = names_after_by(alloc, on.rest)?;
+    let span = span(by.rest)?;
+    Ok(Front {
+        part: Series {
+            on: on.part,
+            by: List::of(by.part),
+            span: span.part,
+        },
+        rest: span.rest,
+    })
+}
+
+// `name | "SERIES" name series`
+#[tactic(auto, unfolding(sql_tree::specs::Grammar::given))]
+fn given(alloc: Global, tokens: Tokens<'_>) -> Result<Front<'_, (Txt, Option<Series>)>, Unread>
+    ensures { Answers (given.reads (kinds tokens.now)) result }
+{
+    if let Some(table) = optional(name(tokens))? {
+        return Ok(Front {
+            part: (table.part, None),
+            rest: table.rest,
+        });
+    }
+    let table = name(key(tokens, Word::Series)?)?;
+    let series = series(alloc, table.rest)?;
+    Ok(Front {
+        part: (table.part, Some(series.part)),
+        rest: series.rest,
+    })
+}
+
+/// `name "AS" name`, or `"SERIES" name "ON" name ["BY" "(" name { "," name } ")"] ("SINGLE" | "ALL") "AS" name`
 #[tactic(auto, unfolding(sql_tree::specs::Grammar::source))]
-pub fn source(tokens: Tokens<'_>) -> Result<Front<'_, Source>, Unread>
+pub fn source(alloc: Global, tokens: Tokens<'_>) -> Result<Front<'_, Source>, Unread>
     ensures { Answers (source.reads (kinds tokens.now)) result }
 {
-    let table = name(tokens)?;
-    let alias = name(key(table.rest, Word::As)?)?;
+    let given = given(alloc, tokens)?;
+    let alias = name(key(given.rest, Word::As)?)?;
+    let (table, series) = given.part;
     Ok(Front {
         part: Source {
-            table: table.part,
+            table,
+            series,
             alias: alias.part,
         },
         rest: alias.rest,
@@ -291,6 +361,18 @@ pub fn names(alloc: Global, tokens: Tokens<'_>) -> Result<Front<'_, Vec<Txt>>, U
     ensures { AnswersBy vec_items (names.reads (kinds tokens.now)) result }
 {
     listed::<Commas<NamePart>>(alloc, tokens)
+}
+
+// `"(" name { "," name } ")"`
+fn bracketed_names(alloc: Global, tokens: Tokens<'_>) -> Result<Front<'_, Vec<Txt>>, Unread>
+    ensures { AnswersBy vec_items ((in_brackets names).reads (kinds tokens.now)) result }
+{
+    let names = names(alloc, key(tokens, Word::Open)?)?;
+    let rest = key(names.rest, Word::Close)?;
+    Ok(Front {
+        part: names.part,
+        rest,
+    })
 }
 
 struct TextPart;

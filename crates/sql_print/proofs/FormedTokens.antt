@@ -7,11 +7,12 @@ use Rattle.sql_lexer.specs.declared.token.Word.{Word}
 use Rattle.sql_lexer.specs.declared.token.Word.TheVariants as w
 use Rattle.sql_tree.specs.Grammar.{Tokens}
 use Rattle.sql_tree.specs.Trees.{Text, Exp, binary, unary, is_null, in_list, constant, column, call, count_all, aggregate, case_when, exists, Exps, no_exps, exp, Branches, no_branches, branch, ValueTree, expression, window, ItemTree, JoinTree, on, cross, SelectTree, StatementTree, setting, input, create, export, ScriptTree}
-use Rattle.sql_tree.specs.Printing.{just, two_words, bracketed, wrapped, not_word, commas, items_after, maybe_written, behind_word, direction_word, op_word, left_level, right_level, unary_level, level_of, written, written_exps, more_exps, written_branches, written_name, written_text, written_column, written_source, written_sources, written_equality, written_equalities, written_number, written_constant, written_literal, written_default, written_call, written_key, written_bound, written_frame, written_over, written_value, written_item, written_join, written_select, written_query, written_input_column, written_statement, written_script}
-use Rattle.sql_tree.specs.Formed.{IsName, IsColumn, IsSource, IsEquality, IsNumber, IsConstant, IsLiteral, Formed, EachFormed, BranchesFormed, IsMaybeExp, IsDefault, IsCall, IsWindowKey, IsBound, IsMaybeFrame, IsOver, IsValue, IsItem, IsJoin, IsSelect, IsInputColumn, IsStatement, PrintableScript}
+use Rattle.sql_tree.specs.Printing.{just, two_words, bracketed, wrapped, not_word, commas, items_after, maybe_written, behind_word, direction_word, op_word, left_level, right_level, unary_level, level_of, written, written_exps, more_exps, written_branches, written_name, written_text, written_column, written_series, written_given, written_source, written_sources, not_null_words, span_word, written_equality, written_equalities, written_number, written_constant, written_literal, written_default, written_call, written_key, written_bound, written_frame, written_over, written_value, written_item, written_join, written_select, written_query, written_input_column, written_statement, written_script}
+use Rattle.sql_tree.specs.Formed.{IsName, IsColumn, IsMaybeSeries, IsSource, IsEquality, IsNumber, IsConstant, IsLiteral, Formed, EachFormed, BranchesFormed, IsMaybeExp, IsDefault, IsCall, IsWindowKey, IsBound, IsMaybeFrame, IsOver, IsValue, IsItem, IsJoin, IsSelect, IsInputColumn, IsStatement, PrintableScript}
 use Rattle.sql_tree.specs.declared.parts.Column.{Column}
 use Rattle.sql_tree.specs.declared.parts.Source.{Source}
 use Rattle.sql_tree.specs.declared.parts.Equality.{Equality}
+use Rattle.sql_tree.specs.declared.parts.Series.{Series}
 use Rattle.sql_tree.specs.declared.parts.Numeral.{Numeral}
 use Rattle.sql_tree.specs.declared.parts.Numeral.TheVariants as numeral
 use Rattle.sql_tree.specs.declared.parts.Constant.{Constant}
@@ -66,11 +67,28 @@ after-all marks f P m good (x ∷ xs) h = both marks (f (x ∷ xs)) m (good (x �
 
 -- ---- parts
 
+name-all : (x : Text) → IsName x → AllFormed (written_name x)
+name-all x h = (h, tt)
+
 column-all : (x : Column) → IsColumn x → AllFormed (written_column x)
 column-all x h = (h.0, (tt, (h.1, tt)))
 
+series-all : (x : Series) → IsMaybeSeries (Some x) → AllFormed (written_series x)
+series-all x h = (
+  tt,
+  (
+    h.0,
+    both (items_after (just w.By) (λ xs. bracketed (commas written_name xs)) x.by) (just (span_word x.span))
+        (after-all (just w.By) (λ xs. bracketed (commas written_name xs)) IsName (tt, tt) (λ xs each. in-pair (commas written_name xs) (commas-all written_name IsName name-all xs each)) x.by h.1) (tt, tt),
+  ),
+)
+
+given-all : (table : Text) (o : Option Series) → IsName table → IsMaybeSeries o → AllFormed (written_given table o)
+given-all table None t h = (t, tt)
+given-all table (Some x) t h = (tt, (t, series-all x h))
+
 source-all : (x : Source) → IsSource x → AllFormed (written_source x)
-source-all x h = (h.0, (tt, (h.1, tt)))
+source-all x h = both (written_given x.table x.series) (t.Word w.As ∷ (t.Name x.alias ∷ [])) (given-all x.table x.series h.0 h.1) (tt, (h.2, tt))
 
 equality-all : (x : Equality) → IsEquality x → AllFormed (written_equality x)
 equality-all x h = both (written_column x.left) (t.Word w.Equal ∷ written_column x.right) (column-all x.left h.0) (tt, column-all x.right h.1)
@@ -203,9 +221,6 @@ select-all x h =
 
 -- ---- statements
 
-name-all : (x : Text) → IsName x → AllFormed (written_name x)
-name-all x h = (h, tt)
-
 any-text : (xs : List Text) → AllFormed (commas written_text xs)
 any-text xs = commas-all written_text (λ x. Unit {0}) (λ x h. (tt, tt)) xs (any xs)
   where
@@ -218,7 +233,11 @@ codes-all [] = tt
 codes-all (x ∷ xs) = (tt, in-pair (commas written_text (x ∷ xs)) (any-text (x ∷ xs)))
 
 input_column-all : (x : InputColumn) → IsInputColumn x → AllFormed (written_input_column x)
-input_column-all x h = (h.0, (tt, codes-all x.codes))
+input_column-all x h = (h.0, (tt, both (not_null_words x.not_null) _ (words-all x.not_null) (codes-all x.codes)))
+  where
+    words-all : (b : Bool) → AllFormed (not_null_words b)
+    words-all true = (tt, (tt, tt))
+    words-all false = tt
 
 statement-all : (s : StatementTree) → IsStatement 256 s → AllFormed (written_statement s)
 statement-all (setting scale r) h = absurd h

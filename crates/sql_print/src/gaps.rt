@@ -95,6 +95,8 @@ fn is_function_word(word: Word) -> bool {
             | Word::Median
             | Word::Min
             | Word::Mod
+            | Word::PeriodFrequency
+            | Word::PeriodShift
             | Word::Rank
             | Word::RatioToReport
             | Word::Replace

@@ -1,11 +1,14 @@
 // Columns, sources and constants.
 ghost use Rattle.std.specs.Prelude.{◌≡◌, ◌++◌, ◌∷◌, [], OnOk};
+ghost use Rattle.grammar_forms.specs.Written.{behind};
 ghost use Rattle.sql_lexer.specs.declared.token.TokenKind.TheVariants as t;
-ghost use Rattle.sql_tree.specs.Printing.{not_word, minus_word, written_constant, written_equalities, written_literal, written_name, written_number, written_source, written_text};
+ghost use Rattle.sql_lexer.specs.declared.token.Word.TheVariants as w;
+ghost use Rattle.sql_tree.specs.Printing.{bracketed, commas, items_after, just, minus_word, not_null_words, not_word, written_constant, written_equalities, written_given, written_literal, written_name, written_number, written_series, written_source, written_text};
 
-use crate::writing::{Printed, Written, parted, word};
+use crate::word_groups::span_word;
+use crate::writing::{Printed, Written, parted, two_words, word};
 use sql_lexer::{TokenKind, Word};
-use sql_tree::{Column, Constant, Equality, Literal, Numeral, Source};
+use sql_tree::{Column, Constant, Equality, Literal, Numeral, Series, Source};
 use vtl_text::Txt;
 
 pub(crate) fn name(out: &mut Vec<TokenKind>, name: &Txt) -> Printed
@@ -38,6 +41,15 @@ pub(crate) fn maybe_not(out: &mut Vec<TokenKind>, negated: bool) -> Printed
     Ok(())
 }
 
+pub(crate) fn maybe_not_null(out: &mut Vec<TokenKind>, not_null: bool) -> Printed
+    ensures { OnOk result (out.new.items ≡ out.old.items ++ not_null_words not_null) }
+{
+    if not_null {
+        two_words(out, Word::Not, Word::Null)?;
+    }
+    Ok(())
+}
+
 fn maybe_minus(out: &mut Vec<TokenKind>, negative: bool) -> Printed
     ensures { OnOk result (out.new.items ≡ out.old.items ++ minus_word negative) }
 {
@@ -59,10 +71,66 @@ impl Written for Column {
     }
 }
 
+// The names, with commas between them.
+pub(crate) fn names(out: &mut Vec<TokenKind>, items: &[Txt]) -> Printed
+    ensures { OnOk result (out.new.items ≡ out.old.items ++ commas written_name items.now) }
+{
+    let Some((first, rest)) = items.split_first() else {
+        return Ok(());
+    };
+    name(out, first)?;
+    more_names(out, rest)
+}
+
+// The names, each after a comma.
+fn more_names(out: &mut Vec<TokenKind>, items: &[Txt]) -> Printed
+    ensures { OnOk result (out.new.items ≡ out.old.items ++ behind (just w.Comma) written_name items.now) }
+{
+    for item in items {
+        word(out, Word::Comma)?;
+        name(out, item)?;
+    }
+    Ok(())
+}
+
+// Names in brackets after BY, where there are any.
+fn names_after_by(out: &mut Vec<TokenKind>, items: &[Txt]) -> Printed
+    ensures { OnOk result (out.new.items ≡ out.old.items ++ items_after (just w.By) (λ xs. bracketed (commas written_name xs)) items.now) }
+{
+    if items.is_empty() {
+        return Ok(());
+    }
+    two_words(out, Word::By, Word::Open)?;
+    names(out, items)?;
+    word(out, Word::Close)
+}
+
+fn series(out: &mut Vec<TokenKind>, series: &Series) -> Printed
+    ensures { OnOk result (out.new.items ≡ out.old.items ++ written_series series.now) }
+{
+    word(out, Word::On)?;
+    name(out, &series.on)?;
+    names_after_by(out, series.by.as_slice())?;
+    word(out, span_word(series.span))
+}
+
+fn given(out: &mut Vec<TokenKind>, source: &Source) -> Printed
+    ensures { OnOk result (out.new.items ≡ out.old.items ++ written_given source.now.table source.now.series) }
+{
+    match &source.series {
+        None => name(out, &source.table),
+        Some(wanted) => {
+            word(out, Word::Series)?;
+            name(out, &source.table)?;
+            series(out, wanted)
+        }
+    }
+}
+
 pub(crate) fn source(out: &mut Vec<TokenKind>, source: &Source) -> Printed
     ensures { OnOk result (out.new.items ≡ out.old.items ++ written_source source.now) }
 {
-    name(out, &source.table)?;
+    given(out, source)?;
     word(out, Word::As)?;
     name(out, &source.alias)
 }

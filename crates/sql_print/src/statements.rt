@@ -7,7 +7,7 @@ ghost use Rattle.sql_print.specs.Tails.{input_key};
 ghost use Rattle.sql_tree.specs.Trees.{create, export, input, setting};
 ghost use Rattle.sql_tree.specs.View.{query_tree, script_tree, statement_tree};
 
-use crate::parts::{int, name, text};
+use crate::parts::{int, maybe_not_null, name, names, text};
 use crate::queries::query;
 use crate::word_groups::{kind_word, rounding_word};
 use crate::writing::{Printed, Written, all, parted, two_words, word};
@@ -15,28 +15,6 @@ use sql_lexer::{TokenKind, Word};
 use sql_tree::{InputColumn, SqlCreate, SqlExport, SqlInput, SqlScript, Statement};
 use std::alloc::{AllocError, Global};
 use vtl_text::Txt;
-
-// The names, with commas between them.
-fn names(out: &mut Vec<TokenKind>, items: &[Txt]) -> Printed
-    ensures { OnOk result (out.new.items ≡ out.old.items ++ commas written_name items.now) }
-{
-    let Some((first, rest)) = items.split_first() else {
-        return Ok(());
-    };
-    name(out, first)?;
-    more_names(out, rest)
-}
-
-// The names, each after a comma.
-fn more_names(out: &mut Vec<TokenKind>, items: &[Txt]) -> Printed
-    ensures { OnOk result (out.new.items ≡ out.old.items ++ behind (just w.Comma) written_name items.now) }
-{
-    for item in items {
-        word(out, Word::Comma)?;
-        name(out, item)?;
-    }
-    Ok(())
-}
 
 // Texts in brackets after CODES, where there are any.
 fn codes(out: &mut Vec<TokenKind>, items: &[Txt]) -> Printed
@@ -70,6 +48,7 @@ impl Written for InputColumn {
     fn write(&self, out: &mut Vec<TokenKind>) -> Printed {
         name(out, &self.name)?;
         word(out, kind_word(self.kind))?;
+        maybe_not_null(out, self.not_null)?;
         codes(out, self.codes.as_slice())
     }
 }

@@ -1,9 +1,9 @@
 // Words that each stand for one thing, and the levels of operators.
 ghost use Rattle.std.specs.Prelude.{◌≡◌};
-ghost use Rattle.sql_tree.specs.Printing.{aggregate_word, direction_word, join_word, kind_word, left_level, op_level, op_word, right_level, rounding_word, shift_word, side_word, unary_level, value_word};
+ghost use Rattle.sql_tree.specs.Printing.{aggregate_word, direction_word, join_word, kind_word, left_level, op_level, op_word, right_level, rounding_word, shift_word, side_word, span_word, unary_level, value_word};
 
 use sql_lexer::Word;
-use sql_tree::{Direction, JoinKind, ShiftFunction, Side, ValueFunction};
+use sql_tree::{Direction, JoinKind, ShiftFunction, Side, Span, ValueFunction};
 use vtl_cell::{AggKind, Kind, ScalarOp};
 use vtl_decimal::Rounding;
 
@@ -47,7 +47,8 @@ pub(crate) fn op_word(op: ScalarOp) -> Word
         ScalarOp::IsNull => Word::Is,
         ScalarOp::ValueOr => Word::Coalesce,
         ScalarOp::If => Word::Case,
-        ScalarOp::PeriodShift | ScalarOp::PeriodFrequency => Word::Period,
+        ScalarOp::PeriodShift => Word::PeriodShift,
+        ScalarOp::PeriodFrequency => Word::PeriodFrequency,
     }
 }
 
@@ -157,6 +158,15 @@ pub(crate) fn side_word(side: Side) -> Word
     match side {
         Side::Preceding => Word::Preceding,
         Side::Following => Word::Following,
+    }
+}
+
+pub(crate) fn span_word(span: Span) -> Word
+    ensures { result ≡ span_word span }
+{
+    match span {
+        Span::Single => Word::Single,
+        Span::All => Word::All,
     }
 }
 

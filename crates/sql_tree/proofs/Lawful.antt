@@ -95,9 +95,17 @@ pub columns-law : Lawful class g.columns
 unfolding g.columns g.column
 columns-law = listed-law (key-law w.Comma) column-law refl refl refl refl
 
+series-law : Lawful class g.series
+unfolding g.series g.names
+series-law = as-law _ (seq-law (after-law (key-law w.On) name-law refl) (seq-law (led-law _ (key-law w.By) (brackets-law names-law refl) (absent-law class []) refl refl refl) (table-law g.spans_table) refl) refl)
+
+given-law : Lawful class g.given
+unfolding g.given g.series
+given-law = or-law (as-law _ name-law) (as-law _ (after-law (key-law w.Series) (seq-law name-law series-law refl) refl)) refl refl refl
+
 pub source-law : Lawful class g.source
-unfolding g.source
-source-law = as-law _ (seq-law name-law (after-law (key-law w.As) name-law refl) refl)
+unfolding g.source g.given g.series
+source-law = as-law _ (seq-law given-law (after-law (key-law w.As) name-law refl) refl)
 
 -- ---- constants
 
@@ -136,7 +144,7 @@ unfolding g.equality g.column
 equality-law = as-law _ (seq-law column-law (after-law (key-law w.Equal) column-law refl) refl)
 
 matched-law : Lawful class g.matched
-unfolding g.matched g.equality g.column g.source
+unfolding g.matched g.equality g.column g.source g.given g.series
 matched-law = seq-law source-law (led-law _ (key-law w.Where) (listed-law (key-law w.And) equality-law refl refl refl refl) (absent-law class []) refl refl refl) refl
 
 negated-law : Lawful class g.negated
@@ -187,11 +195,11 @@ module _ (f : Place → Expr) (law : (p : Place) → Lawful class (gated f p)) (
   case-law = made-law _ (after-law (key-law w.Case) (seq-law branches-law (before-law (after-law (key-law w.Else) (law Whole) refl) (key-law w.End) refl) refl) refl)
 
   exists-law : Lawful class (g.exists n)
-  unfolding g.exists g.matched g.equality g.column g.source
+  unfolding g.exists g.matched g.equality g.column g.source g.given g.series
   exists-law = made-law _ (after-law (key-law w.Exists) (brackets-law (after-law (key-law w.Select) (after-law one-law (after-law (key-law w.From) matched-law refl) refl) refl) refl) refl)
 
   prim-law : Lawful class (g.prim n (gated f Whole))
-  unfolding g.prim g.const g.number g.column g.bracketed g.call_of g.aggr g.counted g.case g.branches g.branch g.exists g.matched g.equality g.source
+  unfolding g.prim g.const g.number g.column g.bracketed g.call_of g.aggr g.counted g.case g.branches g.branch g.exists g.matched g.equality g.source g.given g.series
   prim-law =
       or-law (as-law _ const-law)
       (or-law (as-law _ column-law)
@@ -201,41 +209,41 @@ module _ (f : Place → Expr) (law : (p : Place) → Lawful class (gated f p)) (
       (or-law case-law exists-law refl refl refl) refl refl refl) refl refl refl) refl refl refl) refl refl refl) refl refl refl
 
   un-law : Lawful class (g.un n (gated f))
-  unfolding g.un g.prim g.const g.number g.column g.bracketed g.call_of g.aggr g.counted g.case g.branches g.branch g.exists g.matched g.equality g.source
+  unfolding g.un g.prim g.const g.number g.column g.bracketed g.call_of g.aggr g.counted g.case g.branches g.branch g.exists g.matched g.equality g.source g.given g.series
   un-law = or-law (made-law _ (seq-law (table-law g.signs_table) (law Signed) refl)) prim-law refl refl refl
 
   mul-law : Lawful class (g.mul n (gated f))
-  unfolding g.mul g.un g.prim g.const g.number g.column g.bracketed g.call_of g.aggr g.counted g.case g.branches g.branch g.exists g.matched g.equality g.source
+  unfolding g.mul g.un g.prim g.const g.number g.column g.bracketed g.call_of g.aggr g.counted g.case g.branches g.branch g.exists g.matched g.equality g.source g.given g.series
   mul-law = chain-law _ un-law (seq-law (table-law g.multiply_ops_table) un-law refl) refl refl refl refl
 
   add-law : Lawful class (g.add n (gated f))
-  unfolding g.add g.mul g.un g.prim g.const g.number g.column g.bracketed g.call_of g.aggr g.counted g.case g.branches g.branch g.exists g.matched g.equality g.source
+  unfolding g.add g.mul g.un g.prim g.const g.number g.column g.bracketed g.call_of g.aggr g.counted g.case g.branches g.branch g.exists g.matched g.equality g.source g.given g.series
   add-law = chain-law _ mul-law (seq-law (table-law g.add_ops_table) mul-law refl) refl refl refl refl
 
   tail-law : Lawful class (g.tail n (gated f))
-  unfolding g.tail g.null_test g.membership g.negated g.lits g.lit g.signed_number g.add g.mul g.un g.prim g.const g.number g.column g.bracketed g.call_of g.aggr g.counted g.case g.branches g.branch g.exists g.matched g.equality g.source
+  unfolding g.tail g.null_test g.membership g.negated g.lits g.lit g.signed_number g.add g.mul g.un g.prim g.const g.number g.column g.bracketed g.call_of g.aggr g.counted g.case g.branches g.branch g.exists g.matched g.equality g.source g.given g.series
   tail-law =
       or-law (as-law _ (seq-law (table-law g.compare_ops_table) add-law refl))
       (or-law (as-law _ null_test-law) (as-law _ membership-law) refl refl refl) refl refl refl
 
   cmp-law : Lawful class (g.cmp n (gated f))
-  unfolding g.cmp g.tail g.null_test g.membership g.negated g.lits g.lit g.signed_number g.add g.mul g.un g.prim g.const g.number g.column g.bracketed g.call_of g.aggr g.counted g.case g.branches g.branch g.exists g.matched g.equality g.source
+  unfolding g.cmp g.tail g.null_test g.membership g.negated g.lits g.lit g.signed_number g.add g.mul g.un g.prim g.const g.number g.column g.bracketed g.call_of g.aggr g.counted g.case g.branches g.branch g.exists g.matched g.equality g.source g.given g.series
   cmp-law = made-law _ (seq-law add-law (maybe-law tail-law refl) refl)
 
   neg-law : Lawful class (g.neg n (gated f))
-  unfolding g.neg g.cmp g.tail g.null_test g.membership g.negated g.lits g.lit g.signed_number g.add g.mul g.un g.prim g.const g.number g.column g.bracketed g.call_of g.aggr g.counted g.case g.branches g.branch g.exists g.matched g.equality g.source
+  unfolding g.neg g.cmp g.tail g.null_test g.membership g.negated g.lits g.lit g.signed_number g.add g.mul g.un g.prim g.const g.number g.column g.bracketed g.call_of g.aggr g.counted g.case g.branches g.branch g.exists g.matched g.equality g.source g.given g.series
   neg-law = or-law (made-law _ (after-law (key-law w.Not) (law Negated) refl)) cmp-law refl refl refl
 
   conjunction-law : Lawful class (g.conjunction n (gated f))
-  unfolding g.conjunction g.neg g.cmp g.tail g.null_test g.membership g.negated g.lits g.lit g.signed_number g.add g.mul g.un g.prim g.const g.number g.column g.bracketed g.call_of g.aggr g.counted g.case g.branches g.branch g.exists g.matched g.equality g.source
+  unfolding g.conjunction g.neg g.cmp g.tail g.null_test g.membership g.negated g.lits g.lit g.signed_number g.add g.mul g.un g.prim g.const g.number g.column g.bracketed g.call_of g.aggr g.counted g.case g.branches g.branch g.exists g.matched g.equality g.source g.given g.series
   conjunction-law = chain-law _ neg-law (seq-law (table-law g.and_ops_table) neg-law refl) refl refl refl refl
 
   disjunction-law : Lawful class (g.disjunction n (gated f))
-  unfolding g.disjunction g.conjunction g.neg g.cmp g.tail g.null_test g.membership g.negated g.lits g.lit g.signed_number g.add g.mul g.un g.prim g.const g.number g.column g.bracketed g.call_of g.aggr g.counted g.case g.branches g.branch g.exists g.matched g.equality g.source
+  unfolding g.disjunction g.conjunction g.neg g.cmp g.tail g.null_test g.membership g.negated g.lits g.lit g.signed_number g.add g.mul g.un g.prim g.const g.number g.column g.bracketed g.call_of g.aggr g.counted g.case g.branches g.branch g.exists g.matched g.equality g.source g.given g.series
   disjunction-law = chain-law _ conjunction-law (seq-law (table-law g.or_ops_table) conjunction-law refl) refl refl refl refl
 
   place-law : (p : Place) → Lawful class (gate (starts_of p) (more_of p) (g.at_place n (gated f) p))
-  unfolding g.at_place g.disjunction g.conjunction g.neg g.cmp g.tail g.null_test g.membership g.negated g.lits g.lit g.signed_number g.add g.mul g.un g.prim g.const g.number g.column g.bracketed g.call_of g.aggr g.counted g.case g.branches g.branch g.exists g.matched g.equality g.source
+  unfolding g.at_place g.disjunction g.conjunction g.neg g.cmp g.tail g.null_test g.membership g.negated g.lits g.lit g.signed_number g.add g.mul g.un g.prim g.const g.number g.column g.bracketed g.call_of g.aggr g.counted g.case g.branches g.branch g.exists g.matched g.equality g.source g.given g.series
   place-law Whole = gate-law _ _ disjunction-law refl refl refl
   place-law Negated = gate-law _ _ neg-law refl refl refl
   place-law Signed = gate-law _ _ un-law refl refl refl

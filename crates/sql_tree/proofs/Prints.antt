@@ -1,5 +1,5 @@
 -- What is written for an expression spells it.
-use Rattle.std.proofs.Common.{◌≡◌, inl, inr, ◌∙◌, ◌≤◌, ◌+◌, ◌*◌, ◌-◌, ℕ, zero, suc, max, Bool, true, false, List, [], ◌∷◌, ◌++◌, length, None, Some, refl, sym, ap, subst, arith, append_assoc, append-nil, nat_le}
+use Rattle.std.proofs.Common.{◌≡◌, inl, inr, ◌∙◌, ◌≤◌, ◌+◌, ◌*◌, ◌-◌, ℕ, zero, suc, max, Bool, true, false, List, [], ◌∷◌, ◌++◌, length, Option, None, Some, refl, sym, ap, subst, arith, append_assoc, append-nil, nat_le}
 use borrow.Author.Tests.{leb-true}
 use Rattle.grammar_forms.specs.Forms.{Form, chain, seq, deep, Deep, limited, lookup, IsToken}
 use Rattle.grammar_forms.specs.Written.{Each}
@@ -13,11 +13,12 @@ use Rattle.vtl_cell.specs.declared.operator.ScalarOp.{ScalarOp}
 use Rattle.vtl_cell.specs.declared.operator.ScalarOp.TheVariants as op
 use Rattle.vtl_cell.specs.declared.operator.AggKind.{AggKind}
 use Rattle.vtl_cell.specs.declared.operator.AggKind.TheVariants as agg
-use Rattle.sql_tree.specs.Trees.{Exp, Exps, Branches, exps_of, branches_of, binary, unary, is_null, in_list, constant, column, call, count_all, aggregate, case_when, exists, no_exps, exp, no_branches, branch}
+use Rattle.sql_tree.specs.Trees.{Text, Exp, Exps, Branches, exps_of, branches_of, binary, unary, is_null, in_list, constant, column, call, count_all, aggregate, case_when, exists, no_exps, exp, no_branches, branch}
 use Rattle.sql_tree.specs.Grammar as g
-use Rattle.sql_tree.specs.Grammar.{SqlForm, Tokens, Expr, DeepExp, Place, Whole, Negated, Signed, key, of_table, in_brackets, expr_at, joined_by, operator_before, or_ops_table, and_ops_table, add_ops_table, multiply_ops_table, compare_ops_table, signs_table, functions_table, aggregates_table}
+use Rattle.sql_tree.specs.Grammar.{SqlForm, items_after, two_keys, Tokens, Expr, DeepExp, Place, Whole, Negated, Signed, key, of_table, in_brackets, expr_at, joined_by, operator_before, or_ops_table, and_ops_table, add_ops_table, multiply_ops_table, compare_ops_table, signs_table, functions_table, aggregates_table}
+use Rattle.sql_tree.specs.Printing as p
 use Rattle.sql_tree.specs.Printing.{op_word, aggregate_word, op_level, unary_level, level_of, just, bracketed, wrapped, not_word, minus_word, commas, written_source, written_equality, written_equalities, written_number, written_constant, written_literal, written, written_exps, more_exps, written_branches}
-use Rattle.sql_tree.specs.Formed.{is_binary, is_unary, is_function, IsEquality, IsLiteral, Formed, SomeExps, SomeBranches, EachFormed, BranchesFormed, exp_depth, exps_depth, branches_depth}
+use Rattle.sql_tree.specs.Formed.{IsName, is_binary, is_unary, is_function, IsEquality, IsLiteral, Formed, SomeExps, SomeBranches, EachFormed, BranchesFormed, exp_depth, exps_depth, branches_depth}
 use Rattle.sql_tree.specs.declared.parts.Numeral.{Numeral}
 use Rattle.sql_tree.specs.declared.parts.Numeral.TheVariants as numeral
 use Rattle.sql_tree.specs.declared.parts.Constant.{Constant}
@@ -26,6 +27,9 @@ use Rattle.sql_tree.specs.declared.parts.Literal.{Literal}
 use Rattle.sql_tree.specs.declared.parts.Literal.TheVariants as literal
 use Rattle.sql_tree.specs.declared.parts.Column.{Column}
 use Rattle.sql_tree.specs.declared.parts.Source.{Source}
+use Rattle.sql_tree.specs.declared.parts.Series.{Series}
+use Rattle.sql_tree.specs.declared.word_groups.Span.{Span}
+use Rattle.sql_tree.specs.declared.word_groups.Span.TheVariants as span
 use Rattle.sql_tree.specs.declared.parts.Equality.{Equality}
 use Rattle.sql_tree.proofs.Levels.{limited-ok, one, name-of, text-of, int-of, dec-of, in-brackets-of, column-of, column-prim, form_at, moved, lift, whole, negated, signed}
 
@@ -68,9 +72,53 @@ lit-of literal.False = inr (inr (inl (record { token = t.Word w.False; is = refl
 lit-of (literal.Date x) = inr (inr (inr (inl (as-of _ (t.Word w.Date ∷ (t.Text x ∷ [])) x (after-of (just w.Date) (t.Text x ∷ []) tt (one w.Date) (text-of x))))))
 lit-of (literal.Period x) = inr (inr (inr (inr (as-of _ (t.Word w.Period ∷ (t.Text x ∷ [])) x (after-of (just w.Period) (t.Text x ∷ []) tt (one w.Period) (text-of x))))))
 
+pub two : (x y : Word) → (two_keys x y).spells (p.two_words x y) tt
+two x y = after-of (just x) (just y) tt (one x) (one y)
+
+pub not_null-of : (b : Bool) → g.not_null.spells (p.not_null_words b) b
+unfolding g.not_null
+not_null-of true = record { part = Some tt; spelled = two w.Not w.Null; is = refl }
+not_null-of false = record { part = None; spelled = refl; is = refl }
+
+-- what may be left out
+
+pub names-of : (x : Text) (xs : List Text) → Each IsName (x ∷ xs) → g.names.spells (p.commas p.written_name (x ∷ xs)) (x ∷ xs)
+unfolding g.names
+names-of x xs each = listed-by w.Comma g.name p.written_name IsName (λ y h. name-of y) (x ∷ xs) (omega arith) each
+
+module _ {O A : Type 0} (mark : SqlForm O) (marks : Tokens) (o : O) (marked : mark.spells marks o) (items : SqlForm (List A)) (f : List A → Tokens) (P : A → Type 0) (item-spells : (x : A) (xs : List A) → Each P (x ∷ xs) → items.spells (f (x ∷ xs)) (x ∷ xs)) where
+  pub items-of : (xs : List A) → Each P xs → (items_after mark items).spells (p.items_after marks f xs) xs
+  items-of [] each = inr (record { none = refl; is = refl })
+  items-of (x ∷ xs) each = inl (record { part = (o, x ∷ xs); spelled = both-of marks (f (x ∷ xs)) marked (item-spells x xs each); is = refl })
+
+-- names may be any texts here
+any-names : (xs : List Text) → Each (λ x. Unit {0}) xs
+any-names [] = tt
+any-names (x ∷ xs) = (tt, any-names xs)
+
+bracketed-names : (x : Text) (xs : List Text) → (in_brackets g.names).spells (bracketed (commas p.written_name (x ∷ xs))) (x ∷ xs)
+unfolding g.names
+bracketed-names x xs = in-brackets-of (commas p.written_name (x ∷ xs)) (x ∷ xs) (listed-by w.Comma g.name p.written_name (λ y. Unit {0}) (λ y u. name-of y) (x ∷ xs) (omega arith) (any-names (x ∷ xs)))
+
+span-token : (s : Span) → (of_table g.spans_table).spells (just (p.span_word s)) s
+span-token span.Single = record { token = t.Word w.Single; is = refl; stands_for = refl }
+span-token span.All = record { token = t.Word w.All; is = refl; stands_for = refl }
+
+series-of : (x : Series) → g.series.spells (p.written_series x) x
+unfolding g.series
+series-of x =
+    as-of _ (p.written_series x) (x.on, (x.by, x.span)) (both-of (t.Word w.On ∷ (t.Name x.on ∷ [])) _ (after-of (just w.On) (t.Name x.on ∷ []) tt (one w.On) (name-of x.on))
+    (both-of _ (just (p.span_word x.span)) (items-of (key w.By) (just w.By) tt (one w.By) (in_brackets g.names) (λ xs. bracketed (commas p.written_name xs)) (λ y. Unit {0}) (λ y ys each. bracketed-names y ys) x.by (any-names x.by)) (span-token x.span)))
+
+given-of : (table : Text) (o : Option Series) → g.given.spells (p.written_given table o) (table, o)
+unfolding g.given
+given-of table None = inl (as-of _ (t.Name table ∷ []) table (name-of table))
+given-of table (Some x) =
+    inr (as-of _ (p.written_given table (Some x)) (table, x) (after-of (just w.Series) (t.Name table ∷ p.written_series x) tt (one w.Series) (both-of (t.Name table ∷ []) (p.written_series x) (name-of table) (series-of x))))
+
 pub source-of : (s : Source) → g.source.spells (written_source s) s
 unfolding g.source
-source-of s = as-of _ (written_source s) (s.table, s.alias) (both-of (t.Name s.table ∷ []) (t.Word w.As ∷ (t.Name s.alias ∷ [])) (name-of s.table) (after-of (just w.As) (t.Name s.alias ∷ []) tt (one w.As) (name-of s.alias)))
+source-of s = as-of _ (written_source s) ((s.table, s.series), s.alias) (both-of (p.written_given s.table s.series) (t.Word w.As ∷ (t.Name s.alias ∷ [])) (given-of s.table s.series) (after-of (just w.As) (t.Name s.alias ∷ []) tt (one w.As) (name-of s.alias)))
 
 equality-of : (e : Equality) → g.equality.spells (written_equality e) e
 unfolding g.equality
@@ -394,6 +442,8 @@ function-token op.Position is = record { token = t.Word w.Instr; is = refl; stan
 function-token op.Length is = record { token = t.Word w.Length; is = refl; stands_for = refl }
 function-token op.ValueOr is = record { token = t.Word w.Coalesce; is = refl; stands_for = refl }
 function-token op.Between is = record { token = t.Word w.Between; is = refl; stands_for = refl }
+function-token op.PeriodShift is = record { token = t.Word w.PeriodShift; is = refl; stands_for = refl }
+function-token op.PeriodFrequency is = record { token = t.Word w.PeriodFrequency; is = refl; stands_for = refl }
 function-token _ is = cc
 
 some-depth : (es : Exps) → SomeExps es → 1 ≤ exps_depth es

@@ -132,11 +132,11 @@ unfolding g.item g.value_of g.over g.expr g.wcall g.column_aggregate g.column_va
 item-law = as-law _ (seq-law value_of-law (after-law (key-law w.As) name-law refl) refl)
 
 join-law : Lawful class g.join_of
-unfolding g.join_of g.expr g.source
+unfolding g.join_of g.expr g.source g.given g.series
 join-law = or-law (as-law _ (seq-law (table-law g.join_kinds_table) (seq-law (after-law (key-law w.Join) source-law refl) (after-law (key-law w.On) expr-law refl) refl) refl)) (as-law _ (after-law (keys-law w.Cross w.Join) source-law refl)) refl refl refl
 
 sources-law : Lawful class g.sources
-unfolding g.sources g.join_of g.expr g.source
+unfolding g.sources g.join_of g.expr g.source g.given g.series
 sources-law = chain-law _ (as-law _ source-law) join-law refl refl refl refl
 
 limits-law : Lawful class g.limits
@@ -146,28 +146,32 @@ limits-law =
     (seq-law (led-law _ (keys-law w.Group w.By) columns-law (absent-law class []) refl refl refl) (maybe_after-law (key-law w.Having) expr-law refl refl refl) refl) refl
 
 select-law : Lawful class g.select
-unfolding g.select g.item g.value_of g.over g.expr g.wcall g.column_aggregate g.column_value g.column_shift g.rank g.sources g.join_of g.source g.limits g.columns g.column
+unfolding g.select g.item g.value_of g.over g.expr g.wcall g.column_aggregate g.column_value g.column_shift g.rank g.sources g.join_of g.source g.given g.series g.limits g.columns g.column
 select-law = as-law _ (after-law (key-law w.Select) (seq-law (listed-law (key-law w.Comma) item-law refl refl refl refl) (seq-law (after-law (key-law w.From) sources-law refl) limits-law refl) refl) refl)
 
 query-law : Lawful class g.query
-unfolding g.query g.select g.item g.value_of g.over g.expr g.wcall g.column_aggregate g.column_value g.column_shift g.rank g.sources g.join_of g.source g.limits g.columns g.column
+unfolding g.query g.select g.item g.value_of g.over g.expr g.wcall g.column_aggregate g.column_value g.column_shift g.rank g.sources g.join_of g.source g.given g.series g.limits g.columns g.column
 query-law = listed-law (keys-law w.Union w.All) select-law refl refl refl refl
 
 -- ---- statements
 
+not_null-law : Lawful class g.not_null
+unfolding g.not_null
+not_null-law = as-law _ (maybe-law (keys-law w.Not w.Null) refl)
+
 input_column-law : Lawful class g.input_column
-unfolding g.input_column g.texts
-input_column-law = as-law _ (seq-law name-law (seq-law (table-law g.kinds_table) (led-law _ (key-law w.Codes) (brackets-law texts-law refl) (absent-law class []) refl refl refl) refl) refl)
+unfolding g.input_column g.not_null g.texts
+input_column-law = as-law _ (seq-law name-law (seq-law (table-law g.kinds_table) (seq-law not_null-law (led-law _ (key-law w.Codes) (brackets-law texts-law refl) (absent-law class []) refl refl refl) refl) refl) refl)
 
 input-law : Lawful class g.input
-unfolding g.input g.input_column g.texts g.names
+unfolding g.input g.input_column g.not_null g.texts g.names
 input-law =
     as-law _ (seq-law (after-law (key-law w.Input) name-law refl)
     (seq-law (brackets-law (listed-law (key-law w.Comma) input_column-law refl refl refl refl) refl)
     (before-law (after-law (key-law w.Key) (brackets-law (as-law _ (maybe-law names-law refl)) refl) refl) (key-law w.Semicolon) refl) refl) refl)
 
 create-law : Lawful class g.create
-unfolding g.create g.query g.select g.item g.value_of g.over g.expr g.wcall g.column_aggregate g.column_value g.column_shift g.rank g.sources g.join_of g.source g.limits g.columns g.column
+unfolding g.create g.query g.select g.item g.value_of g.over g.expr g.wcall g.column_aggregate g.column_value g.column_shift g.rank g.sources g.join_of g.source g.given g.series g.limits g.columns g.column
 create-law = as-law _ (seq-law (after-law (keys-law w.Create w.Table) name-law refl) (before-law (after-law (key-law w.As) query-law refl) (key-law w.Semicolon) refl) refl)
 
 export-law : Lawful class g.export

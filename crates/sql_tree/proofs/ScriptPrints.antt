@@ -43,7 +43,7 @@ use Rattle.sql_tree.specs.declared.statements.InputColumn.{InputColumn}
 use Rattle.sql_tree.specs.declared.statements.SqlInput.{SqlInput}
 use Rattle.sql_tree.specs.declared.statements.SqlExport.{SqlExport}
 use Rattle.sql_tree.proofs.Levels.{one, name-of, text-of, int-of, in-brackets-of, column-of}
-use Rattle.sql_tree.proofs.Prints.{listed-by, lit-of, source-of, expr-of}
+use Rattle.sql_tree.proofs.Prints.{listed-by, two, names-of, items-of, not_null-of, lit-of, source-of, expr-of}
 
 -- ---- words
 
@@ -91,23 +91,11 @@ window-token agg.Min is = record { token = t.Word w.Min; is = refl; stands_for =
 window-token agg.Max is = record { token = t.Word w.Max; is = refl; stands_for = refl }
 window-token agg.Median is = cc
 
-two : (x y : Word) → (two_keys x y).spells (two_words x y) tt
-two x y = after-of (just x) (just y) tt (one x) (one y)
-
 -- ---- lists that may be left out
 
 columns-of : (c : Column) (cs : List Column) → Each IsColumn (c ∷ cs) → g.columns.spells (p.commas written_column (c ∷ cs)) (c ∷ cs)
 unfolding g.columns
 columns-of c cs each = listed-by w.Comma g.column written_column IsColumn (λ x h. column-of x) (c ∷ cs) (omega arith) each
-
-names-of : (x : Text) (xs : List Text) → Each IsName (x ∷ xs) → g.names.spells (p.commas written_name (x ∷ xs)) (x ∷ xs)
-unfolding g.names
-names-of x xs each = listed-by w.Comma g.name written_name IsName (λ y h. name-of y) (x ∷ xs) (omega arith) each
-
-module _ {O A : Type 0} (mark : SqlForm O) (marks : Tokens) (o : O) (marked : mark.spells marks o) (items : SqlForm (List A)) (f : List A → Tokens) (P : A → Type 0) (good : (x : A) (xs : List A) → Each P (x ∷ xs) → items.spells (f (x ∷ xs)) (x ∷ xs)) where
-  items-of : (xs : List A) → Each P xs → (items_after mark items).spells (p.items_after marks f xs) xs
-  items-of [] each = inr (record { none = refl; is = refl })
-  items-of (x ∷ xs) each = inl (record { part = (o, x ∷ xs); spelled = both-of marks (f (x ∷ xs)) marked (good x xs each); is = refl })
 
 columns-after : (x y : Word) (cs : List Column) → Each IsColumn cs → (items_after (two_keys x y) g.columns).spells (p.items_after (two_words x y) (p.commas written_column) cs) cs
 columns-after x y cs each = items-of (two_keys x y) (two_words x y) tt (two x y) g.columns (p.commas written_column) IsColumn columns-of cs each
@@ -225,7 +213,7 @@ texts-after xs = items-of (key w.Codes) (just w.Codes) tt (one w.Codes) (in_brac
 
 input_column-of : (x : InputColumn) → IsInputColumn x → g.input_column.spells (written_input_column x) x
 unfolding g.input_column
-input_column-of x h = as-of _ (written_input_column x) (x.name, (x.kind, x.codes)) (both-of (t.Name x.name ∷ []) _ (name-of x.name) (both-of (just (kind_word x.kind)) _ (kind-token x.kind h.1) (texts-after x.codes)))
+input_column-of x h = as-of _ (written_input_column x) (x.name, (x.kind, (x.not_null, x.codes))) (both-of (t.Name x.name ∷ []) _ (name-of x.name) (both-of (just (kind_word x.kind)) _ (kind-token x.kind h.1) (both-of (p.not_null_words x.not_null) _ (not_null-of x.not_null) (texts-after x.codes))))
 
 key-names : (xs : List Text) → Each IsName xs → («as» g.items_or_none (maybe g.names)).spells (p.commas written_name xs) xs
 key-names [] each = record { part = None; spelled = refl; is = refl }

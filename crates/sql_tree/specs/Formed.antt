@@ -12,6 +12,7 @@ use Rattle.sql_tree.specs.Grammar.{most_levels}
 use Rattle.sql_tree.specs.Trees.{Text, Exp, binary, unary, is_null, in_list, constant, column, call, count_all, aggregate, case_when, exists, Exps, no_exps, exp, Branches, no_branches, branch, ValueTree, expression, window, ItemTree, JoinTree, on, cross, SelectTree, QueryTree, StatementTree, setting, input, create, export, ScriptTree}
 use Rattle.sql_tree.specs.declared.parts.Column.{Column}
 use Rattle.sql_tree.specs.declared.parts.Source.{Source}
+use Rattle.sql_tree.specs.declared.parts.Series.{Series}
 use Rattle.sql_tree.specs.declared.parts.Equality.{Equality}
 use Rattle.sql_tree.specs.declared.parts.Numeral.{Numeral}
 use Rattle.sql_tree.specs.declared.parts.Numeral.TheVariants as numeral
@@ -75,6 +76,8 @@ is_function op.Position = true
 is_function op.Length = true
 is_function op.ValueOr = true
 is_function op.Between = true
+is_function op.PeriodShift = true
+is_function op.PeriodFrequency = true
 is_function _ = false
 
 -- may stand over a window
@@ -94,8 +97,12 @@ IsName x = is_name x ≡ true
 abbrev pub IsColumn : Column → Type 0
 IsColumn x = IsName x.source × IsName x.name
 
+abbrev pub IsMaybeSeries : Option Series → Type 0
+IsMaybeSeries None = Unit {0}
+IsMaybeSeries (Some x) = IsName x.on × Each IsName x.by
+
 abbrev pub IsSource : Source → Type 0
-IsSource x = IsName x.table × IsName x.alias
+IsSource x = IsName x.table × IsMaybeSeries x.series × IsName x.alias
 
 abbrev pub IsEquality : Equality → Type 0
 IsEquality x = IsColumn x.left × IsColumn x.right

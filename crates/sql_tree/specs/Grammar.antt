@@ -19,6 +19,7 @@ use Rattle.sql_tree.specs.Trees as tree
 use Rattle.sql_tree.specs.Trees.{Text, Exp, exps_of, branches_of, ValueTree, ItemTree, JoinTree, SelectTree, QueryTree, StatementTree, ScriptTree}
 use Rattle.sql_tree.specs.declared.parts.Column.{Column}
 use Rattle.sql_tree.specs.declared.parts.Source.{Source}
+use Rattle.sql_tree.specs.declared.parts.Series.{Series}
 use Rattle.sql_tree.specs.declared.parts.Equality.{Equality}
 use Rattle.sql_tree.specs.declared.parts.Numeral.{Numeral}
 use Rattle.sql_tree.specs.declared.parts.Numeral.TheVariants as numeral
@@ -39,6 +40,8 @@ use Rattle.sql_tree.specs.declared.word_groups.Direction.{Direction}
 use Rattle.sql_tree.specs.declared.word_groups.Direction.TheVariants as direction
 use Rattle.sql_tree.specs.declared.word_groups.Side.{Side}
 use Rattle.sql_tree.specs.declared.word_groups.Side.TheVariants as side
+use Rattle.sql_tree.specs.declared.word_groups.Span.{Span}
+use Rattle.sql_tree.specs.declared.word_groups.Span.TheVariants as span
 use Rattle.sql_tree.specs.declared.word_groups.ValueFunction.{ValueFunction}
 use Rattle.sql_tree.specs.declared.word_groups.ValueFunction.TheVariants as value
 use Rattle.sql_tree.specs.declared.word_groups.ShiftFunction.{ShiftFunction}
@@ -132,7 +135,8 @@ abbrev pub functions_table : List (ℕ × ScalarOp)
 functions_table =
     (place w.Abs, op.Absolute) ∷ (place w.Floor, op.Floor) ∷ (place w.Ceil, op.Ceil) ∷ (place w.Round, op.Round) ∷ (place w.Trunc, op.Truncate)
     ∷ (place w.Mod, op.Modulo) ∷ (place w.Trim, op.Trim) ∷ (place w.Ltrim, op.TrimLeft) ∷ (place w.Rtrim, op.TrimRight) ∷ (place w.Substr, op.Substring)
-    ∷ (place w.Replace, op.Replace) ∷ (place w.Instr, op.Position) ∷ (place w.Length, op.Length) ∷ (place w.Coalesce, op.ValueOr) ∷ (place w.Between, op.Between) ∷ []
+    ∷ (place w.Replace, op.Replace) ∷ (place w.Instr, op.Position) ∷ (place w.Length, op.Length) ∷ (place w.Coalesce, op.ValueOr) ∷ (place w.Between, op.Between)
+    ∷ (place w.PeriodShift, op.PeriodShift) ∷ (place w.PeriodFrequency, op.PeriodFrequency) ∷ []
 
 -- the aggregates but COUNT
 abbrev pub aggregates_table : List (ℕ × AggKind)
@@ -152,6 +156,9 @@ directions_table = (place w.Asc, direction.Ascending) ∷ (place w.Desc, directi
 
 abbrev pub sides_table : List (ℕ × Side)
 sides_table = (place w.Preceding, side.Preceding) ∷ (place w.Following, side.Following) ∷ []
+
+abbrev pub spans_table : List (ℕ × Span)
+spans_table = (place w.Single, span.Single) ∷ (place w.All, span.All) ∷ []
 
 abbrev pub join_kinds_table : List (ℕ × JoinKind)
 join_kinds_table = (place w.Inner, joins.Inner) ∷ (place w.Left, joins.Left) ∷ (place w.Full, joins.Full) ∷ []
@@ -200,9 +207,19 @@ column = «as» (λ p. record { source = p.0; name = p.1 }) (seq name (after (ke
 unfoldable pub columns : SqlForm (List Column)
 columns = commas column
 
--- name "AS" name
+-- "ON" name [ "BY" "(" name { "," name } ")" ] ( "SINGLE" | "ALL" )
+unfoldable pub series : SqlForm Series
+series =
+    «as» (λ p. record { on = p.0; by = p.1.0; span = p.1.1 })
+    (seq (after (key w.On) name) (seq (items_after (key w.By) (in_brackets names)) (of_table spans_table)))
+
+-- name | "SERIES" name series
+unfoldable pub given : SqlForm (Text × Option Series)
+given = or («as» (λ x. (x, None)) name) («as» (λ p. (p.0, Some p.1)) (after (key w.Series) (seq name series)))
+
+-- given "AS" name
 unfoldable pub source : SqlForm Source
-source = «as» (λ p. record { table = p.0; alias = p.1 }) (seq name (after (key w.As) name))
+source = «as» (λ p. record { table = p.0.0; series = p.0.1; alias = p.1 }) (seq given (after (key w.As) name))
 
 -- ---- constants
 
@@ -261,7 +278,8 @@ prim_starts =
     name_class ∷ text_class ∷ int_class ∷ dec_class ∷ place w.Open ∷ place w.True ∷ place w.False ∷ place w.Null ∷ place w.Date ∷ place w.Period ∷ place w.Case ∷ place w.Exists
     ∷ place w.Count ∷ place w.Sum ∷ place w.Avg ∷ place w.Min ∷ place w.Max ∷ place w.Median
     ∷ place w.Abs ∷ place w.Floor ∷ place w.Ceil ∷ place w.Round ∷ place w.Trunc ∷ place w.Mod ∷ place w.Trim ∷ place w.Ltrim ∷ place w.Rtrim
-    ∷ place w.Substr ∷ place w.Replace ∷ place w.Instr ∷ place w.Length ∷ place w.Coalesce ∷ place w.Between ∷ []
+    ∷ place w.Substr ∷ place w.Replace ∷ place w.Instr ∷ place w.Length ∷ place w.Coalesce ∷ place w.Between
+    ∷ place w.PeriodShift ∷ place w.PeriodFrequency ∷ []
 
 abbrev pub compare_more : List ℕ
 compare_more =
@@ -517,9 +535,15 @@ query = listed (two_keys w.Union w.All) select
 
 -- ---- statements
 
--- name kind [ "CODES" "(" text { "," text } ")" ]
+-- [ "NOT" "NULL" ]
+unfoldable pub not_null : SqlForm Bool
+not_null = «as» is_some (maybe (two_keys w.Not w.Null))
+
+-- name kind [ "NOT" "NULL" ] [ "CODES" "(" text { "," text } ")" ]
 unfoldable pub input_column : SqlForm InputColumn
-input_column = «as» (λ p. record { name = p.0; kind = p.1.0; codes = p.1.1 }) (seq name (seq (of_table kinds_table) (items_after (key w.Codes) (in_brackets texts))))
+input_column =
+    «as» (λ p. record { name = p.0; kind = p.1.0; not_null = p.1.1.0; codes = p.1.1.1 })
+    (seq name (seq (of_table kinds_table) (seq not_null (items_after (key w.Codes) (in_brackets texts)))))
 
 -- "INPUT" name "(" col { "," col } ")" "KEY" "(" [ name { "," name } ] ")" ";"
 unfoldable pub input : SqlForm StatementTree

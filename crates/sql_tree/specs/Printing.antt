@@ -17,6 +17,7 @@ use Rattle.sql_tree.specs.Grammar.{Tokens, digit_one}
 use Rattle.sql_tree.specs.Trees.{Text, Exp, binary, unary, is_null, in_list, constant, column, call, count_all, aggregate, case_when, exists, Exps, no_exps, exp, Branches, no_branches, branch, ValueTree, expression, window, ItemTree, JoinTree, on, cross, SelectTree, QueryTree, StatementTree, setting, input, create, export, ScriptTree}
 use Rattle.sql_tree.specs.declared.parts.Column.{Column}
 use Rattle.sql_tree.specs.declared.parts.Source.{Source}
+use Rattle.sql_tree.specs.declared.parts.Series.{Series}
 use Rattle.sql_tree.specs.declared.parts.Equality.{Equality}
 use Rattle.sql_tree.specs.declared.parts.Numeral.{Numeral}
 use Rattle.sql_tree.specs.declared.parts.Numeral.TheVariants as numeral
@@ -38,6 +39,8 @@ use Rattle.sql_tree.specs.declared.word_groups.Direction.{Direction}
 use Rattle.sql_tree.specs.declared.word_groups.Direction.TheVariants as direction
 use Rattle.sql_tree.specs.declared.word_groups.Side.{Side}
 use Rattle.sql_tree.specs.declared.word_groups.Side.TheVariants as side
+use Rattle.sql_tree.specs.declared.word_groups.Span.{Span}
+use Rattle.sql_tree.specs.declared.word_groups.Span.TheVariants as span
 use Rattle.sql_tree.specs.declared.word_groups.ValueFunction.{ValueFunction}
 use Rattle.sql_tree.specs.declared.word_groups.ValueFunction.TheVariants as value
 use Rattle.sql_tree.specs.declared.word_groups.ShiftFunction.{ShiftFunction}
@@ -46,7 +49,6 @@ use Rattle.sql_tree.specs.declared.statements.InputColumn.{InputColumn}
 
 -- ---- words
 
--- the shift and the frequency of a period have no word, and no script has a call of them
 abbrev pub op_word : ScalarOp → Word
 op_word op.Identity = w.Plus
 op_word op.Negate = w.Minus
@@ -84,8 +86,8 @@ op_word op.Not = w.Not
 op_word op.IsNull = w.Is
 op_word op.ValueOr = w.Coalesce
 op_word op.If = w.Case
-op_word op.PeriodShift = w.Period
-op_word op.PeriodFrequency = w.Period
+op_word op.PeriodShift = w.PeriodShift
+op_word op.PeriodFrequency = w.PeriodFrequency
 
 abbrev pub aggregate_word : AggKind → Word
 aggregate_word agg.Sum = w.Sum
@@ -122,6 +124,10 @@ direction_word direction.Descending = w.Desc
 abbrev pub side_word : Side → Word
 side_word side.Preceding = w.Preceding
 side_word side.Following = w.Following
+
+abbrev pub span_word : Span → Word
+span_word span.Single = w.Single
+span_word span.All = w.All
 
 abbrev pub value_word : ValueFunction → Word
 value_word value.FirstValue = w.FirstValue
@@ -215,8 +221,16 @@ written_text x = t.Text x ∷ []
 abbrev pub written_column : Column → Tokens
 written_column x = t.Name x.source ∷ (t.Word w.Dot ∷ (t.Name x.name ∷ []))
 
+abbrev pub written_series : Series → Tokens
+written_series x = t.Word w.On ∷ (t.Name x.on ∷ (items_after (just w.By) (λ xs. bracketed (commas written_name xs)) x.by ++ just (span_word x.span)))
+
+-- a table with its rows, or with those of its full series
+abbrev pub written_given : Text → Option Series → Tokens
+written_given table None = t.Name table ∷ []
+written_given table (Some x) = t.Word w.Series ∷ (t.Name table ∷ written_series x)
+
 abbrev pub written_source : Source → Tokens
-written_source x = t.Name x.table ∷ (t.Word w.As ∷ (t.Name x.alias ∷ []))
+written_source x = written_given x.table x.series ++ (t.Word w.As ∷ (t.Name x.alias ∷ []))
 
 abbrev pub written_equality : Equality → Tokens
 written_equality x = written_column x.left ++ (t.Word w.Equal ∷ written_column x.right)
@@ -343,8 +357,12 @@ written_query q = between (two_words w.Union w.All) written_select q
 
 -- ---- statements
 
+abbrev pub not_null_words : Bool → Tokens
+not_null_words true = two_words w.Not w.Null
+not_null_words false = []
+
 abbrev pub written_input_column : InputColumn → Tokens
-written_input_column x = t.Name x.name ∷ (t.Word (kind_word x.kind) ∷ items_after (just w.Codes) (λ xs. bracketed (commas written_text xs)) x.codes)
+written_input_column x = t.Name x.name ∷ (t.Word (kind_word x.kind) ∷ (not_null_words x.not_null ++ items_after (just w.Codes) (λ xs. bracketed (commas written_text xs)) x.codes))
 
 abbrev pub written_statement : StatementTree → Tokens
 written_statement (setting scale r) = t.Word w.Set ∷ (t.Word w.Scale ∷ (t.Int scale ∷ (t.Word w.Rounding ∷ (t.Word (rounding_word r) ∷ just w.Semicolon))))

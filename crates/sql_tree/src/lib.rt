@@ -16,10 +16,10 @@ mod word_groups;
 
 pub use expressions::{Branch, SqlExpr};
 pub use laws::{expressions_are_bounded_by_depth, scripts_are_unique, statements_are_unique};
-pub use parts::{Column, Constant, Equality, Literal, Numeral, Source};
+pub use parts::{Column, Constant, Equality, Literal, Numeral, Series, Source};
 pub use statements::{
     InputColumn, Item, ItemValue, Join, Query, Select, SqlCreate, SqlExport, SqlInput, SqlScript,
     Statement,
 };
 pub use windows::{Bound, Frame, Over, Window, WindowCall, WindowKey};
-pub use word_groups::{Direction, JoinKind, ShiftFunction, Side, ValueFunction};
+pub use word_groups::{Direction, JoinKind, ShiftFunction, Side, Span, ValueFunction};

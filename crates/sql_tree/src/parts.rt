@@ -3,7 +3,8 @@
 // A list that may be left out is empty where it is: no option of a list, so no ORDER BY and an empty one are one
 // tree.
 
-use vtl_text::Txt;
+use crate::Span;
+use vtl_text::{List, Txt};
 
 /// `"source"."name"`
 #[derive(Drop)]
@@ -14,13 +15,26 @@ pub struct Column {
     pub name: Txt,
 }
 
-/// `"table" AS "alias"`
+/// `"table" AS "alias"`, or `SERIES "table" series AS "alias"`
 #[derive(Drop)]
 pub struct Source {
     /// The table.
     pub table: Txt,
+    /// How its rows are made full series, where SERIES is written; otherwise the source has the table's rows.
+    pub series: Option<Series>,
     /// The name by which columns name it.
     pub alias: Txt,
+}
+
+/// `ON "on" BY ("by", ..) span`
+#[derive(Drop)]
+pub struct Series {
+    /// The column of periods.
+    pub on: Txt,
+    /// The columns on which the rows of a series agree; none where no BY is written.
+    pub by: List<Txt>,
+    /// From which period to which one.
+    pub span: Span,
 }
 
 /// `left = right`

@@ -58,13 +58,15 @@ pub struct SqlInput {
     pub key: List<Txt>,
 }
 
-/// `name kind CODES (codes)`
+/// `name kind NOT NULL CODES (codes)`
 #[derive(Drop)]
 pub struct InputColumn {
     /// Its name.
     pub name: Txt,
     /// Its kind, any but null.
     pub kind: Kind,
+    /// NOT NULL is written: no value of it is null. On a column of the key it changes nothing.
+    pub not_null: bool,
     /// The codes; none where no CODES is written.
     pub codes: List<Txt>,
 }

@@ -20,6 +20,15 @@ pub enum Direction {
     Descending,
 }
 
+/// From which period to which one a series goes.
+#[derive(Clone, Copy, Debug, PartialEq, Eq)]
+pub enum Span {
+    /// `SINGLE`: from its own first one to its own last one
+    Single,
+    /// `ALL`: from the first one to the last one of all rows with its frequency
+    All,
+}
+
 /// On which side of a row.
 #[derive(Clone, Copy, Debug, PartialEq, Eq)]
 pub enum Side {

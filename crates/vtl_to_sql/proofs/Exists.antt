@@ -3,6 +3,7 @@ use Rattle.std.proofs.Common.{◌≡◌, Bool, true, false, not, ◌&&◌, ◌||
 use Rattle.std.specs.List.{AllByRecursion, filter, list_all, list_any}
 use Rattle.grammar_forms.specs.Written.{Each}
 use Rattle.vtl_cell.specs.Kinds.{is_null, kind_of, same_kind}
+use Rattle.vtl_cell.specs.Literals.{is_null_kind}
 use Rattle.vtl_cell.specs.Order.{same_cell}
 use Rattle.vtl_cell.specs.Outcome.{fault_in, faults_by, join, unless}
 use Rattle.vtl_cell.specs.Outcomes.{is_true}
@@ -138,14 +139,14 @@ module _ (b : Base) (xs ys : List Component) (ax : AreApart xs) (ay : AreApart y
     one_tie z i j =
         let left = kind_found (place_of z.name ys) z.name z.kind ys j.column ay in
         let right = kind_found (place_of z.name xs) z.name z.kind xs i.column ax in
-        ((rw left refl, refl), (rw right refl, refl), rw left (rw right (kinds_equal z.kind)))
+        ((rw left refl, refl), (rw right refl, refl), rw left (rw right (ap (λ b. b || (is_null_kind z.kind || is_null_kind z.kind)) (kinds_equal z.kind))))
 
     all_ties : (us : List Component) → AreIdentifiersAt xs us → AreIdentifiersAt ys us → AllByRecursion (Ties (one_scope xs) None inner_entries) (map tied us)
     all_ties [] i j = tt
     all_ties (u ∷ us) i j = (one_tie u i.0 j.0, all_ties us i.1 j.1)
 
     exists_fits : Fits (site b.settings b.tables (one_scope xs)) None (exists (source_as second_alias other) (map tied zs))
-    exists_fits = (rw known refl, subst (λ n. AllByRecursion (Ties (one_scope xs) None n) (map tied zs)) (sym inner_is) (all_ties zs ours theirs))
+    exists_fits = ((rw known refl, refl), subst (λ n. AllByRecursion (Ties (one_scope xs) None n) (map tied zs)) (sym inner_is) (all_ties zs ours theirs))
 
     pub matched_fits : (wanted : Bool) → IsCondition (site b.settings b.tables (one_scope xs)) None (is_matched wanted zs other)
     matched_fits true = (exists_fits, refl)
@@ -158,5 +159,5 @@ ties_printed [] n = tt
 ties_printed (z ∷ zs) n = (((second_is_name, n.0), (first_is_name, n.0)), ties_printed zs n.1)
 
 pub matched_printed : (wanted : Bool) (zs : List Component) (other : Text) → IsName other → HaveNames zs → IsExp printable_depth (is_matched wanted zs other)
-matched_printed true zs other o n = (((o, second_is_name), ties_printed zs n), omega arith)
-matched_printed false zs other o n = ((refl, ((o, second_is_name), ties_printed zs n)), omega arith)
+matched_printed true zs other o n = (((o, tt, second_is_name), ties_printed zs n), omega arith)
+matched_printed false zs other o n = ((refl, ((o, tt, second_is_name), ties_printed zs n)), omega arith)

@@ -50,7 +50,7 @@ no_codes x e f =
 listed : (x : Component) (v : Cell) → codes_fit x ≡ true → asked.is_coded (input_column x) v ≡ true → is_listed x v ≡ true
 listed x (c.Text t) f h = go x.codes refl h
   where
-    go : (codes : Option (List Text)) → x.codes ≡ codes → asked.is_coded (record { name = x.name; kind = x.kind; codes = unwrap_or codes [] }) (c.Text t) ≡ true → option_map_or (λ texts. list_any (same_name t) texts) codes true ≡ true
+    go : (codes : Option (List Text)) → x.codes ≡ codes → asked.is_coded (record { name = x.name; kind = x.kind; not_null = false; codes = unwrap_or codes [] }) (c.Text t) ≡ true → option_map_or (λ texts. list_any (same_name t) texts) codes true ≡ true
     go None e i = refl
     go (Some []) e i = absurd (no_codes x e f)
     go (Some (y ∷ ys)) e i = i
@@ -71,7 +71,7 @@ coded x v f k n h = go x.codes refl
         let fit : (is_string_identifier x.role x.kind && are_codes (y ∷ ys)) ≡ true = cc in
         and_parts (same_role x.role role.Identifier) (is_text_kind x.kind) (and_parts (is_string_identifier x.role x.kind) (are_codes (y ∷ ys)) fit).0
 
-    go : (codes : Option (List Text)) → x.codes ≡ codes → asked.is_coded (record { name = x.name; kind = x.kind; codes = unwrap_or codes [] }) v ≡ true
+    go : (codes : Option (List Text)) → x.codes ≡ codes → asked.is_coded (record { name = x.name; kind = x.kind; not_null = false; codes = unwrap_or codes [] }) v ≡ true
     go None e = refl
     go (Some []) e = refl
     go (Some (y ∷ ys)) e =

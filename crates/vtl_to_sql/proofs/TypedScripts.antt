@@ -135,7 +135,7 @@ or_true false b h = h
 one_coded : (key : List Text) (x : Component) → structures.codes_fit x ≡ true → (same_role x.role role.Identifier ≡ true → is_of_key key (input_column x) ≡ true) → HasCodes key (input_column x)
 one_coded key x h f = go x.codes h
   where
-    go : (o : Option (List Text)) → option_map_or (λ texts. is_string_identifier x.role x.kind && structures.are_codes texts) o true ≡ true → codes_fit key (record { name = x.name; kind = x.kind; codes = unwrap_or o [] }) ≡ true
+    go : (o : Option (List Text)) → option_map_or (λ texts. is_string_identifier x.role x.kind && structures.are_codes texts) o true ≡ true → codes_fit key (record { name = x.name; kind = x.kind; not_null = false; codes = unwrap_or o [] }) ≡ true
     go None e = refl
     go (Some texts) e =
         let both = and_parts (is_string_identifier x.role x.kind) (structures.are_codes texts) e in

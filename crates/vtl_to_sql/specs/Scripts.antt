@@ -1,5 +1,5 @@
 -- The script in SQL: SET, an INPUT for each data set that is read, the tables, and an EXPORT for each result that is written.
-use Rattle.std.specs.Prelude.{ℕ, List, [], ◌∷◌, ◌++◌, map, unwrap_or, if◌then◌else◌}
+use Rattle.std.specs.Prelude.{ℕ, false, List, [], ◌∷◌, ◌++◌, map, unwrap_or, if◌then◌else◌}
 use Rattle.std.specs.Fmt.{decimal}
 use Rattle.vtl_decimal.specs.Settings.{Settings}
 use Rattle.vtl_tree.specs.Structure.{columns_of, names_of}
@@ -20,7 +20,7 @@ use Rattle.selects_to_sql.specs.Tables.{create_for}
 
 -- a component that lists no codes has none
 abbrev pub input_column : Component → InputColumn
-input_column x = record { name = x.name; kind = x.kind; codes = unwrap_or x.codes [] }
+input_column x = record { name = x.name; kind = x.kind; not_null = false; codes = unwrap_or x.codes [] }
 
 -- the components in column order; the identifiers are the key
 abbrev pub input_of : List ℕ × Structure → SqlInput

@@ -44,6 +44,7 @@ fn input_column(alloc: Global, component: &Component) -> Result<InputColumn, All
     Ok(InputColumn {
         name: component.name.share()?,
         kind: component.kind,
+        not_null: false,
         codes: codes(alloc, &component.codes)?,
     })
 }

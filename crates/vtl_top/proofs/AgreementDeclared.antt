@@ -1,5 +1,5 @@
 -- What a script reads are structures as they may be declared.
-use Rattle.std.proofs.Common.{◌≡◌, ℕ, Bool, true, false, cond, List, [], ◌∷◌, drop, Option, Some, None, Result, Ok, Err, refl, sym, subst}
+use Rattle.std.proofs.Common.{◌≡◌, ℕ, Bool, true, false, cond, List, [], ◌∷◌, drop, Option, Some, None, Result, Ok, Err, refl, ap, sym, subst, ◌∙◌}
 use Rattle.std.specs.List.{AllByRecursion}
 use Rattle.std.specs.Map.{lookup}
 use Rattle.std.specs.Option.{option_map_or}
@@ -12,7 +12,7 @@ use Rattle.vtl_tree.specs.Structures.{AreStructures, Named, is_declarable_entry}
 use Rattle.vtl_tree.specs.declared.structure.Structure.{Structure}
 use Rattle.vtl_tree.proofs.StructuresLemmas.{all_found}
 use Rattle.vtl_csv.specs.InputFile.{dataset_rows}
-use Rattle.sql_engine.specs.Structures.{structure_of}
+use Rattle.sql_engine.specs.Structures.{not_null_of, structure_of}
 use Rattle.vtl_to_sql.specs.Scripts.{input_of}
 use Rattle.vtl_csv.specs.StructuresFile.{Fault, is_header, lines_declare, lines_in, records_in, structures_of_file, with_identifiers, without_identifier}
 use Rattle.vtl_to_sql.proofs.TypedScripts.{declared_coded, declared_each_entry}
@@ -22,7 +22,7 @@ use Rattle.vtl_top.specs.Structures.{declared, structures_in}
 use Rattle.vtl_status.specs.declared.status.Status.{Status}
 use Rattle.vtl_status.specs.declared.status.Status.TheVariants as st
 use Rattle.vtl_top.proofs.AgreementColumns.{files_fit_alike}
-use Rattle.vtl_top.proofs.AgreementInputs.{IsDeclared}
+use Rattle.vtl_top.proofs.AgreementInputs.{IsDeclared, no_not_null}
 use Rattle.vtl_top.proofs.DeclaredLemmas.{Records, declarable_is_structure, lines_are}
 use Rattle.vtl_top.proofs.MeantLemmas.{went_on}
 
@@ -68,7 +68,8 @@ all_declared es are = go es (declared_each_entry es are)
     go (x ∷ xs) all = (record { lawful = declarable_is_structure x.1 all.0; coded = declared_coded x.1 all.0 }, go xs all.1)
 
 -- ---- the INPUT for one of them asks of a file what its structure asks
-pub takes_alike : (name text : List ℕ) (all : Named) (t : Structure) (p : Settings) (bytes : List ℕ) → structures_of_file text ≡ Ok all → lookup (same_name name) all ≡ Some t → dataset_rows p (structure_of (input_of (name, t))) [] bytes ≡ dataset_rows p t [] bytes
+pub takes_alike : (name text : List ℕ) (all : Named) (t : Structure) (p : Settings) (bytes : List ℕ) → structures_of_file text ≡ Ok all → lookup (same_name name) all ≡ Some t → dataset_rows p (structure_of (input_of (name, t))) (not_null_of (input_of (name, t))) bytes ≡ dataset_rows p t [] bytes
 takes_alike name text all t p bytes declares found =
     let fits = all_found (same_name name) all t (records_are (records_in text) all declares).declarable found in
-    sym (files_fit_alike (name, t) (declarable_is_structure t fits) (declared_coded t fits) p bytes)
+    ap (λ names. dataset_rows p (structure_of (input_of (name, t))) names bytes) (no_not_null (name, t))
+    ∙ sym (files_fit_alike (name, t) (declarable_is_structure t fits) (declared_coded t fits) p bytes)

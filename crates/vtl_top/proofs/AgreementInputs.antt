@@ -1,6 +1,6 @@
 -- What is read for a script, and what is read for the INPUTs of its text.
 use Rattle.std.proofs.Common.{◌≡◌, ℕ, true, false, cond, List, [], ◌∷◌, ◌++◌, map, Some, Result, Ok, Err, refl, sym, ap, ◌∙◌, subst, append-nil, append_assoc}
-use Rattle.std.specs.Prelude.{unwrap_or}
+use Rattle.std.specs.Prelude.{filter, unwrap_or}
 use Rattle.std.specs.Cmp.Lexicographic.{nat_list_eq_equiv}
 use Rattle.std.specs.List.{AllByRecursion}
 use Rattle.std.specs.Map.{keys_of, lookup}
@@ -16,23 +16,25 @@ use Rattle.vtl_tree.specs.DataSet.{AreOfProfile}
 use Rattle.vtl_tree.specs.Environment.{DataSet, Environment}
 use Rattle.vtl_tree.specs.Structure.{IsStructure, columns_of, same_name}
 use Rattle.vtl_tree.specs.Structures.{Named, codes_fit}
+use Rattle.vtl_tree.specs.declared.structure.Component.{Component}
 use Rattle.vtl_tree.specs.declared.structure.Structure.{Structure}
 use Rattle.vtl_csv.specs.InputFile.{Fault, dataset_rows}
 use Rattle.vtl_csv.proofs.InputDataSetLemmas.{dataset_good, dataset_of_profile}
 use Rattle.sql_tree.specs.Trees as tree
 use Rattle.sql_tree.specs.Trees.{ScriptTree}
+use Rattle.sql_tree.specs.declared.statements.InputColumn.{InputColumn}
 use Rattle.sql_tree.specs.declared.statements.SqlInput.{SqlInput}
 use Rattle.sql_back.specs.Texts.{inputs_in}
 use Rattle.sql_meaning.specs.Scripts.{Inputs, rows_read}
-use Rattle.sql_engine.specs.Structures.{structure_of}
+use Rattle.sql_engine.specs.Structures.{not_null_of, structure_of}
 use Rattle.vtl_to_sql.specs.Inputs.{AreAsked, AreTaken, sets_read}
-use Rattle.vtl_to_sql.specs.Scripts.{input_of}
+use Rattle.vtl_to_sql.specs.Scripts.{input_column, input_of}
 use Rattle.vtl_to_sql.proofs.InputData.{data_read}
 use Rattle.vtl_top.specs.Agreement.{HoldSame}
 use Rattle.vtl_top.specs.Expected.{content, csv_limit, data_set, dataset_step, file_in, inputs_step, one_more_step, points_or_fault, read, sized, with_points}
-use Rattle.vtl_top.specs.SqlInputs.{input_structures, rows_by_name}
+use Rattle.vtl_top.specs.SqlInputs.{input_structures, inputs_wanted, rows_by_name, wanted_input}
 use Rattle.vtl_top.specs.Steps.{Held, Path, Step, ◌>>=◌, settled}
-use Rattle.vtl_top.specs.Wanted.{all_placed_in, placed_in}
+use Rattle.vtl_top.specs.Wanted.{Placed, Wanted, all_in, all_placed_in, placed_in}
 use Rattle.vtl_status.specs.declared.status.Status.{Status}
 use Rattle.vtl_top.proofs.AgreementCodes.{codes_listed}
 use Rattle.vtl_top.proofs.AgreementColumns.{files_fit_alike}
@@ -85,6 +87,37 @@ inputs_named (e ∷ es) = ap (λ l. as_input e ∷ l) (inputs_named es)
 
 pub structures_are : (ss : ScriptTree) (es : Named) → inputs_in ss ≡ map input_of es → input_structures ss ≡ map as_input es
 structures_are ss es is = structures_listed ss ∙ ap (map (λ (s : SqlInput). (s.name, structure_of s))) is ∙ inputs_named es
+
+-- an INPUT of a text has no NOT NULL columns
+none_not_null : (xs : List Component) → map (λ (x : InputColumn). x.name) (filter (λ (x : InputColumn). x.not_null) (map input_column xs)) ≡ []
+none_not_null [] = refl
+none_not_null (x ∷ xs) = none_not_null xs
+
+pub no_not_null : (e : List ℕ × Structure) → not_null_of (input_of e) ≡ []
+no_not_null e = none_not_null (columns_of e.1)
+
+wanted_listed : (ss : ScriptTree) → inputs_wanted ss ≡ map wanted_input (inputs_in ss)
+wanted_listed [] = refl
+wanted_listed (tree.setting digits rounding ∷ ss) = wanted_listed ss
+wanted_listed (tree.input s ∷ ss) = ap (λ l. wanted_input s ∷ l) (wanted_listed ss)
+wanted_listed (tree.create name q ∷ ss) = wanted_listed ss
+wanted_listed (tree.export s ∷ ss) = wanted_listed ss
+
+inputs_plain : (folder : Path) (es : Named) → all_in folder (map wanted_input (map input_of es)) ≡ all_placed_in folder (map as_input es)
+inputs_plain folder [] = refl
+inputs_plain folder (e ∷ es) =
+    ap (λ (ns : List (List ℕ)). (folder, wanted_as e ns) ∷ all_in folder (map wanted_input (map input_of es))) (no_not_null e)
+    ∙ ap (λ (l : List Placed). placed_in folder (as_input e) ∷ l) (inputs_plain folder es)
+  where
+    wanted_as : List ℕ × Structure → List (List ℕ) → Wanted
+    wanted_as e ns = record { name = e.0; structure = structure_of (input_of e); not_null = ns }
+
+-- so what is read for the INPUTs is what is read for their structures
+pub inputs_placed : (folder : Path) (ss : ScriptTree) (es : Named) → inputs_in ss ≡ map input_of es → all_in folder (inputs_wanted ss) ≡ all_placed_in folder (input_structures ss)
+inputs_placed folder ss es is =
+    ap (all_in folder) (wanted_listed ss ∙ ap (map wanted_input) is)
+    ∙ inputs_plain folder es
+    ∙ ap (all_placed_in folder) (sym (structures_are ss es is))
 
 -- data sets that are declared
 pub record IsDeclared (e : List ℕ × Structure) : Type 0 where

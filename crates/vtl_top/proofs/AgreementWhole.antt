@@ -17,17 +17,17 @@ use Rattle.vtl_csv.specs.CsvText.{csv_of}
 use Rattle.vtl_to_sql.specs.Inputs.{AreTaken, sets_read}
 use Rattle.vtl_top.specs.Agreement.{AreSameFiles, AreSameMade, AreTwins, ComeToSame, GivesOne, IsOutcomeOf, behind}
 use Rattle.vtl_top.specs.Forms.{asked_step}
-use Rattle.vtl_top.specs.Expected.{IsTextOf, Typed, file_in, folder_step, meant, output_of, outputs_of, run_step, statements_in}
+use Rattle.vtl_top.specs.Expected.{IsTextOf, Typed, file_in, folder_step, inputs_step, meant, output_of, outputs_of, run_step, statements_in, wanted_step}
 use Rattle.vtl_top.specs.Meant.{IsTextMeant}
 use Rattle.vtl_top.specs.ScriptFile.{whole}
-use Rattle.vtl_top.specs.SqlInputs.{input_structures, rows_by_name}
+use Rattle.vtl_top.specs.SqlInputs.{input_structures, inputs_wanted, rows_by_name}
 use Rattle.vtl_top.specs.SqlRun.{engine_step, exports_of, present, sql_checked_step, sql_typing}
 use Rattle.vtl_top.specs.Steps.{File, Held, Made, Name, Path, Step, Text, as_files, only_files, settled}
 use Rattle.vtl_top.specs.Words.{Engine, Run, Source, engine, run, settings_of}
 use Rattle.vtl_status.specs.declared.status.Status.{Status}
 use Rattle.vtl_top.proofs.AgreementDeclared.{all_declared, step_declares}
 use Rattle.vtl_top.proofs.AgreementExports.{exports_are_outputs}
-use Rattle.vtl_top.proofs.AgreementInputs.{IsDeclared, SameRows, as_input, sets_again, sets_alike, sets_are, sets_given, sets_in, sets_ranged, sets_taken, structures_are, then_gives, then_on}
+use Rattle.vtl_top.proofs.AgreementInputs.{IsDeclared, SameRows, as_input, inputs_placed, sets_again, sets_alike, sets_are, sets_given, sets_in, sets_ranged, sets_taken, structures_are, then_gives, then_on}
 use Rattle.vtl_top.proofs.AgreementStructures.{HaveStructures, nodes_have_structures, outputs_have_structures, results_have_structures}
 use Rattle.vtl_top.proofs.InputLemmas.{inputs_are}
 use Rattle.vtl_top.proofs.MeantLemmas.{accepted_always}
@@ -129,9 +129,10 @@ module _ (r : Run) (e : Engine) (held other : Held) (twins : AreTwins r e held o
   engine_there = (
     Ok tree,
     checked,
-    then_gives (folder_step e.input (script_settings tree) (input_structures tree)) (λ env. settled (exports_of e.output (script_settings tree) (script_value tree (rows_by_name env)))) other
+    then_gives (wanted_step e.input (script_settings tree) (inputs_wanted tree)) (λ env. settled (exports_of e.output (script_settings tree) (script_value tree (rows_by_name env)))) other
         (sets_in e.input (script_settings tree) other [] (input_structures tree)) (λ env. exports_of e.output (script_settings tree) (script_value tree (rows_by_name env)))
-        (sets_given e.input (script_settings tree) other [] (input_structures tree)) (λ env. refl),
+        (subst (λ l. (inputs_step (script_settings tree) [] l).gives other (sets_in e.input (script_settings tree) other [] (input_structures tree))) (sym (inputs_placed e.input tree es its_text.inputs))
+        (sets_given e.input (script_settings tree) other [] (input_structures tree))) (λ env. refl),
   )
 
   -- ---- it is what the run gives in the engine's folder

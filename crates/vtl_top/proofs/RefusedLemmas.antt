@@ -17,7 +17,7 @@ use Rattle.vtl_scripts.specs.Meaning.{Outputs}
 use Rattle.vtl_check.specs.Checked.{env_over, TypedScript}
 use Rattle.vtl_check.specs.Script.{script_typed}
 use Rattle.vtl_check.specs.Uses.{reads}
-use Rattle.vtl_top.specs.Expected.{Typed, csv_limit, dataset_step, fault_status, file_in, folder_step, inputs_step, meant, one_more_step, outputs_of, points_or_fault, read, run_step, script_in, script_limit, script_of, script_step, sized, structures_limit, structures_step, text_for, text_step, typed_by, typed_or_fault, typed_step, typing_of, with_points}
+use Rattle.vtl_top.specs.Expected.{Typed, csv_limit, dataset_step, fault_status, file_in, folder_step, inputs_step, meant, one_more_step, outputs_of, points_or_fault, read, run_step, script_in, script_limit, script_of, script_step, sized, structures_limit, structures_step, text_for, text_step, typed_by, typed_or_fault, typed_step, typing_of, wanted_step, with_points}
 use Rattle.vtl_top.specs.Meant.{IsFaulted, IsMistyped, IsRead, IsReady}
 use Rattle.std.specs.Option.{IfSome}
 use Rattle.vtl_files.specs.declared.files.Files.{Ghosts}
@@ -27,7 +27,7 @@ use Rattle.vtl_top.proofs.StepLemmas.{if_some_map}
 use Rattle.vtl_top.specs.ScriptFile.{Parsed, faulty, no_text, whole}
 use Rattle.vtl_top.specs.Steps.{Behind, Held, Path, Step, ◌>>=◌, settled}
 use Rattle.vtl_top.specs.Structures.{declared, structures_in}
-use Rattle.vtl_top.specs.Wanted.{Placed, all_placed_in, entry_of}
+use Rattle.vtl_top.specs.Wanted.{Placed, Wanted, all_in, all_placed_in, entry_of}
 use Rattle.vtl_top.specs.Words.{Run, Source, settings_of}
 use Rattle.vtl_status.specs.declared.status.Status.{Status}
 use Rattle.vtl_status.specs.declared.status.Status.TheVariants as st
@@ -144,6 +144,9 @@ module _ (status : Status) (own : is_other (cause status) ≡ false) (held : Hel
 
   pub never_folder : (folder : Path) (p : Settings) (es : Named) → Never (folder_step folder p es)
   never_folder folder p es = never_inputs p [] (all_placed_in folder es)
+
+  pub never_wanted : (folder : Path) (p : Settings) (ws : List Wanted) → Never (wanted_step folder p ws)
+  never_wanted folder p ws = never_inputs p [] (all_in folder ws)
 
   -- ---- a source is refused so by its typing alone
   record ByTypes (s : Source) : Type 0 where

@@ -21,11 +21,11 @@ use Rattle.sql_engine.specs.Runs.{FaultIs, ShowsExports}
 use Rattle.vtl_scalar.specs.declared.run_error.RunErr.{RunErr}
 use Rattle.vtl_scalar.specs.declared.run_error.RunErr.TheVariants as engine
 use Rattle.vtl_top.specs.Answered.{Came, Misses, Takes}
-use Rattle.vtl_top.specs.Expected.{fault_status, folder_step}
+use Rattle.vtl_top.specs.Expected.{fault_status, wanted_step}
 use Rattle.vtl_top.specs.Kinds.{refused, told_by}
 use Rattle.vtl_top.specs.Refusal.{IsSqlOf, SettlesBy, faulted, sql_mistyped}
 use Rattle.vtl_top.specs.ScriptFile.{faulty, no_text, whole}
-use Rattle.vtl_top.specs.SqlInputs.{input_structures, rows_by_name}
+use Rattle.vtl_top.specs.SqlInputs.{inputs_wanted, rows_by_name}
 use Rattle.vtl_top.specs.SqlRun.{engine_step, exports_of, sql_checked_step, sql_of, sql_step, sql_typing, table_file}
 use Rattle.vtl_top.specs.Steps.{File, Path, settled, status_of}
 use Rattle.vtl_top.specs.Words.{Engine}
@@ -128,15 +128,15 @@ module _ {F X : Type 0} (g : Ghosts F) (e : Engine) (view : X → List File) (a 
   sql_unchecked status t = takes_stopped g (sql_checked_step e.sql) (after_checked e) a b checked_tree view status t
 
   module _ (c : CheckedScript) (checked : Takes g a b (sql_checked_step e.sql) checked_tree (Ok c)) (env : NamedTables → Environment) where
-    pub sql_inputs_refused : (d : F) (status : Status) → Takes g b d (folder_step e.input (script_settings (checked_tree c)) (input_structures (checked_tree c))) env (Err status) → Takes g a d (engine_step e) view (Err status)
+    pub sql_inputs_refused : (d : F) (status : Status) → Takes g b d (wanted_step e.input (script_settings (checked_tree c)) (inputs_wanted (checked_tree c))) env (Err status) → Takes g a d (engine_step e) view (Err status)
     sql_inputs_refused d status u =
         takes_onward g (sql_checked_step e.sql) (after_checked e) a b d checked_tree view c (Err status) checked
-        (takes_stopped g (folder_step e.input (script_settings (checked_tree c)) (input_structures (checked_tree c))) (λ env. settled (exports_of e.output (script_settings (checked_tree c)) (script_value (checked_tree c) (rows_by_name env)))) b d env view status u)
+        (takes_stopped g (wanted_step e.input (script_settings (checked_tree c)) (inputs_wanted (checked_tree c))) (λ env. settled (exports_of e.output (script_settings (checked_tree c)) (script_value (checked_tree c) (rows_by_name env)))) b d env view status u)
 
-    pub then_exports : (d : F) (inputs : NamedTables) (result : Result X Status) → Takes g b d (folder_step e.input (script_settings (checked_tree c)) (input_structures (checked_tree c))) env (Ok inputs)
+    pub then_exports : (d : F) (inputs : NamedTables) (result : Result X Status) → Takes g b d (wanted_step e.input (script_settings (checked_tree c)) (inputs_wanted (checked_tree c))) env (Ok inputs)
         → SettlesBy view (exports_of e.output (script_settings (checked_tree c)) (script_value (checked_tree c) (rows_by_name (env inputs)))) result → Takes g a d (engine_step e) view result
     then_exports d inputs result u is =
         let m = script_value (checked_tree c) (rows_by_name (env inputs)) in
         takes_onward g (sql_checked_step e.sql) (after_checked e) a b d checked_tree view c result checked
-        (takes_onward g (folder_step e.input (script_settings (checked_tree c)) (input_structures (checked_tree c))) (λ env. settled (exports_of e.output (script_settings (checked_tree c)) (script_value (checked_tree c) (rows_by_name env)))) b d d env view inputs result u
+        (takes_onward g (wanted_step e.input (script_settings (checked_tree c)) (inputs_wanted (checked_tree c))) (λ env. settled (exports_of e.output (script_settings (checked_tree c)) (script_value (checked_tree c) (rows_by_name env)))) b d d env view inputs result u
         (settled_given g d view (exports_of e.output (script_settings (checked_tree c)) m) (exports_refuse e.output (script_settings (checked_tree c)) m) result is))

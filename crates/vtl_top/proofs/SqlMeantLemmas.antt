@@ -11,9 +11,9 @@ use Rattle.sql_tree.specs.Trees.{ScriptTree}
 use Rattle.sql_check_parts.specs.Rules.{number_of}
 use Rattle.sql_check_parts.specs.Statements.{Fault, script_fault, script_settings}
 use Rattle.sql_meaning.specs.Scripts.{Export, NamedFault, script_value}
-use Rattle.vtl_top.specs.Expected.{fault_status, folder_step}
+use Rattle.vtl_top.specs.Expected.{fault_status, wanted_step}
 use Rattle.vtl_top.specs.ScriptFile.{IsSqlParsed, Parsed, faulty, no_text, whole}
-use Rattle.vtl_top.specs.SqlInputs.{input_structures, rows_by_name}
+use Rattle.vtl_top.specs.SqlInputs.{inputs_wanted, rows_by_name}
 use Rattle.vtl_top.specs.SqlMeant.{IsExported, IsSqlFaulted, IsSqlMistyped, IsSqlRead, IsSqlReady}
 use Rattle.vtl_top.specs.SqlRun.{engine_step, export_file, exports_of, present, read_whole, sql_checked_step, sql_in, sql_of, sql_step, sql_typing}
 use Rattle.vtl_top.specs.Steps.{File, Held, Path, settled}
@@ -21,7 +21,7 @@ use Rattle.vtl_top.specs.Words.{Engine}
 use Rattle.vtl_status.specs.declared.status.Status.{Status}
 use Rattle.vtl_status.specs.declared.status.Status.TheVariants as st
 use Rattle.vtl_top.proofs.MeantLemmas.{went_on}
-use Rattle.vtl_top.proofs.RefusedLemmas.{never_folder, never_onward, other, own_values, refused_at}
+use Rattle.vtl_top.proofs.RefusedLemmas.{never_onward, never_wanted, other, own_values, refused_at}
 use Rattle.vtl_top.proofs.SqlSteps.{after_checked, after_sql}
 
 -- ---- the script
@@ -77,7 +77,7 @@ sql_ready_gives e held tree env given is q = (Ok tree, sql_accepted_always e hel
 pub exported_only : (e : Engine) (held : Held) (files : List File) → (engine_step e).gives held (Ok files) → IsExported e held files
 exported_only e held files g =
     let a = went_on (sql_checked_step e.sql) (after_checked e) held files g in
-    let b = went_on (folder_step e.input (script_settings a.0) (input_structures a.0)) (λ env. settled (exports_of e.output (script_settings a.0) (script_value a.0 (rows_by_name env)))) held files a.2 in
+    let b = went_on (wanted_step e.input (script_settings a.0) (inputs_wanted a.0)) (λ env. settled (exports_of e.output (script_settings a.0) (script_value a.0 (rows_by_name env)))) held files a.2 in
     let accepted = sql_accepted_only e held a.0 a.1 in
     let w = exports_from e.output (script_settings a.0) (script_value a.0 (rows_by_name b.0)) files b.2 in
     record { script = a.0; inputs = b.0; exports = w.0; ready = record { source = accepted.source; typed = accepted.typed; read = b.1 }; means = w.1; written = w.2 }
@@ -136,13 +136,13 @@ module _ (f : EvaluationFault) (name : List ℕ) (held : Held) where
   pub sql_faulted_only : (e : Engine) → (engine_step e).gives held (Err status) → IsSqlFaulted e held f name
   sql_faulted_only e gives = at_checked (refused_at (sql_checked_step e.sql) (after_checked e) held status gives)
     where
-      at_inputs : (tree : ScriptTree) → (sql_checked_step e.sql).gives held (Ok tree) → (folder_step e.input (script_settings tree) (input_structures tree)).gives held (Err status)
-          ⊎ ((env : Environment) × (folder_step e.input (script_settings tree) (input_structures tree)).gives held (Ok env) × (settled (exports_of e.output (script_settings tree) (script_value tree (rows_by_name env)))).gives held (Err status)) → IsSqlFaulted e held f name
-      at_inputs tree is (inl q) = absurd (never_folder status (own_values f name) held e.input (script_settings tree) (input_structures tree) q)
+      at_inputs : (tree : ScriptTree) → (sql_checked_step e.sql).gives held (Ok tree) → (wanted_step e.input (script_settings tree) (inputs_wanted tree)).gives held (Err status)
+          ⊎ ((env : Environment) × (wanted_step e.input (script_settings tree) (inputs_wanted tree)).gives held (Ok env) × (settled (exports_of e.output (script_settings tree) (script_value tree (rows_by_name env)))).gives held (Err status)) → IsSqlFaulted e held f name
+      at_inputs tree is (inl q) = absurd (never_wanted status (own_values f name) held e.input (script_settings tree) (inputs_wanted tree) q)
       at_inputs tree is (inr (env, read, q)) =
           let accepted = sql_accepted_only e held tree is in
           record { script = tree; inputs = env; ready = record { source = accepted.source; typed = accepted.typed; read = read }; means = value_from f name e.output (script_settings tree) (script_value tree (rows_by_name env)) q }
 
       at_checked : (sql_checked_step e.sql).gives held (Err status) ⊎ ((tree : ScriptTree) × (sql_checked_step e.sql).gives held (Ok tree) × (after_checked e tree).gives held (Err status)) → IsSqlFaulted e held f name
       at_checked (inl q) = absurd (never_checked e.sql q)
-      at_checked (inr (tree, is, rest)) = at_inputs tree is (refused_at (folder_step e.input (script_settings tree) (input_structures tree)) (λ env. settled (exports_of e.output (script_settings tree) (script_value tree (rows_by_name env)))) held status rest)
+      at_checked (inr (tree, is, rest)) = at_inputs tree is (refused_at (wanted_step e.input (script_settings tree) (inputs_wanted tree)) (λ env. settled (exports_of e.output (script_settings tree) (script_value tree (rows_by_name env)))) held status rest)

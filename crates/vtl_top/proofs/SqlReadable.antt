@@ -35,8 +35,17 @@ use Rattle.sql_engine.specs.InputTables.{AreInputsInRange, HaveInputTables, IsIn
 use Rattle.sql_engine.specs.Structures.{structure_of}
 use Rattle.vtl_backend.specs.Inputs.{Holds, input_of, rows_named}
 use Rattle.vtl_meaning.specs.Profiles.{AllAreOfProfile}
-use Rattle.vtl_top.specs.SqlInputs.{input_structures, rows_by_name}
+use Rattle.vtl_top.specs.Wanted.{entry_wanted}
+use Rattle.vtl_top.specs.SqlInputs.{input_structures, inputs_wanted, rows_by_name}
 use Rattle.sql_engine.proofs.DeclaredInputs.{lawful_structure, table_is_input}
+
+-- ---- the structures of INPUTs
+pub structures_wanted : (ss : ScriptTree) → map entry_wanted (inputs_wanted ss) ≡ input_structures ss
+structures_wanted [] = refl
+structures_wanted (tree.setting digits rounding ∷ ss) = structures_wanted ss
+structures_wanted (tree.input s ∷ ss) = ap (λ (l : Named). (s.name, structure_of s) ∷ l) (structures_wanted ss)
+structures_wanted (tree.create name q ∷ ss) = structures_wanted ss
+structures_wanted (tree.export s ∷ ss) = structures_wanted ss
 
 -- ---- each INPUT has a structure
 pub inputs_are_structures : (p : Settings) (given : Given) (ss : List StatementTree) → AllByRecursion (IsStatement most_levels) ss → AreTyped p given ss → AllByRecursion (λ e. IsStructure e.1) (input_structures ss)

@@ -4,9 +4,9 @@ use Rattle.sql_tree.specs.Texts.{IsFaulty, IsScript}
 use Rattle.sql_tree.specs.Trees.{ScriptTree}
 use Rattle.sql_check_parts.specs.Statements.{script_fault, script_settings}
 use Rattle.sql_meaning.specs.Scripts.{script_value}
-use Rattle.vtl_top.specs.SqlInputs.{input_structures, rows_by_name}
+use Rattle.vtl_top.specs.SqlInputs.{inputs_wanted, rows_by_name}
 use Rattle.sql_parser.proofs.Texts.{not_both, one_fault, one_script}
-use Rattle.vtl_top.specs.Expected.{folder_step}
+use Rattle.vtl_top.specs.Expected.{wanted_step}
 use Rattle.vtl_top.specs.ScriptFile.{IsSqlParsed, Parsed}
 use Rattle.vtl_top.specs.SqlRun.{exports_of, sql_typing}
 use Rattle.vtl_top.specs.Steps.{File, Step, ◌>>=◌, settled}
@@ -20,4 +20,4 @@ abbrev pub after_sql : ScriptTree → Step ScriptTree
 after_sql tree = settled (sql_typing (script_fault tree)) >>= λ typed. settled (Ok tree)
 
 abbrev pub after_checked : Engine → ScriptTree → Step (List File)
-after_checked e tree = folder_step e.input (script_settings tree) (input_structures tree) >>= λ env. settled (exports_of e.output (script_settings tree) (script_value tree (rows_by_name env)))
+after_checked e tree = wanted_step e.input (script_settings tree) (inputs_wanted tree) >>= λ env. settled (exports_of e.output (script_settings tree) (script_value tree (rows_by_name env)))

@@ -11,14 +11,14 @@ use Rattle.vtl_check.specs.Uses.{reads}
 use Rattle.sql_check_parts.specs.Statements.{script_settings}
 use Rattle.sql_tree.specs.Texts as sql_texts
 use Rattle.vtl_format.specs.Formed.{IsFormed}
-use Rattle.vtl_top.specs.Expected.{IsTextOf, Typed, dataset_step, folder_step, form_of, inputs_step, run_step, script_in, script_of, structures_step, text_for, typed_step}
+use Rattle.vtl_top.specs.Expected.{IsTextOf, Typed, dataset_step, folder_step, form_of, inputs_step, run_step, script_in, script_of, structures_step, text_for, typed_step, wanted_step}
 use Rattle.vtl_top.specs.Forms.{asked_step}
 use Rattle.vtl_top.specs.Meant.{IsAccepted}
 use Rattle.vtl_top.specs.ScriptFile.{IsFormatted, IsParsed, IsParsedBy, IsSqlParsed, Parsed, faulty, no_text, whole}
-use Rattle.vtl_top.specs.SqlInputs.{input_structures}
+use Rattle.vtl_top.specs.SqlInputs.{inputs_wanted}
 use Rattle.vtl_top.specs.SqlRun.{engine_step, sql_checked_step, sql_in, sql_of}
 use Rattle.vtl_top.specs.Steps.{Behind, File, Held, Made, Path, Step, Text, ◌>>=◌, as_files, as_text, looked, only_text, read_as, settled, status_of}
-use Rattle.vtl_top.specs.Wanted.{Placed, all_placed_in}
+use Rattle.vtl_top.specs.Wanted.{Placed, Wanted, all_in, all_placed_in}
 use Rattle.vtl_top.specs.Words.{Command, Engine, Run, Source, demo, engine, format, run, sql, sqlrun}
 use Rattle.vtl_status.specs.declared.status.Status.{Status}
 use Rattle.vtl_top.proofs.MeantLemmas.{accepted_only}
@@ -89,6 +89,9 @@ inputs_sure p before (w ∷ rest) = then_sure _ _ (then_sure _ _ (dataset_sure p
 folder_sure : (folder : Path) (p : Settings) (es : Named) → Sure (folder_step folder p es)
 folder_sure folder p es = inputs_sure p [] (all_placed_in folder es)
 
+wanted_sure : (folder : Path) (p : Settings) (ws : List Wanted) → Sure (wanted_step folder p ws)
+wanted_sure folder p ws = inputs_sure p [] (all_in folder ws)
+
 pub typed_sure : (s : Source) → Sure (typed_step s)
 typed_sure s =
     then_sure _ _ (then_sure _ _ (looked_sure _ _) (λ bytes. script_sure s.script bytes)) (λ tree.
@@ -122,7 +125,7 @@ sql_checked_sure path =
     settled_sure _))
 
 pub engine_sure : (e : Engine) → Sure (engine_step e)
-engine_sure e = then_sure _ _ (sql_checked_sure e.sql) (λ tree. then_sure _ _ (folder_sure e.input (script_settings tree) (input_structures tree)) (λ env. settled_sure _))
+engine_sure e = then_sure _ _ (sql_checked_sure e.sql) (λ tree. then_sure _ _ (wanted_sure e.input (script_settings tree) (inputs_wanted tree)) (λ env. settled_sure _))
 
 pub files_sure : (step : Step (List File)) → Sure step → Sure (as_files step)
 files_sure step sure = then_sure _ _ sure (λ files. settled_sure _)

@@ -22,7 +22,7 @@ use Rattle.sql_back.specs.Texts.{IsTextFor}
 use Rattle.vtl_top.specs.ScriptFile.{IsFormatted, IsParsed, Parsed, faulty, no_text, whole}
 use Rattle.vtl_top.specs.Steps.{File, Held, Name, Path, Step, Text, ◌>>=◌, looked, read_as, settled}
 use Rattle.vtl_top.specs.Structures.{structures_in}
-use Rattle.vtl_top.specs.Wanted.{Placed, all_placed_in, entry_of}
+use Rattle.vtl_top.specs.Wanted.{Placed, Wanted, all_in, all_placed_in, entry_of}
 use Rattle.vtl_top.specs.Words.{Run, Source, settings_of}
 use Rattle.vtl_status.specs.declared.status.Status.{Status}
 use Rattle.vtl_status.specs.declared.status.Status.TheVariants as st
@@ -101,6 +101,10 @@ inputs_step p before (w ∷ rest) = one_more_step p before w >>= λ more. inputs
 -- the data sets of one folder
 abbrev pub folder_step : Path → Settings → Named → Step Environment
 folder_step folder p es = inputs_step p [] (all_placed_in folder es)
+
+-- the data sets of one folder, with not-null components
+abbrev pub wanted_step : Path → Settings → List Wanted → Step Environment
+wanted_step folder p ws = inputs_step p [] (all_in folder ws)
 
 -- ---- the outputs
 -- the file of a result in a folder

@@ -13,7 +13,7 @@ use Rattle.vtl_tree.specs.Structures.{Named}
 use Rattle.vtl_tree.specs.declared.structure.Structure.{Structure}
 use Rattle.vtl_sets.specs.TableOf.{IsTableOf}
 use Rattle.vtl_top.specs.Steps.{Path}
-use Rattle.vtl_top.specs.Wanted.{Placed}
+use Rattle.vtl_top.specs.Wanted.{Placed, Wanted as Shown}
 use Rattle.vtl_top.specs.declared.inputs.Wanted.{Wanted}
 
 -- a data set that is wanted: its name and its structure
@@ -23,9 +23,13 @@ wanted_of w = (w.name.now, w.structure.now)
 abbrev pub all_wanted : List Wanted → Named
 all_wanted ws = map wanted_of ws
 
--- the same with its not-null components, from a folder
+-- the same with its not-null components
+abbrev pub as_wanted : Wanted → Shown
+as_wanted w = record { name = w.name.now; structure = w.structure.now; not_null = w.not_null.now }
+
+-- the same from a folder
 abbrev pub wanted_from : Path → Wanted → Placed
-wanted_from folder w = (folder, record { name = w.name.now; structure = w.structure.now; not_null = w.not_null.now })
+wanted_from folder w = (folder, as_wanted w)
 
 abbrev pub all_wanted_from : Path → List Wanted → List Placed
 all_wanted_from folder ws = map (wanted_from folder) ws

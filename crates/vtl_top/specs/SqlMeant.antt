@@ -7,8 +7,8 @@ use Rattle.sql_tree.specs.Texts.{IsScript}
 use Rattle.sql_tree.specs.Trees.{ScriptTree}
 use Rattle.sql_check_parts.specs.Statements.{Fault as Breach, IsTypedScript, script_fault, script_settings}
 use Rattle.sql_meaning.specs.Scripts.{Export, script_value}
-use Rattle.vtl_top.specs.Expected.{folder_step}
-use Rattle.vtl_top.specs.SqlInputs.{input_structures, rows_by_name}
+use Rattle.vtl_top.specs.Expected.{wanted_step}
+use Rattle.vtl_top.specs.SqlInputs.{inputs_wanted, rows_by_name}
 use Rattle.vtl_top.specs.SqlRun.{export_file}
 use Rattle.vtl_top.specs.Steps.{File, Held, Name, Text}
 use Rattle.vtl_top.specs.Words.{Engine}
@@ -24,7 +24,7 @@ pub record IsSqlRead (e : Engine) (held : Held) (script : ScriptTree) : Type 0 w
 pub record IsSqlReady (e : Engine) (held : Held) (script : ScriptTree) (inputs : Environment) : Type 0 where
   pub source : IsSqlRead e held script
   pub typed : IsTypedScript script
-  pub read : (folder_step e.input (script_settings script) (input_structures script)).gives held (Ok inputs)
+  pub read : (wanted_step e.input (script_settings script) (inputs_wanted script)).gives held (Ok inputs)
 
 -- The script gives exports over the rows that were read; and the files are named after the exports, in order, and hold their texts.
 pub record IsExported (e : Engine) (held : Held) (files : List File) : Type 0 where

@@ -9,8 +9,8 @@ use Rattle.sql_check_parts.specs.Rules.{number_of}
 use Rattle.sql_check_parts.specs.Statements.{Fault, script_fault, script_settings}
 use Rattle.sql_meaning.specs.Scripts.{Export, NamedFault, script_value}
 use Rattle.sql_engine.specs.Exported.{shown}
-use Rattle.vtl_top.specs.SqlInputs.{input_structures, rows_by_name}
-use Rattle.vtl_top.specs.Expected.{fault_status, file_in, folder_step}
+use Rattle.vtl_top.specs.SqlInputs.{inputs_wanted, rows_by_name}
+use Rattle.vtl_top.specs.Expected.{fault_status, file_in, wanted_step}
 use Rattle.vtl_top.specs.ScriptFile.{IsSqlParsed, Parsed, faulty, no_text, whole}
 use Rattle.vtl_top.specs.Steps.{File, Name, Path, Step, Text, ◌>>=◌, looked, read_as, settled}
 use Rattle.vtl_top.specs.Words.{Engine}
@@ -68,5 +68,5 @@ sql_checked_step path =
 abbrev pub engine_step : Engine → Step (List File)
 engine_step e =
     sql_checked_step e.sql >>= λ tree.
-    folder_step e.input (script_settings tree) (input_structures tree) >>= λ env.
+    wanted_step e.input (script_settings tree) (inputs_wanted tree) >>= λ env.
     settled (exports_of e.output (script_settings tree) (script_value tree (rows_by_name env)))

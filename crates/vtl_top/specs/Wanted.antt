@@ -15,8 +15,11 @@ abbrev pub Placed : Type 0
 Placed = Path × Wanted
 
 -- its name and its structure
+abbrev pub entry_wanted : Wanted → List ℕ × Structure
+entry_wanted w = (w.name, w.structure)
+
 abbrev pub entry_of : Placed → List ℕ × Structure
-entry_of w = (w.1.name, w.1.structure)
+entry_of w = entry_wanted w.1
 
 -- data sets of these names and structures without not-null components, in one folder
 abbrev pub placed_in : Path → List ℕ × Structure → Placed
@@ -24,3 +27,7 @@ placed_in folder e = (folder, record { name = e.0; structure = e.1; not_null = [
 
 abbrev pub all_placed_in : Path → Named → List Placed
 all_placed_in folder es = map (placed_in folder) es
+
+-- data sets in one folder
+abbrev pub all_in : Path → List Wanted → List Placed
+all_in folder ws = map (λ w. (folder, w)) ws

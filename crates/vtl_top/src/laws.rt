@@ -12,7 +12,7 @@ ghost use Rattle.vtl_csv.specs.StructuresFile.{structures_of_file};
 ghost use Rattle.vtl_check.specs.Uses.{reads};
 ghost use Rattle.vtl_decimal.specs.Settings.{Settings};
 ghost use Rattle.vtl_meaning.specs.Profiles.{AllAreOfProfile};
-ghost use Rattle.sql_engine.specs.Structures.{structure_of};
+ghost use Rattle.sql_engine.specs.Structures.{not_null_of, structure_of};
 ghost use Rattle.sql_meaning.specs.Scripts.{Inputs, script_value};
 ghost use Rattle.vtl_to_sql.specs.Inputs.{AreTaken, sets_read};
 ghost use Rattle.vtl_to_sql.specs.Scripts.{input_of};
@@ -96,7 +96,7 @@ pub fn sql_breaches_are_refused()
 /// that stands for a data set which a structures file declares asks of its file what the structure asks, under any
 /// settings.
 pub fn inputs_take_alike()
-    ensures { (name : Name) (text : Text) (all : Named) (t : Structure) (p : Settings) (bytes : Text) → structures_of_file text ≡ Ok all → lookup (same_name name) all ≡ Some t → dataset_rows p (structure_of (input_of (name, t))) [] bytes ≡ dataset_rows p t [] bytes }
+    ensures { (name : Name) (text : Text) (all : Named) (t : Structure) (p : Settings) (bytes : Text) → structures_of_file text ≡ Ok all → lookup (same_name name) all ≡ Some t → dataset_rows p (structure_of (input_of (name, t))) (not_null_of (input_of (name, t))) bytes ≡ dataset_rows p t [] bytes }
 {}
 
 /// What the text of a script exports, over all rows that its INPUTs take and whose integers are of the profile, is in names

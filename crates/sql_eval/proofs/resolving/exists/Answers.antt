@@ -1,4 +1,4 @@
-use Rattle.std.proofs.Common.{refl, ◌∙◌}
+use Rattle.std.proofs.Common.{refl, ap, ◌∙◌}
 use Rattle.vtl_cell.specs.declared.kind.Kind.TheVariants as k
 use Rattle.sql_eval.specs.Placed.{there}
 use Rattle.sql_eval.specs.Resolves.{sight}
@@ -11,5 +11,5 @@ pub returns : goal.returns
 returns g c = λ p.
     let x = c.in_ok-existence.field-0 in
     let z : Kinded = record { exp = Exists x; kind = k.Bool } in
-    exists_resolves (sight p (g.N.Names.tables c.args.names.now) (g.N.Names.scope c.args.names.now) c.args.level.now) c.args.source.now c.args.equalities.now z refl
-    (placed-Exists x ∙ (λ i. there (c.in_ok-existence.ensures.table i) (c.in_ok-existence.ensures.ties i)))
+    exists_resolves (sight p (g.N.Names.tables c.args.names.now) (g.N.Names.scope c.args.names.now) c.args.level.now) c.args.source.now c.args.equalities.now z x.table refl c.in_ok-existence.ensures.table
+    (placed-Exists x ∙ ap (there x.table) c.in_ok-existence.ensures.ties)

@@ -9,7 +9,7 @@ use Rattle.sql_check_parts.specs.Scopes.{Scope, with_source}
 use Rattle.sql_check_laws.specs.Selects.{AreJoinsTyped, IsSourceTyped}
 use Rattle.sql_from.specs.Held.{tables_held}
 use Rattle.sql_tree.specs.declared.parts.Source.{Source}
-use Rattle.sql_from.specs.Sources.{scope_held, table_named}
+use Rattle.sql_from.specs.Sources.{scope_held, table_given}
 use Rattle.sql_exec.specs.Items.{IsKindKnown}
 use Rattle.sql_exec.proofs.QueryParts.{kinds_known}
 use Rattle.sql_exec.proofs.QueryColumns.{drop_read, scope_with}
@@ -45,8 +45,8 @@ loop-join-preserved c =
     let typed : AreJoinsTyped c.args.p.now tables (scope_held before.sources) (join_tree join ∷ rest) = subst (AreJoinsTyped c.args.p.now tables (scope_held before.sources)) read c.loop-join.invariant.typed in
     let source = join_source (join_tree join) in
     let new : IsSourceTyped (tables_held before.held) (scope_held before.sources) source = subst (λ t. IsSourceTyped t (scope_held before.sources) source) (sym given) typed.0 in
-    let put : c.in_ok-sources-2.sources.sources ≡ before.sources ++ (source.alias, table_named before.held source.table) ∷ [] =
-    c.in_ok-sources-2.ensures.sources ∙ ap (λ (j : Source). before.sources ++ (j.alias, table_named before.held j.table) ∷ []) c.join_source.ensures in
+    let put : c.in_ok-sources-2.sources.sources ≡ before.sources ++ (source.alias, table_given before.held source) ∷ [] =
+    c.in_ok-sources-2.ensures.sources ∙ ap (λ (j : Source). before.sources ++ (j.alias, table_given before.held j) ∷ []) c.join_source.ensures in
     let next : scope_held c.in_ok-sources-2.sources.sources ≡ with_source tables (scope_held before.sources) source =
     scope_with before c.in_ok-sources-2.sources source new put ∙ ap (λ t. with_source t (scope_held before.sources) source) given in
     record {

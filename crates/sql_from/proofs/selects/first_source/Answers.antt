@@ -1,7 +1,8 @@
-use Rattle.std.proofs.Common.{◌≡◌, ◌∙◌, ◌++◌, ◌∷◌, [], ap, length}
-use Rattle.sql_from.specs.Held.{rows_held}
-use Rattle.sql_from.specs.Sources.{Sourced, table_named}
-use Rattle.sql_from.proofs.Standing.{first_stands, with_table}
+use Rattle.std.proofs.Common.{◌≡◌, ◌∙◌, ◌++◌, ◌∷◌, [], ap, arith, length}
+use Rattle.vtl_rows.specs.Named.{NamedTables}
+use Rattle.sql_from.specs.Keys.{last_of as last_source}
+use Rattle.sql_from.specs.Sources.{Sourced, table_given}
+use Rattle.sql_from.proofs.Standing.{first_stands, last_counted, with_table}
 use Rattle.sql_from.proofs.selects.first_source.Goals as goal
 
 pub returns-clause-stands : goal.returns-clause-stands
@@ -10,8 +11,17 @@ returns-clause-stands c =
     let source = c.args.source.now in
     let new : Sourced = c.in_ok-sources.sources in
     let h : new.held ≡ held = c.in_ok-sources.ensures.held ∙ c.over.ensures.held in
-    let made : new.sources ≡ (source.alias, table_named held source.table) ∷ [] =
-    c.in_ok-sources.ensures.sources ∙ (λ i. c.over.ensures.sources i ++ (source.alias, table_named (c.over.ensures.held i) source.table) ∷ []) in
+    let made : new.sources ≡ (source.alias, table_given held source) ∷ [] =
+    c.in_ok-sources.ensures.sources ∙ (λ i. c.over.ensures.sources i ++ (source.alias, table_given (c.over.ensures.held i) source) ∷ []) in
     let is : new ≡ with_table (record { held = held; sources = [] }) source = λ i. record { held = h i; sources = made i } in
-    λ p. first_stands p held source c.in_ok-singles.field-0 new c.count_of-count.result c.requires is c.in_ok-sources.ensures.wide
-    (c.count_of-count.ensures ∙ ap (λ hs. length (rows_held hs source.table)) h) c.in_ok-singles.ensures.width c.in_ok-singles.ensures.tuples
+    λ p. first_stands p held source c.in_ok-singles.field-0 new c.last_count-count.result c.requires is c.in_ok-sources.ensures.wide
+    (c.last_count-count.ensures ∙ ap (λ z. length (last_source z).rows) is ∙ last_counted (record { held = held; sources = [] }) source c.requires) c.in_ok-singles.ensures.width c.in_ok-singles.ensures.tuples
+
+pub last_count-count-requires : goal.last_count-count-requires
+last_count-count-requires c =
+    let held = c.args.tables.now in
+    let source = c.args.source.now in
+    let made : c.in_ok-sources.sources.sources ≡ (source.alias, table_given held source) ∷ [] =
+    c.in_ok-sources.ensures.sources ∙ (λ i. c.over.ensures.sources i ++ (source.alias, table_given (c.over.ensures.held i) source) ∷ []) in
+    let one = ap (λ (ss : NamedTables). length ss) made in
+    omega (arith, one)

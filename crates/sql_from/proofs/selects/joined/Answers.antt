@@ -64,7 +64,7 @@ loop-place-init g c =
       steps = λ listed plain. record {
         none = λ e. silent plain;
         one = λ e. ap (λ (ss : NamedTables). length ss) sources;
-        counted = λ e. first_counted held c.args.select.now.from j.sources.sources sources;
+        counted = λ e. first_counted held c.args.select.now.from j.sources.sources sources p;
         stands = λ e. tried;
         most = (let same = silent plain in omega (arith, same));
       };

@@ -33,5 +33,5 @@ loop-word-preserved c = λ j lt left e. by j left e (below j c.loop-word.word-in
 pub returns : goal.returns
 returns c = λ word rest e.
     let end = c.loop-word-test.false in
-    let lt : place word < c.loop-word.word-index = omega (arith, ltb-true (place word) 102 (place-below word)) in
+    let lt : place word < c.loop-word.word-index = omega (arith, ltb-true (place word) 106 (place-below word)) in
     c.loop-word.invariant (place word) lt rest (e ∙ ap (λ v. spelling v ++ rest) (sym (placed word)))

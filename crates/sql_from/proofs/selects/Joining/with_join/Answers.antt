@@ -12,7 +12,7 @@ use Rattle.sql_from.specs.Held.{base_held}
 use Rattle.sql_from.specs.Joins.{joined_tuples, kept_fault, kept_tuples, pairs_fault}
 use Rattle.sql_from.specs.Keys.{AreLinked, last_of, linked_count}
 use Rattle.vtl_scalar.specs.Seen.{seen_of}
-use Rattle.sql_from.specs.Sources.{Sourced, table_named}
+use Rattle.sql_from.specs.Sources.{Sourced, table_given}
 use Rattle.sql_from.proofs.Counted.{join_bounded}
 use Rattle.sql_from.proofs.Standing.{join_tried, with_table}
 use Rattle.sql_from.proofs.selects.Joining.with_join.Goals as goal
@@ -29,7 +29,7 @@ returns-clause-stands g c =
     let marks = c.deref-2.result.now in
     let count = length (last_of new).rows in
     let is : new ≡ with_table s (join_source j) =
-    λ i. record { held = c.in_ok-sources.ensures.held i; sources = (c.in_ok-sources.ensures.sources ∙ ap (λ (u : Source). s.sources ++ (u.alias, table_named s.held u.table) ∷ []) c.source_of.ensures) i } in
+    λ i. record { held = c.in_ok-sources.ensures.held i; sources = (c.in_ok-sources.ensures.sources ∙ ap (λ (u : Source). s.sources ++ (u.alias, table_given s.held u) ∷ []) c.source_of.ensures) i } in
     let kind : c.kind_of.result ≡ kind_of j = c.kind_of.ensures in
     let on : trees_of c.deref.result.now ≡ on_of j = ap trees_of c.deref.ensures.value ∙ c.in_ok-conditions.ensures in
     λ f before.
@@ -49,7 +49,7 @@ returns-clause-steps g c by silent f before two =
     let new : Sourced = c.in_ok-sources.sources in
     let marks = c.deref-2.result.now in
     let is : new ≡ with_table s (join_source j) =
-    λ i. record { held = c.in_ok-sources.ensures.held i; sources = (c.in_ok-sources.ensures.sources ∙ ap (λ (u : Source). s.sources ++ (u.alias, table_named s.held u.table) ∷ []) c.source_of.ensures) i } in
+    λ i. record { held = c.in_ok-sources.ensures.held i; sources = (c.in_ok-sources.ensures.sources ∙ ap (λ (u : Source). s.sources ++ (u.alias, table_given s.held u) ∷ []) c.source_of.ensures) i } in
     let kind : c.kind_of.result ≡ kind_of j = c.kind_of.ensures in
     let on : trees_of c.deref.result.now ≡ on_of j = ap trees_of c.deref.ensures.value ∙ c.in_ok-conditions.ensures in
     join_bounded p s t (seen_of c.args.self.walked.seen) f before new c.in_ok-sources.ensures.wide marks (c.deref-2.ensures.value ∙ c.in_ok-marks.ensures) c.args.steps.now c.joined_with.new.steps j c.requires.source is
@@ -68,7 +68,7 @@ returns-in_err-walked-clause-steps g c by silent f before two =
     let new : Sourced = c.in_ok-sources.sources in
     let marks = c.deref-2.result.now in
     let is : new ≡ with_table s (join_source j) =
-    λ i. record { held = c.in_ok-sources.ensures.held i; sources = (c.in_ok-sources.ensures.sources ∙ ap (λ (u : Source). s.sources ++ (u.alias, table_named s.held u.table) ∷ []) c.source_of.ensures) i } in
+    λ i. record { held = c.in_ok-sources.ensures.held i; sources = (c.in_ok-sources.ensures.sources ∙ ap (λ (u : Source). s.sources ++ (u.alias, table_given s.held u) ∷ []) c.source_of.ensures) i } in
     let kind : c.kind_of.result ≡ kind_of j = c.kind_of.ensures in
     let on : trees_of c.deref.result.now ≡ on_of j = ap trees_of c.deref.ensures.value ∙ c.in_ok-conditions.ensures in
     join_bounded p s t (seen_of c.args.self.walked.seen) f before new c.in_ok-sources.ensures.wide marks (c.deref-2.ensures.value ∙ c.in_ok-marks.ensures) c.args.steps.now c.joined_with.new.steps j c.requires.source is

@@ -2,29 +2,26 @@ use Rattle.std.proofs.Common.{◌≡◌, ◌∙◌, ◌++◌, ◌∷◌, [], ◌
 use Rattle.std.specs.Borrow.{Bor}
 use Rattle.std.specs.List.{AllByRecursion, list_any}
 use Rattle.std.specs.Map.{keys_of}
-use Rattle.std.specs.Option.{option_copied}
 use Rattle.std.proofs.lemmas.List.{length-map, map-append}
 use Rattle.vtl_text.specs.Texts.{same_text}
 use Rattle.vtl_rows.specs.Named.{table_of}
 use Rattle.vtl_rows.specs.declared.gather.Pick.{Pick}
 use Rattle.vtl_rows.specs.Tables.{Listed}
-use Rattle.sql_meaning.specs.Tables.{rows_of}
+use Rattle.std.specs.Prelude.{IfSome}
 use Rattle.sql_from.specs.Held.{IsHeld}
 use Rattle.sql_from.specs.Rows.{picks_from, picks_at, width_of}
-use Rattle.sql_from.specs.Sources.{AreSited, IsWide, parts_of, scope_held, source_of, table_named}
+use Rattle.sql_from.specs.Sources.{AreSited, IsWide, parts_of, scope_held, source_of, table_given, table_named}
 use Rattle.sql_from.specs.declared.sources.SourceTable.{SourceTable}
+use Rattle.sql_from.proofs.GivenTables.{source_held}
 use Rattle.sql_from.proofs.Parted.{length-picks_from, picks_last}
 use Rattle.sql_from.proofs.Sited.{all_last, keys_are, sited_last, table_there}
 use Rattle.sql_from.proofs.sources.Sources.with.Goals as goal
 
-some_of : (o : Option (Bor Listed)) (x : Listed) → option_copied o ≡ Some x → IsSome o
-some_of None x e = cc
-some_of (Some y) x e = refl
-
 pub unwrap-table-requires : goal.unwrap-table-requires
 unwrap-table-requires c =
     let name = c.args.source.now.table in
-    some_of c.held.result (table_named c.args.self.held name) (c.held.ensures ∙ ap (λ s. table_of name s.held) c.self.view_is ∙ table_there c.args.self.held name c.requires.0)
+    let there : table_of name c.args.self.held ≡ Some (table_named c.args.self.held name) = table_there c.args.self.held name c.requires.0 in
+    c.in_ok-source.ensures.some (subst (λ o. IsSome o) (sym (ap (λ s. table_of name s.held) c.self.view_is ∙ there)) refl)
 
 pub put-requires : goal.put-requires
 put-requires c =
@@ -37,7 +34,7 @@ invariant_of-result c =
     let table = c.unwrap-table.result in
     let alias = c.in_ok-share.field-0 in
     let held = c.self.inside.held.now in
-    let there : Some table.now ≡ table_of c.args.source.now.table held = ap option_copied (sym c.unwrap-table.ensures) ∙ c.held.ensures in
+    let is : table.now ≡ table_given held c.args.source.now = subst (λ o. IfSome o (λ (t : Bor Listed). t.now ≡ table_given held c.args.source.now)) (sym c.unwrap-table.ensures) c.in_ok-source.ensures.table in
     let now : SourceTable = record { table = table; first = c.len-first.result } in
     let parts = parts_of (map source_of ss) in
     let made : c.put.new.self ≡ ss ++ (alias, now) ∷ [] = c.in_ok-put.ensures.put in
@@ -55,6 +52,6 @@ invariant_of-result c =
       sited = subst (AreSited 0) (sym made) sited;
       picked = picked ∙ ap (picks_from 0) (sym shown) ∙ ap (λ l. picks_from 0 (parts_of (map source_of l))) (sym made);
       wide = subst (λ l. AllByRecursion IsWide (parts_of (map source_of l))) (sym made) (subst (AllByRecursion IsWide) (sym shown) rows);
-      among = subst (λ l. AllByRecursion (IsHeld held) (parts_of (map source_of l))) (sym made) (subst (AllByRecursion (IsHeld held)) (sym shown) (all_last (IsHeld held) parts table.now c.self.invariant.among (c.args.source.now.table, ap rows_of there)));
+      among = subst (λ l. AllByRecursion (IsHeld held) (parts_of (map source_of l))) (sym made) (subst (AllByRecursion (IsHeld held)) (sym shown) (all_last (IsHeld held) parts table.now c.self.invariant.among (subst (IsHeld held) (sym is) (source_held held c.args.source.now))));
       null = c.self.invariant.null;
     }

@@ -1,0 +1,4 @@
+SET SCALE 0 ROUNDING DOWN;
+INPUT "T" ("k" INTEGER, "p" PERIOD) KEY ("k");
+CREATE TABLE "U" AS SELECT "t"."p" AS "p" FROM "T" AS "t" WHERE PERIOD_FREQ("t"."p") IN ('A', 'M');
+EXPORT "U" ORDER BY "p";

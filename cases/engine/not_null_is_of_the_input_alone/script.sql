@@ -1,0 +1,6 @@
+SET SCALE 2 ROUNDING HALF_UP;
+INPUT "T" ("k" INTEGER, "v" INTEGER NOT NULL) KEY ("k");
+CREATE TABLE "U" AS
+  SELECT "t"."k" AS "k", CASE WHEN "t"."v" > 1 THEN NULL ELSE "t"."v" END AS "v"
+  FROM "T" AS "t";
+EXPORT "U" ORDER BY "k";

@@ -1,0 +1,6 @@
+SET SCALE 0 ROUNDING DOWN;
+INPUT "T" ("k" INTEGER, "p" PERIOD) KEY ("k");
+CREATE TABLE "U" AS
+  SELECT "t"."k" AS "k", CASE WHEN "t"."p" = PERIOD '9999-M12' THEN "t"."p" ELSE PERIOD_SHIFT("t"."p", 1) END AS "q"
+  FROM "T" AS "t";
+EXPORT "U" ORDER BY "k";

@@ -1,0 +1,6 @@
+SET SCALE 0 ROUNDING DOWN;
+INPUT "T" ("k" INTEGER, "p" PERIOD) KEY ("k");
+CREATE TABLE "U" AS
+  SELECT MAX(PERIOD_SHIFT("t"."p", 1)) AS "next", MIN(PERIOD_FREQ("t"."p")) AS "f", COUNT(PERIOD_FREQ("t"."p")) AS "n"
+  FROM "T" AS "t";
+EXPORT "U";

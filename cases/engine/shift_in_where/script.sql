@@ -1,0 +1,7 @@
+SET SCALE 0 ROUNDING DOWN;
+INPUT "T" ("k" INTEGER, "p" PERIOD) KEY ("k");
+CREATE TABLE "U" AS
+  SELECT "t"."k" AS "k"
+  FROM "T" AS "t"
+  WHERE PERIOD_SHIFT("t"."p", -1) = PERIOD '2019-Q4';
+EXPORT "U" ORDER BY "k";

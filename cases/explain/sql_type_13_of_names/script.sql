@@ -1,0 +1,3 @@
+SET SCALE 6 ROUNDING HALF_UP;
+INPUT "T" ("k" TEXT, "i" INTEGER, "n" NUMBER, "s" TEXT, "b" BOOLEAN, "d" DATE, "p" PERIOD) KEY ("k");
+CREATE TABLE "U" AS SELECT 1 AS "c" FROM "T" AS "t" CROSS JOIN SERIES "T" ON "p" BY ("q", "s", "s") ALL AS "x";

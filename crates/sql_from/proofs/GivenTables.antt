@@ -1,0 +1,171 @@
+-- The tables of sources: those that are held, and those of SERIES over them.
+use Rattle.std.proofs.Common.{◌≡◌, ℕ, suc, ◌+◌, Bool, true, false, cond, not, List, [], ◌∷◌, ◌++◌, map, length, Option, Some, None, IsSome, refl, sym, ap, ◌∙◌, subst, arith}
+use Rattle.std.specs.Prelude.{IfSome, is_some, option_map, ◌&&◌}
+use Rattle.std.specs.List.{AllByRecursion, list_all}
+use Rattle.std.proofs.lemmas.List.{map-append}
+use Rattle.vtl_decimal.specs.Settings.{Settings}
+use Rattle.vtl_text.specs.Texts.{same_text}
+use Rattle.vtl_cell.specs.Kinds.{same_kind}
+use Rattle.vtl_cell.specs.Row.{Row}
+use Rattle.vtl_cell.specs.declared.kind.Kind.{Kind}
+use Rattle.vtl_cell.specs.declared.kind.Kind.TheVariants as k
+use Rattle.vtl_cell.proofs.Rows.{split_and}
+use Rattle.vtl_rows.specs.Named.{NamedTables, table_of}
+use Rattle.vtl_rows.specs.Tables.{Listed, column_at}
+use Rattle.vtl_rows.specs.declared.column.Column.{Column as TableColumn}
+use Rattle.vtl_series.specs.Series.{series_rows}
+use Rattle.sql_tree.specs.Trees.{Text}
+use Rattle.sql_tree.specs.declared.parts.Series.{Series}
+use Rattle.sql_tree.specs.declared.parts.Source.{Source}
+use Rattle.sql_check_parts.specs.Scopes.{Columns, columns_of, columns_within, maybe_series_fits, or_null, repeats, series_fits, series_names, value_among}
+use Rattle.sql_check_parts.specs.Scopes.{or_nothing as columns_or_nothing}
+use Rattle.sql_check_laws.specs.Selects.{IsSourceTyped}
+use Rattle.sql_meaning.specs.Profiles.{AreOfProfile, IsRowOfProfile, TablesOfProfile}
+use Rattle.sql_meaning.specs.Tables.{column_entry, columns_given, columns_named, given_rows, place_among, rows_from, rows_of}
+use Rattle.sql_meaning.proofs.Lists.{under}
+use Rattle.sql_meaning.proofs.Profiled.{dated_is, source_is}
+use Rattle.sql_meaning.proofs.SeriesColumns.{entry_named, given_columns, series_columns}
+use Rattle.sql_meaning.proofs.SeriesRows.{series_all}
+use Rattle.sql_eval.specs.Origins.{AreSame, AreSameSeries, IsSeriesOf, rows_at, rows_by}
+use Rattle.sql_eval.specs.declared.origin.Origin.{Origin}
+use Rattle.sql_eval.specs.declared.origin.SeriesPlaces.{SeriesPlaces}
+use Rattle.sql_from.specs.Given.{HasPlaces, IsMade, IsOriginIn, IsTableOf, filled}
+use Rattle.sql_from.specs.declared.given.MadeSeries.{MadeSeries}
+use Rattle.sql_from.specs.Held.{IsHeld, base_held, columns_held, rows_held, tables_held}
+use Rattle.sql_from.specs.Sources.{given_table, or_nothing, series_table, table_given, table_named}
+use Rattle.sql_from.proofs.Named.{same_text-is}
+use Rattle.sql_from.proofs.Sited.{columns_are}
+
+-- ---- the table of a name
+
+pub named_rows : (held : NamedTables) (name : Text) → rows_held held name ≡ (table_named held name).rows
+named_rows held name = go (table_of name held)
+  where
+    go : (o : Option Listed) → rows_of o ≡ (or_nothing o).rows
+    go None = refl
+    go (Some t) = refl
+
+pub named_columns : (held : NamedTables) (name : Text) → columns_named (tables_held held) name ≡ columns_held (table_named held name)
+named_columns held name = ap columns_or_nothing (columns_are held name) ∙ go (table_of name held)
+  where
+    go : (o : Option Listed) → columns_or_nothing (option_map columns_held o) ≡ columns_held (or_nothing o)
+    go None = refl
+    go (Some t) = refl
+
+-- ---- the rows of a source
+
+given_is : (o : Option Series) (t : Listed) → given_rows o (columns_held t) t.rows ≡ (given_table o t).rows
+given_is None t = refl
+given_is (Some s) t = refl
+
+pub source_rows_are : (p : Settings) (held : NamedTables) (s : Source) → rows_from (base_held p held) s ≡ (table_given held s).rows
+source_rows_are p held s = (λ i. given_rows s.series (named_columns held s.table i) (named_rows held s.table i)) ∙ given_is s.series (table_named held s.table)
+
+-- they are of the profile where those of all tables are
+pub source_held : (held : NamedTables) (s : Source) → IsHeld held (table_given held s)
+source_held held s = λ p ranged. subst (AreOfProfile p) (source_rows_are p held s) (source_is (base_held p held) ranged s)
+
+pub origin_ranged : (p : Settings) (held : NamedTables) (o : Origin) → TablesOfProfile (base_held p held) → AreOfProfile p (rows_at (rows_held held) o)
+origin_ranged p held o ranged = go o.series
+  where
+    go : (x : Option SeriesPlaces) → AreOfProfile p (rows_by x (rows_held held o.table))
+    go None = ranged o.table
+    go (Some x) = series_all (IsRowOfProfile p) x.extent x.on x.by.items (rows_held held o.table) (under (λ r h. dated_is p x.by.items r h) (rows_held held o.table) (ranged o.table))
+
+-- ---- the columns of a source
+
+-- the column at the place of a name that is known has that name, and its kind
+entry_at : (columns : List TableColumn) (name : Text) → is_some (value_among (map column_entry columns) name) ≡ true → column_entry (column_at columns (place_among (map column_entry columns) name)) ≡ entry_named (map column_entry columns) name
+entry_at [] name known = cc
+entry_at (x ∷ xs) name known = go (same_text name x.name) refl known (entry_at xs name)
+  where
+    rest : Columns
+    rest = map column_entry xs
+
+    go : (b : Bool) → same_text name x.name ≡ b → is_some (cond b (Some x.kind) (value_among rest name)) ≡ true → (is_some (value_among rest name) ≡ true → column_entry (column_at xs (place_among rest name)) ≡ entry_named rest name)
+        → column_entry (column_at (x ∷ xs) (cond (not b) (1 + place_among rest name) 0)) ≡ (name, or_null (cond b (Some x.kind) (value_among rest name)))
+    go true same there ih = ap (λ (n : Text). (n, x.kind)) (sym (same_text-is name x.name same))
+    go false same there ih =
+        let next : suc (place_among rest name) ≡ 1 + place_among rest name = omega arith in
+        ap (λ n. column_entry (column_at (x ∷ xs) n)) (sym next) ∙ ih there
+
+all_entries : (t : Listed) (names : List Text) → list_all (λ name. is_some (value_among (columns_held t) name)) names ≡ true
+    → map column_entry (map (λ name. column_at t.columns (place_among (columns_held t) name)) names) ≡ map (entry_named (columns_held t)) names
+all_entries t [] known = refl
+all_entries t (name ∷ names) known =
+    let parts = split_and (is_some (value_among (columns_held t) name)) (list_all (λ name. is_some (value_among (columns_held t) name)) names) known in
+    λ i. entry_at t.columns name parts.0 i ∷ all_entries t names parts.1 i
+
+table_columns : (o : Option Series) (t : Listed) → maybe_series_fits (columns_held t) o ≡ true → columns_within (columns_held t) o ≡ columns_held (given_table o t)
+table_columns None t fits = refl
+table_columns (Some s) t fits =
+    let known = (split_and (list_all (λ name. is_some (value_among (columns_held t) name)) (series_names s)) (not (repeats (series_names s)) && same_kind (or_null (value_among (columns_held t) s.on)) k.Period) fits).0 in
+    series_columns (columns_held t) s fits ∙ sym (all_entries t (series_names s) known)
+
+pub source_columns_are : (held : NamedTables) (s : Source) → IsSome (columns_of (tables_held held) s.table) → maybe_series_fits (columns_named (tables_held held) s.table) s.series ≡ true
+    → columns_given (tables_held held) s ≡ columns_held (table_given held s)
+source_columns_are held s there fits =
+    given_columns (tables_held held) s there ∙ ap (λ table. columns_within table s.series) (named_columns held s.table)
+    ∙ table_columns s.series (table_named held s.table) (subst (λ table. maybe_series_fits table s.series ≡ true) (named_columns held s.table) fits)
+
+-- ---- the tables of SERIES
+
+-- by the places of its columns it is the same
+pub filled_is : (s : Series) (t : Listed) (x : SeriesPlaces) → IsSeriesOf (columns_held t) s x → filled x t ≡ series_table s t
+filled_is s t x h = λ i. record {
+  columns = columns i;
+  rows = series_rows (h.extent i) (h.on i) (h.by i) t.rows;
+}
+  where
+    place : Text → ℕ
+    place = place_among (columns_held t)
+
+    at_places : (names : List Text) → map (column_at t.columns) (map place names) ≡ map (λ name. column_at t.columns (place name)) names
+    at_places [] = refl
+    at_places (name ∷ names) = ap (λ l. column_at t.columns (place name) ∷ l) (at_places names)
+
+    columns : map (column_at t.columns) (x.by.items ++ x.on ∷ []) ≡ map (λ name. column_at t.columns (place name)) (series_names s)
+    columns =
+        (λ i. map (column_at t.columns) (h.by i ++ h.on i ∷ []))
+        ∙ ap (map (column_at t.columns)) (sym (map-append place s.by (s.on ∷ [])))
+        ∙ at_places (series_names s)
+
+-- the table that an origin has is that of its source
+pub origin_table : (held : NamedTables) (s : Series) (name : Text) (own t : Listed) (o : Origin) → table_of name held ≡ Some own → IsOriginIn own name s o → IsTableOf held o t → t ≡ series_table s own
+origin_table held s name own t o there of is = go o.series of.series is
+  where
+    named : table_named held o.table ≡ own
+    named = ap (table_named held) of.table ∙ ap or_nothing there
+
+    go : (x : Option SeriesPlaces) → HasPlaces (columns_held own) s x → IfSome x (λ y. t ≡ filled y (table_named held o.table)) → t ≡ series_table s own
+    go None h e = absurd h
+    go (Some y) h e = e ∙ ap (filled y) named ∙ filled_is s own y h
+
+-- an origin that is the same has the same table
+pub made_is : (held : NamedTables) (m : MadeSeries) (o : Origin) → IsMade held m → AreSame m.origin o → IsTableOf held o m.table
+made_is held m o made same = go m.origin.series o.series same.series made
+  where
+    go : (x y : Option SeriesPlaces) → AreSameSeries x y → IfSome x (λ s. m.table ≡ filled s (table_named held m.origin.table)) → IfSome y (λ s. m.table ≡ filled s (table_named held o.table))
+    go None None s e = tt
+    go None (Some y) s e = absurd s
+    go (Some x) None s e = absurd s
+    go (Some x) (Some y) s e =
+        e
+        ∙ (λ i. record {
+          columns = map (column_at (table_named held (same.table i)).columns) (s.by i ++ s.on i ∷ []);
+          rows = series_rows (s.extent i) (s.on i) (s.by i) (table_named held (same.table i)).rows;
+        })
+
+-- what is made of the places of an origin is its table
+pub table_made : (held : NamedTables) (s : Series) (name : Text) (own t : Listed) (o : Origin) (x : SeriesPlaces) → table_of name held ≡ Some own → IsOriginIn own name s o → o.series ≡ Some x → t ≡ filled x own → IsTableOf held o t
+table_made held s name own t o x there of is e =
+    let named : table_named held o.table ≡ own = ap (table_named held) of.table ∙ ap or_nothing there in
+    subst (λ (z : Option SeriesPlaces). IfSome z (λ y. t ≡ filled y (table_named held o.table))) (sym is) (e ∙ ap (filled x) (sym named))
+
+-- and it has the rows of the origin
+pub origin_rows_are : (held : NamedTables) (o : Origin) (t : Listed) → is_some o.series ≡ true → IsTableOf held o t → t.rows ≡ rows_at (rows_held held) o
+origin_rows_are held o t there is = go o.series there is
+  where
+    go : (x : Option SeriesPlaces) → is_some x ≡ true → IfSome x (λ y. t ≡ filled y (table_named held o.table)) → t.rows ≡ rows_by x (rows_held held o.table)
+    go None h e = cc
+    go (Some y) h e = ap (λ (u : Listed). u.rows) e ∙ ap (λ rows. series_rows y.extent y.on y.by.items rows) (sym (named_rows held o.table))

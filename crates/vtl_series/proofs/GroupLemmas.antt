@@ -1,0 +1,92 @@
+-- Groups of rows by the other columns: their rows, and their tuples.
+use Rattle.std.proofs.Common.{◌≡◌, ℕ, zero, suc, ◌+◌, ◌<◌, ◌≤◌, ◌++◌, Bool, true, false, cond, List, [], ◌∷◌, length, get_or, map, filter, refl, sym, ap, ◌∙◌, arith, subst, eqb, eq-eqb, ne_eqb}
+use Rattle.std.specs.List.{AllByRecursion, flat_map, position_or_len, range_with_len}
+use Rattle.std.specs.Prelude.{All, slice_index_or}
+use Rattle.std.proofs.lemmas.List.Elements.{All-from_recursion}
+use Rattle.std.proofs.lemmas.List.{get_or-map, length-map}
+use Rattle.vtl_lists.proofs.Sorts.{AllByRecursion-filter}
+use Rattle.vtl_cell.specs.Row.{Row, same_row}
+use Rattle.vtl_rows.specs.Places.{row_at}
+use Rattle.vtl_rows.specs.Tables.{cells_at}
+use Rattle.vtl_index.specs.Groups.{AreLeads, firsts, is_first, rows_led}
+use Rattle.vtl_index.specs.Leads.{leads_of}
+use Rattle.vtl_index.proofs.KeyGroups.{are_leads, keys_once, rows_of_key}
+use Rattle.vtl_index.proofs.Ranges.{all_indexed, none_pass, passing, passing_at, passing_is}
+use Rattle.vtl_series.specs.Series.{keys_by, rows_by}
+
+filter-map : {X Y : Type 0} (f : X → Y) (p : Y → Bool) (xs : List X) → map f (filter (λ x. p (f x)) xs) ≡ filter p (map f xs)
+filter-map f p [] = refl
+filter-map f p (x ∷ xs) = go (p (f x)) (filter-map f p xs)
+  where
+    go : (b : Bool) → map f (filter (λ y. p (f y)) xs) ≡ filter p (map f xs) → map f (cond b (x ∷ filter (λ y. p (f y)) xs) (filter (λ y. p (f y)) xs)) ≡ cond b (f x ∷ filter p (map f xs)) (filter p (map f xs))
+    go true ih = ap (λ l. f x ∷ l) ih
+    go false ih = ih
+
+numbers_within : (a n m : ℕ) → a + n ≤ m → AllByRecursion (λ i. i < m) (range_with_len a n)
+numbers_within a zero m h = tt
+numbers_within a (suc n) m h = (omega (arith, h), numbers_within (a + 1) n m (omega (arith, h)))
+
+-- the rows of a group are rows
+pub led_below : (leads : List ℕ) (n f : ℕ) → length leads ≡ n → All (λ i. i < n) (rows_led leads f)
+led_below leads n f e =
+    All-from_recursion (λ i. i < n) (rows_led leads f)
+    (AllByRecursion-filter (λ i. i < n) (λ i. eqb (get_or leads i 0) f) (range_with_len 0 (length leads)) (numbers_within 0 (length leads) n (omega (arith, e))))
+
+module _ (by : List ℕ) (rows : List Row) where
+  abbrev leads : List ℕ
+  leads = leads_of (cells_at by) rows
+
+  abbrev key_of : ℕ → Row
+  key_of i = cells_at by (row_at rows i)
+
+  pub many_leads : length leads ≡ length rows
+  many_leads = length-map rows (λ r. position_or_len (λ s. same_row (cells_at by s) (cells_at by r)) rows)
+
+  pub many_keys : length (keys_by by rows) ≡ length (firsts leads)
+  many_keys = ap length (sym (keys_once (cells_at by) rows)) ∙ length-map (firsts leads) key_of
+
+  -- one of the groups
+  module _ (g : ℕ) (h : g < length (firsts leads)) where
+    abbrev first : ℕ
+    first = get_or (firsts leads) g 0
+
+    are : AreLeads leads
+    are = are_leads (cells_at by) rows
+
+    first_inside : first < length leads
+    first_inside = (passing_is (is_first leads) (length leads) g h).0
+
+    first_own : get_or leads first 0 ≡ first
+    first_own = let e = (passing_is (is_first leads) (length leads) g h).1 in grind (arith, e)
+
+    first_stands : (0 < length (rows_led leads first)) × (get_or (rows_led leads first) 0 0 ≡ first)
+    first_stands =
+        let within = first_inside in
+        let none = none_pass (λ k. eqb (get_or leads k 0) first) first
+        (λ k j. ne_eqb (get_or leads k 0) first (λ e. let b = are.before k (omega (arith, j, within)) in absurd (omega (arith, e, b, j)))) in
+        let stands = passing_at (λ k. eqb (get_or leads k 0) first) (length leads) first within (eq-eqb (get_or leads first 0) first first_own) in
+        let zero_th : length (passing (λ k. eqb (get_or leads k 0) first) first) ≡ 0 = ap length none in
+        subst (λ z. (z < length (rows_led leads first)) × (get_or (rows_led leads first) z 0 ≡ first)) zero_th stands
+
+    pub some_led : 0 < length (rows_led leads first)
+    some_led = first_stands.0
+
+    pub front_within : get_or (rows_led leads first) 0 0 < length rows
+    front_within = let e = first_stands.1 in let w = first_inside in let m = many_leads in omega (arith, e, w, m)
+
+    -- the cells of the group's first row are its tuple
+    pub front_key : key_of (get_or (rows_led leads first) 0 0) ≡ get_or (keys_by by rows) g []
+    front_key =
+        ap key_of first_stands.1
+        ∙ sym (get_or-map key_of (firsts leads) g 0 [] h)
+        ∙ ap (λ l. get_or l g []) (keys_once (cells_at by) rows)
+
+    -- and its rows those of the tuple
+    pub led_rows : map (row_at rows) (rows_led leads first) ≡ rows_by by rows (get_or (keys_by by rows) g [])
+    led_rows =
+        let within : first < length rows = let w = first_inside in let m = many_leads in omega (arith, w, m) in
+        ap (λ f. map (row_at rows) (rows_led leads f)) (sym first_own)
+        ∙ ap (map (row_at rows)) (rows_of_key (cells_at by) rows first within)
+        ∙ filter-map (row_at rows) (λ r. same_row (cells_at by r) (key_of first)) (range_with_len 0 (length rows))
+        ∙ ap (filter (λ r. same_row (cells_at by r) (key_of first))) (all_indexed rows [])
+        ∙ ap (λ k. rows_by by rows k) (sym (ap key_of first_stands.1) ∙ front_key)

@@ -1,0 +1,5 @@
+mod FitLemmas
+mod GroupLemmas
+mod NumberLemmas
+mod SeriesLemmas
+mod SpanLemmas
