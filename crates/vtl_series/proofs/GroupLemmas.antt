@@ -5,6 +5,7 @@ use Rattle.std.specs.Prelude.{All, slice_index_or}
 use Rattle.std.proofs.lemmas.List.Elements.{All-from_recursion}
 use Rattle.std.proofs.lemmas.List.{get_or-map, length-map}
 use Rattle.vtl_lists.proofs.Sorts.{AllByRecursion-filter}
+use Rattle.vtl_tuples.proofs.Lists.{filter-map}
 use Rattle.vtl_cell.specs.Row.{Row, same_row}
 use Rattle.vtl_rows.specs.Places.{row_at}
 use Rattle.vtl_rows.specs.Tables.{cells_at}
@@ -13,18 +14,7 @@ use Rattle.vtl_index.specs.Leads.{leads_of}
 use Rattle.vtl_index.proofs.KeyGroups.{are_leads, keys_once, rows_of_key}
 use Rattle.vtl_index.proofs.Ranges.{all_indexed, none_pass, passing, passing_at, passing_is}
 use Rattle.vtl_series.specs.Series.{keys_by, rows_by}
-
-filter-map : {X Y : Type 0} (f : X → Y) (p : Y → Bool) (xs : List X) → map f (filter (λ x. p (f x)) xs) ≡ filter p (map f xs)
-filter-map f p [] = refl
-filter-map f p (x ∷ xs) = go (p (f x)) (filter-map f p xs)
-  where
-    go : (b : Bool) → map f (filter (λ y. p (f y)) xs) ≡ filter p (map f xs) → map f (cond b (x ∷ filter (λ y. p (f y)) xs) (filter (λ y. p (f y)) xs)) ≡ cond b (f x ∷ filter p (map f xs)) (filter p (map f xs))
-    go true ih = ap (λ l. f x ∷ l) ih
-    go false ih = ih
-
-numbers_within : (a n m : ℕ) → a + n ≤ m → AllByRecursion (λ i. i < m) (range_with_len a n)
-numbers_within a zero m h = tt
-numbers_within a (suc n) m h = (omega (arith, h), numbers_within (a + 1) n m (omega (arith, h)))
+use Rattle.vtl_series.proofs.ListLemmas.{numbers_within}
 
 -- the rows of a group are rows
 pub led_below : (leads : List ℕ) (n f : ℕ) → length leads ≡ n → All (λ i. i < n) (rows_led leads f)
@@ -87,6 +77,6 @@ module _ (by : List ℕ) (rows : List Row) where
         let within : first < length rows = let w = first_inside in let m = many_leads in omega (arith, w, m) in
         ap (λ f. map (row_at rows) (rows_led leads f)) (sym first_own)
         ∙ ap (map (row_at rows)) (rows_of_key (cells_at by) rows first within)
-        ∙ filter-map (row_at rows) (λ r. same_row (cells_at by r) (key_of first)) (range_with_len 0 (length rows))
+        ∙ sym (filter-map (λ r. same_row (cells_at by r) (key_of first)) (row_at rows) (range_with_len 0 (length rows)))
         ∙ ap (filter (λ r. same_row (cells_at by r) (key_of first))) (all_indexed rows [])
         ∙ ap (λ k. rows_by by rows k) (sym (ap key_of first_stands.1) ∙ front_key)

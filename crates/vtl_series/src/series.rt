@@ -1,5 +1,5 @@
 // The rows of series, from groups of rows.
-ghost use Rattle.std.specs.Prelude.{◌≡◌, ◌<◌, ◌≤◌, ◌+◌, ◌++◌, [], ◌∷◌, true, Some, length, map, All, IfOk, IfSome, OnOk};
+ghost use Rattle.std.specs.Prelude.{◌≡◌, ◌<◌, ◌++◌, [], ◌∷◌, true, Some, length, map, slice_index, All, IfOk, IfSome, OnOk};
 ghost use Rattle.std.specs.List.{flat_map};
 ghost use Rattle.vtl_cell.specs.declared.kind.Kind.TheVariants as k;
 ghost use Rattle.vtl_cell.specs.Row.{Row, column_of};
@@ -217,6 +217,35 @@ fn put_key(key: &mut Vec<Cell>, row: &[Cell], by: &[usize]) -> Result<(), AllocE
     Ok(())
 }
 
+// Puts the rows of one group's series behind the others, from the places of its rows.
+fn push_one_group(
+    rows: &mut Table,
+    room: &mut Vec<Cell>,
+    key: &mut Vec<Cell>,
+    table: &Table,
+    on: usize,
+    by: &[usize],
+    extent: Extent,
+    places: &[usize],
+    all: &Spans,
+) -> Result<(), AllocError>
+    requires on { on < length table.now.columns }
+    requires periods { (column_at table.now.columns on).kind ≡ k.Period }
+    requires by { All (λ i. i < length table.now.columns) by.now }
+    requires columns { rows.old.columns ≡ map (column_at table.now.columns) (by.now ++ on ∷ []) }
+    requires empty { room.old.items ≡ [] }
+    requires some { 0 < length places.now }
+    requires within { All (λ i. i < length table.now.rows) places.now }
+    requires all { AreWithin all.now }
+    ensures columns { rows.new.columns ≡ rows.old.columns }
+    ensures rows { OnOk result (rows.new.rows ≡ rows.old.rows ++ flat_map (dated_in extent (cells_at by.now (row_at table.now.rows (slice_index places.now 0))) (spans_of on (map (row_at table.now.rows) places.now)) all.now) frequencies) }
+    ensures empty { OnOk result (room.new.items ≡ []) }
+{
+    put_key(key, table.row(places[0]), by)?;
+    let own = spans_of_rows(table, on, places);
+    push_group(rows, room, key, extent, &own, all)
+}
+
 /// The rows of the series of a table's rows, below the columns at the places `by` and behind them the column `on` of the
 /// periods: two rows are in one series where they agree in the columns at `by`, null being equal to null, and their
 /// periods have one frequency, and for each series there is a row for each period from its first to its last, or to the
@@ -246,9 +275,9 @@ pub fn rows_of_series(
     let mut room = Vec::with_capacity(alloc, by.len().saturating_add(1))?;
     for group in 0..groups.len() {
         let places = groups.rows(group);
-        put_key(&mut key, table.row(places[0]), by)?;
-        let own = spans_of_rows(table, on, places);
-        push_group(&mut rows, &mut room, &key, extent, &own, &all)?;
+        push_one_group(
+            &mut rows, &mut room, &mut key, table, on, by, extent, places, &all,
+        )?;
     }
     Ok(rows)
 }
