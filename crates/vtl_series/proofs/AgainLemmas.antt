@@ -21,10 +21,10 @@ use Rattle.vtl_time.specs.Periods.{frequency_rank, parts_in_year, period_at}
 use Rattle.vtl_time.specs.declared.periods.Frequency.{Frequency}
 use Rattle.vtl_series.specs.declared.extent.Extent.{Extent}
 use Rattle.vtl_series.specs.declared.extent.Extent.TheVariants as extent
-use Rattle.vtl_series.specs.Series.{dated, frequencies, is_spanned, keys_by, number_at, numbers_of, rows_by, seen_by, series_at, series_rows, some_number}
+use Rattle.vtl_series.specs.Series.{dated, frequencies, is_spanned, keys_by, number_at, numbers_of, rows_by, seen_by, series_at, series_rows, some_number, tuple_rows}
 use Rattle.vtl_series.proofs.DatedLemmas.{front_is, number_is}
 use Rattle.vtl_series.proofs.ListLemmas.{all_each, all_flat_map, all_map, all_more, all_there, any_filter, any_flat_map, any_gives, any_more, or_left, or_right, same_answer}
-use Rattle.vtl_series.proofs.WholeLemmas.{all_rows, among_all, row_among, row_there, rows_at, spanned}
+use Rattle.vtl_series.proofs.WholeLemmas.{all_rows, among_all, row_among, row_there, spanned}
 
 -- ---- items that come once, each again and again
 abbrev has_items : {X : Type 0} → List X → Bool
@@ -107,7 +107,7 @@ module _ (e : Extent) (on : ℕ) (by : List ℕ) (rows : List Row) where
   made = series_rows e on by rows
 
   abbrev R : Row → List Row
-  R = rows_at e on by rows
+  R = tuple_rows e on by rows
 
   -- a tuple of the table
   record IsKey (key : Row) : Type 0 where
@@ -267,7 +267,7 @@ module _ (on : ℕ) (by : List ℕ) (rows : List Row) (key : Row) where
             ∙ ap (λ b. b && some_number (λ z. nat_le i z) f (length by) (seen_again e)) (seen_has e is (λ z. nat_le z i) f i k s (itself i))
             ∙ seen_has e is (λ z. nat_le i z) f i k s (itself i)
 
-    rows_again : rows_at e (length by) (range_with_len 0 (length by)) (series_rows e on by rows) key ≡ rows_at e on by rows key
+    rows_again : tuple_rows e (length by) (range_with_len 0 (length by)) (series_rows e on by rows) key ≡ tuple_rows e on by rows key
     rows_again = ap (λ F. flat_map F frequencies) (λ n f. part f n)
       where
         part : (f : Frequency) → series_at e (length by) (series_rows e on by rows) own_again key f ≡ series_at e on rows own key f
@@ -276,8 +276,8 @@ module _ (on : ℕ) (by : List ℕ) (rows : List Row) (key : Row) where
 
 pub again : (e : Extent) (on : ℕ) (by : List ℕ) (rows : List Row) → series_rows e (length by) (range_with_len 0 (length by)) (series_rows e on by rows) ≡ series_rows e on by rows
 again e on by rows =
-    let R = rows_at e on by rows in
-    let R' = rows_at e (length by) (range_with_len 0 (length by)) (series_rows e on by rows) in
+    let R = tuple_rows e on by rows in
+    let R' = tuple_rows e (length by) (range_with_len 0 (length by)) (series_rows e on by rows) in
     let keys = keys_by by rows in
     ap (flat_map R') (keys_again e on by rows)
     ∙ flat_map_same R' R (filter (has_some R) keys) (AllByRecursion-filter (λ key. R' key ≡ R key) (has_some R) keys (all_more (IsKey e on by rows) (λ key. R' key ≡ R key) (λ key is. rows_again on by rows key e is) keys (are_keys e on by rows)))

@@ -16,9 +16,9 @@ use Rattle.vtl_time.specs.Periods.{period_at}
 use Rattle.vtl_time.specs.declared.periods.Frequency.{Frequency}
 use Rattle.vtl_series.specs.declared.extent.Extent.{Extent}
 use Rattle.vtl_series.specs.Kept.{FitsDated}
-use Rattle.vtl_series.specs.Series.{dated, keys_by, series_rows}
+use Rattle.vtl_series.specs.Series.{dated, keys_by, series_rows, tuple_rows}
 use Rattle.vtl_series.proofs.ListLemmas.{all_flat_map, all_map, all_more}
-use Rattle.vtl_series.proofs.WholeLemmas.{all_rows, rows_at}
+use Rattle.vtl_series.proofs.WholeLemmas.{all_rows}
 
 -- the cells of a row that fits, and behind them any period
 pub dated_fits : (columns : List Column) (by : List ℕ) (on : ℕ) (r : Row) → (column_at columns on).kind ≡ k.Period → fits columns r ≡ true → FitsDated (map (column_at columns) (by ++ on ∷ [])) (cells_at by r)
@@ -41,6 +41,6 @@ once_fit kinds (x ∷ keys) all = (all.0, AllByRecursion-filter (λ r. fits_kind
 pub series_fit : (e : Extent) (on : ℕ) (by : List ℕ) (kinds : List Kind) (rows : List Row) → AllByRecursion (λ r. fits_kinds kinds (cells_at by r) ≡ true) rows → AllByRecursion (λ r. fits_kinds (kinds ++ k.Period ∷ []) r ≡ true) (series_rows e on by rows)
 series_fit e on by kinds rows all =
     let P : Row → Type 0 = λ r. fits_kinds (kinds ++ k.Period ∷ []) r ≡ true in
-    all_flat_map (rows_at e on by rows) P (keys_by by rows)
-    (all_more (λ key. fits_kinds kinds key ≡ true) (λ key. AllByRecursion P (rows_at e on by rows key)) (λ key fit. all_rows e on by rows P key (λ f i h s. dated_kinds kinds key f i fit)) (keys_by by rows)
+    all_flat_map (tuple_rows e on by rows) P (keys_by by rows)
+    (all_more (λ key. fits_kinds kinds key ≡ true) (λ key. AllByRecursion P (tuple_rows e on by rows key)) (λ key fit. all_rows e on by rows P key (λ f i h s. dated_kinds kinds key f i fit)) (keys_by by rows)
     (once_fit kinds (map (cells_at by) rows) (all_map (cells_at by) (λ r. fits_kinds kinds r ≡ true) rows all)))

@@ -80,3 +80,32 @@ module _ (by : List ℕ) (rows : List Row) where
         ∙ sym (filter-map (λ r. same_row (cells_at by r) (key_of first)) (row_at rows) (range_with_len 0 (length rows)))
         ∙ ap (filter (λ r. same_row (cells_at by r) (key_of first))) (all_indexed rows [])
         ∙ ap (λ k. rows_by by rows k) (sym (ap key_of first_stands.1) ∙ front_key)
+
+-- ---- the places of a group's rows
+pub record IsGroup (by : List ℕ) (rows : List Row) (g : ℕ) (places : List ℕ) : Type 0 where
+  pub within : g < length (firsts (leads_of (cells_at by) rows))
+  pub led : places ≡ rows_led (leads_of (cells_at by) rows) (get_or (firsts (leads_of (cells_at by) rows)) g 0)
+
+pub group_is : (by : List ℕ) (rows : List Row) (groups : List ℕ) (g : ℕ) (places : List ℕ) → groups ≡ leads_of (cells_at by) rows → g < length (firsts groups) → places ≡ rows_led groups (get_or (firsts groups) g 0) → IsGroup by rows g places
+group_is by rows groups g places e h p = record { within = subst (λ l. g < length (firsts l)) e h; led = p ∙ ap (λ l. rows_led l (get_or (firsts l) g 0)) e }
+
+module _ (by : List ℕ) (rows : List Row) (g : ℕ) (places : List ℕ) (is : IsGroup by rows g places) where
+  pub group_within : All (λ i. i < length rows) places
+  group_within =
+      subst (All (λ i. i < length rows)) (sym is.led)
+      (led_below (leads_of (cells_at by) rows) (length rows) (get_or (firsts (leads_of (cells_at by) rows)) g 0) (many_leads by rows))
+
+  pub group_some : 0 < length places
+  group_some = subst (λ l. 0 < length l) (sym is.led) (some_led by rows g is.within)
+
+  pub group_front : get_or places 0 0 < length rows
+  group_front = subst (λ l. get_or l 0 0 < length rows) (sym is.led) (front_within by rows g is.within)
+
+  pub group_key : cells_at by (row_at rows (get_or places 0 0)) ≡ row_at (keys_by by rows) g
+  group_key = ap (λ l. cells_at by (row_at rows (get_or l 0 0))) is.led ∙ front_key by rows g is.within
+
+-- a row that is what stands at its place
+pub row_found : (rows : List Row) (i : ℕ) (r : Row) → i < length rows → r ≡ get_or rows i r → r ≡ row_at rows i
+row_found [] i r h e = absurd (omega (arith, h))
+row_found (x ∷ rows) zero r h e = e
+row_found (x ∷ rows) (suc i) r h e = row_found rows i r (omega (arith, h)) e

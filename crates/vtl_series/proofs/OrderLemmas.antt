@@ -15,10 +15,10 @@ use Rattle.vtl_time.specs.Periods.{frequency_rank, parts_in_year}
 use Rattle.vtl_time.specs.declared.periods.Frequency.{Frequency}
 use Rattle.vtl_series.specs.declared.extent.Extent.{Extent}
 use Rattle.vtl_series.specs.declared.extent.Extent.TheVariants as extent
-use Rattle.vtl_series.specs.Series.{dated, frequencies, is_spanned, keys_by, number_at, numbers_of, rows_by, seen_by, series_at, series_rows, some_number}
+use Rattle.vtl_series.specs.Series.{dated, frequencies, is_spanned, keys_by, number_at, numbers_of, rows_by, seen_by, series_at, series_rows, some_number, tuple_rows}
 use Rattle.vtl_series.proofs.DatedLemmas.{frequencies_part, keys_part, numbers_part}
 use Rattle.vtl_series.proofs.ListLemmas.{all_each, all_map, apart_flat_map, apart_map, numbers_apart}
-use Rattle.vtl_series.proofs.WholeLemmas.{all_rows, rows_at, spanned}
+use Rattle.vtl_series.proofs.WholeLemmas.{all_rows, spanned}
 
 -- ---- no row twice
 module _ (e : Extent) (on : ℕ) (by : List ℕ) (rows : List Row) where
@@ -39,16 +39,16 @@ module _ (e : Extent) (on : ℕ) (by : List ℕ) (rows : List Row) where
       (all_each (λ j. same_row (dated f key i) (dated g key j) ≡ false) (λ j. frequencies_part key f g i j ne) (numbers_of g on own (seen_by e rows own))))
       (numbers_of f on own (seen_by e rows own)))
 
-  rows_once : (key : Row) → all_apart same_row (rows_at e on by rows key) ≡ true
+  rows_once : (key : Row) → all_apart same_row (tuple_rows e on by rows key) ≡ true
   rows_once key = apart_flat_map (λ f g. nat_eq (frequency_rank f) (frequency_rank g)) same_row (part key) (part_once key) (parts_differ key) frequencies refl
 
-  keys_differ : (key other : Row) → same_row key other ≡ false → AllByRecursion (λ y. AllByRecursion (λ w. same_row y w ≡ false) (rows_at e on by rows other)) (rows_at e on by rows key)
+  keys_differ : (key other : Row) → same_row key other ≡ false → AllByRecursion (λ y. AllByRecursion (λ w. same_row y w ≡ false) (tuple_rows e on by rows other)) (tuple_rows e on by rows key)
   keys_differ key other ne =
-      all_rows e on by rows (λ y. AllByRecursion (λ w. same_row y w ≡ false) (rows_at e on by rows other)) key
+      all_rows e on by rows (λ y. AllByRecursion (λ w. same_row y w ≡ false) (tuple_rows e on by rows other)) key
       (λ f i h s. all_rows e on by rows (λ w. same_row (dated f key i) w ≡ false) other (λ g j k t. keys_part key other f g i j ne))
 
   pub once : all_apart same_row (series_rows e on by rows) ≡ true
-  once = apart_flat_map same_row same_row (rows_at e on by rows) rows_once keys_differ (keys_by by rows) (once_apart (map (cells_at by) rows))
+  once = apart_flat_map same_row same_row (tuple_rows e on by rows) rows_once keys_differ (keys_by by rows) (once_apart (map (cells_at by) rows))
 
 -- ---- rows in another order
 cond_swap : {X : Type 0} (p q : X → Bool) (x : X) (xs : List X) (a b : Bool) → p x ≡ a → q x ≡ b → filter p (filter q xs) ≡ filter q (filter p xs) → filter p (cond b (x ∷ filter q xs) (filter q xs)) ≡ filter q (cond a (x ∷ filter p xs) (filter p xs))
@@ -97,11 +97,11 @@ module _ (e : Extent) (on : ℕ) (by : List ℕ) {rows others : List Row} (p : P
       let same : spanned e on by rows key f ≡ spanned e on by others key f = λ n i. spanned-Perm f on (own-Perm key) (seen-Perm e p (own-Perm key)) i n in
       ap (λ t. map (dated f key) (filter t (range_with_len 0 (10000 * parts_in_year f)))) same
 
-  same_rows : (key : Row) → rows_at e on by rows key ≡ rows_at e on by others key
+  same_rows : (key : Row) → tuple_rows e on by rows key ≡ tuple_rows e on by others key
   same_rows key = let same : series_at e on rows (rows_by by rows key) key ≡ series_at e on others (rows_by by others key) key = λ n f. same_part key f n in ap (λ F. flat_map F frequencies) same
 
   pub in_no_order : Perm (series_rows e on by rows) (series_rows e on by others)
   in_no_order =
-      let same : rows_at e on by rows ≡ rows_at e on by others = λ n key. same_rows key n in
-      chain (Perm-flat_map (rows_at e on by rows) (once-Perm (Perm-map (cells_at by) p)))
-      (Perm-same (flat_map (rows_at e on by rows) (keys_by by others)) (series_rows e on by others) (ap (λ F. flat_map F (keys_by by others)) same))
+      let same : tuple_rows e on by rows ≡ tuple_rows e on by others = λ n key. same_rows key n in
+      chain (Perm-flat_map (tuple_rows e on by rows) (once-Perm (Perm-map (cells_at by) p)))
+      (Perm-same (flat_map (tuple_rows e on by rows) (keys_by by others)) (series_rows e on by others) (ap (λ F. flat_map F (keys_by by others)) same))

@@ -11,7 +11,7 @@ use Rattle.vtl_time.specs.Periods.{parts_in_year}
 use Rattle.vtl_time.specs.declared.periods.Frequency.{Frequency}
 use Rattle.vtl_series.specs.declared.extent.Extent.{Extent}
 use Rattle.vtl_series.specs.declared.extent.Extent.TheVariants as extent
-use Rattle.vtl_series.specs.Series.{dated, frequencies, is_spanned, keys_by, number_at, numbers_of, rows_by, seen_by, series_at, series_rows, some_number}
+use Rattle.vtl_series.specs.Series.{dated, frequencies, is_spanned, keys_by, number_at, numbers_of, rows_by, seen_by, series_at, series_rows, some_number, tuple_rows}
 use Rattle.vtl_series.proofs.DatedLemmas.{dated_are, some_frequency}
 use Rattle.vtl_series.proofs.ListLemmas.{all_each, all_flat_map, all_kept, all_map, any_filter, any_flat_map, any_gives, any_map, any_more, any_number, numbers_within, same_answer}
 
@@ -20,9 +20,8 @@ module _ (e : Extent) (on : ℕ) (by : List ℕ) (rows : List Row) where
   abbrev pub spanned : Row → Frequency → ℕ → Bool
   spanned key f i = is_spanned f on (rows_by by rows key) (seen_by e rows (rows_by by rows key)) i
 
-  -- the rows of its series
-  abbrev pub rows_at : Row → List Row
-  rows_at key = flat_map (series_at e on rows (rows_by by rows key) key) frequencies
+  abbrev rows_at : Row → List Row
+  rows_at = tuple_rows e on by rows
 
   -- what holds of each period that belongs to them
   pub all_rows : (P : Row → Type 0) (key : Row) → ((f : Frequency) (i : ℕ) → i < 10000 * parts_in_year f → spanned key f i ≡ true → P (dated f key i)) → AllByRecursion P (rows_at key)
