@@ -7,7 +7,7 @@
 //! refused before any row is made.
 //! It knows no language: neither names of sources nor roles of components. Which place of the answer a period stands at,
 //! it decides itself: behind the other columns.
-//! Begin with specs/Series.antt, then `series.rt`.
+//! Begin with specs/Series.antt and src/laws.rt, then `series.rt`.
 #![tactic(auto)]
 
 mod extent;

@@ -1,10 +1,12 @@
-use Rattle.std.proofs.Common.{◌≡◌, ◌<◌, ◌++◌, ◌∷◌, [], List, length, map, get_or, sym, ap, ◌∙◌, subst}
+use Rattle.std.proofs.Common.{◌≡◌, ◌<◌, ◌++◌, ◌∷◌, [], Err, List, Result, length, map, get_or, sym, ap, ◌∙◌, subst}
 use Rattle.std.specs.Prelude.{All, OnOk}
+use Rattle.std.specs.declared.alloc.AllocError.{AllocError}
 use Rattle.vtl_cell.specs.Row.{Row}
 use Rattle.vtl_rows.specs.Places.{row_at}
 use Rattle.vtl_rows.specs.Tables.{cells_at, column_at}
 use Rattle.vtl_rows.specs.declared.column.Column.{Column}
 use Rattle.vtl_series.specs.Kept.{FitsDated}
+use Rattle.vtl_series.specs.Series.{keys_by, tuple_rows}
 use Rattle.vtl_series.proofs.FitLemmas.{dated_fits}
 use Rattle.vtl_series.proofs.GroupLemmas.{group_front, group_is, group_some, group_within, row_found}
 use Rattle.vtl_series.proofs.SeriesLemmas.{one_group}
@@ -42,7 +44,11 @@ push_group-requires-clause-fits c =
     (subst (λ (k : Row). FitsDated (map (column_at columns) (by ++ c.args.on ∷ [])) k) (sym keyed) (dated_fits columns by c.args.on (row_at rows first) c.requires.periods (c.requires.fit first [] front)))
 
 pub returns-in_err-put_key-clause-rows : goal.returns-in_err-put_key-clause-rows
-returns-in_err-put_key-clause-rows c = rw c.from_residual.ensures tt
+returns-in_err-put_key-clause-rows c =
+    let rows = c.args.table.now.rows in
+    let by = c.args.by.now in
+    let passed : c.from_residual.result ≡ Err c.in_err-put_key.field-0.0 = search rules in
+    subst (λ (r : Result (Unit {0}) AllocError). OnOk r (c.args.rows.now.rows ≡ c.args.rows.now.rows ++ tuple_rows c.args.extent c.args.on by rows (row_at (keys_by by rows) c.args.group))) (sym passed) tt
 
 pub returns-clause-rows : goal.returns-clause-rows
 returns-clause-rows c =
