@@ -243,25 +243,25 @@ module _ (on : ℕ) (by : List ℕ) (rows : List Row) (key : Row) where
       among_all (length by) (range_with_len 0 (length by)) (series_rows extent.All on by rows) t f key (own_has extent.All on by rows key is t f j k s h)
 
   module _ (e : Extent) (is : IsKey e on by rows key) where
-    abbrev own : List Row
-    own = rows_by by rows key
+    abbrev own_rows : List Row
+    own_rows = rows_by by rows key
 
     abbrev own_again : List Row
     own_again = rows_by (range_with_len 0 (length by)) (series_rows e on by rows) key
 
     spanned_again : (f : Frequency) (i : ℕ) → i < 10000 * parts_in_year f → spanned e (length by) (range_with_len 0 (length by)) (series_rows e on by rows) key f i ≡ spanned e on by rows key f i
-    spanned_again f i k = same_answer (is_spanned f (length by) own_again (seen_again e) i) (is_spanned f on own (seen_in e) i) to back
+    spanned_again f i k = same_answer (is_spanned f (length by) own_again (seen_again e) i) (is_spanned f on own_rows (seen_in e) i) to back
       where
-        to : is_spanned f (length by) own_again (seen_again e) i ≡ true → is_spanned f on own (seen_in e) i ≡ true
+        to : is_spanned f (length by) own_again (seen_again e) i ≡ true → is_spanned f on own_rows (seen_in e) i ≡ true
         to s =
             let parts = parts_of f (length by) own_again (seen_again e) i s in
-            let there = own_gives e on by rows key is (λ z. true) (some_number (λ z. true) f on own) f (λ j q m. (parts_of f on own (seen_in e) j q).0) parts.0 in
+            let there = own_gives e on by rows key is (λ z. true) (some_number (λ z. true) f on own_rows) f (λ j q m. (parts_of f on own_rows (seen_in e) j q).0) parts.0 in
             let from = seen_gives e is (λ z. nat_le z i) (some_number (λ z. nat_le z i) f on (seen_in e)) f (λ j q m. some_more (λ z. nat_le z j) (λ z. nat_le z i) f on (seen_in e) (λ z h. not_later z j i m h) q.0) parts.1.0 in
             let upto = seen_gives e is (λ z. nat_le i z) (some_number (λ z. nat_le i z) f on (seen_in e)) f (λ j q m. some_more (λ z. nat_le j z) (λ z. nat_le i z) f on (seen_in e) (λ z h. not_later i j z h m) q.1) parts.1.1 in
             ap (λ b. b && (some_number (λ z. nat_le z i) f on (seen_in e) && some_number (λ z. nat_le i z) f on (seen_in e))) there
             ∙ ap (λ b. b && some_number (λ z. nat_le i z) f on (seen_in e)) from ∙ upto
 
-        back : is_spanned f on own (seen_in e) i ≡ true → is_spanned f (length by) own_again (seen_again e) i ≡ true
+        back : is_spanned f on own_rows (seen_in e) i ≡ true → is_spanned f (length by) own_again (seen_again e) i ≡ true
         back s =
             ap (λ b. b && (some_number (λ z. nat_le z i) f (length by) (seen_again e) && some_number (λ z. nat_le i z) f (length by) (seen_again e))) (own_has e on by rows key is (λ z. true) f i k s refl)
             ∙ ap (λ b. b && some_number (λ z. nat_le i z) f (length by) (seen_again e)) (seen_has e is (λ z. nat_le z i) f i k s (itself i))
@@ -270,7 +270,7 @@ module _ (on : ℕ) (by : List ℕ) (rows : List Row) (key : Row) where
     rows_again : tuple_rows e (length by) (range_with_len 0 (length by)) (series_rows e on by rows) key ≡ tuple_rows e on by rows key
     rows_again = ap (λ F. flat_map F frequencies) (λ n f. part f n)
       where
-        part : (f : Frequency) → series_at e (length by) (series_rows e on by rows) own_again key f ≡ series_at e on rows own key f
+        part : (f : Frequency) → series_at e (length by) (series_rows e on by rows) own_again key f ≡ series_at e on rows own_rows key f
         part f =
             ap (map (dated f key)) (passing_agree (spanned e (length by) (range_with_len 0 (length by)) (series_rows e on by rows) key f) (spanned e on by rows key f) (10000 * parts_in_year f) (spanned_again f))
 

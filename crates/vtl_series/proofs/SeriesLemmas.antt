@@ -35,7 +35,7 @@ series_are e on rows own key h k = ap (λ F. flat_map F frequencies) (λ n f. sa
 pub group_series : (e : Extent) (on : ℕ) (by : List ℕ) (rows : List Row) (g : ℕ) → (h : g < length (firsts (leads_of (cells_at by) rows))) → (own all : Spans)
     → own ≡ spans_of on (map (row_at rows) (rows_led (leads_of (cells_at by) rows) (get_or (firsts (leads_of (cells_at by) rows)) g 0))) → all ≡ spans_of on rows → AreWithin own → AreWithin all
     → flat_map (dated_in e (get_or (keys_by by rows) g []) own all) frequencies
-      ≡ flat_map (series_at e on rows (rows_by by rows (get_or (keys_by by rows) g [])) (get_or (keys_by by rows) g [])) frequencies
+    ≡ flat_map (series_at e on rows (rows_by by rows (get_or (keys_by by rows) g [])) (get_or (keys_by by rows) g [])) frequencies
 group_series e on by rows g h own all mine every own_within all_within =
     let key = get_or (keys_by by rows) g [] in
     let is : own ≡ spans_of on (rows_by by rows key) = mine ∙ ap (spans_of on) (led_rows by rows g h) in

@@ -16,5 +16,7 @@ mod series;
 mod spans;
 
 pub use extent::Extent;
-pub use laws::{rows_are_seen_in_no_order, rows_fit_their_kinds, rows_stand_once, series_are_whole};
+pub use laws::{
+    rows_are_seen_in_no_order, rows_fit_their_kinds, rows_stand_once, series_are_whole,
+};
 pub use series::rows_of_series;
