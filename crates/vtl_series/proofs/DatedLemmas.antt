@@ -1,22 +1,19 @@
 -- Rows of a tuple and a period: when two are the same, and what is read of one.
-use Rattle.std.proofs.Common.{◌≡◌, ◌<◌, ◌+◌, ◌*◌, ℕ, Bool, true, false, cond, ◌&&◌, ◌||◌, List, [], ◌∷◌, ◌++◌, Option, Some, None, map, length, get_or, refl, sym, ap, ◌∙◌, subst, arith, nat_eq, eq-eqb, true≢false}
-use Rattle.std.specs.List.{AllByRecursion, flat_map, list_any, range_with_len}
-use Rattle.std.specs.Option.{option_map_or}
-use Rattle.std.proofs.lemmas.Bool.{and_parts}
+use Rattle.std.proofs.Common.{◌≡◌, ℕ, Bool, true, false, cond, ◌||◌, [], ◌∷◌, ◌++◌, Some, None, length, refl, sym, ap, ◌∙◌, arith, nat_eq, eq-eqb, true≢false}
+use Rattle.std.specs.List.{list_any, range_with_len}
 use Rattle.std.proofs.lemmas.List.{get_or_append_left, get_or_push, length_push}
 use Rattle.std.proofs.lemmas.List.FromFn.{fill_by_all}
 use Rattle.vtl_cell.specs.Row.{Row, column_of, same_row}
 use Rattle.vtl_cell.specs.declared.cell.Cell.{Cell}
 use Rattle.vtl_cell.specs.declared.cell.Cell.TheVariants as c
 use Rattle.vtl_cell.proofs.Rows.{same_row-is, same_row-refl}
-use Rattle.vtl_cell.proofs.Times.{rank_apart}
 use Rattle.vtl_rows.specs.Tables.{cells_at}
 use Rattle.vtl_time.specs.Periods.{YearPart, frequency_rank, index_of, period_at}
 use Rattle.vtl_time.specs.declared.periods.Frequency.{Frequency}
 use Rattle.vtl_time.specs.declared.periods.Frequency.TheVariants.{Annual, Semester, Quarter, Month}
 use Rattle.vtl_time.proofs.PeriodLemmas.{index-period_at}
 use Rattle.vtl_series.specs.Series.{dated, frequencies, number_at, number_of, period_in}
-use Rattle.vtl_series.proofs.ListLemmas.{any_none, or_left, or_right, same_answer}
+use Rattle.vtl_series.proofs.ListLemmas.{or_left, or_right}
 
 -- ---- two such rows
 longer : (xs : Row) (x y : Cell) → [] ≡ xs ++ x ∷ [] → ⊥

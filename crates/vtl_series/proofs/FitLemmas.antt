@@ -1,6 +1,6 @@
 -- Rows of series fit their columns.
-use Rattle.std.proofs.Common.{◌≡◌, ◌++◌, ◌∷◌, [], ◌&&◌, ℕ, true, false, not, List, map, refl, sym, ap, ◌∙◌, true≢false}
-use Rattle.std.specs.List.{AllByRecursion, filter}
+use Rattle.std.proofs.Common.{◌≡◌, ◌++◌, ◌∷◌, [], ◌&&◌, ℕ, true, not, List, map, refl, sym, ap, ◌∙◌, true≢false}
+use Rattle.std.specs.List.{AllByRecursion}
 use Rattle.std.proofs.lemmas.Bool.{and_parts}
 use Rattle.vtl_lists.proofs.Sorts.{AllByRecursion-filter}
 use Rattle.vtl_cell.specs.Kinds.{is_of}
@@ -12,7 +12,6 @@ use Rattle.vtl_index.specs.Groups.{each_once}
 use Rattle.vtl_rows.specs.Tables.{cells_at, column_at, fits, fits_kinds}
 use Rattle.vtl_rows.specs.declared.column.Column.{Column}
 use Rattle.vtl_rows.proofs.Gathers.{cell_fits}
-use Rattle.vtl_time.specs.Periods.{period_at}
 use Rattle.vtl_time.specs.declared.periods.Frequency.{Frequency}
 use Rattle.vtl_series.specs.declared.extent.Extent.{Extent}
 use Rattle.vtl_series.specs.Kept.{FitsDated}

@@ -1,7 +1,7 @@
 -- Groups of rows by the other columns: their rows, and their tuples.
-use Rattle.std.proofs.Common.{◌≡◌, ℕ, zero, suc, ◌+◌, ◌<◌, ◌≤◌, ◌++◌, Bool, true, false, cond, List, [], ◌∷◌, length, get_or, map, filter, refl, sym, ap, ◌∙◌, arith, subst, eqb, eq-eqb, ne_eqb}
-use Rattle.std.specs.List.{AllByRecursion, flat_map, position_or_len, range_with_len}
-use Rattle.std.specs.Prelude.{All, slice_index_or}
+use Rattle.std.proofs.Common.{◌≡◌, ℕ, zero, suc, ◌<◌, List, [], ◌∷◌, length, get_or, map, filter, sym, ap, ◌∙◌, arith, subst, eqb, eq-eqb, ne_eqb}
+use Rattle.std.specs.List.{position_or_len, range_with_len}
+use Rattle.std.specs.Prelude.{All}
 use Rattle.std.proofs.lemmas.List.Elements.{All-from_recursion}
 use Rattle.std.proofs.lemmas.List.{get_or-map, length-map}
 use Rattle.vtl_lists.proofs.Sorts.{AllByRecursion-filter}

@@ -14,7 +14,7 @@ use Rattle.vtl_series.specs.declared.extent.Extent.TheVariants as extent
 use Rattle.vtl_series.specs.declared.spans.Span.{Span}
 use Rattle.vtl_series.specs.declared.spans.Spans.{Spans}
 use Rattle.vtl_series.specs.Kept.{AreWithin, IsWithin, chosen, dated_in, span_at, spans_of}
-use Rattle.vtl_series.specs.Series.{dated, frequencies, keys_by, rows_by, seen_by, series_at, tuple_rows}
+use Rattle.vtl_series.specs.Series.{dated, frequencies, keys_by, rows_by, series_at, tuple_rows}
 use Rattle.vtl_series.proofs.GroupLemmas.{IsGroup, group_key, led_rows}
 use Rattle.vtl_series.proofs.NumberLemmas.{numbers_are}
 

@@ -1,4 +1,4 @@
-use Rattle.std.proofs.Common.{◌≡◌, ◌<◌, ◌++◌, ◌∷◌, [], Err, List, Result, length, map, get_or, rules, sym, ap, ◌∙◌, subst}
+use Rattle.std.proofs.Common.{◌≡◌, ◌<◌, ◌++◌, ◌∷◌, [], Err, List, Result, map, get_or, rules, sym, ap, ◌∙◌, subst}
 use Rattle.std.specs.Prelude.{All, OnOk}
 use Rattle.std.specs.declared.alloc.AllocError.{AllocError}
 use Rattle.vtl_cell.specs.Row.{Row}
