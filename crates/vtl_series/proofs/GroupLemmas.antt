@@ -1,10 +1,11 @@
 -- Groups of rows by the other columns: their rows, and their tuples.
-use Rattle.std.proofs.Common.{◌≡◌, ℕ, zero, suc, ◌+◌, ◌<◌, ◌≤◌, ◌++◌, Bool, true, false, cond, List, [], ◌∷◌, length, get_or, map, filter, refl, sym, ap, ◌∙◌, arith, subst, eqb, eq-eqb, ne_eqb}
-use Rattle.std.specs.List.{AllByRecursion, flat_map, position_or_len, range_with_len}
-use Rattle.std.specs.Prelude.{All, slice_index_or}
+use Rattle.std.proofs.Common.{◌≡◌, ℕ, zero, suc, ◌<◌, List, [], ◌∷◌, length, get_or, map, filter, sym, ap, ◌∙◌, arith, subst, eqb, eq-eqb, ne_eqb}
+use Rattle.std.specs.List.{position_or_len, range_with_len}
+use Rattle.std.specs.Prelude.{All}
 use Rattle.std.proofs.lemmas.List.Elements.{All-from_recursion}
 use Rattle.std.proofs.lemmas.List.{get_or-map, length-map}
 use Rattle.vtl_lists.proofs.Sorts.{AllByRecursion-filter}
+use Rattle.vtl_tuples.proofs.Lists.{filter-map}
 use Rattle.vtl_cell.specs.Row.{Row, same_row}
 use Rattle.vtl_rows.specs.Places.{row_at}
 use Rattle.vtl_rows.specs.Tables.{cells_at}
@@ -13,18 +14,7 @@ use Rattle.vtl_index.specs.Leads.{leads_of}
 use Rattle.vtl_index.proofs.KeyGroups.{are_leads, keys_once, rows_of_key}
 use Rattle.vtl_index.proofs.Ranges.{all_indexed, none_pass, passing, passing_at, passing_is}
 use Rattle.vtl_series.specs.Series.{keys_by, rows_by}
-
-filter-map : {X Y : Type 0} (f : X → Y) (p : Y → Bool) (xs : List X) → map f (filter (λ x. p (f x)) xs) ≡ filter p (map f xs)
-filter-map f p [] = refl
-filter-map f p (x ∷ xs) = go (p (f x)) (filter-map f p xs)
-  where
-    go : (b : Bool) → map f (filter (λ y. p (f y)) xs) ≡ filter p (map f xs) → map f (cond b (x ∷ filter (λ y. p (f y)) xs) (filter (λ y. p (f y)) xs)) ≡ cond b (f x ∷ filter p (map f xs)) (filter p (map f xs))
-    go true ih = ap (λ l. f x ∷ l) ih
-    go false ih = ih
-
-numbers_within : (a n m : ℕ) → a + n ≤ m → AllByRecursion (λ i. i < m) (range_with_len a n)
-numbers_within a zero m h = tt
-numbers_within a (suc n) m h = (omega (arith, h), numbers_within (a + 1) n m (omega (arith, h)))
+use Rattle.vtl_series.proofs.ListLemmas.{numbers_within}
 
 -- the rows of a group are rows
 pub led_below : (leads : List ℕ) (n f : ℕ) → length leads ≡ n → All (λ i. i < n) (rows_led leads f)
@@ -87,6 +77,35 @@ module _ (by : List ℕ) (rows : List Row) where
         let within : first < length rows = let w = first_inside in let m = many_leads in omega (arith, w, m) in
         ap (λ f. map (row_at rows) (rows_led leads f)) (sym first_own)
         ∙ ap (map (row_at rows)) (rows_of_key (cells_at by) rows first within)
-        ∙ filter-map (row_at rows) (λ r. same_row (cells_at by r) (key_of first)) (range_with_len 0 (length rows))
+        ∙ sym (filter-map (λ r. same_row (cells_at by r) (key_of first)) (row_at rows) (range_with_len 0 (length rows)))
         ∙ ap (filter (λ r. same_row (cells_at by r) (key_of first))) (all_indexed rows [])
         ∙ ap (λ k. rows_by by rows k) (sym (ap key_of first_stands.1) ∙ front_key)
+
+-- ---- the places of a group's rows
+pub record IsGroup (by : List ℕ) (rows : List Row) (g : ℕ) (places : List ℕ) : Type 0 where
+  pub within : g < length (firsts (leads_of (cells_at by) rows))
+  pub led : places ≡ rows_led (leads_of (cells_at by) rows) (get_or (firsts (leads_of (cells_at by) rows)) g 0)
+
+pub group_is : (by : List ℕ) (rows : List Row) (groups : List ℕ) (g : ℕ) (places : List ℕ) → groups ≡ leads_of (cells_at by) rows → g < length (firsts groups) → places ≡ rows_led groups (get_or (firsts groups) g 0) → IsGroup by rows g places
+group_is by rows groups g places e h p = record { within = subst (λ l. g < length (firsts l)) e h; led = p ∙ ap (λ l. rows_led l (get_or (firsts l) g 0)) e }
+
+module _ (by : List ℕ) (rows : List Row) (g : ℕ) (places : List ℕ) (is : IsGroup by rows g places) where
+  pub group_within : All (λ i. i < length rows) places
+  group_within =
+      subst (All (λ i. i < length rows)) (sym is.led)
+      (led_below (leads_of (cells_at by) rows) (length rows) (get_or (firsts (leads_of (cells_at by) rows)) g 0) (many_leads by rows))
+
+  pub group_some : 0 < length places
+  group_some = subst (λ l. 0 < length l) (sym is.led) (some_led by rows g is.within)
+
+  pub group_front : get_or places 0 0 < length rows
+  group_front = subst (λ l. get_or l 0 0 < length rows) (sym is.led) (front_within by rows g is.within)
+
+  pub group_key : cells_at by (row_at rows (get_or places 0 0)) ≡ row_at (keys_by by rows) g
+  group_key = ap (λ l. cells_at by (row_at rows (get_or l 0 0))) is.led ∙ front_key by rows g is.within
+
+-- a row that is what stands at its place
+pub row_found : (rows : List Row) (i : ℕ) (r : Row) → i < length rows → r ≡ get_or rows i r → r ≡ row_at rows i
+row_found [] i r h e = absurd (omega (arith, h))
+row_found (x ∷ rows) zero r h e = e
+row_found (x ∷ rows) (suc i) r h e = row_found rows i r (omega (arith, h)) e

@@ -1,5 +1,10 @@
+mod AgainLemmas
+mod DatedLemmas
 mod FitLemmas
 mod GroupLemmas
+mod ListLemmas
 mod NumberLemmas
+mod OrderLemmas
 mod SeriesLemmas
 mod SpanLemmas
+mod WholeLemmas

@@ -1,7 +1,7 @@
 -- Numbers of periods: which ones the spans of rows cover, and that these are the numbers from the first to the last.
-use Rattle.std.proofs.Common.{◌≡◌, ◌<◌, ◌≤◌, ◌+◌, ◌-◌, ◌*◌, ◌&&◌, ◌||◌, ◌++◌, ℕ, zero, suc, Bool, true, false, cond, min, max, List, [], ◌∷◌, map, filter, None, Some, Option, refl, sym, ap, ◌∙◌, arith, nat_eq, nat_le}
+use Rattle.std.proofs.Common.{◌≡◌, ◌<◌, ◌≤◌, ◌+◌, ◌-◌, ◌*◌, ◌&&◌, ◌||◌, ◌++◌, ℕ, zero, suc, Bool, true, false, cond, List, [], ◌∷◌, map, filter, None, Some, Option, refl, sym, ap, ◌∙◌, arith, nat_eq, nat_le}
 use Rattle.std.specs.Prelude.{IfSome}
-use Rattle.std.specs.List.{fold, list_any, range_with_len}
+use Rattle.std.specs.List.{fold, range_with_len}
 use Rattle.std.specs.Option.{option_map_or}
 use Rattle.std.proofs.Math.Bool.{or_assoc}
 use Rattle.std.proofs.lemmas.List.{append_assoc, map-id}
@@ -107,14 +107,14 @@ chosen_covers extent.All (Some s) (Some t) i = refl
 spans_cover : (e : Extent) (on : ℕ) (f : Frequency) (rows own : List Row) (i : ℕ) → is_spanned f on own (seen_by e rows own) i ≡ covers (chosen e (span_at (spans_of on own) f) (span_at (spans_of on rows) f)) i
 spans_cover extent.Single on f rows own i =
     sym (chosen_covers extent.Single (span_at (spans_of on own) f) (span_at (spans_of on rows) f) i
-      ∙ ap (λ b. b && (starts i (span_at (spans_of on own) f) && ends i (span_at (spans_of on own) f))) (there_in on f own)
-      ∙ ap (λ b. some_number (λ j. true) f on own && (b && ends i (span_at (spans_of on own) f))) (starts_in i on f own)
-      ∙ ap (λ b. some_number (λ j. true) f on own && (some_number (λ j. nat_le j i) f on own && b)) (ends_in i on f own))
+    ∙ ap (λ b. b && (starts i (span_at (spans_of on own) f) && ends i (span_at (spans_of on own) f))) (there_in on f own)
+    ∙ ap (λ b. some_number (λ j. true) f on own && (b && ends i (span_at (spans_of on own) f))) (starts_in i on f own)
+    ∙ ap (λ b. some_number (λ j. true) f on own && (some_number (λ j. nat_le j i) f on own && b)) (ends_in i on f own))
 spans_cover extent.All on f rows own i =
     sym (every (span_at (spans_of on own) f) (span_at (spans_of on rows) f)
-      ∙ ap (λ b. b && (starts i (span_at (spans_of on rows) f) && ends i (span_at (spans_of on rows) f))) (there_in on f own)
-      ∙ ap (λ b. some_number (λ j. true) f on own && (b && ends i (span_at (spans_of on rows) f))) (starts_in i on f rows)
-      ∙ ap (λ b. some_number (λ j. true) f on own && (some_number (λ j. nat_le j i) f on rows && b)) (ends_in i on f rows))
+    ∙ ap (λ b. b && (starts i (span_at (spans_of on rows) f) && ends i (span_at (spans_of on rows) f))) (there_in on f own)
+    ∙ ap (λ b. some_number (λ j. true) f on own && (b && ends i (span_at (spans_of on rows) f))) (starts_in i on f rows)
+    ∙ ap (λ b. some_number (λ j. true) f on own && (some_number (λ j. nat_le j i) f on rows && b)) (ends_in i on f rows))
   where
     every : (a b : Option Span) → covers (chosen extent.All a b) i ≡ (is_there a && (starts i b && ends i b))
     every None b = refl

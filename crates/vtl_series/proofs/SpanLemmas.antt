@@ -1,5 +1,5 @@
 -- Spans of periods: that they stay within the years 0 to 9999, and which numbers they cover.
-use Rattle.std.proofs.Common.{◌≡◌, ◌<◌, ◌≤◌, ◌*◌, ℕ, None, Some, Option, arith}
+use Rattle.std.proofs.Common.{◌<◌, ◌*◌, ℕ, None, Some, Option, arith}
 use Rattle.std.specs.Prelude.{IfSome}
 use Rattle.vtl_time.specs.Periods.{parts_in_year}
 use Rattle.vtl_time.specs.declared.periods.Frequency.{Frequency}

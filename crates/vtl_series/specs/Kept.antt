@@ -1,7 +1,6 @@
 -- What a walk over rows keeps: for each frequency the numbers of the first and of the last period, where there is one.
 use Rattle.std.specs.Prelude.{◌≡◌, ◌≤◌, ◌<◌, ◌*◌, ◌+◌, ◌-◌, ◌&&◌, ◌++◌, ℕ, Bool, true, false, List, [], ◌∷◌, min, max, nat_le, map, Option, None, Some, IfSome}
-use Rattle.std.specs.List.{fold, list_any, range_with_len}
-use Rattle.std.specs.Option.{option_map_or}
+use Rattle.std.specs.List.{fold, range_with_len}
 use Rattle.vtl_cell.specs.Row.{Row, column_of}
 use Rattle.vtl_time.specs.Periods.{YearPart, index_of, parts_in_year}
 use Rattle.vtl_time.specs.declared.periods.Frequency.{Frequency}

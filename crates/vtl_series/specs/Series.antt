@@ -73,9 +73,12 @@ dated f key i = key ++ c.Period (period_at f i) ∷ []
 abbrev pub series_at : Extent → ℕ → List Row → List Row → Row → Frequency → List Row
 series_at extent on rows own key f = map (dated f key) (numbers_of f on own (seen_by extent rows own))
 
+-- the rows of the series of a tuple
+abbrev pub tuple_rows : Extent → ℕ → List ℕ → List Row → Row → List Row
+tuple_rows extent on by rows key = flat_map (series_at extent on rows (rows_by by rows key) key) frequencies
+
 -- Two rows are in one series where they agree in the other columns, null being equal to null, and their periods have one frequency; a
 -- row without a period is in none. For each series there is a row for each period from its first to its last, or from the first to the
 -- last of all rows of its frequency.
 abbrev pub series_rows : Extent → ℕ → List ℕ → List Row → List Row
-series_rows extent on by rows =
-    flat_map (λ key. flat_map (series_at extent on rows (rows_by by rows key) key) frequencies) (keys_by by rows)
+series_rows extent on by rows = flat_map (tuple_rows extent on by rows) (keys_by by rows)

@@ -28,11 +28,11 @@ pub fn rows_stand_once()
     ensures { (e : Extent) (on : ℕ) (by : List ℕ) (rows : List Row) → all_apart same_row (series_rows e on by rows) ≡ true }
 {}
 
-/// Which rows there are. A period of a tuple is there exactly where the tuple has a row of its frequency, and of the rows
-/// that count one is not later and one not earlier; so there is no gap, ALL contains SINGLE, and series that are made of
+/// Which rows there are: beside a tuple stands a period exactly where the tuple has a row of its frequency, and of the rows
+/// that count one is not later and one not earlier. So there is no gap, ALL contains SINGLE, and series that are made of
 /// series are the same.
 pub fn series_are_whole()
-    ensures exactly { (e : Extent) (on : ℕ) (by : List ℕ) (rows : List Row) (r : Row) (f : Frequency) (i : ℕ) → list_any (same_row r) rows ≡ true → i < 10000 * parts_in_year f → list_any (same_row (dated f (cells_at by r) i)) (series_rows e on by rows) ≡ is_spanned f on (rows_by by rows (cells_at by r)) (seen_by e rows (rows_by by rows (cells_at by r))) i }
+    ensures exactly { (e : Extent) (on : ℕ) (by : List ℕ) (rows : List Row) (key : Row) (f : Frequency) (i : ℕ) → i < 10000 * parts_in_year f → list_any (same_row (dated f key i)) (series_rows e on by rows) ≡ is_spanned f on (rows_by by rows key) (seen_by e rows (rows_by by rows key)) i }
     ensures contains { (on : ℕ) (by : List ℕ) (rows : List Row) → AllByRecursion (λ r. list_any (same_row r) (series_rows extent.All on by rows) ≡ true) (series_rows extent.Single on by rows) }
     ensures again { (e : Extent) (on : ℕ) (by : List ℕ) (rows : List Row) → series_rows e (length by) (range_with_len 0 (length by)) (series_rows e on by rows) ≡ series_rows e on by rows }
 {}

@@ -7,7 +7,7 @@
 //! refused before any row is made.
 //! It knows no language: neither names of sources nor roles of components. Which place of the answer a period stands at,
 //! it decides itself: behind the other columns.
-//! Begin with specs/Series.antt, then `series.rt`.
+//! Begin with specs/Series.antt and src/laws.rt, then `series.rt`.
 #![tactic(auto)]
 
 mod extent;
@@ -16,5 +16,7 @@ mod series;
 mod spans;
 
 pub use extent::Extent;
-pub use laws::{rows_are_seen_in_no_order, rows_fit_their_kinds, rows_stand_once, series_are_whole};
+pub use laws::{
+    rows_are_seen_in_no_order, rows_fit_their_kinds, rows_stand_once, series_are_whole,
+};
 pub use series::rows_of_series;

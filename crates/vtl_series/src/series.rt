@@ -1,13 +1,13 @@
 // The rows of series, from groups of rows.
-ghost use Rattle.std.specs.Prelude.{◌≡◌, ◌<◌, ◌≤◌, ◌+◌, ◌++◌, [], ◌∷◌, true, Some, length, map, All, IfOk, IfSome, OnOk};
+ghost use Rattle.std.specs.Prelude.{◌≡◌, ◌<◌, ◌++◌, [], ◌∷◌, true, Some, length, map, All, IfOk, IfSome, OnOk};
 ghost use Rattle.std.specs.List.{flat_map};
 ghost use Rattle.vtl_cell.specs.declared.kind.Kind.TheVariants as k;
-ghost use Rattle.vtl_cell.specs.Row.{Row, column_of};
+ghost use Rattle.vtl_index.specs.Groups.{firsts};
+ghost use Rattle.vtl_index.specs.Leads.{leads_of};
 ghost use Rattle.vtl_rows.specs.Places.{row_at};
-ghost use Rattle.vtl_rows.specs.Tables.{cells_at, column_at, column_kinds, fits};
+ghost use Rattle.vtl_rows.specs.Tables.{AllFit, cells_at, column_at, fits};
 ghost use Rattle.vtl_series.specs.Kept.{AreWithin, FitsDated, IsWithin, chosen, dated_in, numbers_of_span, span_at, spans_of};
-ghost use Rattle.vtl_series.specs.Series.{dated, frequencies, series_rows};
-ghost use Rattle.vtl_time.specs.Periods.{parts_in_year};
+ghost use Rattle.vtl_series.specs.Series.{dated, frequencies, keys_by, series_rows, tuple_rows};
 
 use crate::Extent;
 use crate::spans::{Span, Spans, chosen};
@@ -17,12 +17,10 @@ use vtl_index::Groups;
 use vtl_rows::{Column, Table};
 use vtl_time::{Frequency, Period};
 
-// A column equal to the one at a place.
-fn copy_column(table: &Table, place: usize) -> Result<Column, AllocError>
-    requires { place < length table.now.columns }
-    ensures { IfOk result (λ copy. copy ≡ column_at table.now.columns place) }
+// An equal column.
+fn copy_column(column: &Column) -> Result<Column, AllocError>
+    ensures { IfOk result (λ copy. copy ≡ column.now) }
 {
-    let column = &table.columns()[place];
     Ok(Column {
         name: column.name.share()?,
         kind: column.kind,
@@ -32,20 +30,20 @@ fn copy_column(table: &Table, place: usize) -> Result<Column, AllocError>
 // The columns of a series' rows: the others as they are listed, and behind them that of the periods.
 fn series_columns(
     alloc: Global,
-    table: &Table,
+    columns: &[Column],
     on: usize,
     by: &[usize],
 ) -> Result<Vec<Column>, AllocError>
-    requires on { on < length table.now.columns }
-    requires by { All (λ i. i < length table.now.columns) by.now }
-    ensures { IfOk result (λ columns. columns.items ≡ map (column_at table.now.columns) (by.now ++ on ∷ [])) }
+    requires on { on < length columns.now }
+    requires by { All (λ i. i < length columns.now) by.now }
+    ensures { IfOk result (λ made. made.items ≡ map (column_at columns.now) (by.now ++ on ∷ [])) }
 {
-    let mut columns = Vec::with_capacity(alloc, by.len().saturating_add(1))?;
+    let mut made = Vec::with_capacity(alloc, by.len().saturating_add(1))?;
     for place in by {
-        columns.push(copy_column(table, *place)?)?;
+        made.push(copy_column(&columns[*place])?)?;
     }
-    columns.push(copy_column(table, on)?)?;
-    Ok(columns)
+    made.push(copy_column(&columns[on])?)?;
+    Ok(made)
 }
 
 // The spans of all rows of a table.
@@ -217,6 +215,38 @@ fn put_key(key: &mut Vec<Cell>, row: &[Cell], by: &[usize]) -> Result<(), AllocE
     Ok(())
 }
 
+// Puts the rows of the series of one tuple behind the others, from the group of its rows.
+fn push_one_group(
+    rows: &mut Table,
+    room: &mut Vec<Cell>,
+    key: &mut Vec<Cell>,
+    table: &Table,
+    on: usize,
+    by: &[usize],
+    extent: Extent,
+    groups: &Groups,
+    group: usize,
+    all: &Spans,
+) -> Result<(), AllocError>
+    requires periods { (column_at table.now.columns on).kind ≡ k.Period }
+    requires by { All (λ i. i < length table.now.columns) by.now }
+    requires fit { AllFit table.now.columns table.now.rows }
+    requires columns { rows.old.columns ≡ map (column_at table.now.columns) (by.now ++ on ∷ []) }
+    requires groups { groups.now ≡ leads_of (cells_at by.now) table.now.rows }
+    requires group { group < length (firsts groups.now) }
+    requires all { all.now ≡ spans_of on table.now.rows }
+    requires within { AreWithin all.now }
+    requires empty { room.old.items ≡ [] }
+    ensures columns { rows.new.columns ≡ rows.old.columns }
+    ensures rows { OnOk result (rows.new.rows ≡ rows.old.rows ++ tuple_rows extent on by.now table.now.rows (row_at (keys_by by.now table.now.rows) group)) }
+    ensures empty { OnOk result (room.new.items ≡ []) }
+{
+    let places = groups.rows(group);
+    put_key(key, table.row(places[0]), by)?;
+    let own = spans_of_rows(table, on, places);
+    push_group(rows, room, key, extent, &own, all)
+}
+
 /// The rows of the series of a table's rows, below the columns at the places `by` and behind them the column `on` of the
 /// periods: two rows are in one series where they agree in the columns at `by`, null being equal to null, and their
 /// periods have one frequency, and for each series there is a row for each period from its first to its last, or to the
@@ -237,7 +267,8 @@ pub fn rows_of_series(
     ensures columns { IfOk result (λ t. t.columns ≡ map (column_at table.now.columns) (by.now ++ on ∷ [])) }
     ensures rows { IfOk result (λ t. t.rows ≡ series_rows extent on by.now table.now.rows) }
 {
-    let columns = series_columns(alloc, table, on, by)?;
+    let own = table.columns();
+    let columns = series_columns(alloc, own, on, by)?;
     let groups = Groups::by(alloc, table, by)?;
     let all = spans_of_table(table, on);
     let mut rows = Table::new(alloc, columns);
@@ -245,10 +276,9 @@ pub fn rows_of_series(
     let mut key = Vec::with_capacity(alloc, by.len())?;
     let mut room = Vec::with_capacity(alloc, by.len().saturating_add(1))?;
     for group in 0..groups.len() {
-        let places = groups.rows(group);
-        put_key(&mut key, table.row(places[0]), by)?;
-        let own = spans_of_rows(table, on, places);
-        push_group(&mut rows, &mut room, &key, extent, &own, &all)?;
+        push_one_group(
+            &mut rows, &mut room, &mut key, table, on, by, extent, &groups, group, &all,
+        )?;
     }
     Ok(rows)
 }

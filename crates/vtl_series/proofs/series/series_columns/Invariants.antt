@@ -3,4 +3,4 @@ use Rattle.vtl_rows.specs.Tables.{column_at}
 use Rattle.vtl_series.proofs.series.series_columns.Given as goal
 
 abbrev pub invariant-loop-place : goal.invariant-loop-place
-invariant-loop-place l = l.columns.items ≡ map (column_at l.table.columns) (take l.place-index l.by)
+invariant-loop-place l = l.made.items ≡ map (column_at l.columns) (take l.place-index l.by)

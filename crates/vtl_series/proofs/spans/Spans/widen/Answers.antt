@@ -3,7 +3,6 @@ use Rattle.vtl_time.specs.Periods.{parts_in_year}
 use Rattle.vtl_time.specs.declared.periods.Frequency.TheVariants.{Annual, Semester, Quarter, Month}
 use Rattle.vtl_series.specs.Kept.{AreWithin}
 use Rattle.vtl_series.specs.declared.spans.Span.{Span}
-use Rattle.vtl_series.specs.declared.spans.Spans.{Spans}
 use Rattle.vtl_series.proofs.SpanLemmas.{and_within}
 use Rattle.vtl_series.proofs.spans.Spans.widen.Goals as goal
 
