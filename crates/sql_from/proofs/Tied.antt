@@ -49,13 +49,6 @@ module _ (s : Sourced) (lead : ℕ) (t : Tie) (keys keys' : List KeyPair) (ties 
       let both = and_parts (list_all (is_tied p outer inner) ties) (is_tied p outer inner t) (sym (ties_parted p outer inner ties t) ∙ h) in
       ap (all_paired p inner (row_in s lead (with_number front last))) same ∙ before p inner front last whole both.0
 
--- no equalities
-pub none_tied : (s : Sourced) (lead : ℕ) (keys : List KeyPair) → keys ≡ [] → AreTiedBy s lead [] keys
-none_tied s lead keys none p inner front last whole = sym (ap (all_paired p inner (row_in s lead (with_number front last))) none)
-
-pub none_implied : (s : Sourced) (lead : ℕ) (keys : List KeyPair) → keys ≡ [] → AreTiesImplying s lead [] keys
-none_implied s lead keys none p inner front last whole h = ap (all_paired p inner (row_in s lead (with_number front last))) none
-
 -- the first equalities, one more
 pub implied_step : (s : Sourced) (lead : ℕ) (ties : List Tie) (i : ℕ) (t : Tie) (keys keys' : List KeyPair) → i < length ties → t ≡ get_or ties i t → AreTiesImplying s lead (take i ties) keys
     → ((ts : List Tie) → AreTiesImplying s lead ts keys → AreTiesImplying s lead (ts ++ t ∷ []) keys') → AreTiesImplying s lead (take (i + 1) ties) keys'
