@@ -109,10 +109,6 @@ conjunction_implied s lead a b first mid all h g p front last whole t before =
 pub paired_implied : (s : Sourced) (lead : ℕ) (e : Exp) (first all : List KeyPair) → ArePaired s lead e first all → AreImplied s lead e first all
 paired_implied s lead e first all h p front last whole t before = sym (h p front last whole).same ∙ (λ i. before i && t i)
 
--- where no pair is added
-pub nothing_implied : (s : Sourced) (lead : ℕ) (e : Exp) (first all : List KeyPair) → all ≡ first → AreImplied s lead e first all
-nothing_implied s lead e first all same p front last whole t before = ap (all_paired p (row_at (last_of s).rows last) (row_in s lead front)) same ∙ before
-
 -- one condition more
 pub all_implied_more : (s : Sourced) (lead : ℕ) (es : List Exp) (e : Exp) (keys more : List KeyPair) → AllImplied s lead es keys → AreImplied s lead e keys more → AllImplied s lead (es ++ e ∷ []) more
 all_implied_more s lead es e keys more before here p front last whole t =

@@ -1,5 +1,5 @@
 -- Equalities of EXISTS, one more.
-use Rattle.std.proofs.Common.{◌≡◌, ℕ, ◌+◌, ◌<◌, ◌&&◌, true, List, [], ◌∷◌, ◌++◌, get_or, length, take, subst, sym, ap, ◌∙◌}
+use Rattle.std.proofs.Common.{◌≡◌, ℕ, ◌+◌, ◌<◌, ◌&&◌, List, [], ◌∷◌, ◌++◌, get_or, length, take, subst, sym, ap, ◌∙◌}
 use Rattle.std.proofs.lemmas.List.{take_more}
 use Rattle.std.specs.List.{list_all}
 use Rattle.std.proofs.lemmas.Bool.{and_parts}
@@ -48,13 +48,6 @@ module _ (s : Sourced) (lead : ℕ) (t : Tie) (keys keys' : List KeyPair) (ties 
       let outer = combined (parts_of s.sources) (with_number front last) in
       let both = and_parts (list_all (is_tied p outer inner) ties) (is_tied p outer inner t) (sym (ties_parted p outer inner ties t) ∙ h) in
       ap (all_paired p inner (row_in s lead (with_number front last))) same ∙ before p inner front last whole both.0
-
--- no equalities
-pub none_tied : (s : Sourced) (lead : ℕ) (keys : List KeyPair) → keys ≡ [] → AreTiedBy s lead [] keys
-none_tied s lead keys none p inner front last whole = sym (ap (all_paired p inner (row_in s lead (with_number front last))) none)
-
-pub none_implied : (s : Sourced) (lead : ℕ) (keys : List KeyPair) → keys ≡ [] → AreTiesImplying s lead [] keys
-none_implied s lead keys none p inner front last whole h = ap (all_paired p inner (row_in s lead (with_number front last))) none
 
 -- the first equalities, one more
 pub implied_step : (s : Sourced) (lead : ℕ) (ties : List Tie) (i : ℕ) (t : Tie) (keys keys' : List KeyPair) → i < length ties → t ≡ get_or ties i t → AreTiesImplying s lead (take i ties) keys

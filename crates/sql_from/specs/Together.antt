@@ -12,10 +12,6 @@ use Rattle.sql_from.specs.Tried.{value_of}
 use Rattle.sql_from.specs.declared.conditions.Conditions.{Conditions}
 use Rattle.sql_from.specs.declared.pairs.Walked.{Walked}
 
--- how many numbers a tuple has
-abbrev pub breadth : Conditions → ℕ
-breadth c = length c.sources.now.sources
-
 -- their value at each tuple
 abbrev pub tested : Conditions → Test
 tested c = in_turn (map value_of c.parts.items)

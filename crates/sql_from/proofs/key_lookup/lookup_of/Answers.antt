@@ -1,8 +1,6 @@
-use Rattle.std.proofs.Common.{◌≡◌, ◌∙◌, ◌+◌, ◌-◌, ◌<◌, ℕ, List, true, true≢false, arith, ap, length, subst, sym}
-use Rattle.std.specs.List.{list_all}
+use Rattle.std.proofs.Common.{◌∙◌, ◌-◌, ℕ, List, true≢false, arith, ap, subst, sym}
 use Rattle.std.specs.Prelude.{slice_get}
 use Rattle.vtl_rows.specs.Tables.{listed}
-use Rattle.sql_meaning.specs.Early.{is_safe}
 use Rattle.sql_from.specs.Conditions.{trees_of}
 use Rattle.sql_from.specs.Keys.{AreLinked}
 use Rattle.sql_from.specs.Lookups.{IsKeyed}

@@ -1,4 +1,4 @@
-use Rattle.std.proofs.Common.{◌≡◌, ℕ, true, take}
+use Rattle.std.proofs.Common.{◌≡◌, true, take}
 use Rattle.sql_from.specs.Conditions.{trees_of}
 use Rattle.sql_from.specs.Keys.{AllImplied, AllPaired, AreLinked}
 use Rattle.sql_from.proofs.key_lookup.pairs_of.Given as goal

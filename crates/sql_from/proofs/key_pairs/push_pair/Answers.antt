@@ -1,11 +1,11 @@
-use Rattle.std.proofs.Common.{◌≡◌, ◌∙◌, ap, refl, rules, sym, subst}
+use Rattle.std.proofs.Common.{◌≡◌, ◌∙◌, ap, rules, sym, subst}
 use Rattle.vtl_cell.specs.declared.operator.ScalarOp.TheVariants as op
 use Rattle.sql_tree.specs.Trees as tree
 use Rattle.sql_tree.specs.Trees.{Exp}
 use Rattle.sql_tree.specs.View.{expr_tree}
 use Rattle.sql_tree.specs.declared.expressions.SqlExpr as expr
 use Rattle.sql_from.specs.Keys.{ArePaired}
-use Rattle.sql_from.proofs.Conjunctions.{equality_paired, nothing_implied, paired_implied}
+use Rattle.sql_from.proofs.Conjunctions.{equality_paired, paired_implied}
 use Rattle.sql_from.proofs.key_pairs.push_pair.Goals as goal
 
 pub returns-in_ok-push-in-Some-clause-paired : goal.returns-in_ok-push-in-Some-clause-paired

@@ -1,4 +1,4 @@
-use Rattle.std.proofs.Common.{◌≡◌, ◌∙◌, ◌+◌, ◌≤◌, ℕ, IfSome, Option, arith, length, subst, sym, true}
+use Rattle.std.proofs.Common.{◌≡◌, IfSome, Option, arith, length, subst, sym, true}
 use Rattle.std.specs.List.{flat_map}
 use Rattle.sql_from.specs.Conditions.{conditions_at, trees_of}
 use Rattle.sql_from.specs.Joins.{Test, pairs_with}

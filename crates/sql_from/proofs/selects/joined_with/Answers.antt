@@ -1,4 +1,3 @@
-use Rattle.std.proofs.Common.{◌≤◌}
 use Rattle.sql_from.proofs.Links.{nothing_there}
 use Rattle.sql_from.proofs.selects.joined_with.Goals as goal
 

@@ -1,4 +1,4 @@
-use Rattle.std.proofs.Common.{◌≡◌, ◌∙◌, List, true, true≢false, sym, subst}
+use Rattle.std.proofs.Common.{◌∙◌, List, true≢false, sym, subst}
 use Rattle.std.proofs.lemmas.List.{get_or_default, take_all}
 use Rattle.sql_eval.specs.declared.resolved.Tie.{Tie}
 use Rattle.sql_from.specs.Partners.{AreTiedBy, AreTiesImplying}
