@@ -84,7 +84,7 @@ abbrev pub only : List Kind → Kind → List Alternative
 only wanted given = to wanted given ∷ []
 
 -- the kind of the operator's value, where operands of these kinds meet its row; VTL and SQL have the same rows, but that
--- REPLACE of SQL takes exactly three operands, and that neither language spells the shift and the frequency of a period
+-- REPLACE of SQL takes exactly three operands, and that VTL does not spell the shift and the frequency of a period
 abbrev pub kinds_of : ScalarOp → List Kind → Option Kind
 kinds_of op.Identity kinds = first_met numeric_one kinds
 kinds_of op.Negate kinds = first_met numeric_one kinds

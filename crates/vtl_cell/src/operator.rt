@@ -76,9 +76,9 @@ pub enum ScalarOp {
     ValueOr,
     /// `if c then a else b`
     If,
-    /// The period so many places later in its frequency, or earlier for a negative number; no spelling.
+    /// The period so many places later in its frequency, or earlier for a negative number; VTL has no spelling.
     PeriodShift,
-    /// The letter of a period's frequency, as a text: `A`, `S`, `Q` or `M`; no spelling.
+    /// The letter of a period's frequency, as a text: `A`, `S`, `Q` or `M`; VTL has no spelling.
     PeriodFrequency,
 }
 
