@@ -14,5 +14,5 @@ invariant_of-self-2 g c =
     record {
       apart = apart_more c.args.name c.args.item es c.push.new.self.items absent c.self.invariant.apart (grown ∙ ap (λ l. l ++ (c.args.name, c.args.item) ∷ []) c.in_ok-reserve.ensures.items);
       finds = finds_more c.args.name c.in_ok-share.field-0 c.args.item es c.reserve.new.self.items c.push.new.self.items c.len.result c.self.inside.places c.insert.new.self
-          absent c.self.invariant.finds c.in_ok-share.ensures c.in_ok-reserve.ensures.items many grown c.in_ok-insert.ensures.updates.0
+          absent c.self.invariant.finds c.in_ok-share.ensures c.in_ok-reserve.ensures.items many grown c.in_ok-insert.ensures.updates.0;
     }

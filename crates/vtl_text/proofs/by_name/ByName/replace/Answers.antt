@@ -25,7 +25,7 @@ invariant_of-self g c =
           (item_written name c.args.self.now es c.in_ok-place.place c.self.view_is c.in_ok-place.ensures c.index_mut-entry.result.now c.index_mut-entry.ensures.value c.replace.new.dest
           ∙ ap (λ l. set_value (same_text name) l c.replace.new.dest) (sym c.self.view_is));
       finds = finds_written name c.args.self.now es c.in_ok-place.place c.self.view_is c.in_ok-place.ensures c.index_mut-entry.result.now c.index_mut-entry.ensures.value
-          c.self.inside.places c.replace.new.dest c.self.invariant.finds
+          c.self.inside.places c.replace.new.dest c.self.invariant.finds;
     }
 
 pub returns-clause-replaced : goal.returns-clause-replaced
