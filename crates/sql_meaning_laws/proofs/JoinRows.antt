@@ -19,9 +19,10 @@ use Rattle.sql_tree.specs.declared.parts.Source.{Source}
 use Rattle.sql_tree.specs.declared.word_groups.JoinKind.{JoinKind}
 use Rattle.sql_tree.specs.declared.word_groups.JoinKind.TheVariants as joining
 use Rattle.sql_check_parts.specs.Kinds.{kind_in}
-use Rattle.sql_meaning.specs.From.{Joined, beside, holds, joined_rows, nulls, pairs, partners, partners_or_alone, with_join}
+use Rattle.sql_check_parts.specs.Scopes.{row_of}
+use Rattle.sql_meaning.specs.From.{Joined, beside, holds, joined_rows, nulls, or_alone, partners, partners_or_alone, with_join}
 use Rattle.sql_meaning.specs.Plans.{IsEqualityJoin, are_sides, conjuncts, is_side_equality}
-use Rattle.sql_meaning.specs.Tables.{Base}
+use Rattle.sql_meaning.specs.Tables.{Base, columns_given, rows_from}
 use Rattle.sql_meaning.specs.Values.{View, cell_at}
 use Rattle.sql_meaning.proofs.IndexedJoins.{index_same, truth_stays}
 use Rattle.sql_meaning_laws.specs.Joins.{are_equal, has_equal_cells, have_equal_cells, joined_with, left_alone, matched, right_alone, rows_joined, view_of}
@@ -85,7 +86,7 @@ module _ (test : Row → Bool) where
       (append_assoc (matched test left right) (left_alone test m left right) (right_alone test n left right)))
 
 pub sources_are : (b : Base) (f : Joined) (kind : JoinKind) (s : Source) (e : Exp) → Perm (with_join b f (tree.on kind s e)).rows (joined_with b f kind s (holds (view_of b f s) e))
-sources_are b f kind s e = ?
+sources_are b f kind s e = rows_are (holds (view_of b f s) e) kind (length (row_of f.scope)) (length (columns_given b.tables s)) f.rows (rows_from b s)
 
 -- ---- equalities
 
@@ -113,7 +114,13 @@ module _ (v : View) (r : Row) (alias : Text) where
 
 pub equal_rows : (b : Base) (f : Joined) (kind : JoinKind) (s : Source) (e : Exp) → IsEqualityJoin (tree.on kind s e)
     → Perm (with_join b f (tree.on kind s e)).rows (joined_with b f kind s (have_equal_cells (view_of b f s) (conjuncts e)))
-equal_rows b f kind s e h = ?
+equal_rows b f kind s e h =
+    let v = view_of b f s in
+    let each : Row → Bool = λ r. list_all (λ x. holds v x r) (conjuncts e) in
+    let same : each ≡ have_equal_cells v (conjuncts e) = λ i r. equalities v r s.alias (conjuncts e) h i in
+    let indexed = rows_are each kind (length (row_of f.scope)) (length (columns_given b.tables s)) f.rows (rows_from b s) in
+    subst (λ t. Perm (with_join b f (tree.on kind s e)).rows (joined_with b f kind s t)) same
+    (subst (λ (j : Joined). Perm j.rows (joined_with b f kind s each)) (index_same b f (tree.on kind s e) h) indexed)
 
 pub equal_faults : (b : Base) (f : Joined) (kind : JoinKind) (s : Source) (e : Exp) → IsEqualityJoin (tree.on kind s e) → (with_join b f (tree.on kind s e)).fault ≡ f.fault
 equal_faults b f kind s e h = ap (λ (j : Joined). j.fault) (sym (index_same b f (tree.on kind s e) h))
