@@ -28,18 +28,21 @@ bracketed x k.Null k.Null = refl
 bracketed x y k.Null = refl
 bracketed x y z = refl
 
+abbrev none : Kind → Option Kind
+none w = None
+
+nothing : (u : Option Kind) → option_and_then none u ≡ None
+nothing None = refl
+nothing (Some w) = refl
+
 -- kind by kind from the left
-shared_from : Option Kind → List Kind → Option Kind
+abbrev shared_from : Option Kind → List Kind → Option Kind
 shared_from o ks = fold (λ shared x. option_and_then (λ w. shared_kind w x) shared) o ks
 
-from_left : (o : Option Kind) (ks : List Kind) → fold (λ shared x. option_and_then (λ w. shared_kind w x) shared) o ks ≡ option_and_then (λ x. option_and_then (shared_kind x) (common_kind ks)) o
+from_left : (o : Option Kind) (ks : List Kind) → shared_from o ks ≡ option_and_then (λ x. option_and_then (shared_kind x) (common_kind ks)) o
 from_left o [] = sym (null_behind o)
 from_left o (y ∷ ks) = from_left (option_and_then (λ w. shared_kind w y) o) ks ∙ one o (common_kind ks)
   where
-    nothing : (u : Option Kind) → option_and_then (λ (w : Kind). None {A = Kind}) u ≡ None
-    nothing None = refl
-    nothing (Some w) = refl
-
     one : (u c : Option Kind) → option_and_then (λ w. option_and_then (shared_kind w) c) (option_and_then (λ w. shared_kind w y) u) ≡ option_and_then (λ x. option_and_then (shared_kind x) (option_and_then (shared_kind y) c)) u
     one None c = refl
     one (Some x) None = nothing (shared_kind x y)
@@ -75,11 +78,11 @@ module _ (tables : Tables) where
   length-shared [] cs = refl
   length-shared (s ∷ ss) cs = length-shared ss (step cs s) ∙ length-beside cs (kinds_of tables s)
 
-  shared_at : (ss : QueryTree) (cs : List (Option Kind)) (i : ℕ) → get_or (fold step cs ss) i None ≡ fold (λ shared x. option_and_then (λ w. shared_kind w x) shared) (get_or cs i None) (map (kind_at tables i) ss)
+  shared_at : (ss : QueryTree) (cs : List (Option Kind)) (i : ℕ) → get_or (fold step cs ss) i None ≡ shared_from (get_or cs i None) (map (kind_at tables i) ss)
   shared_at [] cs i = refl
   shared_at (s ∷ ss) cs i =
       shared_at ss (step cs s) i
-      ∙ ap (λ o. fold (λ shared x. option_and_then (λ w. shared_kind w x) shared) o (map (kind_at tables i) ss)) (beside_at cs (kinds_of tables s) i)
+      ∙ ap (λ o. shared_from o (map (kind_at tables i) ss)) (beside_at cs (kinds_of tables s) i)
 
   pub kinds_are : (q : QueryTree) → shared_kinds tables q ≡ common_kinds tables q
   kinds_are [] = refl

@@ -50,32 +50,31 @@ module _ (test : Row → Bool) where
       flat_map_each (partners pass beside right) (λ x. filter test (map (beside x) right)) (λ x. sym (filter-map test (beside x) right)) left
       ∙ sym (filter-flat_map test (λ x. map (beside x) right) left)
 
-  left_is : (m : ℕ) (right left : List Row) → Perm (flat_map (partners_or_alone pass beside (λ x. x ++ nulls m) right) left) (flat_map (partners pass beside right) left ++ left_alone test m left right)
+  abbrev pad : ℕ → Row → Row
+  pad m x = x ++ nulls m
+
+  abbrev lonely : List Row → Row → Bool
+  lonely right x = not (list_any (pass x) right)
+
+  -- a row on the left that meets some, or none
+  one_is : (m : ℕ) (x : Row) (met rest inner kept : List Row) → Perm rest (inner ++ map (pad m) kept)
+      → Perm (or_alone (map (beside x) met) (pad m x) ++ rest) ((map (beside x) met ++ inner) ++ map (pad m) (cond (not (not (is_empty met))) (x ∷ kept) kept))
+  one_is m x [] rest inner kept ih = chain (keep (pad m x) ih) (Perm-sym (Perm-middle inner (pad m x) (map (pad m) kept)))
+  one_is m x (y ∷ met) rest inner kept ih =
+      let pairs_met = map (beside x) (y ∷ met) in
+      chain (Perm-append_front pairs_met ih) (Perm-same (pairs_met ++ (inner ++ map (pad m) kept)) ((pairs_met ++ inner) ++ map (pad m) kept) (sym (append_assoc pairs_met inner (map (pad m) kept))))
+
+  left_is : (m : ℕ) (right left : List Row) → Perm (flat_map (partners_or_alone pass beside (pad m) right) left) (flat_map (partners pass beside right) left ++ left_alone test m left right)
   left_is m right [] = empty
   left_is m right (x ∷ left) =
-      subst (λ b. Perm (partners_or_alone pass beside pad right x ++ rest) ((partners pass beside right x ++ inner) ++ map pad (cond (not b) (x ∷ kept) kept))) (sym (any_kept (pass x) right))
-      (go (filter (pass x) right) (left_is m right left))
-    where
-      abbrev pad : Row → Row
-      pad y = y ++ nulls m
+      let rest = flat_map (partners_or_alone pass beside (pad m) right) left in
+      let inner = flat_map (partners pass beside right) left in
+      let kept = filter (lonely right) left in
+      subst (λ b. Perm (partners_or_alone pass beside (pad m) right x ++ rest) ((partners pass beside right x ++ inner) ++ map (pad m) (cond (not b) (x ∷ kept) kept))) (sym (any_kept (pass x) right))
+      (one_is m x (filter (pass x) right) rest inner kept (left_is m right left))
 
-      abbrev rest : List Row
-      rest = flat_map (partners_or_alone pass beside pad right) left
-
-      abbrev inner : List Row
-      inner = flat_map (partners pass beside right) left
-
-      abbrev kept : List Row
-      kept = filter (λ z. not (list_any (pass z) right)) left
-
-      go : (met : List Row) → Perm rest (inner ++ map pad kept) → Perm (or_alone (map (beside x) met) (pad x) ++ rest) ((map (beside x) met ++ inner) ++ map pad (cond (not (not (is_empty met))) (x ∷ kept) kept))
-      go [] ih = chain (keep (pad x) ih) (Perm-sym (Perm-middle inner (pad x) (map pad kept)))
-      go (y ∷ met) ih =
-          chain (Perm-append_front (map (beside x) (y ∷ met)) ih)
-          (Perm-same (map (beside x) (y ∷ met) ++ (inner ++ map pad kept)) ((map (beside x) (y ∷ met) ++ inner) ++ map pad kept) (sym (append_assoc (map (beside x) (y ∷ met)) inner (map pad kept))))
-
-  lefts : (m : ℕ) (left right : List Row) → Perm (flat_map (partners_or_alone pass beside (λ x. x ++ nulls m) right) left) (matched test left right ++ left_alone test m left right)
-  lefts m left right = subst (λ l. Perm (flat_map (partners_or_alone pass beside (λ x. x ++ nulls m) right) left) (l ++ left_alone test m left right)) (inner_is left right) (left_is m right left)
+  lefts : (m : ℕ) (left right : List Row) → Perm (flat_map (partners_or_alone pass beside (pad m) right) left) (matched test left right ++ left_alone test m left right)
+  lefts m left right = subst (λ l. Perm (flat_map (partners_or_alone pass beside (pad m) right) left) (l ++ left_alone test m left right)) (inner_is left right) (left_is m right left)
 
   pub rows_are : (kind : JoinKind) (n m : ℕ) (left right : List Row) → Perm (joined_rows kind test n m left right) (rows_joined kind test n m left right)
   rows_are joining.Inner n m left right = Perm-same (joined_rows joining.Inner test n m left right) (matched test left right) (inner_is left right)

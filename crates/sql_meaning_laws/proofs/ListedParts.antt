@@ -15,9 +15,6 @@ use Rattle.sql_meaning_laws.specs.Listed.{WherePart, chosen_joins, chosen_parts,
 
 -- ---- places
 
-numbered_from : {A : Type 0} → ℕ → List A → List (ℕ × A)
-numbered_from n xs = zip (range_with_len n (length xs)) xs
-
 next : {A : Type 0} (n : ℕ) (x : A) (xs : List A) → zip (range_with_len n (length (x ∷ xs))) (x ∷ xs) ≡ (n, x) ∷ zip (range_with_len (suc n) (length xs)) xs
 next n x xs = let more : n + 1 ≡ suc n = omega arith in ap (λ m. (n, x) ∷ zip (range_with_len m (length xs)) xs) more
 
@@ -29,19 +26,16 @@ chosen js = map (λ j. j.0) (filter (λ j. is_equality_join j.1) js)
 chosen_append : (js ks : List (Indexed × JoinTree)) → chosen (js ++ ks) ≡ chosen js ++ chosen ks
 chosen_append js ks = ap (map (λ j. j.0)) (filter-append (λ j. is_equality_join j.1) js ks) ∙ map-append (λ j. j.0) (filter (λ j. is_equality_join j.1) js) (filter (λ j. is_equality_join j.1) ks)
 
+one_join : (x : Indexed) (j : JoinTree) (rest : List (Indexed × JoinTree)) (more : List Indexed) (b : Bool) → more ≡ chosen rest
+    → cond b (x ∷ []) [] ++ more ≡ map (λ i. i.0) (cond b ((x, j) ∷ filter (λ i. is_equality_join i.1) rest) (filter (λ i. is_equality_join i.1) rest))
+one_join x j rest more true e = ap (λ l. x ∷ l) e
+one_join x j rest more false e = e
+
 joins_from : (select n : ℕ) (js : List JoinTree) → equality_joins_from select n js ≡ chosen (map (join_entry select) (zip (range_with_len n (length js)) js))
 joins_from select n [] = refl
-joins_from select n (j ∷ js) = go (is_equality_join j) (joins_from select (suc n) js) ∙ ap (λ l. chosen (map (join_entry select) l)) (sym (next n j js))
-  where
-    abbrev own : Indexed
-    own = record { select = select; join = n }
-
-    abbrev rest : List (Indexed × JoinTree)
-    rest = map (join_entry select) (zip (range_with_len (suc n) (length js)) js)
-
-    go : (b : Bool) → equality_joins_from select (suc n) js ≡ chosen rest → cond b (own ∷ []) [] ++ equality_joins_from select (suc n) js ≡ map (λ i. i.0) (cond b ((own, j) ∷ filter (λ i. is_equality_join i.1) rest) (filter (λ i. is_equality_join i.1) rest))
-    go true ih = ap (λ l. own ∷ l) ih
-    go false ih = ih
+joins_from select n (j ∷ js) =
+    one_join (record { select = select; join = n }) j (map (join_entry select) (zip (range_with_len (suc n) (length js)) js)) (equality_joins_from select (suc n) js) (is_equality_join j) (joins_from select (suc n) js)
+    ∙ ap (λ l. chosen (map (join_entry select) l)) (sym (next n j js))
 
 abbrev joins_of : ℕ × SelectTree → List (Indexed × JoinTree)
 joins_of s = map (join_entry s.0) (numbered s.1.joins)
@@ -78,12 +72,12 @@ module _ (n : ℕ) (s : SelectTree) where
       (λ i. ap (λ b. tried_before (part_of (n, s) (k, x)) (cond b (first_join s x) None)) (sym unsafe) i ++ no_entries unsafe (suc k) xs i)
       ∙ ap (λ l. flat_map entry (map (part_of (n, s)) l)) (sym (next k x xs))
 
-  parts_within : early_parts_in n s ≡ flat_map entry (map (part_of (n, s)) (numbered (conjuncts_of s.condition)))
+  abbrev parts : List Exp
+  parts = conjuncts_of s.condition
+
+  parts_within : early_parts_in n s ≡ flat_map entry (map (part_of (n, s)) (numbered parts))
   parts_within = go (is_safe_select s) refl
     where
-      abbrev parts : List Exp
-      parts = conjuncts_of s.condition
-
       go : (b : Bool) → is_safe_select s ≡ b → cond b (entries_from n 0 (map (first_join s) parts)) [] ≡ flat_map entry (map (part_of (n, s)) (numbered parts))
       go true e = entries_are e 0 parts
       go false e = no_entries e 0 parts

@@ -36,12 +36,12 @@ count_kept p q h (x ∷ xs) = go (q x) refl (p x) refl (count_kept p q h xs)
     go : (a : Bool) → q x ≡ a → (b : Bool) → p x ≡ b → count_by p (filter q xs) ≡ count_by p xs → count_by p (cond a (x ∷ filter q xs) (filter q xs)) ≡ count_by p (x ∷ xs)
     go true e b f ih = count_cons p x (filter q xs) ∙ ap (λ n. bit (p x) + n) ih ∙ sym (count_cons p x xs)
     go false e true f ih = absurd (true≢false (sym (h x f) ∙ e))
-    go false e false f ih = ih ∙ ap (λ b. bit b + count_by p xs) (sym f) ∙ sym (count_cons p x xs)
+    go false e false f ih = omega (arith, ih, count_cons p x xs, ap bit f)
 
 -- before an item, the item, and behind it
 count_split : {X : Type 0} (p : X → Bool) (xs : List X) (i : ℕ) (d : X) → i < length xs → p (get_or xs i d) ≡ true → count_by p xs ≡ count_by p (take i xs) + (1 + count_by p (drop (suc i) xs))
 count_split p [] i d h e = absurd (omega arith)
-count_split p (x ∷ xs) zero d h e = count_cons p x xs ∙ ap (λ b. bit b + count_by p xs) e
+count_split p (x ∷ xs) zero d h e = omega (arith, count_cons p x xs, ap bit e)
 count_split p (x ∷ xs) (suc i) d h e = omega (arith, count_cons p x xs, count_cons p x (take i xs), count_split p xs i d (omega (arith, h)) e)
 
 -- ---- an order
@@ -73,7 +73,7 @@ module _ (le : Row → Row → Bool) (o : IsOrder le) where
 
   none_at_most : (x r : Row) → le x r ≡ false → (xs : List Row) → AllByRecursion (λ q. le x q ≡ true) xs → count_by (λ q. le q r) xs ≡ 0
   none_at_most x r e [] all = refl
-  none_at_most x r e (q ∷ xs) all = count_cons (λ z. le z r) q xs ∙ ap (λ b. bit b + count_by (λ z. le z r) xs) (above (le q r) refl) ∙ none_at_most x r e xs all.1
+  none_at_most x r e (q ∷ xs) all = omega (arith, count_cons (λ z. le z r) q xs, ap bit (above (le q r) refl), none_at_most x r e xs all.1)
     where
       above : (b : Bool) → le q r ≡ b → le q r ≡ false
       above true f = absurd (true≢false (sym (o.trans x q r all.0 f) ∙ e))
@@ -81,7 +81,7 @@ module _ (le : Row → Row → Bool) (o : IsOrder le) where
 
   none_below : (r : Row) (xs : List Row) → AllByRecursion (λ q. le r q ≡ true) xs → count_by (λ q. not (le r q)) xs ≡ 0
   none_below r [] all = refl
-  none_below r (q ∷ xs) all = count_cons (λ z. not (le r z)) q xs ∙ ap (λ b. bit (not b) + count_by (λ z. not (le r z)) xs) all.0 ∙ none_below r xs all.1
+  none_below r (q ∷ xs) all = omega (arith, count_cons (λ z. not (le r z)) q xs, ap (λ b. bit (not b)) all.0, none_below r xs all.1)
 
   -- in a list in order a row stands at each place between the rows below it and those that are not above it
   at_place : (xs : List Row) (r : Row) (n : ℕ) → Rises le xs → count_by (λ q. not (le r q)) xs ≤ n → n < count_by (λ q. le q r) xs → get_or xs n [] ≡ r
