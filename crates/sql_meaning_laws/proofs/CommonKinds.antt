@@ -1,7 +1,7 @@
 -- The kinds that a query's selects share are, at each place, the common kind of what they have there.
 use Rattle.std.specs.Prelude.{fold, option_and_then, zip}
 use Rattle.std.specs.List.{range_with_len}
-use Rattle.std.proofs.Common.{◌≡◌, ℕ, zero, suc, ◌+◌, ◌<◌, List, [], ◌∷◌, map, length, get_or, Option, Some, None, refl, sym, ap, ◌∙◌, subst, arith}
+use Rattle.std.proofs.Common.{◌≡◌, ℕ, zero, suc, ◌+◌, ◌<◌, List, [], ◌∷◌, map, length, get_or, Option, Some, None, refl, sym, ap, ◌∙◌, arith}
 use Rattle.std.proofs.lemmas.List.{get_or-map, length-map}
 use Rattle.vtl_cell.specs.ScalarKinds.{common_kind, shared_kind}
 use Rattle.vtl_cell.specs.declared.kind.Kind.{Kind}
@@ -95,8 +95,8 @@ module _ (tables : Tables) where
       let named : length own ≡ length (query_names (s ∷ ss)) = length-map s.items (item_kind (scope_of tables s)) ∙ sym (length-map s.items item_name) in
       let first : (i : ℕ) → i < length own → get_or start i None ≡ Some (get_or own i k.Null) = λ i h. get_or-map Some own i k.Null None h in
       let each : (i : ℕ) → i < length shared → at i ≡ get_or shared i None = λ i h.
-        sym (shared_at ss start i ∙ from_left (get_or start i None) (map (kind_at tables i) ss)
-        ∙ ap (option_and_then (λ x. option_and_then (shared_kind x) (common_kind (map (kind_at tables i) ss)))) (first i (omega (arith, h, many)))) in
+      sym (shared_at ss start i ∙ from_left (get_or start i None) (map (kind_at tables i) ss)
+      ∙ ap (option_and_then (λ x. option_and_then (shared_kind x) (common_kind (map (kind_at tables i) ss)))) (first i (omega (arith, h, many)))) in
       let none : (i : ℕ) → 0 + i ≡ i = λ i. omega arith in
       sym (tabled at shared None 0 (λ i h. ap at (none i) ∙ each i h)) ∙ ap (λ n. map at (range_with_len 0 n)) (many ∙ named)
 

@@ -1,11 +1,11 @@
 -- The tests of a plan and what is asked of its entries say the same.
 use Rattle.std.specs.List.{AllByRecursion, list_all}
-use Rattle.std.proofs.Common.{◌≡◌, ℕ, zero, suc, ◌+◌, ◌<◌, Bool, true, false, not, ◌&&◌, List, [], ◌∷◌, drop, length, refl, sym, ap, ◌∙◌, true≢false, arith}
+use Rattle.std.proofs.Common.{◌≡◌, ℕ, zero, suc, ◌<◌, Bool, true, false, not, ◌&&◌, List, [], ◌∷◌, drop, length, refl, sym, ap, ◌∙◌, true≢false, arith}
 use Rattle.std.proofs.lemmas.Bool.{and_parts}
 use Rattle.sql_tree.specs.Trees as tree
 use Rattle.sql_tree.specs.Trees.{Exp, JoinTree, SelectTree}
 use Rattle.sql_check_parts.specs.Scopes.{is_among}
-use Rattle.sql_meaning.specs.Early.{MayBeEarly, NamesOnly, aliases_left, columns_in, is_full, is_safe_condition, is_safe_join}
+use Rattle.sql_meaning.specs.Early.{MayBeEarly, aliases_left, columns_in, is_full, is_safe_condition, is_safe_join}
 use Rattle.sql_meaning.specs.Plans.{IsAt, IsEqualityJoin, IsFirst, conjuncts, conjuncts_of, is_side_equality}
 use Rattle.sql_meaning.specs.declared.plan.Early.{Early}
 use Rattle.sql_meaning.proofs.Lists.{under}
@@ -84,7 +84,8 @@ module _ (s : SelectTree) (e : Early) where
 
   pub is_tested : MayBeEarly s e → (is_safe_select s ≡ true) × (e.join < length s.joins) × IsAt (λ x. may_precede s x e.join ≡ true) e.conjunct (conjuncts_of s.condition)
   is_tested h =
-      let here = drop e.conjunct (conjuncts_of s.condition) in
-      (ap (λ b. b && is_safe_condition s.condition) (all_true is_safe_join s.joins h.safe.joins) ∙ h.safe.condition,
-      is_within e.join s.joins h.join,
-      first_more (λ x f. ap (λ b. b && names_only (aliases_left s e.join) x) (lasts h.lasting) ∙ all_true (λ y. is_among y.source (aliases_left s e.join)) (columns_in x) f) here h.conjunct)
+      let here = drop e.conjunct (conjuncts_of s.condition) in (
+        ap (λ b. b && is_safe_condition s.condition) (all_true is_safe_join s.joins h.safe.joins) ∙ h.safe.condition,
+        is_within e.join s.joins h.join,
+        first_more (λ x f. ap (λ b. b && names_only (aliases_left s e.join) x) (lasts h.lasting) ∙ all_true (λ y. is_among y.source (aliases_left s e.join)) (columns_in x) f) here h.conjunct,
+      )

@@ -1,7 +1,7 @@
 -- What a plan lists is chosen among all joins and parts, in their order.
 use Rattle.std.specs.Prelude.{filter, zip}
 use Rattle.std.specs.List.{flat_map, range_with_len}
-use Rattle.std.proofs.Common.{◌≡◌, ℕ, zero, suc, ◌+◌, Bool, true, false, cond, List, [], ◌∷◌, ◌++◌, map, length, Option, Some, None, refl, sym, ap, ◌∙◌, arith}
+use Rattle.std.proofs.Common.{◌≡◌, ℕ, suc, ◌+◌, Bool, true, false, cond, List, [], ◌∷◌, ◌++◌, map, length, Option, Some, None, refl, sym, ap, ◌∙◌, arith}
 use Rattle.std.proofs.lemmas.Grind.{flat_map-append}
 use Rattle.std.proofs.lemmas.List.{map-append}
 use Rattle.std.proofs.lemmas.List.Elements.{filter-append}
@@ -11,7 +11,7 @@ use Rattle.sql_meaning.specs.declared.plan.Early.{Early}
 use Rattle.sql_meaning.specs.declared.plan.Indexed.{Indexed}
 use Rattle.sql_plan.specs.Chosen.{equality_joins, equality_joins_behind, equality_joins_from, is_equality_join}
 use Rattle.sql_plan.specs.EarlyChosen.{early_parts, early_parts_behind, early_parts_in, entries_from, entry_of, first_join, is_safe_select}
-use Rattle.sql_meaning_laws.specs.Listed.{WherePart, chosen_joins, chosen_parts, first_join_of, join_entry, joins_in, numbered, part_of, parts_in, tried_before}
+use Rattle.sql_meaning_laws.specs.Listed.{WherePart, chosen_joins, chosen_parts, first_join_of, join_entry, numbered, part_of, tried_before}
 
 -- ---- places
 

@@ -1,5 +1,5 @@
 -- What a plan lists, as choices among all joins and all parts of a query.
-use Rattle.std.specs.Prelude.{ℕ, Bool, cond, List, [], ◌∷◌, map, filter, zip, length, Option, Some, None}
+use Rattle.std.specs.Prelude.{ℕ, cond, List, [], ◌∷◌, map, filter, zip, length, Option, Some, None}
 use Rattle.std.specs.List.{flat_map, range_with_len}
 use Rattle.sql_tree.specs.Trees.{Exp, JoinTree, QueryTree, SelectTree}
 use Rattle.sql_meaning.specs.Plans.{conjuncts_of}
