@@ -5,7 +5,7 @@ use Rattle.vtl_index.specs.Groups.{firsts}
 use Rattle.vtl_series.specs.Series.{keys_by, tuple_rows}
 use Rattle.vtl_series.proofs.GroupLemmas.{many_keys}
 use Rattle.vtl_series.proofs.SeriesLemmas.{one_more}
-use Rattle.vtl_series.proofs.series.rows_of_series.Goals as goal
+use Rattle.vtl_series.proofs.series.filled.Goals as goal
 
 pub push_one_group-requires : goal.push_one_group-requires
 push_one_group-requires c =
@@ -13,9 +13,8 @@ push_one_group-requires c =
     let inside = c.loop-group-test.true in
     record {
       periods = c.requires.periods;
-      by = c.requires.by;
-      fit = c.columns-own.ensures.fit;
-      columns = c.loop-group.invariant.columns;
+      fit = c.requires.fit;
+      columns = c.loop-group.invariant.columns ∙ c.requires.columns;
       groups = c.in_ok-groups.ensures;
       group = omega (arith, many, inside);
       all = c.spans_of_table-all.ensures.value;
