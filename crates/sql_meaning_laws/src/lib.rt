@@ -10,10 +10,12 @@
 
 mod joins;
 mod plans;
+mod steps;
 mod unions;
 mod windows;
 
 pub use joins::{equality_joins_pair_equal_cells, joins_are_pairs_and_what_meets_none};
 pub use plans::{early_parts_are_chosen_part_by_part, equality_joins_are_chosen_join_by_join};
+pub use steps::one_join_takes_its_rows_and_those_it_gives;
 pub use unions::columns_of_unions_have_common_kinds;
 pub use windows::rows_stand_behind_those_before_them;
