@@ -9,7 +9,7 @@ use Rattle.sql_meaning.specs.Windows.{partition_of, told_apart}
 abbrev pub row_at : List Row → ℕ → Row
 row_at rows i = slice_index_or rows i []
 
--- the same row as windows see it, with what tells it from those that are alike
+-- the same row as windows see it, with the number of those behind it that are alike
 abbrev pub told_at : List Row → ℕ → Row × ℕ
 told_at rows i = slice_index_or (told_apart rows) i ([], 0)
 
