@@ -1,6 +1,7 @@
 #!/bin/sh
 # Runs all of cases/ and examples/ by the built programs, in less than a minute: cases/run.sh [NAME ..], where a NAME is a
-# folder of cases/, `examples`, `launcher`, `check`, or `sentences`, `pages`, `crates`, `edits`, for which no program is needed.
+# folder of cases/, `examples`, `launcher`, `check`, `limits`, or `sentences`, `pages`, `crates`, `edits`, for which no program is
+# needed. By the name `large` alone runs with large files are made.
 # Prints what differs, the longest chain of libraries, and at the end 'N passed, M failed'.
 top=$(CDPATH='' cd -- "$(dirname -- "$0")/.." && pwd) || exit 1
 vtl=$top/crates/vtl/out/vtl
@@ -45,10 +46,12 @@ nests() {
     table "$1" "$made/nests.csv"
 }
 
-# The fronts of a script, as a table of texts: the word for these, the script, the table.
+# The fronts of a script, as a table of texts, by the program and by the grammar of the page: the word for these, the script, the
+# table.
 fronts() {
     LC_ALL=C awk -f cases/fronts.awk "$2" "$3" >"$made/fronts.csv"
     table "$1" "$made/fronts.csv"
+    read_by_page "$1" "$made/fronts.csv"
 }
 
 # A file beside what the probe prints of it. The code says whether the file is a script.
@@ -563,12 +566,12 @@ within() {
 
 wanted() { case " $names " in *" $1 "*) ;; *) return 1 ;; esac; }
 
-# All of it, in three parts side by side.
+# All of it, in four parts side by side.
 run_all() {
-    names='examples launcher check limits sentences pages crates edits'
+    names='examples launcher check sentences pages crates edits'
     for folder in "$top"/cases/*/; do
         case $(basename "$folder") in
-            run | engine | translated) ;;
+            run | engine | translated | cut | devices) ;;
             *) names="$names $(basename "$folder")" ;;
         esac
     done
@@ -576,14 +579,15 @@ run_all() {
     "$top/cases/run.sh" engine translated >"$made/part.2" &
     # shellcheck disable=SC2086 # the names are parted by blanks
     "$top/cases/run.sh" $names >"$made/part.3" &
+    "$top/cases/run.sh" cut devices limits >"$made/part.4" &
     wait
     awk '
         /^[0-9]+ passed, [0-9]+ failed$/ { passed += $1; failed += $3; parts++; next }
         { print }
         END {
-            if (parts != 3) print "a part has no verdict"
+            if (parts != 4) print "a part has no verdict"
             print passed + 0 " passed, " failed + 0 " failed"
-            exit failed > 0 || parts != 3
+            exit failed > 0 || parts != 4
         }' "$made"/part.*
 }
 
