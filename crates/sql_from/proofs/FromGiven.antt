@@ -1,8 +1,9 @@
 -- The tables of the sources of a select, by place.
-use Rattle.std.proofs.Common.{◌≡◌, ℕ, zero, suc, ◌+◌, ◌<◌, List, [], ◌∷◌, map, get_or, length, Option, Some, None, IsSome, refl, sym, ap, ◌∙◌, add-one, arith}
+use Rattle.std.proofs.Common.{◌≡◌, ℕ, zero, suc, ◌+◌, ◌<◌, ◌≤◌, List, [], ◌∷◌, ◌++◌, map, get_or, take, length, Option, Some, None, IsSome, refl, sym, ap, ◌∙◌, add-one, arith}
 use Rattle.std.specs.Borrow.{Bor}
 use Rattle.std.specs.Option.{option_copied, option_map}
 use Rattle.std.specs.Prelude.{slice_get}
+use Rattle.std.proofs.lemmas.List.{map-append, take_all, take_more}
 use Rattle.vtl_rows.specs.Named.{NamedTables}
 use Rattle.vtl_rows.specs.Tables.{Listed}
 use Rattle.sql_tree.specs.Trees.{SelectTree}
@@ -59,3 +60,28 @@ join_given held s tables joins items i x e are same h at =
     ∙ ap (λ js. from_at (maybe_given held s.source ∷ map (maybe_given held) (map join_source js)) (i + 1)) (are ∙ ap (map join_tree) (sym same))
     ∙ ap (from_at (maybe_given held s.source ∷ map (maybe_given held) (map join_source (map join_tree items)))) (add-one i)
     ∙ joined_at held items i x h at
+
+-- ---- as they are made
+
+-- those of the first source and of the joins up to a place
+abbrev pub given_to : NamedTables → Source → List Join → ℕ → List (Option Listed)
+given_to held source joins i = maybe_given held source ∷ map (λ j. maybe_given held (join_source (join_tree j))) (take i joins)
+
+pub given_more : (held : NamedTables) (source : Source) (joins : List Join) (i : ℕ) (x : Join) (before after : List FromTable) (t : FromTable) → i < length joins → x ≡ get_or joins i x → map kept_table before ≡ given_to held source joins i
+    → after ≡ before ++ t ∷ [] → kept_table t ≡ maybe_given held (join_source (join_tree x)) → map kept_table after ≡ given_to held source joins (i + 1)
+given_more held source joins i x before after t h at so_far more is =
+    let own : Join → Option Listed = λ j. maybe_given held (join_source (join_tree j)) in
+    let next : map own (take (i + 1) joins) ≡ map own (take i joins) ++ own x ∷ [] =
+    ap (map own) (take_more joins i x h) ∙ map-append own (take i joins) (get_or joins i x ∷ []) ∙ ap (λ y. map own (take i joins) ++ own y ∷ []) (sym at) in
+    ap (map kept_table) more ∙ map-append kept_table before (t ∷ []) ∙ (λ k. so_far k ++ is k ∷ []) ∙ ap (λ l. maybe_given held source ∷ l) (sym next)
+
+joined_all : (held : NamedTables) (joins : List Join) → map (λ j. maybe_given held (join_source (join_tree j))) joins ≡ map (maybe_given held) (map join_source (map join_tree joins))
+joined_all held [] = refl
+joined_all held (j ∷ js) = ap (λ l. maybe_given held (join_source (join_tree j)) ∷ l) (joined_all held js)
+
+pub given_all : (held : NamedTables) (s : SelectTree) (joins items : List Join) (i : ℕ) (tables : List FromTable) → s.joins ≡ map join_tree joins → items ≡ joins → length items ≤ i → map kept_table tables ≡ given_to held s.source items i
+    → map kept_table tables ≡ from_given held s
+given_all held s joins items i tables are same h is =
+    is ∙ ap (λ l. maybe_given held s.source ∷ map (λ j. maybe_given held (join_source (join_tree j))) l) (take_all items i h)
+    ∙ ap (λ l. maybe_given held s.source ∷ l) (joined_all held items)
+    ∙ ap (λ js. maybe_given held s.source ∷ map (maybe_given held) (map join_source js)) (ap (map join_tree) same ∙ sym are)
