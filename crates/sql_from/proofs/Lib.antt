@@ -13,6 +13,7 @@ pub mod Parted
 pub mod Sited
 pub mod FromGiven
 pub mod GivenTables
+pub mod MadeRows
 pub mod SeriesNames
 pub mod Walks
 pub mod Means
