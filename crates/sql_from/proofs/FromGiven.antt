@@ -28,21 +28,11 @@ pub copied_there : (o : Option (Bor Listed)) (t : Listed) → option_copied o �
 copied_there None t e = cc
 copied_there (Some b) t e = refl
 
-pub copied_is : (o : Option (Bor Listed)) (b : Bor Listed) (t : Listed) → Some b ≡ o → option_copied o ≡ Some t → b.now ≡ t
+pub copied_is : (o : Option (Bor Listed)) (b : Bor Listed) (t : Listed) → o ≡ Some b → option_copied o ≡ Some t → b.now ≡ t
 copied_is None b t is e = cc
-copied_is (Some a) b t is e = let same : b ≡ a = cc in let now : a.now ≡ t = cc in ap (λ (x : Bor Listed). x.now) same ∙ now
+copied_is (Some a) b t is e = let same : a ≡ b = cc in let now : a.now ≡ t = cc in ap (λ (x : Bor Listed). x.now) (sym same) ∙ now
 
 -- ---- by place
-
-pub kept_at : (tables : List FromTable) (i : ℕ) (t : FromTable) → slice_get tables i ≡ Some t → from_at (map kept_table tables) i ≡ kept_table t
-kept_at [] i t e = cc
-kept_at (x ∷ xs) zero t e = let same : x ≡ t = cc in ap kept_table same
-kept_at (x ∷ xs) (suc i) t e = kept_at xs i t e
-
-pub none_kept : (tables : List FromTable) (i : ℕ) → slice_get tables i ≡ None → from_at (map kept_table tables) i ≡ None
-none_kept [] i e = refl
-none_kept (x ∷ xs) zero e = cc
-none_kept (x ∷ xs) (suc i) e = none_kept xs i e
 
 pub first_given : (held : NamedTables) (s : SelectTree) (tables : List (Option Listed)) → tables ≡ from_given held s → from_at tables 0 ≡ maybe_given held s.source
 first_given held s tables e = ap (λ l. from_at l 0) e
@@ -67,14 +57,6 @@ join_given held s tables joins items i x e are same h at =
 abbrev pub given_to : NamedTables → Source → List Join → ℕ → List (Option Listed)
 given_to held source joins i = maybe_given held source ∷ map (λ j. maybe_given held (join_source (join_tree j))) (take i joins)
 
-pub given_more : (held : NamedTables) (source : Source) (joins : List Join) (i : ℕ) (x : Join) (before after : List FromTable) (t : FromTable) → i < length joins → x ≡ get_or joins i x → map kept_table before ≡ given_to held source joins i
-    → after ≡ before ++ t ∷ [] → kept_table t ≡ maybe_given held (join_source (join_tree x)) → map kept_table after ≡ given_to held source joins (i + 1)
-given_more held source joins i x before after t h at so_far more is =
-    let own : Join → Option Listed = λ j. maybe_given held (join_source (join_tree j)) in
-    let next : map own (take (i + 1) joins) ≡ map own (take i joins) ++ own x ∷ [] =
-    ap (map own) (take_more joins i x h) ∙ map-append own (take i joins) (get_or joins i x ∷ []) ∙ ap (λ y. map own (take i joins) ++ own y ∷ []) (sym at) in
-    ap (map kept_table) more ∙ map-append kept_table before (t ∷ []) ∙ (λ k. so_far k ++ is k ∷ []) ∙ ap (λ l. maybe_given held source ∷ l) (sym next)
-
 joined_all : (held : NamedTables) (joins : List Join) → map (λ j. maybe_given held (join_source (join_tree j))) joins ≡ map (maybe_given held) (map join_source (map join_tree joins))
 joined_all held [] = refl
 joined_all held (j ∷ js) = ap (λ l. maybe_given held (join_source (join_tree j)) ∷ l) (joined_all held js)
@@ -82,6 +64,6 @@ joined_all held (j ∷ js) = ap (λ l. maybe_given held (join_source (join_tree 
 pub given_all : (held : NamedTables) (s : SelectTree) (joins items : List Join) (i : ℕ) (tables : List FromTable) → s.joins ≡ map join_tree joins → items ≡ joins → length items ≤ i → map kept_table tables ≡ given_to held s.source items i
     → map kept_table tables ≡ from_given held s
 given_all held s joins items i tables are same h is =
-    is ∙ ap (λ l. maybe_given held s.source ∷ map (λ j. maybe_given held (join_source (join_tree j))) l) (take_all items i h)
+    is ∙ ap (λ l. maybe_given held s.source ∷ map (λ j. maybe_given held (join_source (join_tree j))) l) (take_all i items h)
     ∙ ap (λ l. maybe_given held s.source ∷ l) (joined_all held items)
     ∙ ap (λ js. maybe_given held s.source ∷ map (maybe_given held) (map join_source js)) (ap (map join_tree) same ∙ sym are)

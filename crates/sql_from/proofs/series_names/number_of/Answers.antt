@@ -8,7 +8,7 @@ use Rattle.sql_from.proofs.series_names.number_of.Goals as goal
 pub returns-in-Some : goal.returns-in-Some
 returns-in-Some c columns is =
     let name = c.args.name.now in
-    c.deref.ensures ∙ ap (λ o. unwrap_or o (length columns)) (ap option_copied (sym c.in-Some.is) ∙ c.get.ensures ∙ ap (λ numbers. value_among numbers name) is) ∙ number_is columns name
+    ap (λ o. unwrap_or o (length columns)) (ap option_copied (sym c.in-Some.is) ∙ c.get.ensures ∙ ap (λ numbers. value_among numbers name) is) ∙ number_is columns name
 
 pub returns-in-None : goal.returns-in-None
 returns-in-None c columns is =
