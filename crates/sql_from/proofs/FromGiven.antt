@@ -28,9 +28,9 @@ pub copied_there : (o : Option (Bor Listed)) (t : Listed) → option_copied o �
 copied_there None t e = cc
 copied_there (Some b) t e = refl
 
-pub copied_is : (o : Option (Bor Listed)) (b : Bor Listed) (t : Listed) → Some b ≡ o → option_copied o ≡ Some t → b.now ≡ t
+pub copied_is : (o : Option (Bor Listed)) (b : Bor Listed) (t : Listed) → o ≡ Some b → option_copied o ≡ Some t → b.now ≡ t
 copied_is None b t is e = cc
-copied_is (Some a) b t is e = let same : b ≡ a = cc in let now : a.now ≡ t = cc in ap (λ (x : Bor Listed). x.now) same ∙ now
+copied_is (Some a) b t is e = let same : a ≡ b = cc in let now : a.now ≡ t = cc in ap (λ (x : Bor Listed). x.now) (sym same) ∙ now
 
 -- ---- by place
 
