@@ -39,11 +39,7 @@ impl Drop for FromTable<'_> {
 
 impl<'a> FromTable<'a> {
     // That of a source. It fails only if memory runs out.
-    fn of(
-        alloc: Global,
-        held: &'a HeldTables,
-        source: &Source,
-    ) -> Result<FromTable<'a>, AllocError>
+    fn of(alloc: Global, held: &'a HeldTables, source: &Source) -> Result<FromTable<'a>, AllocError>
         ensures { IfOk result (λ t. kept_table t ≡ maybe_given held.now source.now) }
     {
         let Some(table) = held.held(&source.table) else {
