@@ -27,5 +27,5 @@ last_count-count-requires c =
     let one = ap (λ (ss : NamedTables). length ss) made in
     omega (arith, one)
 
-pub with-sources-requires-clause-table : goal.with-sources-requires-clause-table
-with-sources-requires-clause-table c = c.requires.table ∙ ap (λ (held : NamedTables). maybe_given held c.args.source.now) (sym c.over.ensures.held)
+pub with-requires-clause-table : goal.with-requires-clause-table
+with-requires-clause-table c = c.requires.table ∙ ap (λ (held : NamedTables). maybe_given held c.args.source.now) (sym c.over.ensures.held)

@@ -79,5 +79,5 @@ returns-in_err-walked-clause-steps g c by silent f before two =
     (c.joined_with.ensures.steps by silent lead) linked))
     two
 
-pub with-sources-requires-clause-table : goal.with-sources-requires-clause-table
-with-sources-requires-clause-table g c = c.requires.table ∙ ap (maybe_given c.args.self.sources.held) (sym c.source_of.ensures)
+pub with-requires-clause-table : goal.with-requires-clause-table
+with-requires-clause-table g c = c.requires.table ∙ ap (maybe_given c.args.self.sources.held) (sym c.source_of.ensures)
