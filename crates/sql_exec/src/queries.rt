@@ -112,7 +112,8 @@ pub fn source_rows<L: Ledger>(
     ensures rows { (s : SelectTree) → query_tree plan.now.query ≡ s ∷ [] → AnswersBy (λ t. t.rows) result (source_rows (base_held p.now tables.now) s) }
 {
     let selects = plan.query().selects.as_slice();
+    let select = &selects[0];
     let given = given_for(alloc, tables, selects)?;
-    let from = FromTables::of(alloc, tables, &selects[0])?;
-    sql_from::source_rows(alloc, &selects[0], &from, &given, p, steps)
+    let from = FromTables::of(alloc, tables, select)?;
+    sql_from::source_rows(alloc, select, &from, &given, p, steps)
 }
