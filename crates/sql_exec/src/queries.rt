@@ -58,7 +58,9 @@ fn exec_over<L: Ledger>(
     let kinds = query_kinds(alloc, p, tables, from, selects)?;
     let columns = named_columns(alloc, selects[0].items.as_slice(), &kinds)?;
     let mut out = Output::new(alloc, columns);
-    add_selects(alloc, &mut out, plan, selects, from, &kinds, tables, p, steps)?;
+    add_selects(
+        alloc, &mut out, plan, selects, from, &kinds, tables, p, steps,
+    )?;
     out.finish()
 }
 
