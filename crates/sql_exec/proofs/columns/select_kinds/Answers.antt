@@ -78,8 +78,8 @@ with-requires-clause-table c =
     c.at.ensures ∙ ap (λ (l : List (Option Listed)). from_at l 0) c.requires.from
     ∙ ap (λ (h : NamedTables). maybe_given h (select_tree c.args.select.now).source) (sym c.over.ensures.held)
 
-pub with-in-loop-place-requires-clause-table : goal.with-in-loop-place-requires-clause-table
-with-in-loop-place-requires-clause-table c =
+pub with-requires-in-loop-place-clause-table : goal.with-requires-in-loop-place-clause-table
+with-requires-in-loop-place-clause-table c =
     let s = select_tree c.args.select.now in
     let joins = c.args.select.now.joins in
     let i = c.loop-place.place in
@@ -89,3 +89,17 @@ with-in-loop-place-requires-clause-table c =
     let read = from_join c.args.tables.now s.source joins i join here (c.index-joins-place.is ∙ ap (λ (js : List Join). get_or js i join) c.as_slice-joins.ensures) in
     c.at-in-loop-place.ensures ∙ ap (λ (l : List (Option Listed)). from_at l (i + 1)) c.requires.from ∙ read
     ∙ (λ j. maybe_given (sym c.loop-place.invariant.held j) (sym c.join_source-source.ensures j))
+
+pub with-requires-in-loop-place-clause-typed : goal.with-requires-in-loop-place-clause-typed
+with-requires-in-loop-place-clause-typed c =
+    let joins = c.args.select.now.joins in
+    let tables = tables_held c.args.tables.now in
+    let before = c.loop-place.sources in
+    let i = c.loop-place.place in
+    let join = c.index-joins-place.result in
+    let rest = map join_tree (drop (i + 1) joins) in
+    let read : map join_tree (drop i joins) ≡ join_tree join ∷ rest =
+    subst (λ (js : List Join). map join_tree (drop i js) ≡ join_tree join ∷ map join_tree (drop (i + 1) js)) c.as_slice-joins.ensures (ap (map join_tree) (drop_read c.as_slice-joins.result.now i join c.loop-place-test.true c.index-joins-place.is)) in
+    let typed : AreJoinsTyped c.args.p.now tables (scope_held before.sources) (join_tree join ∷ rest) = subst (AreJoinsTyped c.args.p.now tables (scope_held before.sources)) read c.loop-place.invariant.typed in
+    subst (IsSourceTyped (tables_held before.held) (scope_held before.sources)) (sym c.join_source-source.ensures)
+    (subst (λ t. IsSourceTyped t (scope_held before.sources) (join_source (join_tree join))) (sym (ap tables_held c.loop-place.invariant.held)) typed.0)

@@ -16,13 +16,6 @@ use Rattle.sql_exec.proofs.FromEach.{only_select}
 use Rattle.sql_exec.proofs.Steps.{holds_mapped}
 use Rattle.sql_exec.proofs.queries.source_rows.Goals as goal
 
-pub index-requires : goal.index-requires
-index-requires g c =
-    let is : map select_tree c.as_slice-selects.result.now ≡ query_tree c.args.plan.now.query = ap (map select_tree) c.as_slice-selects.ensures ∙ ap query_tree c.query.ensures.query in
-    let many = ap (λ (q : QueryTree). length q) is in
-    let long = length-map c.as_slice-selects.result.now select_tree in
-    omega (arith, many, long, c.requires.one)
-
 pub source_rows-requires-clause-typed : goal.source_rows-requires-clause-typed
 source_rows-requires-clause-typed g c =
     let selects = c.as_slice-selects.result.now in
@@ -31,22 +24,22 @@ source_rows-requires-clause-typed g c =
     let many = ap (λ (q : QueryTree). length q) is in
     let long = length-map selects select_tree in
     let some : 0 < length selects = omega (arith, many, long, c.requires.one) in
-    subst (λ (h : NamedTables). IsSelectTyped c.args.p.now (tables_held h) (select_tree c.index-select.result)) (sym c.in_ok-given.ensures)
-    (holds_mapped typed select_tree selects 0 c.index-select.result (subst (AllByRecursion typed) (sym is) c.requires.typed.selects) some c.index-select.is)
+    subst (λ (h : NamedTables). IsSelectTyped c.args.p.now (tables_held h) (select_tree c.index-selects-0.result)) (sym c.in_ok-given.ensures)
+    (holds_mapped typed select_tree selects 0 c.index-selects-0.result (subst (AllByRecursion typed) (sym is) c.requires.typed.selects) some c.index-selects-0.is)
 
 pub source_rows-requires-clause-from : goal.source_rows-requires-clause-from
-source_rows-requires-clause-from g c = c.in_ok-from.ensures ∙ ap (λ (h : NamedTables). from_given h (select_tree c.index-select.result)) (sym c.in_ok-given.ensures)
+source_rows-requires-clause-from g c = c.in_ok-from.ensures ∙ ap (λ (h : NamedTables). from_given h (select_tree c.index-selects-0.result)) (sym c.in_ok-given.ensures)
 
 pub returns-clause-columns : goal.returns-clause-columns
 returns-clause-columns g c s one =
     let is : map select_tree c.as_slice-selects.result.now ≡ query_tree c.args.plan.now.query = ap (map select_tree) c.as_slice-selects.ensures ∙ ap query_tree c.query.ensures.query in
-    let same : select_tree c.index-select.result ≡ s = only_select c.as_slice-selects.result.now c.index-select.result s (is ∙ one) c.index-select.is in
+    let same : select_tree c.index-selects-0.result ≡ s = only_select c.as_slice-selects.result.now c.index-selects-0.result s (is ∙ one) c.index-selects-0.is in
     subst (λ (h : NamedTables). IfOk c.source_rows.result (λ t. t.columns ≡ source_columns (scope_of (tables_held h) s))) c.in_ok-given.ensures
     (subst (λ (z : SelectTree). IfOk c.source_rows.result (λ t. t.columns ≡ source_columns (scope_of (tables_held c.in_ok-given.given) z))) same c.source_rows.ensures.columns)
 
 pub returns-clause-rows : goal.returns-clause-rows
 returns-clause-rows g c s one =
     let is : map select_tree c.as_slice-selects.result.now ≡ query_tree c.args.plan.now.query = ap (map select_tree) c.as_slice-selects.ensures ∙ ap query_tree c.query.ensures.query in
-    let same : select_tree c.index-select.result ≡ s = only_select c.as_slice-selects.result.now c.index-select.result s (is ∙ one) c.index-select.is in
+    let same : select_tree c.index-selects-0.result ≡ s = only_select c.as_slice-selects.result.now c.index-selects-0.result s (is ∙ one) c.index-selects-0.is in
     subst (λ (h : NamedTables). AnswersBy (λ t. t.rows) c.source_rows.result (source_rows (base_held c.args.p.now h) s)) c.in_ok-given.ensures
     (subst (λ (z : SelectTree). AnswersBy (λ t. t.rows) c.source_rows.result (source_rows (base_held c.args.p.now c.in_ok-given.given) z)) same c.source_rows.ensures.rows)
