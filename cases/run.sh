@@ -364,6 +364,15 @@ closed_output() {
     pass
 }
 
+# A call whose standard output is closed: its exit code, and its words.
+without_output() {
+    wanted_code=$1
+    shift
+    (cd "$folder" && exec "$program" "$@") >&- 2>"$made/told" </dev/null
+    code=$?
+    if [ "$code" = "$wanted_code" ] && written '' "$folder/out"; then pass; else fail "closed standard output, $*: exit code $code, wanted $wanted_code"; fi
+}
+
 # The files that a call has written, each with its name and its text, on one line: `|` stands for LF, and `^` for CR.
 files_written() {
     for file in "$folder"/out/*; do
@@ -371,13 +380,17 @@ files_written() {
     done
 }
 
-# A call over a front of a file: it must come to a code, and to a line or to files; `sql` to a text where it is done.
+# A call over a front of a file: it must come to a code, and to a line or to files; `sql` to a text where nothing is refused
+# before data are read.
 comes_to() {
     called "$@"
     line=
     read -r line <"$made/said"
     case $way:$code:$line in
-        sql:0:'SET SCALE '*) line=$answer ;;
+        sql:0:'SET SCALE '*)
+            line=$answer
+            [ "$wanted_code" -lt 4 ] || code=$wanted_code
+            ;;
         *:0:)
             line=$(files_written)
             line=${line# }
@@ -698,6 +711,13 @@ for folder in cases/*/; do
         devices)
             devices
             for command in run sqlrun; do closed_output "$command"; done
+            case=$top/cases/devices
+            laid_out
+            without_output 6 sql script.vtl structures.csv
+            without_output 6 format script.vtl
+            without_output 6 demo 2
+            without_output 1 run
+            without_output 4 run script.vtl structures.csv nowhere out
             ;;
         cut) for case in cases/cut/*/; do fronts_of "$top/${case%/}"; done ;;
         prefix) for file in cases/prefix/*.csv; do fronts syntax "${file%.*}.vtl" "$file"; done ;;
@@ -775,16 +795,16 @@ if wanted pages; then
     done
 fi
 # Runs at the limits and beyond them, which scripts/limits.py makes: all but the large ones by the name `limits`.
-for word in limits large; do
-    wanted "$word" && command -v python3 >/dev/null || continue
+for size in limits large; do
+    wanted "$size" && command -v python3 >/dev/null || continue
     set --
-    [ "$word" = limits ] || set -- large
-    scripts/limits.py "$made/$word" "$@" || fail "scripts/limits.py: exit code $?"
-    for case in "$made/$word"/*/; do
+    [ "$size" = limits ] || set -- large
+    scripts/limits.py "$made/limits" "$@" || fail "scripts/limits.py: exit code $?"
+    for case in "$made"/limits/*/; do
         run_three_ways "${case%/}"
         is_refused "${case%/}"
     done
-    rm -rf "${made:?}/$word"
+    rm -rf "${made:?}/limits"
 done
 # The grammars for editors, which are taken from the blocks of docs/LANGUAGE.md.
 if wanted pages; then
