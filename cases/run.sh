@@ -94,7 +94,7 @@ is_formed_in() {
 }
 
 # A call of the program in the folder. What it prints is left in files, but where the case names a device for its standard
-# output. Where the case has a limit, it is killed after so many seconds of processor time, or has so many KB of memory.
+# output. Where the case has a limit, it is killed after so many seconds of processor time, or has so many KB of memory or stack.
 called() {
     output=$made/said
     seconds=unlimited
@@ -105,7 +105,9 @@ called() {
     fi
     memory=unlimited
     [ ! -e "$case/memory" ] || read -r memory <"$case/memory"
-    (cd "$folder" && ulimit -t "$seconds" && ulimit -v "$memory" && "$program" "$@" >"$output" 2>"$made/told" </dev/null)
+    stack=
+    [ ! -e "$case/stack" ] || read -r stack <"$case/stack"
+    (cd "$folder" && ulimit -t "$seconds" && ulimit -v "$memory" && ulimit ${stack:+-s "$stack"} >/dev/null && "$program" "$@" >"$output" 2>"$made/told" </dev/null)
     code=$?
 }
 
@@ -115,7 +117,7 @@ laid_out() {
     rm -rf "$folder"
     cp -R "$case" "$folder"
     [ -e "$folder/structures.csv" ] || [ ! -e "$case/../structures.csv" ] || cp "$case/../structures.csv" "$folder"
-    (cd "$folder" && rm -rf expected line code told words setup seconds memory stdout unformed out && mkdir out) || return
+    (cd "$folder" && rm -rf expected line code told words setup seconds memory stack stdout unformed out && mkdir out) || return
     if [ -e "$case/setup" ] && ! (cd "$folder" && sh "$case/setup"); then
         fail "$case: setup failed"
         return 1

@@ -8,6 +8,8 @@ import os
 import sys
 
 MILLION = 1000000
+# The KB of stack that the deepest script and the deepest text have, as README names them.
+STACK, STACK_OF_A_TEXT = 1024, 3072
 HEADER = 'dataset,component,role,type,codes\n'
 
 
@@ -20,9 +22,10 @@ def file_of(path, text):
 class Cases:
     def __init__(self, folder):
         self.folder = folder
+        self.stack = None
 
     def put(self, name, files, outputs=None, line=None, code=0, words=None):
-        """A case: its files, and either the outputs or the line and its code."""
+        """A case: its files, either the outputs or the line and its code, and perhaps the KB of its stack."""
         for path, text in files.items():
             file_of(f'{self.folder}/{name}/{path}', text)
         os.makedirs(f'{self.folder}/{name}/in', exist_ok=True)
@@ -31,6 +34,8 @@ class Cases:
         if line:
             file_of(f'{self.folder}/{name}/line', line + '\n')
             file_of(f'{self.folder}/{name}/code', f'{code}\n')
+        if self.stack:
+            file_of(f'{self.folder}/{name}/stack', f'{self.stack}\n')
         if words:
             file_of(f'{self.folder}/{name}/words', '\n'.join(words) + '\n')
 
@@ -323,6 +328,7 @@ def main(folder, *words):
     cases = Cases(folder)
     made = [large] if words == ('large',) else [sizes, rows, widths, names, numbers, nodes, depths, sql_depths]
     for make in made:
+        cases.stack = {nodes: STACK, depths: STACK, sql_depths: STACK_OF_A_TEXT}.get(make)
         make(cases)
 
 

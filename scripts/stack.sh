@@ -1,7 +1,7 @@
 #!/bin/sh
-# How much stack the deepest scripts and texts want, by the built program: stack.sh [NAME ..] prints the least stack, in KB and by
-# steps of a quarter, in which each call of these cases of scripts/limits.py comes to its end, those of depths where none is
-# named; and at the end the greatest for each command. It takes some seconds a case.
+# How much stack the deepest scripts and texts want, by the built program: stack.sh [NAME ..] prints the least stack, in KB and to
+# within 16, in which each call of these cases of scripts/limits.py comes to its end, those of depths where none is named; and at
+# the end the greatest for each command. It takes some minutes.
 top=$(CDPATH='' cd -- "$(dirname -- "$0")/.." && pwd) || exit 1
 vtl=$top/crates/vtl/out/vtl
 [ -x "$vtl" ] || { echo "stack.sh: there is no program: scripts/build.sh builds it" >&2; exit 1; }
@@ -15,22 +15,26 @@ fi
 
 # Whether a call ends within so much stack; a signal gives a code above 128.
 ends_within() {
-    stack=$1
+    room=$1
     shift
     mkdir -p "$made/out"
-    (cd "$folder" && ulimit -s "$stack" && exec "$vtl" "$@") >"$made/said" 2>&1 </dev/null
+    (cd "$folder" && ulimit -s "$room" && exec "$vtl" "$@" >"$made/said" </dev/null)
     [ "$?" -le 7 ]
-}
+} 2>/dev/null
 
-# The least stack of a call.
+# The least stack of a call, to within 16 KB.
 least() {
-    stack=65536
-    if ! ends_within "$stack" "$@"; then
-        echo "more than $stack"
+    enough=8192
+    little=32
+    if ! ends_within "$enough" "$@"; then
+        echo "more than $enough"
         return
     fi
-    while [ "$stack" -gt 64 ] && ends_within $((stack * 3 / 4)) "$@"; do stack=$((stack * 3 / 4)); done
-    echo "$stack"
+    while [ $((enough - little)) -gt 16 ]; do
+        middle=$(((enough + little) / 2))
+        if ends_within "$middle" "$@"; then enough=$middle; else little=$middle; fi
+    done
+    echo "$enough"
 }
 
 for case; do
