@@ -1,0 +1,2 @@
+//! What results depend on.
+#![tactic(auto)]
