@@ -1,3 +1,5 @@
+pub mod Copies
 pub mod Numbers
 pub mod Lines
 pub mod Shown
+pub mod Statements

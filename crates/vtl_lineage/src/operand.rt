@@ -37,15 +37,22 @@ impl Found {
         }
     }
 
-    /// The same, shared. It fails only if memory runs out.
-    pub fn share(&self, alloc: Global) -> Result<Found, AllocError>
-        ensures { IfOk result (λ f. f ≡ self.now) }
+    /// The same components with other points; they are shared. It fails only if memory runs out.
+    pub fn share_with(&self, alloc: Global, points: Shared<usize>) -> Result<Found, AllocError>
+        ensures { IfOk result (λ f. f ≡ sources points self.now.others) }
     {
         let mut others = Vec::new(alloc);
         for set in self.others.as_slice() {
             others.push(set.share()?)?;
         }
-        Ok(Found::of(self.points.share()?, others))
+        Ok(Found::of(points, others))
+    }
+
+    /// The same, shared. It fails only if memory runs out.
+    pub fn share(&self, alloc: Global) -> Result<Found, AllocError>
+        ensures { IfOk result (λ f. f ≡ self.now) }
+    {
+        self.share_with(alloc, self.points.share()?)
     }
 }
 

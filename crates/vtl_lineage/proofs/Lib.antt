@@ -1,0 +1,4 @@
+pub mod Merging
+pub mod Columns
+pub mod Walks
+pub mod Kept
