@@ -23,10 +23,10 @@ use Rattle.vtl_tree.specs.declared.structure.Role.TheVariants as role
 use Rattle.vtl_tree.specs.declared.structure.Structure.{Structure}
 use Rattle.vtl_meaning.specs.Aggregates.{call_for}
 use Rattle.vtl_meaning.specs.Analytics.{value_for}
-use Rattle.vtl_sources.specs.Lineage.{Past, form_lineage, lineage, maybe_lineage, nodes_lineage, operands_lineage, sources_named}
+use Rattle.vtl_sources.specs.Lineage.{Past, form_lineage, lineage, maybe_lineage, nodes_lineage, operand_of, operands_lineage, sources_named}
 use Rattle.vtl_sources.specs.Links.{Pairs, either, none}
 use Rattle.vtl_sources.specs.Sources.{Sources, Traced, attribute_sources, columns_from, each_source, measure_sources, source_at, source_if_named, source_named, sources, traced, with_all, with_expression, with_expressions, with_names}
-use Rattle.vtl_sources.specs.Table.{becoming, namesakes, of_aggregate, of_check, of_choice, of_datapoint, of_filter, of_join, of_left, of_made, of_measured, of_measures, of_pair, of_pivot, of_points, of_set, points_of_all, source_counted, source_made, source_of_value, with_measures, with_rule, with_window}
+use Rattle.vtl_sources.specs.Table.{becoming, namesakes, of_aggregate, of_check, of_choice, of_datapoint, of_filter, of_join, of_left, of_made, of_measured, of_measures, of_pair, of_pivot, of_points, of_set, points_of_all, source_counted, source_made, source_of_value, with_measure, with_measures, with_rule, with_window}
 use Rattle.vtl_lineage.specs.Numbers.{Numbers, merged, numbered, numbered_past, numbered_traced, numbers_of}
 use Rattle.vtl_lineage.proofs.Merging.{numbers_joined, numbers_none}
 
@@ -100,6 +100,9 @@ module _ (pairs : Pairs) where
   measures_same : (a : Traced Pairs) → h (with_measures either none a) ≡ with_measures merged [] (at a)
   measures_same a =
       all_joined a.sources.points (measure_sources either none a) ∙ ap (with_all merged [] (h a.sources.points)) (each_same a (measures_of a.structure))
+
+  measure_same : (a : Traced Pairs) (before : Pairs) → h (with_measure either none a before) ≡ with_measure merged [] (at a) (h before)
+  measure_same a before = numbers_joined pairs before (source_at either none a (key_width a.structure)) ∙ ap (merged (h before)) (at_same a (key_width a.structure))
 
   all_points_same : (ds : List (Traced Pairs)) → h (points_of_all either none ds) ≡ points_of_all merged [] (map at ds)
   all_points_same ds =
@@ -187,19 +190,13 @@ module _ (pairs : Pairs) where
   choice_line : (t a b : Traced Pairs) (s : Structure) → numbered pairs (of_choice either none t a b s) ≡ of_choice merged [] (at t) (at a) (at b) s
   choice_line t a b s = λ i. sources (points i) (both_columns a b (measures_of s) i)
     where
-      tp : Pairs
-      tp = t.sources.points
-
       first : Pairs
-      first = a.sources.points
+      first = either t.sources.points a.sources.points
 
-      bp : Pairs
-      bp = b.sources.points
-
-      points : h (either (either (either tp first) bp) (source_at either none t (key_width t.structure))) ≡ merged (merged (merged (h tp) (h first)) (h bp)) (source_at merged [] (at t) (key_width t.structure))
+      points : h (with_measure either none t (either first b.sources.points)) ≡ with_measure merged [] (at t) (merged (merged (h t.sources.points) (h a.sources.points)) (h b.sources.points))
       points =
-          numbers_joined pairs (either (either tp first) bp) (source_at either none t (key_width t.structure))
-          ∙ (λ i. merged ((numbers_joined pairs (either tp first) bp ∙ ap (λ l. merged l (h bp)) (numbers_joined pairs tp first)) i) (at_same t (key_width t.structure) i))
+          measure_same t (either first b.sources.points)
+          ∙ ap (with_measure merged [] (at t)) (numbers_joined pairs first b.sources.points ∙ ap (λ l. merged l (h b.sources.points)) (numbers_joined pairs t.sources.points a.sources.points))
 
   left_line : (a : Traced Pairs) (s : Structure) → numbered pairs (of_left either none a s) ≡ of_left merged [] (at a) s
   left_line a s = ap (sources (h a.sources.points)) (each_same a (others_of s))
@@ -230,11 +227,12 @@ module _ (pairs : Pairs) where
       λ i. sources (condition_same a a.sources.points spec.having i) (same_each (source_counted either none a spec.items) (source_counted merged [] (at a) spec.items) (counted_same a spec.items) (others_of s) i)
 
   check_line : (a : Traced Pairs) (d : Option (Traced Pairs)) (e : Option (Traced Numbers)) → option_map_or (λ x. Some (at x)) d None ≡ e → numbered pairs (of_check either none a d) ≡ of_check merged [] (at a) e
-  check_line a d e same = λ i. sources (measures_same a i) (numbers_none pairs i ∷ (other d ∙ ap (λ o. option_map_or (with_measures merged []) o []) same) i ∷ numbers_none pairs i ∷ numbers_none pairs i ∷ [])
+  check_line a d e same =
+      λ i. sources (measure_same a a.sources.points i) (numbers_none pairs i ∷ (other d ∙ ap (λ o. option_map_or (λ x. with_measure merged [] x x.sources.points) o []) same) i ∷ numbers_none pairs i ∷ numbers_none pairs i ∷ [])
     where
-      other : (d : Option (Traced Pairs)) → h (option_map_or (with_measures either none) d none) ≡ option_map_or (with_measures merged []) (option_map_or (λ x. Some (at x)) d None) []
+      other : (d : Option (Traced Pairs)) → h (option_map_or (λ x. with_measure either none x x.sources.points) d none) ≡ option_map_or (λ x. with_measure merged [] x x.sources.points) (option_map_or (λ x. Some (at x)) d None) []
       other None = numbers_none pairs
-      other (Some x) = measures_same x
+      other (Some x) = measure_same x x.sources.points
 
   datapoint_line : (a : Traced Pairs) (rules : List PointRuleTree) (o : CheckOut) → numbered pairs (of_datapoint either none a rules o) ≡ of_datapoint merged [] (at a) rules o
   datapoint_line a rules o = λ i. sources (rules_same a a.sources.points rules i) (columns i)
@@ -261,10 +259,10 @@ module _ (pairs : Pairs) where
           go false ih = ih
 
   abbrev L : Past Pairs → NodeTree → Traced Pairs
-  L past n = lineage either none past n
+  L past n = operand_of n (lineage either none past n)
 
   abbrev N : Past Pairs → NodeTree → Traced Numbers
-  N past n = lineage merged [] (numbered_past pairs past) n
+  N past n = operand_of n (lineage merged [] (numbered_past pairs past) n)
 
   mutual
     pub node_same : (past : Past Pairs) (n : NodeTree) → at (L past n) ≡ N past n

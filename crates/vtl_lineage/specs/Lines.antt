@@ -3,10 +3,14 @@ use Rattle.std.specs.Prelude.{ℕ, List, [], ◌∷◌, Option, None, Some, slic
 use Rattle.vtl_tree.specs.Trees as nodes
 use Rattle.vtl_tree.specs.Trees.{FormTree, MaybeNode, NodeTree}
 use Rattle.vtl_tree.specs.declared.structure.Structure.{Structure}
-use Rattle.vtl_sources.specs.Lineage.{Past, sources_named}
+use Rattle.vtl_sources.specs.Lineage.{Past, lineage, operand_of, sources_named}
 use Rattle.vtl_sources.specs.Sources.{Sources, Traced, sources, traced}
 use Rattle.vtl_sources.specs.Table.{of_aggregate, of_check, of_choice, of_datapoint, of_filter, of_join, of_left, of_made, of_measured, of_measures, of_pair, of_pivot, of_points, of_set, points_of_all}
 use Rattle.vtl_lineage.specs.Numbers.{Numbers, merged}
+
+-- the data set of an expression
+abbrev pub traced_node : Past Numbers → NodeTree → Traced Numbers
+traced_node past n = operand_of n (lineage merged [] past n)
 
 -- an operand; a form has as many as it asks for here
 abbrev pub untraced : Traced Numbers

@@ -1,6 +1,5 @@
 // The data sets that a script reads: their components numbered, and what they depend on.
-ghost use Rattle.std.specs.Prelude.{◌≡◌, ◌+◌, ◌<◌, ◌^◌, ◌++◌, ◌∷◌, [], IfOk, OnOk, length};
-ghost use Rattle.vtl_tree.specs.Structure.{columns_of};
+ghost use Rattle.std.specs.Prelude.{◌≡◌, ◌+◌, ◌<◌, ◌^◌, ◌++◌, ◌∷◌, [], IfOk, OnOk};
 ghost use Rattle.vtl_sources.specs.Links.{pairs_of_set};
 ghost use Rattle.vtl_lineage.specs.Numbers.{each_alone, input_numbers, run};
 ghost use Rattle.vtl_lineage.specs.Shown.{lent_pairs};
@@ -14,6 +13,7 @@ use vtl_tree::Structure;
 pub type Pair<'a> = (&'a Txt, &'a Txt);
 
 // So many numbers from one on.
+#[tactic(auto, using(crate::proofs::Columns::run_next, crate::proofs::Columns::run_ends))]
 fn run(alloc: Global, first: usize, count: usize) -> Result<Shared<usize>, AllocError>
     requires { first + count < 2 ^ 64 }
     ensures { IfOk result (λ s. s ≡ run first count) }
@@ -26,6 +26,7 @@ fn run(alloc: Global, first: usize, count: usize) -> Result<Shared<usize>, Alloc
 }
 
 // The same, each in a set of its own.
+#[tactic(auto, using(crate::proofs::Columns::run_next, crate::proofs::Columns::run_ends))]
 fn run_alone(alloc: Global, first: usize, count: usize) -> Result<Vec<Shared<usize>>, AllocError>
     requires { first + count < 2 ^ 64 }
     ensures { IfOk result (λ v. v.items ≡ each_alone (run first count)) }
@@ -46,14 +47,16 @@ fn run_of_one(alloc: Global, number: usize) -> Result<Shared<usize>, AllocError>
 }
 
 /// What a data set depends on that is read, where its first component has this number.
+#[tactic(auto, using(crate::proofs::Columns::columns_parts))]
 pub fn input(alloc: Global, first: usize, s: &Structure) -> Result<Found, AllocError>
-    requires { first + length (columns_of s.now) < 2 ^ 64 }
+    requires { first < 2 ^ 63 }
     ensures { IfOk result (λ f. f ≡ input_numbers first s.now) }
 {
+    let columns = s.columns(alloc)?;
     let width = s.key_width();
-    let rest = s.columns(alloc)?.len() - width;
     let points = run(alloc, first, width)?;
-    Ok(Found::of(points, run_alone(alloc, first + width, rest)?))
+    let others = run_alone(alloc, first + width, columns.len() - width)?;
+    Ok(Found::of(points, others))
 }
 
 /// Puts the components of a data set behind other pairs.

@@ -7,7 +7,7 @@ ghost use Rattle.vtl_tree.specs.NodeView.{measure_tree, point_rule_tree};
 ghost use Rattle.vtl_tree.specs.Shown.{shown};
 ghost use Rattle.vtl_tree.specs.View.{comp_exp_of, comp_exps_of};
 ghost use Rattle.vtl_sources.specs.Sources.{measure_sources, source_named, with_expressions};
-ghost use Rattle.vtl_sources.specs.Table.{of_check, of_choice, of_datapoint, of_filter, of_left, of_measured, of_measures, of_pair, of_pivot, of_points, with_measures, with_rule};
+ghost use Rattle.vtl_sources.specs.Table.{of_check, of_choice, of_datapoint, of_filter, of_left, of_measured, of_measures, of_pair, of_pivot, of_points, with_measure, with_rule};
 ghost use Rattle.vtl_lineage.specs.Numbers.{merged};
 
 use crate::columns::{becoming, measures, others};
@@ -126,11 +126,21 @@ pub fn choose(
 {
     let first = joined(alloc, condition.points(), a.points())?;
     let both = joined(alloc, &first, b.points())?;
-    let test = condition.source_at(condition.structure().key_width());
-    let points = joined(alloc, &both, test)?;
+    let points = with_measure(alloc, condition, &both)?;
     let mut sets = Vec::new(alloc);
     push_pairs(alloc, &mut sets, a, b, &measures(alloc, made)?)?;
     Ok(Found::of(points, sets))
+}
+
+// What was there, and the only measure, which stands behind the identifiers.
+fn with_measure(
+    alloc: Global,
+    a: &Operand,
+    before: &Shared<usize>,
+) -> Result<Shared<usize>, AllocError>
+    ensures { IfOk result (λ s. s ≡ with_measure merged [] a.now before.now) }
+{
+    joined(alloc, before, a.source_at(a.structure().key_width()))
 }
 
 // The imbalance of a check, where one is written.
@@ -139,10 +149,10 @@ fn imbalance(
     a: &Operand,
     other: Option<&Operand>,
 ) -> Result<Shared<usize>, AllocError>
-    ensures { IfOk result (λ s. s ≡ option_map_or (with_measures merged []) (option_copied other) []) }
+    ensures { IfOk result (λ s. s ≡ option_map_or (λ d. with_measure merged [] d d.sources.points) (option_copied other) []) }
 {
     match other {
-        Some(d) => with_measures(alloc, d),
+        Some(d) => with_measure(alloc, d, d.points()),
         None => a.nothing().share(),
     }
 }
@@ -151,7 +161,7 @@ fn imbalance(
 pub fn check(alloc: Global, a: &Operand, other: Option<&Operand>) -> Result<Found, AllocError>
     ensures { IfOk result (λ f. f ≡ of_check merged [] a.now (option_copied other)) }
 {
-    let points = with_measures(alloc, a)?;
+    let points = with_measure(alloc, a, a.points())?;
     let mut sets = Vec::new(alloc);
     sets.push(a.nothing().share()?)?;
     sets.push(imbalance(alloc, a, other)?)?;

@@ -2,10 +2,10 @@
 ghost use Rattle.std.specs.Option.{option_copied};
 ghost use Rattle.std.specs.Prelude.{◌≡◌, ◌<◌, [], IfOk, length, slice_get};
 ghost use Rattle.vtl_tree.specs.NodeView.{node_tree};
-ghost use Rattle.vtl_sources.specs.Lineage.{lineage, sources_named};
+ghost use Rattle.vtl_sources.specs.Lineage.{sources_named};
 ghost use Rattle.vtl_sources.specs.Table.{of_points, points_of_all};
 ghost use Rattle.vtl_walks.specs.Operands.{operands_in};
-ghost use Rattle.vtl_lineage.specs.Lines.{node_line, operand};
+ghost use Rattle.vtl_lineage.specs.Lines.{node_line, operand, traced_node};
 ghost use Rattle.vtl_lineage.specs.Numbers.{merged};
 
 use crate::joins::{join, set};
@@ -101,13 +101,13 @@ fn line(
 
 /// The data set of an expression, with what it depends on.
 #[cycle(traced)]
-#[tactic(auto, using(crate::proofs::Walks::by_operands, crate::proofs::Walks::traced_next, crate::proofs::Walks::all_traced))]
+#[tactic(auto, using(crate::proofs::Walks::by_operands, crate::proofs::Walks::traced_next, crate::proofs::Walks::all_traced, crate::proofs::Walks::as_many))]
 pub fn trace<'a>(
     alloc: Global,
     known: &Known,
     node: &'a Node,
 ) -> Result<Operand<'a>, AllocError>
-    ensures { IfOk result (λ o. o ≡ lineage merged [] known.now (node_tree node.now)) }
+    ensures { IfOk result (λ o. o ≡ traced_node known.now (node_tree node.now)) }
 {
     let below = operands(node);
     let mut given = Vec::new(alloc);

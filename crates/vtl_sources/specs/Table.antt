@@ -36,6 +36,10 @@ module _ {S : Type 0} (joined : S → S → S) (nothing : S) where
   abbrev pub with_measures : Traced S → S
   with_measures a = with_all joined nothing a.sources.points (measure_sources joined nothing a)
 
+  -- the only measure, which stands behind the identifiers, behind a set
+  abbrev pub with_measure : Traced S → S → S
+  with_measure a before = joined before (source_at joined nothing a (key_width a.structure))
+
   -- the components of a partition and of an order behind a set
   abbrev pub with_window : Traced S → S → Window → S
   with_window a before w = with_names joined nothing a (with_names joined nothing a before w.partition) (map (λ key. key.component) w.order)
@@ -71,10 +75,9 @@ module _ {S : Type 0} (joined : S → S → S) (nothing : S) where
   of_pair a b s =
       sources (joined a.sources.points b.sources.points) (map (λ x. joined (source_named joined nothing a x.name) (source_named joined nothing b x.name)) (becoming a.structure s))
 
-  -- the measure of the condition stands behind its identifiers
   abbrev pub of_choice : (condition first second : Traced S) → Structure → Sources S
   of_choice t a b s =
-      sources (joined (joined (joined t.sources.points a.sources.points) b.sources.points) (source_at joined nothing t (key_width t.structure)))
+      sources (with_measure t (joined (joined t.sources.points a.sources.points) b.sources.points))
       (map (λ y. joined (source_named joined nothing a y.name) (source_named joined nothing b y.name)) (measures_of s))
 
   -- components that are left as they are
@@ -106,7 +109,7 @@ module _ {S : Type 0} (joined : S → S → S) (nothing : S) where
 
   -- behind the truth value the imbalance, and then the errors
   abbrev pub of_check : Traced S → (imbalance : Option (Traced S)) → Sources S
-  of_check a imbalance = sources (with_measures a) (nothing ∷ option_map_or with_measures imbalance nothing ∷ nothing ∷ nothing ∷ [])
+  of_check a imbalance = sources (with_measure a a.sources.points) (nothing ∷ option_map_or (λ d. with_measure d d.sources.points) imbalance nothing ∷ nothing ∷ nothing ∷ [])
 
   abbrev pub of_datapoint : Traced S → List PointRuleTree → CheckOut → Sources S
   of_datapoint a rules o = sources (fold (with_rule a) a.sources.points rules) (output_parts o (measure_sources joined nothing a) nothing (nothing ∷ nothing ∷ []))
