@@ -46,7 +46,7 @@ middle f before own behind ns h k e =
     ∙ append-nil ns
 
 -- ---- pairs of one data set
-pair_with : List ℕ → Component → Pair
+abbrev pair_with : List ℕ → Component → Pair
 pair_with name x = (name, x.name)
 
 -- a pair of another data set is none of them

@@ -127,7 +127,12 @@ impl<'a> Operand<'a> {
     pub fn into_found(self) -> Found
         ensures { result ≡ self.entry.sources }
     {
-        let Operand { found, .. } = self;
+        let Operand {
+            structure: _structure,
+            columns: _columns,
+            found,
+            nothing: _nothing,
+        } = self;
         found
     }
 
