@@ -1,4 +1,4 @@
-pub mod Columns
+pub mod ByPlace
 pub mod InputNumbers
 pub mod Kept
 pub mod Linked
