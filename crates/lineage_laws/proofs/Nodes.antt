@@ -12,7 +12,7 @@ use Rattle.lineage_laws.proofs.Values.{condition_known, expression_known}
 use Rattle.lineage_laws.proofs.Turned.{exists_agrees, pivot_agrees, unpivot_agrees}
 use Rattle.lineage_laws.proofs.Windows.{analytic_agrees}
 use Rattle.lineage_laws.specs.Agree.{Agreeing, IsKnown, Known}
-use Rattle.std.proofs.Common.{◌≡◌, ℕ, zero, suc, true, ◌&&◌, List, [], ◌∷◌, ◌++◌, length, map, Ok, Option, None, Some, option_map, refl, sym, ap, ◌∙◌, subst}
+use Rattle.std.proofs.Common.{◌≡◌, ℕ, zero, suc, List, [], ◌∷◌, ◌++◌, length, map, Ok, Option, None, Some, option_map, refl, sym, ap, ◌∙◌, subst}
 use Rattle.std.specs.List.{AllByRecursion}
 use Rattle.std.specs.Map.{lookup}
 use Rattle.std.specs.Option.{option_map_or}

@@ -19,8 +19,8 @@ use Rattle.vtl_syntax.specs.declared.word_groups.HierInput.{HierInput}
 use Rattle.vtl_syntax.specs.declared.word_groups.HierOut.{HierOut}
 use Rattle.vtl_syntax.specs.declared.word_groups.HierOut.TheVariants as outs
 use Rattle.vtl_syntax.specs.declared.word_groups.Mode.{Mode}
-use Rattle.vtl_tree.specs.Checks.{output_parts, rule_id, ruleid, uncoded, with_ids, without_codes}
-use Rattle.vtl_tree.specs.Columns.{identifiers_of, kind_named, measures_of, others_of, place_of, places_in}
+use Rattle.vtl_tree.specs.Checks.{output_parts, rule_id, ruleid, with_ids, without_codes}
+use Rattle.vtl_tree.specs.Columns.{identifiers_of, measures_of, others_of, place_of, places_in}
 use Rattle.vtl_tree.specs.CompExp.{CompExp}
 use Rattle.vtl_tree.specs.DataSet.{IsDataSet, is_point}
 use Rattle.vtl_tree.specs.Environment.{DataSet}
@@ -49,20 +49,19 @@ use Rattle.vtl_meaning.specs.Sets.{united}
 use Rattle.vtl_meaning.specs.Turned.{is_coded, other_identifiers}
 use Rattle.vtl_rulings.specs.Hierarchies.{computed, hierarchy_of, items_of}
 use Rattle.vtl_rulings.specs.HierarchyChecks.{Ruled, SidedRule, check_cells, check_fault, check_hierarchy_of, combinations, is_checked, items_at, key_at, only_name, ruled_by, sided_rules}
-use Rattle.vtl_rulings.specs.HierarchyShapes.{IsHierarchyChecked, IsHierarchyMade, IsItemized}
+use Rattle.vtl_rulings.specs.HierarchyShapes.{IsItemized}
 use Rattle.vtl_rulings.specs.Modes.{Items}
 use Rattle.vtl_rulings.specs.Outputs.{code_cell, errors_at, is_basic_shown, is_shown, level_cell}
 use Rattle.vtl_rulings.specs.PointChecks.{PointRule, check_of, checked_point, datapoint_of, errors_of, imbalance_at, point_rules, rule_fault, rule_points, ruled_point, truth_of, under}
-use Rattle.vtl_rulings.specs.Shaped.{IsChecked, IsPointChecked}
 use Rattle.vtl_rulings.specs.Sides.{holds}
 use Rattle.vtl_sources.specs.Links.{Pairs}
 use Rattle.vtl_sources.specs.Sources.{sources}
 use Rattle.lineage_laws.specs.Agree.{Agree, Agreeing, Both, IsKnown, Known, Together, and, both, cell, neither, no_cells, none}
-use Rattle.lineage_laws.specs.Over.{Found, Operand, columns_from, measure_sources, no_pairs, of_check, of_datapoint, of_measured, source_at, source_named, with_expression, with_measure, with_rule}
-use Rattle.lineage_laws.proofs.Columns.{IsIdentifierOf, agree_ids, agree_named, among_identifiers, both_ok, const_map, kept_identifiers, same_values}
+use Rattle.lineage_laws.specs.Over.{Found, Operand, columns_from, measure_sources, no_pairs, of_check, of_datapoint, source_at, source_named, with_expression, with_measure, with_rule}
+use Rattle.lineage_laws.proofs.Columns.{IsIdentifierOf, agree_ids, agree_named, among_identifiers, both_ok, const_map, same_values}
 use Rattle.lineage_laws.proofs.Joins.{AreTwins, Twin, first_of, found_agree, second_of}
-use Rattle.lineage_laws.proofs.Rows.{agree_append, agree_key, agree_self, known_parts, same_at, same_identifier, same_key, same_named}
-use Rattle.lineage_laws.proofs.Togethers.{both_value, same_map, together_append, together_find, together_map}
+use Rattle.lineage_laws.proofs.Rows.{agree_append, agree_key, agree_self, known_parts, same_at, same_identifier, same_named}
+use Rattle.lineage_laws.proofs.Togethers.{both_value, same_map, together_append, together_find}
 use Rattle.lineage_laws.proofs.Values.{expression_known, value_same}
 
 -- ---- points of which some are left out

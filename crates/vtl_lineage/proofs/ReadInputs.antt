@@ -1,5 +1,5 @@
 -- The data sets that a script reads are those that the program comes to.
-use Rattle.std.proofs.Common.{◌≡◌, ℕ, ◌+◌, ◌<◌, ◌≤◌, get_or, take, Bool, true, false, not, cond, ◌&&◌, ◌||◌, List, [], ◌∷◌, ◌++◌, append_assoc, length, length-append, map, Option, None, Some, refl, sym, ap, ◌∙◌, subst, arith}
+use Rattle.std.proofs.Common.{◌≡◌, ℕ, ◌+◌, ◌<◌, ◌≤◌, get_or, take, Bool, true, false, not, cond, ◌&&◌, ◌||◌, List, [], ◌∷◌, ◌++◌, append_assoc, length, length-append, map, Option, None, Some, refl, sym, ap, ◌∙◌, arith}
 use Rattle.std.specs.Prelude.{nat_le}
 use Rattle.std.proofs.lemmas.Bool.{and_parts, leb-true}
 use Rattle.std.specs.Borrow.{Bor}
@@ -16,7 +16,7 @@ use Rattle.vtl_tree.proofs.StructuresLemmas.{all_found}
 use Rattle.vtl_tree.specs.Structures.{AreStructures, Named, has_name, is_declarable, is_declarable_component, is_declarable_entry}
 use Rattle.vtl_tree.specs.Trees.{NodeTree, structure_of}
 use Rattle.vtl_tree.specs.declared.structure.Structure.{Structure}
-use Rattle.vtl_check.specs.Checked.{IsTyped, TypedScript, known_of, nodes_of, tree_of}
+use Rattle.vtl_check.specs.Checked.{TypedScript, known_of, nodes_of, tree_of}
 use Rattle.vtl_check.specs.Names.{names_of}
 use Rattle.vtl_check.specs.Transformations.{Transformation, transformations}
 use Rattle.vtl_check.specs.Uses.{read_behind, reads, results_behind, with_declared, with_new}
