@@ -23,7 +23,7 @@ use Rattle.vtl_tree.specs.declared.structure.Structure.{Structure}
 use Rattle.vtl_tuples.specs.Keys.{item_at}
 use Rattle.vtl_tuples.specs.Tuples.{combinations}
 use Rattle.vtl_sources.specs.Links.{Pairs}
-use Rattle.lineage_laws.specs.Over.{attribute_sources, columns_from, each_source, measure_sources, no_pairs, of_join, points_of_all}
+use Rattle.lineage_laws.specs.Over.{attribute_sources, columns_from, each_source, measure_sources, no_pairs, of_join}
 
 abbrev pub structure_in : Twin → Structure
 structure_in x = x.operand.structure

@@ -19,7 +19,7 @@ use Rattle.vtl_lists.proofs.Perms.{AllByRecursion-Perm, Perm-map, Perm-refl, Per
 use Rattle.vtl_lists.specs.Perm.{Perm, chain, cross, empty, keep}
 use Rattle.vtl_meaning.proofs.LookUps.{named_cells}
 use Rattle.vtl_meaning.proofs.OwnColumns.{columns_apart}
-use Rattle.vtl_meaning.proofs.Places.{IsIdentifier, all_back, all_front, are_identifiers, columns_split, first_cells, point_length, same_name-is, same_name-sym}
+use Rattle.vtl_meaning.proofs.Places.{IsIdentifier, all_back, all_front, are_identifiers, columns_split, first_cells, point_length, same_name-sym}
 use Rattle.vtl_meaning.specs.LookUps.{value_named, values_named}
 use Rattle.vtl_meaning.specs.Orders.{SameData}
 use Rattle.vtl_meaning.specs.Points.{with_points}

@@ -28,7 +28,7 @@ use Rattle.vtl_tree.specs.declared.structure.Role.TheVariants as role
 use Rattle.vtl_tree.specs.declared.structure.Structure.{Structure}
 use Rattle.vtl_sources.specs.Links.{Pairs}
 use Rattle.vtl_sources.specs.Sources.{sources}
-use Rattle.lineage_laws.specs.Over.{Operand, attribute_sources, columns_from, each_source, measure_sources, no_pairs, of_join, points_of_all, source_named}
+use Rattle.lineage_laws.specs.Over.{Operand, attribute_sources, columns_from, each_source, measure_sources, no_pairs, of_join, source_named}
 
 -- an operand with its points in both runs
 pub record Twin : Type 0 where

@@ -12,7 +12,7 @@ use Rattle.lineage_laws.proofs.Values.{condition_known, expression_known}
 use Rattle.lineage_laws.proofs.Turned.{exists_agrees, pivot_agrees, unpivot_agrees}
 use Rattle.lineage_laws.proofs.Windows.{analytic_agrees}
 use Rattle.lineage_laws.specs.Agree.{Agreeing, IsKnown, Known}
-use Rattle.std.proofs.Common.{◌≡◌, ℕ, zero, suc, true, ◌&&◌, List, [], ◌∷◌, ◌++◌, length, map, Ok, Option, None, Some, option_map, refl, sym, ap, ◌∙◌, subst}
+use Rattle.std.proofs.Common.{◌≡◌, ℕ, zero, suc, List, [], ◌∷◌, ◌++◌, length, map, Ok, Option, None, Some, option_map, refl, sym, ap, ◌∙◌, subst}
 use Rattle.std.specs.List.{AllByRecursion}
 use Rattle.std.specs.Map.{lookup}
 use Rattle.std.specs.Option.{option_map_or}
@@ -170,7 +170,7 @@ module _ (p : Settings) (known : Known) (past : Past) (env other : Environment) 
   -- an operand that may be left out, in both runs
   record MaybeTwinned (o : Option Operand) (ds es : Option DataSet) : Type 0 where
     twin : Option Twin
-    operand : option_map (λ w. w.operand) twin ≡ o
+    given : option_map (λ w. w.operand) twin ≡ o
     first : option_map first_of twin ≡ ds
     second : option_map second_of twin ≡ es
     told : IsKnown known (option_map_or (λ d. with_measure d d.sources.points) (option_map (λ w. w.operand) twin) no_pairs) → AreTwinsIf known twin
@@ -328,7 +328,6 @@ module _ (p : Settings) (known : Known) (past : Past) (env other : Environment) 
         let cols = columns_from s (of_points pts s) in
         subst (λ z. Agreeing known cols z t) (ok_is (existence_of (first_of one) (first_of two) r) d y.2) (subst (λ z. Agreeing known cols (existence_of (first_of one) (first_of two) r) z) (ok_is (existence_of (second_of one) (second_of two) r) t v.2)
         (exists_agrees known one two first second pts r s i.2))
-
     form_agrees s (nodes.check a j spec) made i d t h e f =
         let x = operand_ok a (node_value p env a) (λ z. after (maybe_value p env j) (λ y. Ok (check_of p spec z y))) d e in
         let u = operand_ok a (node_value p other a) (λ z. after (maybe_value p other j) (λ y. Ok (check_of p spec z y))) t f in
@@ -339,7 +338,7 @@ module _ (p : Settings) (known : Known) (past : Past) (env other : Environment) 
         let G : Option Operand → Option DataSet → Option DataSet → Type 0 = λ l ds es. Agreeing known (columns_from s (of_check (operand a) l)) (check_of p spec (with_points (structure_of a) x.0) ds) (check_of p spec (with_points (structure_of a) u.0) es) in
         let cols = columns_from s (form_lineage past s (nodes.check a j spec)) in
         subst (λ z. Agreeing known cols z t) (ok_is (check_of p spec (with_points (structure_of a) x.0) y.0) d y.2) (subst (λ z. Agreeing known cols (check_of p spec (with_points (structure_of a) x.0) y.0) z) (ok_is (check_of p spec (with_points (structure_of a) u.0) v.0) t v.2)
-        (subst (λ z. G z y.0 v.0) r.operand (subst (λ z. G (option_map (λ w. w.operand) r.twin) z v.0) r.first (subst (λ z. G (option_map (λ w. w.operand) r.twin) (option_map first_of r.twin) z) r.second
+        (subst (λ z. G z y.0 v.0) r.given (subst (λ z. G (option_map (λ w. w.operand) r.twin) z v.0) r.first (subst (λ z. G (option_map (λ w. w.operand) r.twin) (option_map first_of r.twin) z) r.second
         (check_agrees known p spec (operand a) parts.0 parts.1 s i.2.identifiers r.twin r.told x.0 u.0 (node_agrees a i.0 x.0 u.0 parts.0 x.1 u.1))))))
     form_agrees s (nodes.check_datapoint a rules o) made i d t h e f =
         let x = operand_ok a (node_value p env a) (λ z. datapoint_of p o rules.rules z) d e in
@@ -366,13 +365,13 @@ module _ (p : Settings) (known : Known) (past : Past) (env other : Environment) 
         equal_agrees known s (of_measured (operand a) s) d t (length-map (others_of s) (λ z. no_pairs)) (both_same (sym x.2 ∙ same ∙ y.2)) (one_kept (nodes.node s (nodes.hierarchy a rules m n o)) d whole e)
 
     maybe_twinned : (j : MaybeNode) (ds es : Option DataSet) → IsMadeMaybe p K j → maybe_value p env j ≡ Ok ds → maybe_value p other j ≡ Ok es → MaybeTwinned (maybe_lineage past j) ds es
-    maybe_twinned nodes.no_node ds es i e f = record { twin = None; operand = refl; first = ok_is None ds e; second = ok_is None es f; told = λ h. tt }
+    maybe_twinned nodes.no_node ds es i e f = record { twin = None; given = refl; first = ok_is None ds e; second = ok_is None es f; told = λ h. tt }
     maybe_twinned (nodes.some_node n) ds es i e f =
         let x = after_ok (node_value p env n) (λ points. Ok (Some (with_points (structure_of n) points))) ds e in
         let y = after_ok (node_value p other n) (λ points. Ok (Some (with_points (structure_of n) points))) es f in
         record {
           twin = Some (twin_of n x.0 y.0);
-          operand = refl;
+          given = refl;
           first = ok_is (Some (with_points (structure_of n) x.0)) ds x.2;
           second = ok_is (Some (with_points (structure_of n) y.0)) es y.2;
           told = λ h. twin_told n x.0 y.0 i (known_parts known (lineage past n).points (source_at (operand n) (key_width (structure_of n))) h).0 (λ d t k l m. node_agrees n i d t k l m) x.1 y.1;

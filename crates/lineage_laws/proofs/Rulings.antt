@@ -1,5 +1,5 @@
 -- Checks and hierarchies.
-use Rattle.std.proofs.Common.{length-append, ◌≡◌, ℕ, suc, Bool, true, false, cond, ◌&&◌, List, [], ◌∷◌, ◌++◌, append_assoc, length, map, Option, None, Some, option_map, Ok, refl, sym, ap, ◌∙◌, subst, arith}
+use Rattle.std.proofs.Common.{length-append, ◌≡◌, ℕ, suc, ◌+◌, Bool, true, false, cond, ◌&&◌, List, [], ◌∷◌, ◌++◌, append_assoc, length, map, Option, None, Some, option_map, Ok, refl, sym, ap, ◌∙◌, subst, arith}
 use Rattle.std.proofs.lemmas.List.{length-map, map-append}
 use Rattle.std.specs.List.{AllByRecursion, cons_option, filter, filter_map, find, flat_map, fold}
 use Rattle.std.specs.Option.{option_map_or}
@@ -17,10 +17,10 @@ use Rattle.vtl_syntax.specs.declared.word_groups.CheckOut.{CheckOut}
 use Rattle.vtl_syntax.specs.declared.word_groups.CheckOut.TheVariants as out
 use Rattle.vtl_syntax.specs.declared.word_groups.HierInput.{HierInput}
 use Rattle.vtl_syntax.specs.declared.word_groups.HierOut.{HierOut}
-use Rattle.vtl_syntax.specs.declared.word_groups.HierOut.TheVariants as shown
+use Rattle.vtl_syntax.specs.declared.word_groups.HierOut.TheVariants as outs
 use Rattle.vtl_syntax.specs.declared.word_groups.Mode.{Mode}
-use Rattle.vtl_tree.specs.Checks.{output_parts, rule_id, ruleid, uncoded, with_ids, without_codes}
-use Rattle.vtl_tree.specs.Columns.{identifiers_of, kind_named, measures_of, others_of, place_of, places_in}
+use Rattle.vtl_tree.specs.Checks.{output_parts, rule_id, ruleid, with_ids, without_codes}
+use Rattle.vtl_tree.specs.Columns.{identifiers_of, measures_of, others_of, place_of, places_in}
 use Rattle.vtl_tree.specs.CompExp.{CompExp}
 use Rattle.vtl_tree.specs.DataSet.{IsDataSet, is_point}
 use Rattle.vtl_tree.specs.Environment.{DataSet}
@@ -49,20 +49,19 @@ use Rattle.vtl_meaning.specs.Sets.{united}
 use Rattle.vtl_meaning.specs.Turned.{is_coded, other_identifiers}
 use Rattle.vtl_rulings.specs.Hierarchies.{computed, hierarchy_of, items_of}
 use Rattle.vtl_rulings.specs.HierarchyChecks.{Ruled, SidedRule, check_cells, check_fault, check_hierarchy_of, combinations, is_checked, items_at, key_at, only_name, ruled_by, sided_rules}
-use Rattle.vtl_rulings.specs.HierarchyShapes.{IsHierarchyChecked, IsHierarchyMade, IsItemized}
+use Rattle.vtl_rulings.specs.HierarchyShapes.{IsItemized}
 use Rattle.vtl_rulings.specs.Modes.{Items}
 use Rattle.vtl_rulings.specs.Outputs.{code_cell, errors_at, is_basic_shown, is_shown, level_cell}
 use Rattle.vtl_rulings.specs.PointChecks.{PointRule, check_of, checked_point, datapoint_of, errors_of, imbalance_at, point_rules, rule_fault, rule_points, ruled_point, truth_of, under}
-use Rattle.vtl_rulings.specs.Shaped.{IsChecked, IsPointChecked}
 use Rattle.vtl_rulings.specs.Sides.{holds}
 use Rattle.vtl_sources.specs.Links.{Pairs}
 use Rattle.vtl_sources.specs.Sources.{sources}
 use Rattle.lineage_laws.specs.Agree.{Agree, Agreeing, Both, IsKnown, Known, Together, and, both, cell, neither, no_cells, none}
-use Rattle.lineage_laws.specs.Over.{Found, Operand, columns_from, measure_sources, no_pairs, of_check, of_datapoint, of_measured, source_at, source_named, with_expression, with_measure, with_rule}
-use Rattle.lineage_laws.proofs.Columns.{IsIdentifierOf, agree_ids, agree_named, among_identifiers, both_ok, const_map, kept_identifiers, same_values}
+use Rattle.lineage_laws.specs.Over.{Found, Operand, columns_from, measure_sources, no_pairs, of_check, of_datapoint, source_at, source_named, with_expression, with_measure, with_rule}
+use Rattle.lineage_laws.proofs.Columns.{IsIdentifierOf, agree_ids, agree_named, among_identifiers, both_ok, const_map, same_values}
 use Rattle.lineage_laws.proofs.Joins.{AreTwins, Twin, first_of, found_agree, second_of}
-use Rattle.lineage_laws.proofs.Rows.{agree_append, agree_key, agree_self, known_parts, same_at, same_identifier, same_key, same_named}
-use Rattle.lineage_laws.proofs.Togethers.{both_value, same_map, together_append, together_find, together_map}
+use Rattle.lineage_laws.proofs.Rows.{agree_append, agree_key, agree_self, known_parts, same_at, same_identifier, same_named}
+use Rattle.lineage_laws.proofs.Togethers.{both_value, same_map, together_append, together_find}
 use Rattle.lineage_laws.proofs.Values.{expression_known, value_same}
 
 -- ---- points of which some are left out
@@ -235,18 +234,18 @@ module _ (known : Known) where
             go true = both (rows r q (column_of (key_width a.structure) r) g)
             go false = neither
 
+  widths : (whole ours theirs ids others columns row : ℕ) → whole ≡ ours + theirs → ours ≡ ids → theirs ≡ others → columns ≡ ids + others → columns ≡ row → whole ≡ row
+  widths whole ours theirs ids others columns row a b c d e = omega (arith, a, b, c, d, e)
+
   -- ---- where all that is shown is in the points, both runs give the same
   pub equal_agrees : (s : Structure) (from : Found) (out other : List Row) → length from.others ≡ length (others_of s) → out ≡ other → IsDataSet s out → Agreeing known (columns_from s from) out other
   equal_agrees s from out other many e h = subst (λ z. Agreeing known (columns_from s from) out z) e (go out h.typed)
     where
       width : (r : Row) → is_point (columns_of s) r ≡ true → length (columns_from s from) ≡ length r
       width r i =
-          let own = point_length (columns_of s) r i in
-          let split = ap length (columns_split s) in
-          let columns = length-append (identifiers_of s) (others_of s) in
-          let first = length-map (identifiers_of s) (λ y. no_pairs) in
-          let all = length-append (map (λ y. no_pairs) (identifiers_of s)) from.others in
-          omega (arith, own, split, columns, first, all, many)
+          let ours : List Pairs = map (λ y. no_pairs) (identifiers_of s) in
+          widths (length (ours ++ from.others)) (length ours) (length from.others) (length (identifiers_of s)) (length (others_of s)) (length (columns_of s)) (length r)
+          (length-append ours from.others) (length-map (identifiers_of s) (λ y. no_pairs)) many (ap length (columns_split s) ∙ length-append (identifiers_of s) (others_of s)) (sym (point_length (columns_of s) r i))
 
       go : (rows : List Row) → AllByRecursion (λ r. is_point (columns_of s) r ≡ true) rows → Together (Agree known (columns_from s from)) rows rows
       go [] i = none
@@ -297,7 +296,7 @@ module _ (known : Known) where
     items_same = λ i combination item. item_same combination item i
 
     pub check_hierarchy_same : (o : CheckOut) (m : Mode) (rs : List HierRule) → check_hierarchy_of p o H m one rs ≡ check_hierarchy_of p o H m two rs
-    check_hierarchy_same o m rs = λ i. by (combinations_same i) (items_same i)
+    check_hierarchy_same o m rs = λ i. given_by (combinations_same i) (items_same i)
       where
         point : (Row → Items) → SidedRule → Row → Option Row
         point at rule combination =
@@ -305,8 +304,8 @@ module _ (known : Known) where
             let truth = cell_or_null (holds p m H.kind items rule.1) in
             cond (is_checked m items rule.1) (cond (is_shown o truth) (Some (key_at H.id a.structure combination (left_item rule.1) ++ (c.Text rule.0 ∷ check_cells p o m H.kind items rule.1 truth))) None) None
 
-        by : List Row → (Row → Items) → Outcome (List Row)
-        by all at = unless (faults_by (λ rule. faults_by (λ k. check_fault p m H.kind (at k) rule.1) all) (sided_rules rs)) (flat_map (λ rule. filter_map (point at rule) all) (sided_rules rs))
+        given_by : List Row → (Row → Items) → Outcome (List Row)
+        given_by all at = unless (faults_by (λ rule. faults_by (λ k. check_fault p m H.kind (at k) rule.1) all) (sided_rules rs)) (flat_map (λ rule. filter_map (point at rule) all) (sided_rules rs))
 
     -- the operand's own points, without attributes
     own_same : (s : Structure) → AllByRecursion (λ y. IsIdentifierOf a.structure y.name) (identifiers_of s) → AllByRecursion (λ y. IsKnown known (source_named a y.name)) (others_of s) → left_of one s ≡ left_of two s
@@ -341,12 +340,12 @@ module _ (known : Known) where
         points : List Row → (Row → Items) → List Row
         points all at = flat_map (λ r. filter_map (point at r) all) (definitions rs)
 
-        by : List Row → (Row → Items) → (List Row → List Row) → Outcome (List Row)
-        by all at shown = unless (faults_by (λ r. faults_by (λ combination. option_map_or fault_in (made at r combination) None) all) (definitions rs)) (shown (points all at))
+        given_by : List Row → (Row → Items) → (List Row → List Row) → Outcome (List Row)
+        given_by all at show = unless (faults_by (λ r. faults_by (λ combination. option_map_or fault_in (made at r combination) None) all) (definitions rs)) (show (points all at))
 
         go : (o : HierOut) → hierarchy_of p H m i rs one o s ≡ hierarchy_of p H m i rs two o s
-        go shown.Computed = λ j. by (combinations_same j) (items_same j) (λ made. made)
-        go shown.All = λ j. by (combinations_same j) (items_same j) (λ made. united (key_width s) (made ∷ own_same s ids others j ∷ []))
+        go outs.Computed = λ j. given_by (combinations_same j) (items_same j) (λ rows. rows)
+        go outs.All = λ j. given_by (combinations_same j) (items_same j) (λ rows. united (key_width s) (rows ∷ own_same s ids others j ∷ []))
 
 -- ---- the components of a hierarchy that are no identifiers are the operand's measures
 abbrev is_measure_role : Component → Bool

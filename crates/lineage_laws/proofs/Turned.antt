@@ -1,7 +1,7 @@
 -- `exists_in`, `pivot` and `unpivot`.
 use Rattle.lineage_laws.proofs.Columns.{IsIdentifierOf, among_identifiers, agree_ids, agree_joined, same_values}
 use Rattle.lineage_laws.proofs.Joins.{AreTwins, Twin, first_of, found_agree, second_of}
-use Rattle.lineage_laws.proofs.Rows.{agree_map, agree_self, known_parts, same_identifier, same_key, same_named}
+use Rattle.lineage_laws.proofs.Rows.{agree_map, agree_self, same_identifier, same_key, same_named}
 use Rattle.lineage_laws.proofs.Togethers.{both_some, both_value, together_filter, together_find, together_flat, together_map, together_once, together_with}
 use Rattle.lineage_laws.specs.Agree.{Agree, Agreeing, Both, IsKnown, Known, Together, and, both, neither, none}
 use Rattle.std.proofs.Common.{◌≡◌, ℕ, ◌+◌, Bool, true, false, cond, ◌&&◌, List, [], ◌∷◌, ◌++◌, length, map, Option, None, Some, refl, sym, ap, ◌∙◌, subst, arith, length-append}

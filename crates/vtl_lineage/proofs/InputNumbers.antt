@@ -1,10 +1,10 @@
 -- The numbers of the components that are read: data sets behind one another.
-use Rattle.std.proofs.Common.{◌≡◌, ℕ, zero, suc, ◌+◌, Bool, true, false, not, cond, ◌&&◌, ◌||◌, List, [], ◌∷◌, ◌++◌, append_assoc, length, length-append, map, refl, sym, ap, ◌∙◌, subst, arith, true≢false}
+use Rattle.std.proofs.Common.{◌≡◌, ℕ, suc, ◌+◌, Bool, true, false, not, cond, ◌&&◌, ◌||◌, List, [], ◌∷◌, ◌++◌, append_assoc, length, length-append, map, refl, sym, ap, ◌∙◌, subst, arith}
 use Rattle.std.proofs.lemmas.Bool.{and_parts}
 use Rattle.std.proofs.lemmas.List.{append-nil, length-map, map-append}
-use Rattle.std.specs.List.{AllByRecursion, list_all, list_any}
+use Rattle.std.specs.List.{AllByRecursion, list_any}
 use Rattle.std.specs.Map.{keys_of}
-use Rattle.std.specs.Cmp.Lexicographic.{bytes_decides, nat_list_eq_equiv}
+use Rattle.std.specs.Cmp.Lexicographic.{nat_list_eq_equiv}
 use Rattle.vtl_lists.specs.Apart.{all_apart}
 use Rattle.vtl_tree.specs.Columns.{identifiers_of, others_of}
 use Rattle.vtl_tree.specs.Structure.{IsStructure, columns_of, key_width, names_of, same_name}
@@ -13,8 +13,7 @@ use Rattle.vtl_tree.specs.declared.structure.Component.{Component}
 use Rattle.vtl_tree.specs.declared.structure.Structure.{Structure}
 use Rattle.vtl_meaning.proofs.OwnColumns.{columns_apart}
 use Rattle.vtl_meaning.proofs.Places.{columns_split, same_name-refl}
-use Rattle.vtl_sources.specs.Lineage.{Past}
-use Rattle.vtl_sources.specs.Links.{Pair, Pairs, input_sources, inputs_lineage, is_in, pairs_of, pairs_of_set, same_pair}
+use Rattle.vtl_sources.specs.Links.{Pair, Pairs, input_sources, inputs_lineage, is_in, pairs_of, pairs_of_set}
 use Rattle.vtl_sources.specs.Sources.{sources}
 use Rattle.vtl_lineage.specs.Numbers.{Numbers, each_alone, input_numbers, inputs_numbers, numbered, numbered_past, numbers_of, places_from, run}
 
@@ -46,7 +45,7 @@ middle f before own behind ns h k e =
     ∙ append-nil ns
 
 -- ---- pairs of one data set
-pair_with : List ℕ → Component → Pair
+abbrev pair_with : List ℕ → Component → Pair
 pair_with name x = (name, x.name)
 
 -- a pair of another data set is none of them

@@ -1,6 +1,7 @@
-pub mod Merging
-pub mod Columns
-pub mod Walks
-pub mod Kept
+pub mod ByPlace
 pub mod InputNumbers
+pub mod Kept
 pub mod Linked
+pub mod Merging
+pub mod ReadInputs
+pub mod Walks

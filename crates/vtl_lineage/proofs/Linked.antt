@@ -1,5 +1,5 @@
 -- The links by numbers are the links.
-use Rattle.std.proofs.Common.{◌≡◌, ℕ, suc, ◌+◌, Bool, true, false, cond, List, [], ◌∷◌, ◌++◌, append_assoc, length, length-append, map, Option, None, Some, option_map, refl, sym, ap, ◌∙◌, arith}
+use Rattle.std.proofs.Common.{◌≡◌, ℕ, suc, ◌+◌, Bool, true, false, cond, List, [], ◌∷◌, ◌++◌, append_assoc, length, length-append, map, Some, option_map, refl, sym, ap, ◌∙◌, arith}
 use Rattle.std.specs.Prelude.{slice_get}
 use Rattle.std.specs.List.{cons_option, filter, filter_map, flat_map, list_any}
 use Rattle.std.specs.Map.{keys_of, set_value}
@@ -7,10 +7,10 @@ use Rattle.vtl_tree.specs.Structure.{columns_of, same_name}
 use Rattle.vtl_tree.specs.declared.structure.Component.{Component}
 use Rattle.vtl_scripts.specs.Meaning.{Statement}
 use Rattle.vtl_sources.specs.Lineage.{Past, lineage, operand_of, outputs_lineage, with_sources}
-use Rattle.vtl_sources.specs.Links.{Linked, Pair, Pairs, component_links, either, is_in, linked, links_of, none, source_of}
+use Rattle.vtl_sources.specs.Links.{Pair, Pairs, component_links, either, is_in, linked, links_of, none, source_of}
 use Rattle.vtl_sources.specs.Sources.{Sources, Traced, source_named}
-use Rattle.vtl_lineage.specs.Numbers.{Numbers, merged, numbered, numbered_past, numbered_traced, numbers_of, places_from}
-use Rattle.vtl_lineage.specs.Shown.{all_links, component_numbers, numbered_links, output_links, statement_links}
+use Rattle.vtl_lineage.specs.Numbers.{merged, numbered, numbered_past, numbered_traced, numbers_of, places_from}
+use Rattle.vtl_lineage.specs.Shown.{all_links, component_numbers, numbered_links, output_links}
 use Rattle.vtl_lineage.proofs.Kept.{named_same, node_same}
 use Rattle.vtl_lineage.proofs.Merging.{numbers_joined}
 

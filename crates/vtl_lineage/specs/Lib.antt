@@ -1,5 +1,6 @@
 pub mod Copies
-pub mod Numbers
 pub mod Lines
+pub mod Numbers
+pub mod Reads
 pub mod Shown
-
+pub mod Statements

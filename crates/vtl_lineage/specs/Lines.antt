@@ -1,7 +1,7 @@
 -- The table for operands that stand in a list, in written order.
-use Rattle.std.specs.Prelude.{ℕ, List, [], ◌∷◌, Option, None, Some, slice_get, slice_index_or}
+use Rattle.std.specs.Prelude.{ℕ, List, [], slice_get, slice_index_or}
 use Rattle.vtl_tree.specs.Trees as nodes
-use Rattle.vtl_tree.specs.Trees.{FormTree, MaybeNode, NodeTree}
+use Rattle.vtl_tree.specs.Trees.{FormTree, NodeTree}
 use Rattle.vtl_tree.specs.declared.structure.Structure.{Structure}
 use Rattle.vtl_sources.specs.Lineage.{Past, lineage, operand_of, sources_named}
 use Rattle.vtl_sources.specs.Sources.{Sources, Traced, sources, traced}

@@ -1,5 +1,5 @@
 -- Sets of pairs as ascending lists of their numbers.
-use Rattle.std.specs.Prelude.{ℕ, suc, nat_lt, ◌+◌, Bool, cond, List, [], ◌∷◌, ◌++◌, length, map, take}
+use Rattle.std.specs.Prelude.{ℕ, zero, suc, nat_lt, ◌+◌, Bool, cond, List, [], ◌∷◌, ◌++◌, length, map}
 use Rattle.vtl_tree.specs.Columns.{others_of}
 use Rattle.vtl_tree.specs.Structure.{key_width}
 use Rattle.vtl_tree.specs.Structures.{Named}
@@ -47,7 +47,7 @@ numbered_past pairs past = map (λ e. (e.0, numbered pairs e.1)) past
 -- ---- data sets that are read
 -- so many numbers from one on
 abbrev pub run : ℕ → ℕ → Numbers
-run i 0 = []
+run i zero = []
 run i (suc n) = i ∷ run (suc i) n
 
 abbrev pub each_alone : Numbers → List Numbers

@@ -13,7 +13,7 @@ use vtl_tree::Structure;
 pub type Pair<'a> = (&'a Txt, &'a Txt);
 
 // So many numbers from one on.
-#[tactic(auto, using(crate::proofs::Columns::run_next, crate::proofs::Columns::run_ends))]
+#[tactic(auto, using(crate::proofs::ByPlace::run_next, crate::proofs::ByPlace::run_ends))]
 fn run(alloc: Global, first: usize, count: usize) -> Result<Shared<usize>, AllocError>
     requires { first + count < 2 ^ 64 }
     ensures { IfOk result (λ s. s ≡ run first count) }
@@ -26,7 +26,7 @@ fn run(alloc: Global, first: usize, count: usize) -> Result<Shared<usize>, Alloc
 }
 
 // The same, each in a set of its own.
-#[tactic(auto, using(crate::proofs::Columns::run_next, crate::proofs::Columns::run_ends))]
+#[tactic(auto, using(crate::proofs::ByPlace::run_next, crate::proofs::ByPlace::run_ends))]
 fn run_alone(alloc: Global, first: usize, count: usize) -> Result<Vec<Shared<usize>>, AllocError>
     requires { first + count < 2 ^ 64 }
     ensures { IfOk result (λ v. v.items ≡ each_alone (run first count)) }
@@ -47,7 +47,7 @@ fn run_of_one(alloc: Global, number: usize) -> Result<Shared<usize>, AllocError>
 }
 
 /// What a data set depends on that is read, where its first component has this number.
-#[tactic(auto, using(crate::proofs::Columns::columns_parts))]
+#[tactic(auto, using(crate::proofs::ByPlace::columns_parts))]
 pub fn input(alloc: Global, first: usize, s: &Structure) -> Result<Found, AllocError>
     requires { first < 2 ^ 63 }
     ensures { IfOk result (λ f. f ≡ input_numbers first s.now) }

@@ -12,13 +12,13 @@ mod inputs;
 mod joins;
 mod lines;
 mod link;
-// mod links;
+mod links;
 mod made;
 mod nodes;
 mod numbers;
 mod operand;
 mod parts;
-// mod statements;
+mod statements;
 
 pub use link::Link;
-// pub use links::lineage;
+pub use links::lineage;

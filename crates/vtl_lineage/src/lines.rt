@@ -149,7 +149,7 @@ fn imbalance(
     a: &Operand,
     other: Option<&Operand>,
 ) -> Result<Shared<usize>, AllocError>
-    ensures { IfOk result (λ s. s ≡ option_map_or (λ d. with_measure merged [] d d.sources.points) (option_copied other) []) }
+    ensures { IfOk result (λ s. s ≡ option_map_or (λ d. with_measure merged [] d d.sources.points) (option_copied other.entry) []) }
 {
     match other {
         Some(d) => with_measure(alloc, d, d.points()),
@@ -159,7 +159,7 @@ fn imbalance(
 
 /// `check`: behind the truth value the imbalance, and then the errors.
 pub fn check(alloc: Global, a: &Operand, other: Option<&Operand>) -> Result<Found, AllocError>
-    ensures { IfOk result (λ f. f ≡ of_check merged [] a.now (option_copied other)) }
+    ensures { IfOk result (λ f. f ≡ of_check merged [] a.now (option_copied other.entry)) }
 {
     let points = with_measure(alloc, a, a.points())?;
     let mut sets = Vec::new(alloc);

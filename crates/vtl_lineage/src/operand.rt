@@ -127,7 +127,12 @@ impl<'a> Operand<'a> {
     pub fn into_found(self) -> Found
         ensures { result ≡ self.entry.sources }
     {
-        let Operand { found, .. } = self;
+        let Operand {
+            structure: _structure,
+            columns: _columns,
+            found,
+            nothing: _nothing,
+        } = self;
         found
     }
 
@@ -146,7 +151,7 @@ impl<'a> Operand<'a> {
     }
 
     /// What the component in the column at a place depends on, beside the points.
-    #[tactic(auto, using(crate::proofs::Columns::at_identifier, crate::proofs::Columns::at_other, crate::proofs::Columns::at_none))]
+    #[tactic(auto, using(crate::proofs::ByPlace::at_identifier, crate::proofs::ByPlace::at_other, crate::proofs::ByPlace::at_none))]
     pub fn source_at(&self, place: usize) -> &Shared<usize>
         ensures { result.now ≡ source_at merged [] self.now place }
     {

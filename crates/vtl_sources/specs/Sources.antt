@@ -1,6 +1,6 @@
 -- What the points and the components of a data set depend on. The table is the same for each way of keeping sets: S is the type of sets,
 -- `joined` puts two together, and `nothing` is the empty one.
-use Rattle.std.specs.Prelude.{ℕ, List, [], ◌++◌, map, slice_index_or, Option}
+use Rattle.std.specs.Prelude.{ℕ, List, ◌++◌, map, slice_index_or, Option}
 use Rattle.std.specs.List.{fold}
 use Rattle.std.specs.Option.{option_map_or}
 use Rattle.vtl_tree.specs.Columns.{identifiers_of, measures_of, place_of}

@@ -1,6 +1,6 @@
 -- The table: for each form of expression what the points of its data set depend on, and what each component that is no identifier depends
 -- on besides. Operators that have the same line share it. `s` is the structure of the result, and stands behind the operands.
-use Rattle.std.specs.Prelude.{ℕ, List, [], ◌∷◌, ◌++◌, length, map, take, Option, Some, None}
+use Rattle.std.specs.Prelude.{ℕ, List, [], ◌∷◌, ◌++◌, length, map, take, Option}
 use Rattle.std.specs.List.{flat_map, fold}
 use Rattle.std.specs.Option.{option_map_or}
 use Rattle.vtl_syntax.specs.declared.word_groups.CheckOut.{CheckOut}

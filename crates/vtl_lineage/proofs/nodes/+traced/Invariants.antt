@@ -1,4 +1,4 @@
-use Rattle.std.proofs.Common.{◌≡◌, [], ◌++◌, drop, map}
+use Rattle.std.proofs.Common.{◌≡◌, ◌++◌, drop, map}
 use Rattle.vtl_tree.specs.NodeView.{node_tree}
 use Rattle.vtl_walks.specs.Lent.{lent}
 use Rattle.vtl_walks.specs.Operands.{size}
