@@ -88,7 +88,7 @@ module _ (known : Known) (p : Settings) (a : Operand) where
         (together_map (Agree known cols) Q (point_of p exps) (point_of p exps) row_agrees d t agree) k l
 
   -- ---- `calc`
-  item_same : (items : List ItemTree) (r q : Row) → Agree known cols r q → (y : Component) → IsKnown known (source_made a (made_by items y) y) → cell_or_null (value p (calculated_exp items (columns_of a.structure) y) r) ≡ cell_or_null (value p (calculated_exp items (columns_of a.structure) y) q)
+  item_same : (items : List ItemTree) (r q : Row) → Agree known cols r q → (y : Component) → IsKnown known (source_made a (nodes.of_items items) y) → cell_or_null (value p (calculated_exp items (columns_of a.structure) y) r) ≡ cell_or_null (value p (calculated_exp items (columns_of a.structure) y) q)
   item_same items r q g y = go (target_named items y.name)
     where
       of_value : (v : ValueTree) → IsKnown known (source_of_value a v) → value p (value_exp v) r ≡ value p (value_exp v) q
@@ -106,10 +106,10 @@ module _ (known : Known) (p : Settings) (a : Operand) where
       let rest = map (calculated_exp items xs) (others_of s) in
       let es = calculated_split p items a.structure s i in
       let each : (r : Row) → point_of p rest r ≡ map (λ y. cell_or_null (value p (calculated_exp items xs y) r)) (others_of s) = λ r. maps (calculated_exp items xs) (λ e. cell_or_null (value p e r)) (others_of s) in
-      let srcs = map (λ y. source_made a (made_by items y) y) (others_of s) in
+      let srcs = map (λ y. source_made a (nodes.of_items items) y) (others_of s) in
       each_agrees s i.identifiers rest srcs
       (λ r q g. subst (λ z. Agree known srcs z (point_of p rest q)) (sym (each r)) (subst (λ z. Agree known srcs (map (λ y. cell_or_null (value p (calculated_exp items xs y) r)) (others_of s)) z) (sym (each q))
-      (agree_map known (λ y. source_made a (made_by items y) y) (λ y. cell_or_null (value p (calculated_exp items xs y) r)) (λ y. cell_or_null (value p (calculated_exp items xs y) q)) (others_of s) (item_same items r q g))))
+      (agree_map known (λ y. source_made a (nodes.of_items items) y) (λ y. cell_or_null (value p (calculated_exp items xs y) r)) (λ y. cell_or_null (value p (calculated_exp items xs y) q)) (others_of s) (item_same items r q g))))
       d t out other agree (subst (λ z. each_point p z d ≡ Ok out) es k) (subst (λ z. each_point p z t ≡ Ok other) es l)
     where
       maps : {X Y Z : Type 0} (f : X → Y) (g : Y → Z) (ys : List X) → map g (map f ys) ≡ map (λ y. g (f y)) ys

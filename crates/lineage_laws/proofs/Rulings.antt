@@ -366,11 +366,11 @@ past_identifiers id (x ∷ xs) ys all = go (same_name x.name id) (past_identifie
 
 filtered_twice : (xs : List Component) → filter is_measure_role (filter is_measure_role xs) ≡ filter is_measure_role xs
 filtered_twice [] = refl
-filtered_twice (x ∷ xs) = go (is_measure_role x) refl
+filtered_twice (x ∷ xs) = go (is_measure_role x) refl (filtered_twice xs)
   where
-    go : (b : Bool) → is_measure_role x ≡ b → filter is_measure_role (cond b (x ∷ filter is_measure_role xs) (filter is_measure_role xs)) ≡ cond b (x ∷ filter is_measure_role xs) (filter is_measure_role xs)
-    go true e = ap (λ b. cond b (x ∷ filter is_measure_role (filter is_measure_role xs)) (filter is_measure_role (filter is_measure_role xs))) e ∙ ap (λ l. x ∷ l) (filtered_twice xs)
-    go false e = filtered_twice xs
+    go : (b : Bool) → is_measure_role x ≡ b → filter is_measure_role (filter is_measure_role xs) ≡ filter is_measure_role xs → filter is_measure_role (cond b (x ∷ filter is_measure_role xs) (filter is_measure_role xs)) ≡ cond b (x ∷ filter is_measure_role xs) (filter is_measure_role xs)
+    go true e ih = ap (λ b. cond b (x ∷ filter is_measure_role (filter is_measure_role xs)) (filter is_measure_role (filter is_measure_role xs))) e ∙ ap (λ l. x ∷ l) ih
+    go false e ih = ih
 
 pub measures_stay : (id : List ℕ) (a s : Structure) → s.components ≡ without_codes id (identifiers_of a) ++ measures_of a → measures_of s ≡ measures_of a
 measures_stay id a s e = ap (filter is_measure_role) e ∙ past_identifiers id (identifiers_of a) (measures_of a) (are_identifiers a) ∙ filtered_twice a.components
