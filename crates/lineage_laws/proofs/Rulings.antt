@@ -27,7 +27,6 @@ use Rattle.vtl_tree.specs.Environment.{DataSet}
 use Rattle.vtl_tree.specs.RuleItems.{definitions, left_item}
 use Rattle.vtl_tree.specs.Structure.{IsStructure, columns_of, key_width, same_name, same_role}
 use Rattle.vtl_tree.specs.Trees.{PointRuleTree}
-use Rattle.vtl_tree.specs.Value.{value}
 use Rattle.vtl_tree.specs.declared.rules.HierRules.{HierRules}
 use Rattle.vtl_tree.specs.declared.specifications.CheckSpec.{CheckSpec}
 use Rattle.vtl_tree.specs.declared.structure.Component.{Component}
@@ -55,7 +54,6 @@ use Rattle.vtl_rulings.specs.Outputs.{code_cell, errors_at, is_basic_shown, is_s
 use Rattle.vtl_rulings.specs.PointChecks.{PointRule, check_of, checked_point, datapoint_of, errors_of, imbalance_at, point_rules, rule_fault, rule_points, ruled_point, truth_of, under}
 use Rattle.vtl_rulings.specs.Sides.{holds}
 use Rattle.vtl_sources.specs.Links.{Pairs}
-use Rattle.vtl_sources.specs.Sources.{sources}
 use Rattle.lineage_laws.specs.Agree.{Agree, Agreeing, Both, IsKnown, Known, Together, and, both, cell, neither, no_cells, none}
 use Rattle.lineage_laws.specs.Over.{Found, Operand, columns_from, measure_sources, no_pairs, of_check, of_datapoint, source_at, source_named, with_expression, with_measure, with_rule}
 use Rattle.lineage_laws.proofs.Columns.{IsIdentifierOf, agree_ids, agree_named, among_identifiers, both_ok, const_map, same_values}
