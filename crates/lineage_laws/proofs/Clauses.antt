@@ -130,12 +130,12 @@ module _ (known : Known) (p : Settings) (a : Operand) where
       let front : Component → Pairs = λ x. with_expressions a (source_named a x.name) (comp_exps_of m.before) in
       let src : Component → Pairs = λ x. with_expressions a (front x) (comp_exps_of m.after) in
       let same : (r q : Row) → Agree known cols r q → (x y : Component) → IsKnown known (src x) → cell_or_null (value p (with_measure m xs x y) r) ≡ cell_or_null (value p (with_measure m xs x y) q) =
-          λ r q g x y h.
-          let at = same_at known a r q g in
-          let first : IsKnown known (front x) = expressions_known known a (front x) (comp_exps_of m.after) h in
-          let own : IsKnown known (source_named a x.name) = expressions_known known a (source_named a x.name) (comp_exps_of m.before) first in
-          ap (λ vs. cell_or_null (called p y.kind vs m.op))
-          (values_between known p a r q at (source_named a x.name) (column_named xs x.name) m.before m.after first (ap (λ (v : Cell). Ok v) (same_named known a r q g x.name own)) (values_same known p a r q at (front x) (comp_exps_of m.after) h)) in
+      λ r q g x y h.
+      let at = same_at known a r q g in
+      let first : IsKnown known (front x) = expressions_known known a (front x) (comp_exps_of m.after) h in
+      let own : IsKnown known (source_named a x.name) = expressions_known known a (source_named a x.name) (comp_exps_of m.before) first in
+      ap (λ vs. cell_or_null (called p y.kind vs m.op))
+      (values_between known p a r q at (source_named a x.name) (column_named xs x.name) m.before m.after first (ap (λ (v : Cell). Ok v) (same_named known a r q g x.name own)) (values_same known p a r q at (front x) (comp_exps_of m.after) h)) in
       each_agrees s i.identifiers (for_measures (with_measure m xs) (measures_of a.structure) (measures_of s)) (map src (take (length (measures_of s)) (measures_of a.structure)))
       (λ r q g. agree_for (with_measure m xs) src r q (same r q g) (measures_of a.structure) (measures_of s)) d t out other agree k l
 

@@ -135,6 +135,6 @@ module _ (known : Known) (p : Settings) (a : Operand) where
         both_ok Q (join (faults_by (condition_fault at spec.having) ks) (faults_by (group_fault made ys) us)) (join (faults_by (condition_fault at_too spec.having) js) (faults_by (group_fault made_too ys) vs)) (map (group_point made ys) us) out (map (group_point made_too ys) vs) other
         (together_map Keys Q (group_point made ys) (group_point made_too ys)
         (λ k j w. agree_joined known no_pairs (identifiers_of s) (map src ys) k j (map (λ y. cell_or_null (made y k)) ys) (map (λ y. cell_or_null (made_too y j)) ys)
-          (subst (λ z. Agree known (map (λ y. no_pairs) (identifiers_of s)) k z) w.0 (agree_self known (map (λ y. no_pairs) (identifiers_of s)) k (length-map (identifiers_of s) (λ y. no_pairs) ∙ sym w.1)))
-          (agree_map known src (λ y. cell_or_null (made y k)) (λ y. cell_or_null (made_too y j)) ys (λ y l. ap cell_or_null (made_same y k l ∙ ap (made_too y) w.0))))
+        (subst (λ z. Agree known (map (λ y. no_pairs) (identifiers_of s)) k z) w.0 (agree_self known (map (λ y. no_pairs) (identifiers_of s)) k (length-map (identifiers_of s) (λ y. no_pairs) ∙ sym w.1)))
+        (agree_map known src (λ y. cell_or_null (made y k)) (λ y. cell_or_null (made_too y j)) ys (λ y l. ap cell_or_null (made_same y k l ∙ ap (made_too y) w.0))))
         us vs (together_filter Keys (is_kept at spec.having) (is_kept at_too spec.having) (λ k j w. kept_same k ∙ ap (is_kept at_too spec.having) w.0) ks js keys_agree)) g h

@@ -357,7 +357,7 @@ module _ (p : Settings) (known : Known) (past : Past) (env other : Environment) 
         let whole : IsMade p K (nodes.node s (nodes.hierarchy a rules m n o)) = (made, i) in
         let stay : others_of s ≡ measures_of (structure_of a) = others_are s i.1.no_attributes ∙ measures_stay H.id (structure_of a) s i.1.shape in
         let others : AllByRecursion (λ z. IsKnown known (source_named (operand a) z.name)) (others_of s) =
-            subst (λ l. AllByRecursion (λ z. IsKnown known (source_named (operand a) z.name)) l) (sym stay) (all_of_map (λ z. source_named (operand a) z.name) (IsKnown known) (measures_of (structure_of a)) parts.1) in
+        subst (λ l. AllByRecursion (λ z. IsKnown known (source_named (operand a) z.name)) l) (sym stay) (all_of_map (λ z. source_named (operand a) z.name) (IsKnown known) (measures_of (structure_of a)) parts.1) in
         let same = hierarchy_same known p rules (operand a) parts.1 i.1.itemized (one_kept a x.0 i.0 x.1).well_formed x.0 y.0 (node_agrees a i.0 x.0 y.0 parts.0 x.1 y.1) m n rules.rules o s (kept_identifiers s (structure_of a) i.1.identifiers) others in
         equal_agrees known s (of_measured (operand a) s) d t (length-map (others_of s) (λ z. no_pairs)) (ok_is d t (sym x.2 ∙ same ∙ y.2)) (one_kept (nodes.node s (nodes.hierarchy a rules m n o)) d whole e)
 
