@@ -88,7 +88,7 @@ module _ (known : Known) (p : Settings) (a : Operand) where
         (together_map (Agree known cols) Q (point_of p exps) (point_of p exps) row_agrees d t agree) k l
 
   -- ---- `calc`
-  item_same : (items : List ItemTree) (r q : Row) → Agree known cols r q → (y : Component) → IsKnown known (source_made a (made_by items y) y) → cell_or_null (value p (calculated_exp items (columns_of a.structure) y) r) ≡ cell_or_null (value p (calculated_exp items (columns_of a.structure) y) q)
+  item_same : (items : List ItemTree) (r q : Row) → Agree known cols r q → (y : Component) → IsKnown known (source_made a (nodes.of_items items) y) → cell_or_null (value p (calculated_exp items (columns_of a.structure) y) r) ≡ cell_or_null (value p (calculated_exp items (columns_of a.structure) y) q)
   item_same items r q g y = go (target_named items y.name)
     where
       of_value : (v : ValueTree) → IsKnown known (source_of_value a v) → value p (value_exp v) r ≡ value p (value_exp v) q
@@ -106,10 +106,10 @@ module _ (known : Known) (p : Settings) (a : Operand) where
       let rest = map (calculated_exp items xs) (others_of s) in
       let es = calculated_split p items a.structure s i in
       let each : (r : Row) → point_of p rest r ≡ map (λ y. cell_or_null (value p (calculated_exp items xs y) r)) (others_of s) = λ r. maps (calculated_exp items xs) (λ e. cell_or_null (value p e r)) (others_of s) in
-      let srcs = map (λ y. source_made a (made_by items y) y) (others_of s) in
+      let srcs = map (λ y. source_made a (nodes.of_items items) y) (others_of s) in
       each_agrees s i.identifiers rest srcs
       (λ r q g. subst (λ z. Agree known srcs z (point_of p rest q)) (sym (each r)) (subst (λ z. Agree known srcs (map (λ y. cell_or_null (value p (calculated_exp items xs y) r)) (others_of s)) z) (sym (each q))
-      (agree_map known (λ y. source_made a (made_by items y) y) (λ y. cell_or_null (value p (calculated_exp items xs y) r)) (λ y. cell_or_null (value p (calculated_exp items xs y) q)) (others_of s) (item_same items r q g))))
+      (agree_map known (λ y. source_made a (nodes.of_items items) y) (λ y. cell_or_null (value p (calculated_exp items xs y) r)) (λ y. cell_or_null (value p (calculated_exp items xs y) q)) (others_of s) (item_same items r q g))))
       d t out other agree (subst (λ z. each_point p z d ≡ Ok out) es k) (subst (λ z. each_point p z t ≡ Ok other) es l)
     where
       maps : {X Y Z : Type 0} (f : X → Y) (g : Y → Z) (ys : List X) → map g (map f ys) ≡ map (λ y. g (f y)) ys
@@ -130,12 +130,12 @@ module _ (known : Known) (p : Settings) (a : Operand) where
       let front : Component → Pairs = λ x. with_expressions a (source_named a x.name) (comp_exps_of m.before) in
       let src : Component → Pairs = λ x. with_expressions a (front x) (comp_exps_of m.after) in
       let same : (r q : Row) → Agree known cols r q → (x y : Component) → IsKnown known (src x) → cell_or_null (value p (with_measure m xs x y) r) ≡ cell_or_null (value p (with_measure m xs x y) q) =
-          λ r q g x y h.
-          let at = same_at known a r q g in
-          let first : IsKnown known (front x) = expressions_known known a (front x) (comp_exps_of m.after) h in
-          let own : IsKnown known (source_named a x.name) = expressions_known known a (source_named a x.name) (comp_exps_of m.before) first in
-          ap (λ vs. cell_or_null (called p y.kind vs m.op))
-          (values_between known p a r q at (source_named a x.name) (column_named xs x.name) m.before m.after first (ap (λ (v : Cell). Ok v) (same_named known a r q g x.name own)) (values_same known p a r q at (front x) (comp_exps_of m.after) h)) in
+      λ r q g x y h.
+      let at = same_at known a r q g in
+      let first : IsKnown known (front x) = expressions_known known a (front x) (comp_exps_of m.after) h in
+      let own : IsKnown known (source_named a x.name) = expressions_known known a (source_named a x.name) (comp_exps_of m.before) first in
+      ap (λ vs. cell_or_null (called p y.kind vs m.op))
+      (values_between known p a r q at (source_named a x.name) (column_named xs x.name) m.before m.after first (ap (λ (v : Cell). Ok v) (same_named known a r q g x.name own)) (values_same known p a r q at (front x) (comp_exps_of m.after) h)) in
       each_agrees s i.identifiers (for_measures (with_measure m xs) (measures_of a.structure) (measures_of s)) (map src (take (length (measures_of s)) (measures_of a.structure)))
       (λ r q g. agree_for (with_measure m xs) src r q (same r q g) (measures_of a.structure) (measures_of s)) d t out other agree k l
 

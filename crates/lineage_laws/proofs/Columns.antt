@@ -1,6 +1,6 @@
 -- Rows that are made column by column: identifiers first, then the others.
 use Rattle.lineage_laws.proofs.Rows.{agree_append, agree_key, agree_map, agree_map_all, same_identifier, same_named}
-use Rattle.lineage_laws.specs.Agree.{Agree, IsKnown, Known, Together, cell}
+use Rattle.lineage_laws.specs.Agree.{Agree, IsKnown, Known, Together}
 use Rattle.std.proofs.Common.{◌≡◌, ℕ, Bool, true, false, ◌||◌, List, [], ◌∷◌, ◌++◌, length, map, take, refl, sym, ap, ◌∙◌, subst, arith}
 use Rattle.std.specs.List.{AllByRecursion, list_any}
 use Rattle.std.specs.Prelude.{Ok, Option}

@@ -52,11 +52,11 @@ module _ (known : Known) (s : Structure) where
     full_agrees l all =
         let Q = Agree known (columns_from s (of_join (map operand_in l))) in
         let tuple : (k j : Row) → Keys k j → Q (tuple_point (tuple_at ids (map first_of l) k)) (tuple_point (tuple_at ids (map second_of l) j)) = λ k j g.
-            let one : DataSet → Option Row = λ d. item_at same_row (values_in d.structure ids) d.points k in
-            let two : DataSet → Option Row = λ d. item_at same_row (values_in d.structure ids) d.points j in
-            tuple_agrees known one two s k j l
-            (all_more HasIds (Found known one two) (λ x h. (h.0.points, together_find (Agree known (columns_from x.operand.structure x.operand.sources)) (λ r. same_row (values_in x.operand.structure ids r) k) (λ r. same_row (values_in x.operand.structure ids r) j) (λ r q w i. same_row (same_values known x.operand r q w ids h.1 i) (g.0 i)) x.first x.second h.0.agree)) l all)
-            (subst (λ z. Agree known (map (λ y. no_pairs) (identifiers_of s)) k z) g.0 (agree_self known (map (λ y. no_pairs) (identifiers_of s)) k (length-map (identifiers_of s) (λ y. no_pairs) ∙ sym g.1))) in
+        let one : DataSet → Option Row = λ d. item_at same_row (values_in d.structure ids) d.points k in
+        let two : DataSet → Option Row = λ d. item_at same_row (values_in d.structure ids) d.points j in
+        tuple_agrees known one two s k j l
+        (all_more HasIds (Found known one two) (λ x h. (h.0.points, together_find (Agree known (columns_from x.operand.structure x.operand.sources)) (λ r. same_row (values_in x.operand.structure ids r) k) (λ r. same_row (values_in x.operand.structure ids r) j) (λ r q w i. same_row (same_values known x.operand r q w ids h.1 i) (g.0 i)) x.first x.second h.0.agree)) l all)
+        (subst (λ z. Agree known (map (λ y. no_pairs) (identifiers_of s)) k z) g.0 (agree_self known (map (λ y. no_pairs) (identifiers_of s)) k (length-map (identifiers_of s) (λ y. no_pairs) ∙ sym g.1))) in
         together_map (λ t u. Q (tuple_point t) (tuple_point u)) Q tuple_point tuple_point (λ t u g. g) (map (tuple_at ids (map first_of l)) (all_keys ids (map first_of l))) (map (tuple_at ids (map second_of l)) (all_keys ids (map second_of l)))
         (together_map Keys (λ t u. Q (tuple_point t) (tuple_point u)) (tuple_at ids (map first_of l)) (tuple_at ids (map second_of l)) tuple (all_keys ids (map first_of l)) (all_keys ids (map second_of l))
         (together_once Keys same_row same_row (λ k j m n g h i. same_row (g.0 i) (h.0 i)) (flat_map (keys_in ids) (map first_of l)) (flat_map (keys_in ids) (map second_of l)) (keys_together l all)))
@@ -121,11 +121,11 @@ module _ (known : Known) (s : Structure) where
       let M : List OperandPoint → Row = λ a. flat_map measures_in (map present a) in
       let A : List OperandPoint → Row = λ a. flat_map attributes_in (map present a) in
       let ids : (a b : List OperandPoint) → Combined l a b → Agree known (map (λ y. pts) (identifiers_of s)) (K a) (K b) = λ a b h.
-          subst (λ z. Agree known z (K a) (K b)) (ap (map (λ (k : Kind). pts)) (sym e) ∙ constants pts (λ y. y.kind) (identifiers_of s)) (keys_agree pts l a b all h) in
+      subst (λ z. Agree known z (K a) (K b)) (ap (map (λ (k : Kind). pts)) (sym e) ∙ constants pts (λ y. y.kind) (identifiers_of s)) (keys_agree pts l a b all h) in
       let one : (a b : List OperandPoint) → Combined l a b → Q (tuple_point (crossed a)) (tuple_point (crossed b)) = λ a b h.
-          subst (λ z. Q z (tuple_point (crossed b))) (sym (append_assoc (K a) (M a) (A a)))
-          (subst (λ z. Q (K a ++ (M a ++ A a)) z) (sym (append_assoc (K b) (M b) (A b)))
-          (agree_joined known pts (identifiers_of s) (flat_map measure_sources os ++ flat_map attribute_sources os) (K a) (K b) (M a ++ A a) (M b ++ A b) (ids a b h)
-          (agree_append known (flat_map measure_sources os) (M a) (M b) (flat_map attribute_sources os) (A a) (A b) (values_agree measures_of l a b all h) (values_agree (of_role role.Attribute) l a b all h)))) in
+      subst (λ z. Q z (tuple_point (crossed b))) (sym (append_assoc (K a) (M a) (A a)))
+      (subst (λ z. Q (K a ++ (M a ++ A a)) z) (sym (append_assoc (K b) (M b) (A b)))
+      (agree_joined known pts (identifiers_of s) (flat_map measure_sources os ++ flat_map attribute_sources os) (K a) (K b) (M a ++ A a) (M b ++ A b) (ids a b h)
+      (agree_append known (flat_map measure_sources os) (M a) (M b) (flat_map attribute_sources os) (A a) (A b) (values_agree measures_of l a b all h) (values_agree (of_role role.Attribute) l a b all h)))) in
       together_map (λ t u. Q (tuple_point t) (tuple_point u)) Q tuple_point tuple_point (λ t u g. g) (map crossed us) (map crossed vs)
       (together_map (Combined l) (λ t u. Q (tuple_point t) (tuple_point u)) crossed crossed one us vs (combined l all))

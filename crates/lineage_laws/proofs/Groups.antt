@@ -20,10 +20,9 @@ use Rattle.vtl_decimal.specs.Settings.{Settings}
 use Rattle.vtl_meaning.proofs.Places.{IsIdentifier, IsOther, are_identifiers, are_others, columns_split}
 use Rattle.vtl_meaning.specs.AggregateShapes.{IsAggregated}
 use Rattle.vtl_meaning.specs.Aggregates.{aggregate_of, call_for, condition_fault, condition_of, group_fault, group_point, is_kept, made_of}
-use Rattle.vtl_meaning.specs.Aggregates as groups
 use Rattle.vtl_meaning.specs.GroupExpressions.{aggregated, grouped_cell}
 use Rattle.vtl_meaning.specs.Groups.{keys_by, places_named, points_with}
-use Rattle.vtl_meaning.specs.Points.{with_points}
+use Rattle.vtl_meaning.specs.Points.{cell_or_null, with_points}
 use Rattle.vtl_rows.specs.Tables.{cells_at}
 use Rattle.vtl_tree.specs.Columns.{identifiers_of, others_of, place_of}
 use Rattle.vtl_tree.specs.CompExp.{CompExp}
@@ -135,7 +134,7 @@ module _ (known : Known) (p : Settings) (a : Operand) where
         let Q = Agree known (columns_from s (of_aggregate a spec s)) in
         both_ok Q (join (faults_by (condition_fault at spec.having) ks) (faults_by (group_fault made ys) us)) (join (faults_by (condition_fault at_too spec.having) js) (faults_by (group_fault made_too ys) vs)) (map (group_point made ys) us) out (map (group_point made_too ys) vs) other
         (together_map Keys Q (group_point made ys) (group_point made_too ys)
-        (λ k j w. agree_joined known no_pairs (identifiers_of s) (map src ys) k j (map (λ y. groups.cell_or_null (made y k)) ys) (map (λ y. groups.cell_or_null (made_too y j)) ys)
-          (subst (λ z. Agree known (map (λ y. no_pairs) (identifiers_of s)) k z) w.0 (agree_self known (map (λ y. no_pairs) (identifiers_of s)) k (length-map (identifiers_of s) (λ y. no_pairs) ∙ sym w.1)))
-          (agree_map known src (λ y. groups.cell_or_null (made y k)) (λ y. groups.cell_or_null (made_too y j)) ys (λ y l. ap groups.cell_or_null (made_same y k l ∙ ap (made_too y) w.0))))
+        (λ k j w. agree_joined known no_pairs (identifiers_of s) (map src ys) k j (map (λ y. cell_or_null (made y k)) ys) (map (λ y. cell_or_null (made_too y j)) ys)
+        (subst (λ z. Agree known (map (λ y. no_pairs) (identifiers_of s)) k z) w.0 (agree_self known (map (λ y. no_pairs) (identifiers_of s)) k (length-map (identifiers_of s) (λ y. no_pairs) ∙ sym w.1)))
+        (agree_map known src (λ y. cell_or_null (made y k)) (λ y. cell_or_null (made_too y j)) ys (λ y l. ap cell_or_null (made_same y k l ∙ ap (made_too y) w.0))))
         us vs (together_filter Keys (is_kept at spec.having) (is_kept at_too spec.having) (λ k j w. kept_same k ∙ ap (is_kept at_too spec.having) w.0) ks js keys_agree)) g h

@@ -224,11 +224,15 @@ environments_agree known (d ∷ ds) (t ∷ ts) h name s e k = go (same_name name
 -- ---- outputs
 shown : (known : Known) (ls : List (List ℕ × Operand)) (out outs third : Outputs) → OutputsAgree known ls out third → SameData outs third → SameOutputs known ls out outs
 shown known [] [] [] [] a b = tt
-shown known (l ∷ ls) (d ∷ ds) (e ∷ es) (t ∷ ts) a b =
-    (a.0, b.0 ∙ a.1, a.2, b.1 ∙ a.3,
-    (λ x all. let parts = known_parts known l.1.sources.points (source_named l.1 x) all in chain (Perm-same (map (view l.1.structure x) d.1.points) (map (view l.1.structure x) t.1.points) (same_map (Agree known (columns_from l.1.structure l.1.sources)) (view l.1.structure x) (view l.1.structure x)
+shown known (l ∷ ls) (d ∷ ds) (e ∷ es) (t ∷ ts) a b = (
+  a.0,
+  b.0 ∙ a.1,
+  a.2,
+  b.1 ∙ a.3,
+  (λ x all. let parts = known_parts known l.1.sources.points (source_named l.1 x) all in chain (Perm-same (map (view l.1.structure x) d.1.points) (map (view l.1.structure x) t.1.points) (same_map (Agree known (columns_from l.1.structure l.1.sources)) (view l.1.structure x) (view l.1.structure x)
       (λ r q g i. same_keys known l.1 r q g i ++ same_named known l.1 r q g x parts.1 i ∷ []) d.1.points t.1.points (a.4 parts.0))) (Perm-map (view l.1.structure x) (Perm-sym b.2))),
-    shown known ls ds es ts a.5 b.3)
+  shown known ls ds es ts a.5 b.3,
+)
 shown known [] [] [] (t ∷ ts) a b = absurd a
 shown known [] [] (e ∷ es) [] a b = absurd b
 shown known [] [] (e ∷ es) (t ∷ ts) a b = absurd a

@@ -69,4 +69,3 @@ namesake_values p o xs left right x l r f g (u ∷ us) (y ∷ ys) (z ∷ zs) i =
     ap (λ m. result_at p o y.kind (m ∷ value p (right u.name) x ∷ []) ∷ point_of p (for_measures (with_namesake o left right) us ys) x) (f u.name i.0.1.0)
     ∙ ap (λ m. result_at p o y.kind (Ok (l u.name) ∷ m ∷ []) ∷ point_of p (for_measures (with_namesake o left right) us ys) x) (g u.name i.0.1.1.0)
     ∙ ap (λ v. result_at p o y.kind (Ok (l u.name) ∷ Ok (r u.name) ∷ []) ∷ v) (namesake_values p o xs left right x l r f g us ys zs i.2)
-

@@ -175,9 +175,6 @@ module _ (p : Settings) (known : Known) (past : Past) (env other : Environment) 
     second : option_map second_of twin ≡ es
     told : IsKnown known (option_map_or (λ d. with_measure d d.sources.points) (option_map (λ w. w.operand) twin) no_pairs) → AreTwinsIf known twin
 
-  both_same : {A : Type 0} {x y : A} → Ok x ≡ Ok y → x ≡ y
-  both_same e = cc
-
   mutual
     pub node_agrees : (n : NodeTree) → IsMade p K n → AgreesAt n
     node_agrees (nodes.node s form) i d t h e f = form_agrees s form i.0 i.1 d t h e f
@@ -351,7 +348,7 @@ module _ (p : Settings) (known : Known) (past : Past) (env other : Environment) 
         let parts = known_all known (lineage past a).points (measure_sources (operand a)) h in
         let whole : IsMade p K (nodes.node s (nodes.check_hierarchy a rules m o)) = (made, i) in
         let same = check_hierarchy_same known p rules (operand a) parts.1 i.1.itemized (one_kept a x.0 i.0 x.1).well_formed x.0 y.0 (node_agrees a i.0 x.0 y.0 parts.0 x.1 y.1) o m rules.rules in
-        equal_agrees known s (of_measured (operand a) s) d t (length-map (others_of s) (λ z. no_pairs)) (both_same (sym x.2 ∙ same ∙ y.2)) (one_kept (nodes.node s (nodes.check_hierarchy a rules m o)) d whole e)
+        equal_agrees known s (of_measured (operand a) s) d t (length-map (others_of s) (λ z. no_pairs)) (ok_is d t (sym x.2 ∙ same ∙ y.2)) (one_kept (nodes.node s (nodes.check_hierarchy a rules m o)) d whole e)
     form_agrees s (nodes.hierarchy a rules m n o) made i d t h e f =
         let H = ruled_by rules (structure_of a) in
         let x = operand_ok a (node_value p env a) (λ z. hierarchy_of p H m n rules.rules z o s) d e in
@@ -360,9 +357,9 @@ module _ (p : Settings) (known : Known) (past : Past) (env other : Environment) 
         let whole : IsMade p K (nodes.node s (nodes.hierarchy a rules m n o)) = (made, i) in
         let stay : others_of s ≡ measures_of (structure_of a) = others_are s i.1.no_attributes ∙ measures_stay H.id (structure_of a) s i.1.shape in
         let others : AllByRecursion (λ z. IsKnown known (source_named (operand a) z.name)) (others_of s) =
-            subst (λ l. AllByRecursion (λ z. IsKnown known (source_named (operand a) z.name)) l) (sym stay) (all_of_map (λ z. source_named (operand a) z.name) (IsKnown known) (measures_of (structure_of a)) parts.1) in
+        subst (λ l. AllByRecursion (λ z. IsKnown known (source_named (operand a) z.name)) l) (sym stay) (all_of_map (λ z. source_named (operand a) z.name) (IsKnown known) (measures_of (structure_of a)) parts.1) in
         let same = hierarchy_same known p rules (operand a) parts.1 i.1.itemized (one_kept a x.0 i.0 x.1).well_formed x.0 y.0 (node_agrees a i.0 x.0 y.0 parts.0 x.1 y.1) m n rules.rules o s (kept_identifiers s (structure_of a) i.1.identifiers) others in
-        equal_agrees known s (of_measured (operand a) s) d t (length-map (others_of s) (λ z. no_pairs)) (both_same (sym x.2 ∙ same ∙ y.2)) (one_kept (nodes.node s (nodes.hierarchy a rules m n o)) d whole e)
+        equal_agrees known s (of_measured (operand a) s) d t (length-map (others_of s) (λ z. no_pairs)) (ok_is d t (sym x.2 ∙ same ∙ y.2)) (one_kept (nodes.node s (nodes.hierarchy a rules m n o)) d whole e)
 
     maybe_twinned : (j : MaybeNode) (ds es : Option DataSet) → IsMadeMaybe p K j → maybe_value p env j ≡ Ok ds → maybe_value p other j ≡ Ok es → MaybeTwinned (maybe_lineage past j) ds es
     maybe_twinned nodes.no_node ds es i e f = record { twin = None; given = refl; first = ok_is None ds e; second = ok_is None es f; told = λ h. tt }

@@ -90,17 +90,17 @@ module _ (known : Known) (p : Settings) (a b : Operand) (pa : IsKnown known a.so
       let W : Row → Row → Type 0 = λ x y. Q (point_of p exps x) (point_of p exps y) in
       let split : (x : Row) → point_of p exps x ≡ cells_at (places_in xs (identifiers_of s)) x ++ point_of p rest x = λ x. map-append (λ z. cell_or_null (value p z x)) (columns_named xs (identifiers_of s)) rest ∙ ap (λ l. l ++ point_of p rest x) (columns_point p xs (identifiers_of s) x) in
       let joined : (r q : Row) → Points known a r q → (u v : Row) → Points known b u v → W (r ++ u) (q ++ v) = λ r q g u v m.
-          subst (λ z. Q z (point_of p exps (q ++ v))) (sym (split (r ++ u)))
-          (subst (λ z. Q (cells_at (places_in xs (identifiers_of s)) (r ++ u) ++ point_of p rest (r ++ u)) z) (sym (split (q ++ v)))
-          (agree_joined known no_pairs (identifiers_of s) srcs (cells_at (places_in xs (identifiers_of s)) (r ++ u)) (cells_at (places_in xs (identifiers_of s)) (q ++ v)) (point_of p rest (r ++ u)) (point_of p rest (q ++ v))
-          (front r q u v g) (same r q u v g m))) in
+      subst (λ z. Q z (point_of p exps (q ++ v))) (sym (split (r ++ u)))
+      (subst (λ z. Q (cells_at (places_in xs (identifiers_of s)) (r ++ u) ++ point_of p rest (r ++ u)) z) (sym (split (q ++ v)))
+      (agree_joined known no_pairs (identifiers_of s) srcs (cells_at (places_in xs (identifiers_of s)) (r ++ u)) (cells_at (places_in xs (identifiers_of s)) (q ++ v)) (point_of p rest (r ++ u)) (point_of p rest (q ++ v))
+      (front r q u v g) (same r q u v g m))) in
       both_ok Q (faults_by (point_fault p exps) (paired (with_points ours d) (with_points theirs e))) (faults_by (point_fault p exps) (paired (with_points ours t) (with_points theirs f)))
       (map (point_of p exps) (paired (with_points ours d) (with_points theirs e))) out (map (point_of p exps) (paired (with_points ours t) (with_points theirs f))) other
       (together_map W Q (point_of p exps) (point_of p exps) (λ x y w. w) (paired (with_points ours d) (with_points theirs e)) (paired (with_points ours t) (with_points theirs f))
       (together_flat (Points known a) W (beside ours (with_points theirs e)) (beside ours (with_points theirs f))
       (λ r q g. both_list W (option_map (λ z. r ++ z) (partner ours (with_points theirs e) r)) (option_map (λ z. q ++ z) (partner ours (with_points theirs f) q))
-        (both_map (Points known b) W (λ z. r ++ z) (λ z. q ++ z) (joined r q g) (partner ours (with_points theirs e) r) (partner ours (with_points theirs f) q)
-        (partners_agree known b pb e f gb eb fb ours r q (same_cells known a pa r q g.0 (identifiers_of theirs) (contained_identifiers ours theirs within)))))
+      (both_map (Points known b) W (λ z. r ++ z) (λ z. q ++ z) (joined r q g) (partner ours (with_points theirs e) r) (partner ours (with_points theirs f) q)
+      (partners_agree known b pb e f gb eb fb ours r q (same_cells known a pa r q g.0 (identifiers_of theirs) (contained_identifiers ours theirs within)))))
       d t (point_pairs known a pa d t ga da ta))) h k
     where
       front : (r q u v : Row) → Points known a r q → Agree known (map (λ y. no_pairs) (identifiers_of s)) (cells_at (places_in (columns_of a.structure) (identifiers_of s)) (r ++ u)) (cells_at (places_in (columns_of a.structure) (identifiers_of s)) (q ++ v))
@@ -108,9 +108,9 @@ module _ (known : Known) (p : Settings) (a b : Operand) (pa : IsKnown known a.so
           let n = key_width a.structure in
           let places = places_in (columns_of a.structure) (identifiers_of s) in
           let cells : (x y : Row) → IsRowOf a.structure x → cells_at places (x ++ y) ≡ take n x = λ x y m.
-              let l = key_within a.structure x m in
-              let longer : n ≤ length (x ++ y) = let more = length-append x y in omega (arith, l, more) in
-              key_cells a.structure s (x ++ y) da.well_formed kept longer ∙ take-append-le n x y l in
+          let l = key_within a.structure x m in
+          let longer : n ≤ length (x ++ y) = let more = length-append x y in omega (arith, l, more) in
+          key_cells a.structure s (x ++ y) da.well_formed kept longer ∙ take-append-le n x y l in
           subst (λ z. Agree known (map (λ y. no_pairs) (identifiers_of s)) z (cells_at places (q ++ v))) (sym (cells r u g.1))
           (subst (λ z. Agree known (map (λ y. no_pairs) (identifiers_of s)) (take n r) z) (sym (cells q v g.2)) (agree_ids known a r q g.0 no_pairs s kept))
 
@@ -156,7 +156,7 @@ module _ (known : Known) (p : Settings) (o : ScalarOp) (a b : Operand) (pa : IsK
       named : (r q u v : Row) → Points known a r q → Points known b u v → Agree known srcs (paired_at p o ours theirs s r u) (paired_at p o ours theirs s q v)
       named r q u v m n = agree_values known src (λ x y. result_at p o y.kind (Ok (value_named (columns_of ours) r x.name) ∷ Ok (value_named (columns_of theirs) u x.name) ∷ [])) (λ x y. result_at p o y.kind (Ok (value_named (columns_of ours) q x.name) ∷ Ok (value_named (columns_of theirs) v x.name) ∷ []))
           (λ x y w. let parts = known_parts known (source_named a x.name) (source_named b x.name) w in
-            λ j. result_at p o y.kind (Ok (same_named known a r q m.0 x.name parts.0 j) ∷ Ok (same_named known b u v n.0 x.name parts.1 j) ∷ []))
+          λ j. result_at p o y.kind (Ok (same_named known a r q m.0 x.name parts.0 j) ∷ Ok (same_named known b u v n.0 x.name parts.1 j) ∷ []))
           (measures_of ours) (measures_of s)
 
       go : (z : Bool) → contains ours theirs ≡ z → HasIdentifiers s (identifiers_of (cond z ours theirs)) → AreFor p (cond z (columns_of ours ++ columns_of theirs) (columns_of theirs ++ columns_of ours)) (exps z) (columns_of s)
@@ -166,14 +166,14 @@ module _ (known : Known) (p : Settings) (o : ScalarOp) (a b : Operand) (pa : IsK
       go true w ids typed l m =
           let split = for_back p (columns_of ours ++ columns_of theirs) (columns_named (columns_of ours) (identifiers_of s)) left (identifiers_of s) (others_of s) (length-map (identifiers_of s) (λ y. column_named (columns_of ours) y.name)) (subst (λ ys. AreFor p (columns_of ours ++ columns_of theirs) (columns_named (columns_of ours) (identifiers_of s) ++ left) ys) (columns_split s) typed) in
           let values : (r u : Row) → IsRowOf ours r → IsRowOf theirs u → point_of p left (r ++ u) ≡ paired_at p o ours theirs s r u = λ r u v x. namesake_values p o (columns_of ours ++ columns_of theirs) (column_named (columns_of ours)) (column_behind (length (columns_of ours)) (columns_of theirs)) (r ++ u) (value_named (columns_of ours) r) (value_named (columns_of theirs) u)
-              (λ n j. ap (λ (c : Cell). Ok c) (value_in_front p (columns_of ours) (columns_of theirs) r u n v x j)) (λ n j. ap (λ (c : Cell). Ok c) (value_behind (columns_of ours) (columns_of theirs) r u n v)) (measures_of ours) (measures_of s) (others_of s) split in
+          (λ n j. ap (λ (c : Cell). Ok c) (value_in_front p (columns_of ours) (columns_of theirs) r u n v x j)) (λ n j. ap (λ (c : Cell). Ok c) (value_behind (columns_of ours) (columns_of theirs) r u n v)) (measures_of ours) (measures_of s) (others_of s) split in
           side_agrees known p a b pa pb d t e f da ta eb fb ga gb s w ids left (a.sources.points ++ b.sources.points) srcs
           (λ r q u v x y. subst (λ z. Agree known srcs z (point_of p left (q ++ v))) (sym (values r u x.1 y.1)) (subst (λ z. Agree known srcs (paired_at p o ours theirs s r u) z) (sym (values q v x.2 y.2)) (named r q u v x y)))
           out other l m
       go false w ids typed l m =
           let split = for_back p (columns_of theirs ++ columns_of ours) (columns_named (columns_of theirs) (identifiers_of s)) right (identifiers_of s) (others_of s) (length-map (identifiers_of s) (λ y. column_named (columns_of theirs) y.name)) (subst (λ ys. AreFor p (columns_of theirs ++ columns_of ours) (columns_named (columns_of theirs) (identifiers_of s) ++ right) ys) (columns_split s) typed) in
           let values : (u r : Row) → IsRowOf theirs u → IsRowOf ours r → point_of p right (u ++ r) ≡ paired_at p o ours theirs s r u = λ u r v x. namesake_values p o (columns_of theirs ++ columns_of ours) (column_behind (length (columns_of theirs)) (columns_of ours)) (column_named (columns_of theirs)) (u ++ r) (value_named (columns_of ours) r) (value_named (columns_of theirs) u)
-              (λ n j. ap (λ (c : Cell). Ok c) (value_behind (columns_of theirs) (columns_of ours) u r n v)) (λ n j. ap (λ (c : Cell). Ok c) (value_in_front p (columns_of theirs) (columns_of ours) u r n v x j)) (measures_of ours) (measures_of s) (others_of s) split in
+          (λ n j. ap (λ (c : Cell). Ok c) (value_behind (columns_of theirs) (columns_of ours) u r n v)) (λ n j. ap (λ (c : Cell). Ok c) (value_in_front p (columns_of theirs) (columns_of ours) u r n v x j)) (measures_of ours) (measures_of s) (others_of s) split in
           side_agrees known p b a pb pa e f d t eb fb da ta gb ga s (or_second (contains ours theirs) (contains theirs ours) i.contained w) ids right (a.sources.points ++ b.sources.points) srcs
           (λ u v r q y x. subst (λ z. Agree known srcs z (point_of p right (v ++ q))) (sym (values u r y.1 x.1)) (subst (λ z. Agree known srcs (paired_at p o ours theirs s r u) z) (sym (values v q y.2 x.2)) (named r q u v x y)))
           out other l m
@@ -198,11 +198,11 @@ module _ (known : Known) (c a b : Operand) (pc : IsKnown known c.sources.points)
       let places = places_in (columns_of ours) (identifiers_of s) in
       let behind = places_in (columns_of theirs) (measures_of s) in
       let joined : (m n : Row) → Points known o m n → Chosen (joined_point ours theirs s r m) (joined_point ours theirs s q n) = λ m n w.
-          agree_joined known no_pairs (identifiers_of s) (map src (measures_of s)) (cells_at places r) (cells_at places q) (cells_at behind m) (cells_at behind n)
-          (agree_front_cells known c r q g no_pairs (identifiers_of s) (kept_identifiers s ours i.identifiers))
-          (subst (λ z. Agree known (map src (measures_of s)) z (cells_at behind n)) (sym (named_cells (columns_of theirs) (measures_of s) m))
-          (subst (λ z. Agree known (map src (measures_of s)) (values_named (columns_of theirs) (measures_of s) m) z) (sym (named_cells (columns_of theirs) (measures_of s) n))
-          (agree_named known o m n w.0 src more (measures_of s)))) in
+      agree_joined known no_pairs (identifiers_of s) (map src (measures_of s)) (cells_at places r) (cells_at places q) (cells_at behind m) (cells_at behind n)
+      (agree_front_cells known c r q g no_pairs (identifiers_of s) (kept_identifiers s ours i.identifiers))
+      (subst (λ z. Agree known (map src (measures_of s)) z (cells_at behind n)) (sym (named_cells (columns_of theirs) (measures_of s) m))
+      (subst (λ z. Agree known (map src (measures_of s)) (values_named (columns_of theirs) (measures_of s) m) z) (sym (named_cells (columns_of theirs) (measures_of s) n))
+      (agree_named known o m n w.0 src more (measures_of s)))) in
       both_list Chosen (option_map (joined_point ours theirs s r) (partner ours (with_points theirs u) r)) (option_map (joined_point ours theirs s q) (partner ours (with_points theirs v) q))
       (both_map (Points known o) Chosen (joined_point ours theirs s r) (joined_point ours theirs s q) joined (partner ours (with_points theirs u) r) (partner ours (with_points theirs v) q)
       (partners_agree known o po u v go uo vo ours r q (same_cells known c pc r q g (identifiers_of theirs) (among_identifiers (identifiers_of theirs) ours there))))
@@ -217,7 +217,7 @@ module _ (known : Known) (c a b : Operand) (pc : IsKnown known c.sources.points)
   choice_agrees =
       together_flat (Agree known (columns_from c.structure c.sources)) Chosen (taken_at c.structure (with_points a.structure d) (with_points b.structure e) s) (taken_at c.structure (with_points a.structure t) (with_points b.structure f) s)
       (λ r q g. either (taken_from c.structure (with_points a.structure d) s r) (taken_from c.structure (with_points a.structure t) s q) (taken_from c.structure (with_points b.structure e) s r) (taken_from c.structure (with_points b.structure f) s q)
-        (is_first_chosen c.structure r) (is_first_chosen c.structure q) (ap (λ v. is_true (Ok v)) (same_at known c r q g (key_width c.structure) tested))
-        (taken_agrees a pa d t da ta ga i.first.there (λ z h. (known_parts known (source_named a z.name) (source_named b z.name) h).0) r q g)
-        (taken_agrees b pb e f eb fb gb i.second.there (λ z h. (known_parts known (source_named a z.name) (source_named b z.name) h).1) r q g))
+      (is_first_chosen c.structure r) (is_first_chosen c.structure q) (ap (λ v. is_true (Ok v)) (same_at known c r q g (key_width c.structure) tested))
+      (taken_agrees a pa d t da ta ga i.first.there (λ z h. (known_parts known (source_named a z.name) (source_named b z.name) h).0) r q g)
+      (taken_agrees b pb e f eb fb gb i.second.there (λ z h. (known_parts known (source_named a z.name) (source_named b z.name) h).1) r q g))
       x y gc

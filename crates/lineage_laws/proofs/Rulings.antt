@@ -27,7 +27,6 @@ use Rattle.vtl_tree.specs.Environment.{DataSet}
 use Rattle.vtl_tree.specs.RuleItems.{definitions, left_item}
 use Rattle.vtl_tree.specs.Structure.{IsStructure, columns_of, key_width, same_name, same_role}
 use Rattle.vtl_tree.specs.Trees.{PointRuleTree}
-use Rattle.vtl_tree.specs.Value.{value}
 use Rattle.vtl_tree.specs.declared.rules.HierRules.{HierRules}
 use Rattle.vtl_tree.specs.declared.specifications.CheckSpec.{CheckSpec}
 use Rattle.vtl_tree.specs.declared.structure.Component.{Component}
@@ -55,7 +54,6 @@ use Rattle.vtl_rulings.specs.Outputs.{code_cell, errors_at, is_basic_shown, is_s
 use Rattle.vtl_rulings.specs.PointChecks.{PointRule, check_of, checked_point, datapoint_of, errors_of, imbalance_at, point_rules, rule_fault, rule_points, ruled_point, truth_of, under}
 use Rattle.vtl_rulings.specs.Sides.{holds}
 use Rattle.vtl_sources.specs.Links.{Pairs}
-use Rattle.vtl_sources.specs.Sources.{sources}
 use Rattle.lineage_laws.specs.Agree.{Agree, Agreeing, Both, IsKnown, Known, Together, and, both, cell, neither, no_cells, none}
 use Rattle.lineage_laws.specs.Over.{Found, Operand, columns_from, measure_sources, no_pairs, of_check, of_datapoint, source_at, source_named, with_expression, with_measure, with_rule}
 use Rattle.lineage_laws.proofs.Columns.{IsIdentifierOf, agree_ids, agree_named, among_identifiers, both_ok, const_map, same_values}
@@ -366,11 +364,11 @@ past_identifiers id (x ∷ xs) ys all = go (same_name x.name id) (past_identifie
 
 filtered_twice : (xs : List Component) → filter is_measure_role (filter is_measure_role xs) ≡ filter is_measure_role xs
 filtered_twice [] = refl
-filtered_twice (x ∷ xs) = go (is_measure_role x) refl
+filtered_twice (x ∷ xs) = go (is_measure_role x) refl (filtered_twice xs)
   where
-    go : (b : Bool) → is_measure_role x ≡ b → filter is_measure_role (cond b (x ∷ filter is_measure_role xs) (filter is_measure_role xs)) ≡ cond b (x ∷ filter is_measure_role xs) (filter is_measure_role xs)
-    go true e = ap (λ b. cond b (x ∷ filter is_measure_role (filter is_measure_role xs)) (filter is_measure_role (filter is_measure_role xs))) e ∙ ap (λ l. x ∷ l) (filtered_twice xs)
-    go false e = filtered_twice xs
+    go : (b : Bool) → is_measure_role x ≡ b → filter is_measure_role (filter is_measure_role xs) ≡ filter is_measure_role xs → filter is_measure_role (cond b (x ∷ filter is_measure_role xs) (filter is_measure_role xs)) ≡ cond b (x ∷ filter is_measure_role xs) (filter is_measure_role xs)
+    go true e ih = ap (λ b. cond b (x ∷ filter is_measure_role (filter is_measure_role xs)) (filter is_measure_role (filter is_measure_role xs))) e ∙ ap (λ l. x ∷ l) ih
+    go false e ih = ih
 
 pub measures_stay : (id : List ℕ) (a s : Structure) → s.components ≡ without_codes id (identifiers_of a) ++ measures_of a → measures_of s ≡ measures_of a
 measures_stay id a s e = ap (filter is_measure_role) e ∙ past_identifiers id (identifiers_of a) (measures_of a) (are_identifiers a) ∙ filtered_twice a.components

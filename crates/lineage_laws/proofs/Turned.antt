@@ -50,8 +50,8 @@ module _ (known : Known) where
       let answer : (r q : Row) → R r q → has_agreeing a.structure (first_of y) r ≡ has_agreeing a.structure (second_of y) q = λ r q g. both_some (Agree known (columns_from y.operand.structure y.operand.sources)) (first_agreeing a.structure (first_of y) r) (first_agreeing a.structure (second_of y) q) (found_agree known a y hx.points hy r q g) in
       together_map R Q (with_answer a.structure (first_of y)) (with_answer a.structure (second_of y))
       (λ r q g. agree_joined known no_pairs (identifiers_of s) (map (λ z. no_pairs) (others_of s)) (key_of a.structure r) (key_of a.structure q) (c.Bool (has_agreeing a.structure (first_of y) r) ∷ []) (c.Bool (has_agreeing a.structure (second_of y) q) ∷ [])
-        (agree_ids known a r q g no_pairs s i.identifiers)
-        (agree_equal (map (λ z. no_pairs) (others_of s)) (c.Bool (has_agreeing a.structure (first_of y) r) ∷ []) (c.Bool (has_agreeing a.structure (second_of y) q) ∷ []) (ap (λ (b : Bool). c.Bool b ∷ []) (answer r q g)) (length-map (others_of s) (λ z. no_pairs) ∙ one_other s [] 1 (ap length i.truth))))
+      (agree_ids known a r q g no_pairs s i.identifiers)
+      (agree_equal (map (λ z. no_pairs) (others_of s)) (c.Bool (has_agreeing a.structure (first_of y) r) ∷ []) (c.Bool (has_agreeing a.structure (second_of y) q) ∷ []) (ap (λ (b : Bool). c.Bool b ∷ []) (answer r q g)) (length-map (others_of s) (λ z. no_pairs) ∙ one_other s [] 1 (ap length i.truth))))
       (filter (λ r. is_retained keep (has_agreeing a.structure (first_of y) r)) x.first) (filter (λ r. is_retained keep (has_agreeing a.structure (second_of y) r)) x.second)
       (together_filter R (λ r. is_retained keep (has_agreeing a.structure (first_of y) r)) (λ r. is_retained keep (has_agreeing a.structure (second_of y) r)) (λ r q g. ap (is_retained keep) (answer r q g)) x.first x.second hx.agree)
 
@@ -97,8 +97,8 @@ module _ (known : Known) where
         subst (λ l. Together (Agree known (map (λ y. no_pairs) (identifiers_of s) ++ l)) (pivot_of one id m) (pivot_of two id m)) many
         (together_map Keys (Agree known (map (λ y. no_pairs) (identifiers_of s) ++ map (λ code. source_named a m) codes)) (pivoted_point one id m) (pivoted_point two id m)
         (λ k j g. agree_joined known no_pairs (identifiers_of s) (map (λ code. source_named a m) codes) k j (map (coded_value one id m k) codes) (map (coded_value two id m j) codes)
-          (agree_equal (map (λ y. no_pairs) (identifiers_of s)) k j g.0 (length-map (identifiers_of s) (λ y. no_pairs) ∙ sym g.1))
-          (agree_map known (λ code. source_named a m) (coded_value one id m k) (coded_value two id m j) codes (λ code h. coded_same k j g.0 code h)))
+        (agree_equal (map (λ y. no_pairs) (identifiers_of s)) k j g.0 (length-map (identifiers_of s) (λ y. no_pairs) ∙ sym g.1))
+        (agree_map known (λ code. source_named a m) (coded_value one id m k) (coded_value two id m j) codes (λ code h. coded_same k j g.0 code h)))
         (each_once same_row (map (values_in a.structure rest) d)) (each_once same_row (map (values_in a.structure rest) t)) keys_agree)
 
   -- ---- `unpivot`

@@ -37,7 +37,7 @@ use Rattle.vtl_meaning.specs.AnalyticShapes.{IsAnalyzed}
 use Rattle.vtl_meaning.specs.Analytics.{analytic_of, made_of, tree_value, value_for}
 use Rattle.vtl_meaning.specs.Analytics as points
 use Rattle.vtl_meaning.specs.Groups.{places_named}
-use Rattle.vtl_meaning.specs.Points.{with_points}
+use Rattle.vtl_meaning.specs.Points.{cell_or_null, with_points}
 use Rattle.vtl_meaning.specs.Windows.{argument, framed, identifier_places, key_in, keys_in, op_value, partition_of, point_cmp, seen, stand_of}
 use Rattle.vtl_rows.specs.Tables.{cells_at}
 use Rattle.vtl_tree.specs.Columns.{identifiers_of, others_of, place_of}
@@ -103,9 +103,10 @@ module _ (n : ℕ) where
   alone_in [] e = tt
   alone_in (x ∷ xs) e =
       let parts = apart_parts (same_key n) x xs e in
-      let other : (r : Row) → same_key n x r ≡ false → Alone n r x = λ r h k. absurd (true≢false (sym (ap (same_row (take n x)) (sym k) ∙ same_row-refl (take n x)) ∙ h)) in
-      (((λ k. refl), all_more (λ z. same_key n x z ≡ false) (Alone n x) (apart_alone x) xs parts.0),
-      both_all (λ r. same_key n x r ≡ false) (λ r. AllByRecursion (Alone n r) xs) (λ r. AllByRecursion (Alone n r) (x ∷ xs)) (λ r h k. (other r h, k)) xs parts.0 (alone_in xs parts.1))
+      let other : (r : Row) → same_key n x r ≡ false → Alone n r x = λ r h k. absurd (true≢false (sym (ap (same_row (take n x)) (sym k) ∙ same_row-refl (take n x)) ∙ h)) in (
+        ((λ k. refl), all_more (λ z. same_key n x z ≡ false) (Alone n x) (apart_alone x) xs parts.0),
+        both_all (λ r. same_key n x r ≡ false) (λ r. AllByRecursion (Alone n r) xs) (λ r. AllByRecursion (Alone n r) (x ∷ xs)) (λ r h k. (other r h, k)) xs parts.0 (alone_in xs parts.1),
+      )
 
 -- ---- the stand of a point
 module _ (known : Known) (p : Settings) (a : Operand) where
@@ -180,7 +181,7 @@ module _ (known : Known) (p : Settings) (a : Operand) where
         let one = apart_parts (same_key n) u us e in
         let two = apart_parts (same_key n) v vs f in
         later (together_left Told (λ z. same_key n u z ≡ false) (λ z. same_key n v z ≡ false) (λ r q. not (is_lt (point_cmp a.structure w r u)) ≡ not (is_lt (point_cmp a.structure w q v)))
-          (λ r q k x y. ap not (compare_same r q u v k.0 g.0 k.1 k.2 g.1 g.2 (apart_alone n u r x) (apart_alone n v q y))) us vs rest one.0 two.0)
+        (λ r q k x y. ap not (compare_same r q u v k.0 g.0 k.1 k.2 g.1 g.2 (apart_alone n u r x) (apart_alone n v q y))) us vs rest one.0 two.0)
         (compared us vs rest one.1 two.1)
 
     module _ (r q : Row) (g : Told r q) (ar : AllByRecursion (Alone n r) d) (aq : AllByRecursion (Alone n q) t) where
@@ -266,12 +267,12 @@ module _ (known : Known) (p : Settings) (a : Operand) where
         let own = (window_known (source_if_named a call.component) call.window h).0 in
         ap (λ m. after m (as_kind p kind)) (op_same (source_if_named a call.component) call.window h d t agree dd tt r q g.0 g.1 g.2 call.op (argument xs call.component) (argument_same call.component own))
 
-    cell_made : (r q : Row) → Apart r q → (y : Component) → IsKnown known (source_made a spec y) → groups.cell_or_null (made_of p spec (with_points a.structure d) y r) ≡ groups.cell_or_null (made_of p spec (with_points a.structure t) y q)
+    cell_made : (r q : Row) → Apart r q → (y : Component) → IsKnown known (source_made a spec y) → cell_or_null (made_of p spec (with_points a.structure d) y r) ≡ cell_or_null (made_of p spec (with_points a.structure t) y q)
     cell_made r q g y = go (value_for spec y)
       where
-        go : (o : Option ValueTree) → IsKnown known (option_map_or (source_of_value a) o (source_named a y.name)) → groups.cell_or_null (option_map_or (λ v. tree_value p (with_points a.structure d) y.kind v r) o (Ok (column_of (place_of y.name xs) r))) ≡ groups.cell_or_null (option_map_or (λ v. tree_value p (with_points a.structure t) y.kind v q) o (Ok (column_of (place_of y.name xs) q)))
+        go : (o : Option ValueTree) → IsKnown known (option_map_or (source_of_value a) o (source_named a y.name)) → cell_or_null (option_map_or (λ v. tree_value p (with_points a.structure d) y.kind v r) o (Ok (column_of (place_of y.name xs) r))) ≡ cell_or_null (option_map_or (λ v. tree_value p (with_points a.structure t) y.kind v q) o (Ok (column_of (place_of y.name xs) q)))
         go None h = same_named known a r q g.0.0 y.name h
-        go (Some v) h = ap groups.cell_or_null (value_made y.kind v h r q g)
+        go (Some v) h = ap cell_or_null (value_made y.kind v h r q g)
 
     pub analytic_agrees : (out other : List Row) → analytic_of p spec (with_points a.structure d) s ≡ Ok out → analytic_of p spec (with_points a.structure t) s ≡ Ok other → Agreeing known (columns_from s (of_made a spec s)) out other
     analytic_agrees out other k l =
@@ -282,20 +283,20 @@ module _ (known : Known) (p : Settings) (a : Operand) where
         let Q = Agree known (columns_from s (of_made a spec s)) in
         let split : (f : Component → Cell) → map f (columns_of s) ≡ map f ys ++ map f zs = λ f. ap (map f) (columns_split s) ∙ map-append f ys zs in
         let free : AllByRecursion (λ y. IsIdentifierOf a.structure y.name × (value_for spec y ≡ None)) ys =
-            both_all (λ y. IsIdentifierOf a.structure y.name) (λ y. value_for spec y ≡ None) (λ y. IsIdentifierOf a.structure y.name × (value_for spec y ≡ None)) (λ y x z. (x, z)) ys (subst (λ us. AllByRecursion (λ y. IsIdentifierOf a.structure y.name) us) (sym i.identifiers) (own_identifier_names a.structure)) i.free in
+        both_all (λ y. IsIdentifierOf a.structure y.name) (λ y. value_for spec y ≡ None) (λ y. IsIdentifierOf a.structure y.name × (value_for spec y ≡ None)) (λ y x z. (x, z)) ys (subst (λ us. AllByRecursion (λ y. IsIdentifierOf a.structure y.name) us) (sym i.identifiers) (own_identifier_names a.structure)) i.free in
         both_ok Q (faults_by (groups.group_fault one (columns_of s)) d) (faults_by (groups.group_fault two (columns_of s)) t) (map (points.point_of one (columns_of s)) d) out (map (points.point_of two (columns_of s)) t) other
         (together_map Apart Q (points.point_of one (columns_of s)) (points.point_of two (columns_of s))
         (λ r q g.
-          let f : Component → Cell = λ y. groups.cell_or_null (one y r) in
-          let h : Component → Cell = λ y. groups.cell_or_null (two y q) in
-          subst (λ z. Q z (map h (columns_of s))) (sym (split f)) (subst (λ z. Q (map f ys ++ map f zs) z) (sym (split h))
-          (agree_joined known no_pairs ys (map (λ y. source_made a spec y) zs) (map f ys) (map h ys) (map f zs) (map h zs)
-          (agree_map_all known (λ y. IsIdentifierOf a.structure y.name × (value_for spec y ≡ None)) (λ y. no_pairs) f h ys (λ y x u. stays r q g y x.0 x.1) free)
-          (agree_map known (λ y. source_made a spec y) f h zs (cell_made r q g)))))
+        let f : Component → Cell = λ y. cell_or_null (one y r) in
+        let h : Component → Cell = λ y. cell_or_null (two y q) in
+        subst (λ z. Q z (map h (columns_of s))) (sym (split f)) (subst (λ z. Q (map f ys ++ map f zs) z) (sym (split h))
+        (agree_joined known no_pairs ys (map (λ y. source_made a spec y) zs) (map f ys) (map h ys) (map f zs) (map h zs)
+        (agree_map_all known (λ y. IsIdentifierOf a.structure y.name × (value_for spec y ≡ None)) (λ y. no_pairs) f h ys (λ y x u. stays r q g y x.0 x.1) free)
+        (agree_map known (λ y. source_made a spec y) f h zs (cell_made r q g)))))
         d t apart_all) k l
       where
-        stays : (r q : Row) → Apart r q → (y : Component) → IsIdentifierOf a.structure y.name → value_for spec y ≡ None → groups.cell_or_null (made_of p spec (with_points a.structure d) y r) ≡ groups.cell_or_null (made_of p spec (with_points a.structure t) y q)
+        stays : (r q : Row) → Apart r q → (y : Component) → IsIdentifierOf a.structure y.name → value_for spec y ≡ None → cell_or_null (made_of p spec (with_points a.structure d) y r) ≡ cell_or_null (made_of p spec (with_points a.structure t) y q)
         stays r q g y x e =
-            ap (λ o. groups.cell_or_null (option_map_or (λ v. tree_value p (with_points a.structure d) y.kind v r) o (Ok (column_of (place_of y.name xs) r)))) e
+            ap (λ o. cell_or_null (option_map_or (λ v. tree_value p (with_points a.structure d) y.kind v r) o (Ok (column_of (place_of y.name xs) r)))) e
             ∙ same_identifier known a r q g.0.0 y.name x
-            ∙ sym (ap (λ o. groups.cell_or_null (option_map_or (λ v. tree_value p (with_points a.structure t) y.kind v q) o (Ok (column_of (place_of y.name xs) q)))) e)
+            ∙ sym (ap (λ o. cell_or_null (option_map_or (λ v. tree_value p (with_points a.structure t) y.kind v q) o (Ok (column_of (place_of y.name xs) q)))) e)

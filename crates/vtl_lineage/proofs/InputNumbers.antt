@@ -172,7 +172,7 @@ module _ (name : List ℕ) (s : Structure) (w : IsStructure s) (before behind : 
       ap (places_from n f) (map-append (pair_with name) us (x ∷ vs))
       ∙ places_append n f (map (pair_with name) us) (pair_with name x ∷ map (pair_with name) vs)
       ∙ (λ i. none_here n f (map (pair_with name) us) (pairs_none name (x ∷ []) us (fronts us h)) i
-        ++ places_from (n + length-map us (pair_with name) i) f (pair_with name x ∷ map (pair_with name) vs))
+      ++ places_from (n + length-map us (pair_with name) i) f (pair_with name x ∷ map (pair_with name) vs))
       ∙ ap (λ b. cond b ((n + length us) ∷ places_from (suc (n + length us)) f (map (pair_with name) vs)) (places_from (suc (n + length us)) f (map (pair_with name) vs))) here
       ∙ ap (λ l. (n + length us) ∷ l) (none_here (suc (n + length us)) f (map (pair_with name) vs) (pairs_none name (x ∷ []) vs (none_of_front (x ∷ []) vs (all_back_apart us (x ∷ vs) h))))
     where
@@ -191,8 +191,8 @@ module _ (name : List ℕ) (s : Structure) (w : IsStructure s) (before behind : 
       let whole : ids ++ zs ≡ (ids ++ us) ++ x ∷ vs = ap (λ l. ids ++ l) e ∙ sym (append_assoc ids us (x ∷ vs)) in
       let own : pairs_of_set name s ≡ map (pair_with name) ((ids ++ us) ++ x ∷ vs) = ap (map (pair_with name)) (columns_split s ∙ whole) in
       let first : numbers_of P (pair_with name x ∷ []) ≡ (n + key_width s + length us) ∷ [] =
-          middle f before (pairs_of_set name s) behind ((n + key_width s + length us) ∷ []) (others_set name (x ∷ []) before hb) (others_set name (x ∷ []) behind hr)
-          (ap (places_from n f) own ∙ one_number (ids ++ us) x vs (subst AreApart whole apart) ∙ ap (λ m. m ∷ []) (ap (λ m. n + m) (length-append ids us) ∙ (let e : n + (key_width s + length us) ≡ n + key_width s + length us = omega arith in e))) in
+      middle f before (pairs_of_set name s) behind ((n + key_width s + length us) ∷ []) (others_set name (x ∷ []) before hb) (others_set name (x ∷ []) behind hr)
+      (ap (places_from n f) own ∙ one_number (ids ++ us) x vs (subst AreApart whole apart) ∙ ap (λ m. m ∷ []) (ap (λ m. n + m) (length-append ids us) ∙ (let e : n + (key_width s + length us) ≡ n + key_width s + length us = omega arith in e))) in
       let rest = others_numbers (us ++ x ∷ []) vs (e ∙ sym (append_assoc us (x ∷ []) vs)) in
       let more : n + key_width s + length (us ++ x ∷ []) ≡ suc (n + key_width s + length us) = let l = length-append us (x ∷ []) in omega (arith, l) in
       λ i. first i ∷ (rest ∙ ap (λ m. each_alone (run m (length vs))) more) i

@@ -176,7 +176,7 @@ module _ (pairs : Pairs) where
       one x =
           expressions_same a (with_expressions either none a (source_named either none a x.name) (comp_exps_of m.before)) (comp_exps_of m.after)
           ∙ ap (λ b. with_expressions merged [] (at a) b (comp_exps_of m.after)) (expressions_same a (source_named either none a x.name) (comp_exps_of m.before)
-            ∙ ap (λ b. with_expressions merged [] (at a) b (comp_exps_of m.before)) (named_same a x.name))
+          ∙ ap (λ b. with_expressions merged [] (at a) b (comp_exps_of m.before)) (named_same a x.name))
 
   two_same : (a b : Traced Pairs) (x : Component) → h (either (source_named either none a x.name) (source_named either none b x.name)) ≡ merged (source_named merged [] (at a) x.name) (source_named merged [] (at b) x.name)
   two_same a b x = numbers_joined pairs (source_named either none a x.name) (source_named either none b x.name) ∙ (λ i. merged (named_same a x.name i) (named_same b x.name i))
@@ -217,7 +217,7 @@ module _ (pairs : Pairs) where
       columns =
           map-append h (flat_map (measure_sources either none) ds) (flat_map (attribute_sources either none) ds)
           ∙ (λ i. same_flat (measure_sources either none) (measure_sources merged []) (λ d. each_same d (measures_of d.structure)) ds i
-            ++ same_flat (attribute_sources either none) (attribute_sources merged []) (λ d. each_same d (of_role role.Attribute d.structure)) ds i)
+          ++ same_flat (attribute_sources either none) (attribute_sources merged []) (λ d. each_same d (of_role role.Attribute d.structure)) ds i)
 
   set_line : (ds : List (Traced Pairs)) (s : Structure) → numbered pairs (of_set either none ds s) ≡ of_set merged [] (map at ds) s
   set_line ds s = λ i. sources (all_points_same ds i) (same_each (namesakes either none ds) (namesakes merged [] (map at ds)) (namesakes_same ds) (others_of s) i)

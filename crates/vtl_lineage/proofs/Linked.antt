@@ -39,7 +39,7 @@ module _ (P : Pairs) where
   component_same : (output : List ℕ) (d : Traced Pairs) (x : Component) → numbered_links P output (component_numbers (numbered_traced P d) x) x.name ≡ component_links P output d x
   component_same output d x =
       let one : component_numbers (numbered_traced P d) x ≡ numbers_of P (source_of d x.name) =
-          ap (merged (numbers_of P d.sources.points)) (sym (named_same P d x.name)) ∙ sym (numbers_joined P d.sources.points (source_named either none d x.name)) in
+      ap (merged (numbers_of P d.sources.points)) (sym (named_same P d x.name)) ∙ sym (numbers_joined P d.sources.points (source_named either none d x.name)) in
       ap (λ ns. numbered_links P output ns x.name) one ∙ by_numbers (linked output x.name) (is_in (source_of d x.name)) [] P
 
   output_same : (output : List ℕ) (d : Traced Pairs) → output_links P output (numbered_traced P d) ≡ flat_map (component_links P output d) (columns_of d.structure)

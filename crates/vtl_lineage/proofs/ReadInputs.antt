@@ -160,10 +160,11 @@ still_none : (past : Past Numbers) (name : List ℕ) (from : Sources Numbers) (e
 unfolding none_held
 still_none past name from [] h k = tt
 still_none past name from (e ∷ es) h k =
-    let parts = or_parts (same_name name e.0) (list_any (same_name name) (keys_of es)) h in
-    (ap (list_any (same_name e.0)) (map-append (λ (x : List ℕ × Sources Numbers). x.0) past ((name, from) ∷ []))
-      ∙ any_append (same_name e.0) (keys_of past) (name ∷ []) k.0 (λ i. (nat_list_eq_equiv.symm e.0 name ∙ parts.0) i || false),
-    still_none past name from es parts.1 k.1)
+    let parts = or_parts (same_name name e.0) (list_any (same_name name) (keys_of es)) h in (
+      ap (list_any (same_name e.0)) (map-append (λ (x : List ℕ × Sources Numbers). x.0) past ((name, from) ∷ []))
+          ∙ any_append (same_name e.0) (keys_of past) (name ∷ []) k.0 (λ i. (nat_list_eq_equiv.symm e.0 name ∙ parts.0) i || false),
+      still_none past name from es parts.1 k.1,
+    )
 
 held_all : (first : ℕ) (past : Past Numbers) (es : Named) → all_apart same_name (keys_of es) ≡ true → none_held past es → held_inputs first past es ≡ past ++ inputs_numbers first es
 unfolding none_held

@@ -96,21 +96,28 @@ pub fn on_measures(
     ensures { IfOk result (λ f. f ≡ of_measures merged [] a.now (measure_tree op.now) made.now) }
 {
     let mut sets = Vec::new(alloc);
-    push_measures(alloc, &mut sets, a, op, &becoming(alloc, a.structure(), made)?)?;
+    push_measures(
+        alloc,
+        &mut sets,
+        a,
+        op,
+        &becoming(alloc, a.structure(), made)?,
+    )?;
     Ok(Found::of(a.points().share()?, sets))
 }
 
 /// An operator on the measures of two data sets.
-pub fn pair(
-    alloc: Global,
-    a: &Operand,
-    b: &Operand,
-    made: &Structure,
-) -> Result<Found, AllocError>
+pub fn pair(alloc: Global, a: &Operand, b: &Operand, made: &Structure) -> Result<Found, AllocError>
     ensures { IfOk result (λ f. f ≡ of_pair merged [] a.now b.now made.now) }
 {
     let mut sets = Vec::new(alloc);
-    push_pairs(alloc, &mut sets, a, b, &becoming(alloc, a.structure(), made)?)?;
+    push_pairs(
+        alloc,
+        &mut sets,
+        a,
+        b,
+        &becoming(alloc, a.structure(), made)?,
+    )?;
     Ok(Found::of(joined(alloc, a.points(), b.points())?, sets))
 }
 

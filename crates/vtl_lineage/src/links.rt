@@ -65,6 +65,13 @@ pub fn lineage(alloc: Global, script: &Checked) -> Result<Vec<Link>, AllocError>
     let mut pairs = Vec::new(alloc);
     read_all(alloc, &mut pairs, &mut known, script)?;
     let mut links = Vec::new(alloc);
-    push_links(alloc, &mut known, &mut links, &pairs, script.statements(), script.nodes())?;
+    push_links(
+        alloc,
+        &mut known,
+        &mut links,
+        &pairs,
+        script.statements(),
+        script.nodes(),
+    )?;
     Ok(links)
 }

@@ -18,8 +18,8 @@ use std::alloc::{AllocError, Global};
 use vtl_cell::AggKind;
 use vtl_text::Shared;
 use vtl_tree::{
-    AggItems, AggSpec, AggTarget, AnalyticSpec, CalcItem, CalcValue, CompExpr, Component, Structure,
-    Window, is_measure,
+    AggItems, AggSpec, AggTarget, AnalyticSpec, CalcItem, CalcValue, CompExpr, Component,
+    Structure, Window, is_measure,
 };
 
 // What was there, and the components of the partition and the order of a window.
@@ -145,7 +145,11 @@ fn counted_measure<'b>(a: &'b Operand, kind: AggKind, column: &Component) -> &'b
 }
 
 // The argument of the target of a column's name.
-fn counted_target<'b>(a: &'b Operand, targets: &[AggTarget], column: &Component) -> &'b Shared<usize>
+fn counted_target<'b>(
+    a: &'b Operand,
+    targets: &[AggTarget],
+    column: &Component,
+) -> &'b Shared<usize>
     ensures { result.now ≡ source_counted merged [] a.now (agg.Targets targets.now) column.now }
 {
     for target in targets {

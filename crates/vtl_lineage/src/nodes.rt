@@ -56,12 +56,7 @@ fn existence(alloc: Global, given: &[Operand], made: &Structure) -> Result<Found
 }
 
 // What the data set of a node depends on, where these are its operands.
-fn line(
-    alloc: Global,
-    known: &Known,
-    node: &Node,
-    given: &[Operand],
-) -> Result<Found, AllocError>
+fn line(alloc: Global, known: &Known, node: &Node, given: &[Operand]) -> Result<Found, AllocError>
     requires { length given.now ≡ length (operands_in (node_tree node.now)) }
     ensures { IfOk result (λ f. f ≡ node_line known.now (node_tree node.now) given.now) }
 {
@@ -102,11 +97,7 @@ fn line(
 /// The data set of an expression, with what it depends on.
 #[cycle(traced)]
 #[tactic(auto, using(crate::proofs::Walks::by_operands, crate::proofs::Walks::traced_next, crate::proofs::Walks::all_traced, crate::proofs::Walks::as_many))]
-pub fn trace<'a>(
-    alloc: Global,
-    known: &Known,
-    node: &'a Node,
-) -> Result<Operand<'a>, AllocError>
+pub fn trace<'a>(alloc: Global, known: &Known, node: &'a Node) -> Result<Operand<'a>, AllocError>
     ensures { IfOk result (λ o. o ≡ traced_node known.now (node_tree node.now)) }
 {
     let below = operands(node);

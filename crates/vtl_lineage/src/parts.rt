@@ -52,7 +52,11 @@ pub fn push_pairs(
     ensures { OnOk result (out.new.items ≡ out.old.items ++ map (λ x. merged (source_named merged [] a.now x.name) (source_named merged [] b.now x.name)) (shown columns.now)) }
 {
     for column in columns {
-        let set = joined(alloc, a.source_named(&column.name), b.source_named(&column.name))?;
+        let set = joined(
+            alloc,
+            a.source_named(&column.name),
+            b.source_named(&column.name),
+        )?;
         out.push(set)?;
     }
     Ok(())
