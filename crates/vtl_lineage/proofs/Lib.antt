@@ -1,0 +1,7 @@
+pub mod ByPlace
+pub mod InputNumbers
+pub mod Kept
+pub mod Linked
+pub mod Merging
+pub mod ReadInputs
+pub mod Walks
