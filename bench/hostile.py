@@ -346,6 +346,20 @@ def plain_creates(folder, count):
     creates(folder, (b'N%031d' % i for i in range(count)))
 
 
+def exports(folder, names):
+    names = [name.decode() for name in names]
+    made = ''.join(f'CREATE TABLE "{name}" AS SELECT 1 AS "x" FROM "T" AS "t";\n' for name in names)
+    engine_folder(folder, [('T', PAIR, keyed(1))], made + ''.join(f'EXPORT "{name}";\n' for name in names))
+
+
+def chosen_exports(folder, count):
+    exports(folder, of_one_hash(NAME, 1, count))
+
+
+def plain_exports(folder, count):
+    exports(folder, (b'N%031d' % i for i in range(count)))
+
+
 def where(folder, count, start):
     parts = [f'"a"."v" < {10 + i}' for i in range(count)]
     one_table(folder, 10, f'SELECT "a"."id" AS "id" {start} WHERE {balanced(parts, "AND")}')
@@ -491,6 +505,7 @@ CASES = [
     (parts_of_texts, lengths_of_texts, 1000000, 'vtl'),
     (changed_texts, lengths_of_texts, 1000000, 'vtl'),
     (chosen_creates, plain_creates, 4000, 'engine'),
+    (chosen_exports, plain_exports, 8000, 'engine'),
     (parts_beside_a_join, parts_alone, 20000, 'engine'),
     (planned_unions, unions_of_products, 32000, 'engine'),
     (different_exists, equal_exists, 2000, 'engine'),

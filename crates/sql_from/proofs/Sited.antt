@@ -37,14 +37,6 @@ table_there held name h = go (table_of name held) (subst IsSome (columns_are hel
     go None h = cc
     go (Some t) h = refl
 
-pub free_key : (name : Text) (held : NamedTables) → table_of name held ≡ None → list_any (same_text name) (keys_of held) ≡ false
-free_key name [] e = refl
-free_key name (t ∷ held) e = go (same_text name t.0) e (free_key name held)
-  where
-    go : (b : Bool) → cond b (Some t.1) (table_of name held) ≡ None → (table_of name held ≡ None → list_any (same_text name) (keys_of held) ≡ false) → (b || list_any (same_text name) (keys_of held)) ≡ false
-    go true e ih = cc
-    go false e ih = ih e
-
 pub keys_are : (ss : Named SourceTable) → keys_of (scope_held (map source_of ss)) ≡ keys_of ss
 keys_are [] = refl
 keys_are (s ∷ ss) = ap (λ l. s.0 ∷ l) (keys_are ss)

@@ -95,7 +95,14 @@ impl<'a> KeyIndex<'a> {
             Some(keys) => {
                 let columns = own_columns(alloc, &keys)?;
                 let asked = asked_columns(alloc, &keys)?;
-                let index = RowIndex::of(alloc, own.table(), columns, NullKeys::NotFound, p, steps)?;
+                let index = RowIndex::of(
+                    alloc,
+                    own.table(),
+                    columns,
+                    NullKeys::NotFound,
+                    p,
+                    steps,
+                )?;
                 Ok(Some(KeyIndex { test, asked, index }))
             }
             None => Ok(None),

@@ -7,15 +7,20 @@ ghost use Rattle.vtl_rows.specs.Named.{table_of};
 ghost use Rattle.vtl_rows.specs.Tables.{listed};
 
 use crate::{SharedTable, Table};
-use indexmap::IndexMap;
 use std::alloc::{AllocError, Global};
 use std::marker::Model;
-use vtl_text::Txt;
+use vtl_text::{ByName, Txt};
 
 /// Named tables. A contract sees the list of the names with their tables, in the order in which they were put.
-#[derive(Drop)]
 pub struct Tables {
-    named: IndexMap<Txt, SharedTable>,
+    named: ByName<SharedTable>,
+}
+
+// Written out, so that a proof above sees one call and not the drop of each part.
+impl Drop for Tables {
+    fn drop(self) {
+        let Tables { named: _named } = self;
+    }
 }
 
 /// The tables that a script reads.
@@ -29,7 +34,7 @@ impl Model for Tables {
 
     ghost Value = { NamedTables };
 
-    ghost view = { λ t. t.named.entries };
+    ghost view = { λ t. t.named };
 }
 
 impl Tables {
@@ -38,7 +43,7 @@ impl Tables {
         ensures { result ≡ [] }
     {
         Tables {
-            named: IndexMap::new(alloc),
+            named: ByName::new(alloc),
         }
     }
 
@@ -58,8 +63,7 @@ impl Tables {
         ensures put { OnOk result (self.new ≡ self.old ++ (name, table) ∷ []) }
         ensures err { OnErr result (self.new ≡ self.old) }
     {
-        self.named.insert(name, table)?;
-        Ok(())
+        self.named.put(name, table)
     }
 
     /// The table of a name.
@@ -81,7 +85,7 @@ impl Tables {
         requires { i < length self.now }
         ensures { (result.0.now, listed result.1.now) ≡ slice_index_or self.now i (result.0.now, listed result.1.now) }
     {
-        let (name, shared) = self.named.get_index(i).unwrap();
+        let (name, shared) = self.named.at(i);
         (name, shared.table())
     }
 
@@ -90,10 +94,7 @@ impl Tables {
     pub fn set(&mut self, name: &Txt, table: Table)
         ensures { self.new ≡ set_value (same_text name.now) self.old (listed table) }
     {
-        let Some(place) = self.named.get_mut(name) else {
-            return;
-        };
-        *place = SharedTable::holding(table);
+        self.named.replace(name, SharedTable::holding(table));
     }
 
     /// Takes the last table, with its name, where there is one. It takes no memory.

@@ -57,3 +57,17 @@ pub one_more : (xs seen : List (List ℕ)) (i : ℕ) (x : List ℕ) → i < leng
     → (seen ++ x ∷ [] ≡ take (i + 1) xs) × (all_apart same_text (seen ++ x ∷ []) ≡ true)
 one_more xs seen i x h e s a t =
     (ap (λ l. l ++ x ∷ []) s ∙ ap (λ y. take i xs ++ y ∷ []) e ∙ sym (take_more xs i x h), apart_push seen x a t)
+
+-- without the last name, which is none of the others
+pub apart_popped : (names : List (List ℕ)) (name : List ℕ) → all_apart same_text (names ++ name ∷ []) ≡ true → (all_apart same_text names ≡ true) × (list_any (same_text name) names ≡ false)
+apart_popped [] name h = (refl, refl)
+apart_popped (x ∷ xs) name h =
+    let parts = and_parts (not (list_any (same_text x) (xs ++ name ∷ []))) (all_apart same_text (xs ++ name ∷ [])) h in
+    let rest = apart_popped xs name parts.1 in
+    let one = neither (list_any (same_text x) xs) (same_text x name) (sym (ap not (list_any-append (same_text x) xs (name ∷ []))) ∙ parts.0) in
+    (and_from (not (list_any (same_text x) xs)) (all_apart same_text xs) one.0 rest.0, ap (λ b. b || list_any (same_text name) xs) (nat_list_eq_equiv.symm name x ∙ one.1) ∙ rest.1)
+  where
+    neither : (a b : Bool) → not (a || (b || false)) ≡ true → (not a ≡ true) × (b ≡ false)
+    neither true b e = cc
+    neither false true e = cc
+    neither false false e = (refl, refl)

@@ -6,8 +6,11 @@ use Rattle.std.specs.List.{list_any}
 use Rattle.std.specs.Map.{keys_of, lookup, set_value}
 use Rattle.std.specs.Option.{option_map, option_or}
 use Rattle.std.specs.Ordering.{is_eq, nat_cmp}
-use Rattle.vtl_text.specs.NamedItems.{FindsPlaces, place_of}
+use Rattle.std.proofs.lemmas.List.{map-append}
+use Rattle.vtl_lists.specs.Apart.{all_apart}
+use Rattle.vtl_text.specs.NamedItems.{AreNamed, FindsPlaces, place_of}
 use Rattle.vtl_text.specs.Texts.{same_text}
+use Rattle.vtl_text.proofs.Apart.{apart_popped, apart_push}
 
 -- ---- an item in place of another, by any test of the names
 module _ {K T : Type 0} (test : K → Bool) where
@@ -163,3 +166,41 @@ module _ {T : Type 0} where
       finds_put name item es absent old new finds (λ r. step r ∙ ap (λ k. cond (is_eq (slice_cmp nat_cmp k r)) (Some n) (get_by (slice_cmp nat_cmp r) old)) copied
       ∙ ap (λ m. cond (is_eq (slice_cmp nat_cmp name r)) (Some m) (get_by (slice_cmp nat_cmp r) old)) (many ∙ ap length same)) q
       ∙ sym (ap (place_of q) (put ∙ ap (λ l. l ++ (name, item) ∷ []) same))
+
+  keys_grown : (es : List (List ℕ × T)) (name : List ℕ) (item : T) → keys_of (es ++ (name, item) ∷ []) ≡ keys_of es ++ name ∷ []
+  keys_grown es name item = map-append (λ e. e.0) es ((name, item) ∷ [])
+
+  -- ---- names that differ stay so
+  pub apart_more : (name : List ℕ) (item : T) (es grown : List (List ℕ × T)) → list_any (same_text name) (keys_of es) ≡ false → all_apart same_text (keys_of es) ≡ true
+      → grown ≡ es ++ (name, item) ∷ [] → all_apart same_text (keys_of grown) ≡ true
+  apart_more name item es grown absent apart is = ap (λ l. all_apart same_text (keys_of l)) is ∙ ap (all_apart same_text) (keys_grown es name item) ∙ apart_push (keys_of es) name apart absent
+
+  keys_kept : (test : List ℕ → Bool) (es : List (List ℕ × T)) (w : T) → keys_of (set_value test es w) ≡ keys_of es
+  keys_kept test [] w = refl
+  keys_kept test (x ∷ xs) w = go (test x.0) (keys_kept test xs w)
+    where
+      go : (b : Bool) → keys_of (set_value test xs w) ≡ keys_of xs → keys_of (cond b ((x.0, w) ∷ xs) (x ∷ set_value test xs w)) ≡ x.0 ∷ keys_of xs
+      go true ih = refl
+      go false ih = ap (λ l. x.0 ∷ l) ih
+
+  pub apart_kept : (test : List ℕ → Bool) (es written : List (List ℕ × T)) (w : T) → all_apart same_text (keys_of es) ≡ true → written ≡ set_value test es w → all_apart same_text (keys_of written) ≡ true
+  apart_kept test es written w apart is = ap (λ l. all_apart same_text (keys_of l)) is ∙ ap (all_apart same_text) (keys_kept test es w) ∙ apart
+
+  -- ---- without the last item
+  pub named_popped : (name : List ℕ) (item : T) (es front : List (List ℕ × T)) (places shrunk : BTreeMap (List ℕ) ℕ) → AreNamed es places → es ≡ front ++ (name, item) ∷ []
+      → ((q : List ℕ) → get_by (slice_cmp nat_cmp q) shrunk ≡ cond (is_eq (slice_cmp nat_cmp name q)) None (get_by (slice_cmp nat_cmp q) places))
+      → AreNamed front shrunk
+  named_popped name item es front places shrunk named is step = record { apart = parts.0; finds = found }
+    where
+      parts : (all_apart same_text (keys_of front) ≡ true) × (list_any (same_text name) (keys_of front) ≡ false)
+      parts = apart_popped (keys_of front) name (sym (ap (λ l. all_apart same_text (keys_of l)) is ∙ ap (all_apart same_text) (keys_grown front name item)) ∙ named.apart)
+
+      absent : place_of name front ≡ None
+      absent = none (place_of name front) (place_of_key name front ∙ parts.1)
+
+      found : FindsPlaces front shrunk
+      found q = step q ∙ ap (cond (is_eq (slice_cmp nat_cmp name q)) None) (named.finds q ∙ ap (place_of q) is ∙ place_put name item front parts.1 q) ∙ go (is_eq (slice_cmp nat_cmp name q)) refl
+        where
+          go : (b : Bool) → is_eq (slice_cmp nat_cmp name q) ≡ b → cond b None (cond b (Some (length front)) (place_of q front)) ≡ place_of q front
+          go true e = sym (sym (place_like name q (texts_ties name q ∙ e) front) ∙ absent)
+          go false e = refl

@@ -1,8 +1,8 @@
 // Items by name, in order.
 ghost use Rattle.std.specs.List.{list_any};
 ghost use Rattle.std.specs.Map.{keys_of, lookup, set_value};
-ghost use Rattle.std.specs.Option.{option_copied};
-ghost use Rattle.std.specs.Prelude.{◌≡◌, ◌<◌, ◌++◌, [], ◌∷◌, false, length, slice_get, Some, OnErr, OnOk};
+ghost use Rattle.std.specs.Option.{option_copied, option_to_list};
+ghost use Rattle.std.specs.Prelude.{◌≡◌, ◌<◌, ◌++◌, [], ◌∷◌, false, length, slice_get, Some, IfNone, OnErr, OnOk};
 ghost use Rattle.vtl_text.specs.NamedItems.{place_of};
 ghost use Rattle.vtl_text.specs.Texts.{same_text};
 
@@ -31,13 +31,13 @@ impl<T: Drop> Drop for ByName<T> {
 
 impl<T> Model for ByName<T> {
     ghost use Rattle.std.specs.Prelude.{List, ℕ};
-    ghost use Rattle.vtl_text.specs.NamedItems.{FindsPlaces};
+    ghost use Rattle.vtl_text.specs.NamedItems.{AreNamed};
 
     ghost Value = { List (List ℕ × T) };
 
     ghost view = { λ b. b.entries.items };
 
-    ghost invariant = { λ b. FindsPlaces b.entries.items b.places };
+    ghost invariant = { λ b. AreNamed b.entries.items b.places };
 }
 
 impl<T: Drop> ByName<T> {
@@ -111,5 +111,14 @@ impl<T: Drop> ByName<T> {
         let place = self.place(name)?;
         let entry = &mut self.entries[place];
         Some(mem::replace(&mut entry.1, item))
+    }
+    /// Takes the last item, with its name, where there is one. It takes no memory.
+    pub fn pop(&mut self) -> Option<(Txt, T)>
+        ensures last { self.old ≡ self.new ++ option_to_list result }
+        ensures none { IfNone result (self.new ≡ []) }
+    {
+        let (name, item) = self.entries.pop()?;
+        self.places.remove(&name);
+        Some((name, item))
     }
 }

@@ -1,6 +1,6 @@
 use Rattle.std.proofs.Common.{◌∙◌, ap}
 use Rattle.vtl_rows.specs.Named.{table_of}
-use Rattle.sql_from.proofs.Sited.{free_key}
+use Rattle.vtl_rows.proofs.NamedLemmas.{free_key}
 use Rattle.sql_from.proofs.held_tables.HeldTables.put.Goals as goal
 
 pub put-requires : goal.put-requires
