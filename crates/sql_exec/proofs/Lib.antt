@@ -7,6 +7,7 @@ pub mod GatheredItems
 pub mod WholeSources
 pub mod QueryParts
 pub mod QueryColumns
+pub mod FromEach
 pub mod MadeRows
 pub mod PlannedSelects
 pub mod WholeQueries

@@ -8,6 +8,7 @@ ghost use Rattle.sql_tree.specs.View.{item_tree, select_tree, value_tree};
 ghost use Rattle.sql_check_parts.specs.Queries.{beside, item_kind, kinds_of, shared_kinds, value_kind};
 ghost use Rattle.sql_check_parts.specs.Scopes.{or_null};
 ghost use Rattle.sql_meaning.specs.Tables.{column_entry};
+ghost use Rattle.sql_from.specs.FromTables.{from_given};
 ghost use Rattle.sql_from.specs.Held.{tables_held};
 ghost use Rattle.sql_check_laws.specs.Selects.{IsSelectTyped};
 ghost use Rattle.sql_exec.specs.Items.{HasCallKind, IsKindKnown};
@@ -16,7 +17,7 @@ use crate::window_kinds::window_kind;
 use sql_check_parts::or_null;
 use sql_check_queries::{all_some, join_source, share_kinds};
 use sql_eval::{Level, Names, resolve};
-use sql_from::{Given, Sources};
+use sql_from::{FromTables, Given, Sources};
 use sql_tree::{Item, ItemValue, Select};
 use std::alloc::{AllocError, Global};
 use vtl_cell::Kind;
@@ -61,14 +62,18 @@ fn select_kinds(
     alloc: Global,
     p: &Profile,
     tables: &Given<'_>,
+    from: &FromTables<'_>,
     select: &Select,
 ) -> Result<Vec<Kind>, AllocError>
-    requires { IsSelectTyped p.now (tables_held tables.now) (select_tree select.now) }
+    requires typed { IsSelectTyped p.now (tables_held tables.now) (select_tree select.now) }
+    requires from { from.now ≡ from_given tables.now (select_tree select.now) }
     ensures { IfOk result (λ v. v.items ≡ kinds_of (tables_held tables.now) (select_tree select.now)) }
 {
-    let mut sources = Sources::over(alloc, tables).with(alloc, &select.from)?;
-    for join in select.joins.as_slice() {
-        sources = sources.with(alloc, join_source(join))?;
+    let joins = select.joins.as_slice();
+    let mut sources = Sources::over(alloc, tables).with(&select.from, from.at(0))?;
+    for place in 0..joins.len() {
+        let source = join_source(&joins[place]);
+        sources = sources.with(source, from.at(place + 1))?;
     }
     item_kinds(alloc, p, &sources, select.items.as_slice())
 }
@@ -78,14 +83,16 @@ fn share_others(
     alloc: Global,
     p: &Profile,
     tables: &Given<'_>,
+    from: &[FromTables<'_>],
     shared: &mut [Option<Kind>],
     others: &[Select],
 ) -> Result<(), AllocError>
-    requires { AllByRecursion (IsSelectTyped p.now (tables_held tables.now)) (map select_tree others.now) }
+    requires typed { AllByRecursion (IsSelectTyped p.now (tables_held tables.now)) (map select_tree others.now) }
+    requires from { from.now ≡ map (from_given tables.now) (map select_tree others.now) }
     ensures { OnOk result (shared.new ≡ fold (λ kinds other. beside kinds (kinds_of (tables_held tables.now) other)) shared.old (map select_tree others.now)) }
 {
-    for other in others {
-        let kinds = select_kinds(alloc, p, tables, other)?;
+    for i in 0..others.len() {
+        let kinds = select_kinds(alloc, p, tables, &from[i], &others[i])?;
         share_kinds(shared, &kinds);
     }
     Ok(())
@@ -108,17 +115,22 @@ pub(crate) fn query_kinds(
     alloc: Global,
     p: &Profile,
     tables: &Given<'_>,
+    from: &[FromTables<'_>],
     selects: &[Select],
 ) -> Result<Vec<Kind>, AllocError>
-    requires { AllByRecursion (IsSelectTyped p.now (tables_held tables.now)) (map select_tree selects.now) }
+    requires typed { AllByRecursion (IsSelectTyped p.now (tables_held tables.now)) (map select_tree selects.now) }
+    requires from { from.now ≡ map (from_given tables.now) (map select_tree selects.now) }
     ensures { IfOk result (λ v. v.items ≡ map or_null (shared_kinds (tables_held tables.now) (map select_tree selects.now))) }
 {
     let Some((first, others)) = selects.split_first() else {
         return Ok(Vec::new(alloc));
     };
-    let kinds = select_kinds(alloc, p, tables, first)?;
+    let Some((from_first, from_others)) = from.split_first() else {
+        return Ok(Vec::new(alloc));
+    };
+    let kinds = select_kinds(alloc, p, tables, from_first, first)?;
     let mut shared = all_some(alloc, &kinds)?;
-    share_others(alloc, p, tables, &mut shared, others)?;
+    share_others(alloc, p, tables, from_others, &mut shared, others)?;
     known_kinds(alloc, &shared)
 }
 

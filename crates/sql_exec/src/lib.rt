@@ -8,6 +8,7 @@
 #![tactic(auto)]
 
 mod columns;
+mod from_each;
 mod gathered;
 mod item_cells;
 mod items;

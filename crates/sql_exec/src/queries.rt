@@ -21,19 +21,46 @@ ghost use Rattle.sql_from.specs.Steps.{IsPlainJoin, most_steps};
 ghost use Rattle.sql_meaning.specs.Selects.{query_value};
 ghost use Rattle.sql_meaning.specs.Tables.{column_entry};
 ghost use Rattle.sql_from.specs.Columns.{source_columns};
+ghost use Rattle.sql_from.specs.FromTables.{from_given};
 ghost use Rattle.sql_from.specs.Held.{base_held, tables_held};
 ghost use Rattle.sql_exec.specs.Answers.{Gives};
 
 use crate::columns::{named_columns, query_kinds};
+use crate::from_each::from_each;
 use crate::output::Output;
 use crate::selects::add_selects;
-use sql_from::{ExecErr, HeldTables, given_for};
+use sql_from::{ExecErr, FromTables, Given, HeldTables, given_for};
 use sql_meaning::Plan;
 use std::alloc::Global;
 use std::sync::ledger::Ledger;
 use vtl_decimal::Profile;
 use vtl_index::Steps;
 use vtl_rows::Table;
+
+// The table of a query, over the tables that are made for it: those of FROM, and those of EXISTS.
+fn exec_over<L: Ledger>(
+    alloc: Global,
+    plan: &Plan,
+    tables: &Given<'_>,
+    from: &[FromTables<'_>],
+    p: &Profile,
+    steps: &mut Steps<L>,
+) -> Result<Table, ExecErr>
+    requires formed { IsQuery most_levels (query_tree plan.now.query) }
+    requires typed { IsQueryTyped p.now (tables_held tables.now) (query_tree plan.now.query) }
+    requires lawful { IsLawful (base_held p.now tables.now) }
+    requires from { from.now ≡ map (from_given tables.now) (query_tree plan.now.query) }
+    ensures columns { IfOk result (λ t. map column_entry t.columns ≡ query_columns (tables_held tables.now) (query_tree plan.now.query)) }
+    ensures rows { Gives (query_value (base_held p.now tables.now) (query_tree plan.now.query)) result }
+    ensures steps { (s : SelectTree) → query_tree plan.now.query ≡ s ∷ [] → is_indexed (indexed_in plan.now.ways 0) 0 ≡ true → IsPlainJoin s → steps.new ≤ steps.old + most_steps (base_held p.now tables.now) s }
+{
+    let selects = plan.query().selects.as_slice();
+    let kinds = query_kinds(alloc, p, tables, from, selects)?;
+    let columns = named_columns(alloc, selects[0].items.as_slice(), &kinds)?;
+    let mut out = Output::new(alloc, columns);
+    add_selects(alloc, &mut out, plan, selects, from, &kinds, tables, p, steps)?;
+    out.finish()
+}
 
 /// The table of a query: its columns with their names and kinds, and its rows, each as often, in any order. Joins that
 /// its plan lists go by an index, and every other join tries each pair; parts of a WHERE that it lists are tried before
@@ -62,11 +89,8 @@ pub fn exec<L: Ledger>(
 {
     let selects = plan.query().selects.as_slice();
     let given = given_for(alloc, tables, selects)?;
-    let kinds = query_kinds(alloc, p, &given, selects)?;
-    let columns = named_columns(alloc, selects[0].items.as_slice(), &kinds)?;
-    let mut out = Output::new(alloc, columns);
-    add_selects(alloc, &mut out, plan, selects, &kinds, &given, p, steps)?;
-    out.finish()
+    let from = from_each(alloc, tables, selects)?;
+    exec_over(alloc, plan, &given, &from, p, steps)
 }
 
 /// The table of the rows that FROM gives and WHERE keeps in a query of one select: the columns of its sources in order,
@@ -89,5 +113,6 @@ pub fn source_rows<L: Ledger>(
 {
     let selects = plan.query().selects.as_slice();
     let given = given_for(alloc, tables, selects)?;
-    sql_from::source_rows(alloc, &selects[0], &given, p, steps)
+    let from = FromTables::of(alloc, tables, &selects[0])?;
+    sql_from::source_rows(alloc, &selects[0], &from, &given, p, steps)
 }

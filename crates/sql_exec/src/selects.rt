@@ -16,6 +16,7 @@ ghost use Rattle.sql_meaning.specs.Outcomes.{row_at};
 ghost use Rattle.sql_meaning.specs.Selects.{appended, item_value, plain_rows, second_phase};
 ghost use Rattle.sql_meaning.specs.Profiles.{AreOfProfile, IsLawful};
 ghost use Rattle.sql_meaning.specs.Tables.{RowsFit};
+ghost use Rattle.sql_from.specs.FromTables.{from_given};
 ghost use Rattle.sql_from.specs.Held.{base_held, tables_held};
 ghost use Rattle.sql_from.specs.Sources.{scope_held};
 ghost use Rattle.sql_from.specs.Standing.{rows_for, sight_of};
@@ -31,7 +32,7 @@ use crate::output::Output;
 use crate::planned::PlannedSelects;
 use crate::simple_items::{add_simple, simple_items};
 use sql_check_queries::is_grouped;
-use sql_from::{Given, Partners, Sources, TupleRows, asks, source_tuples};
+use sql_from::{FromTables, Given, Partners, Sources, TupleRows, asks, source_tuples};
 use sql_groups::push_grouped;
 use sql_meaning::{Early, Plan};
 use sql_tree::{Item, ItemValue, Select};
@@ -184,11 +185,13 @@ fn add_select<L: Ledger>(
     select: &Select,
     by_index: &[usize],
     early: &[Early],
+    from: &FromTables<'_>,
     kinds: &[Kind],
     tables: &Given<'_>,
     p: &Profile,
     steps: &mut Steps<L>,
 ) -> Result<(), ScalarErr>
+    requires from { from.now ≡ from_given tables.now (select_tree select.now) }
     requires part { IsPart (base_held p.now tables.now) kinds.now (select_tree select.now) }
     requires lawful { IsLawful (base_held p.now tables.now) }
     requires same { HasRowsOf (base_held p.now tables.now) early.now (select_tree select.now) }
@@ -197,7 +200,7 @@ fn add_select<L: Ledger>(
     ensures steps { list_any (λ n. n == 0) by_index.now ≡ true → IsPlainJoin (select_tree select.now) → steps.new ≤ steps.old + most_steps (base_held p.now tables.now) (select_tree select.now) }
     ensures err { IfErr result (λ e. e ≡ ScalarErr.OutOfMemory) }
 {
-    match source_tuples(alloc, select, tables, Some(by_index), early, p, steps) {
+    match source_tuples(alloc, select, from, tables, Some(by_index), early, p, steps) {
         Ok(rows) => add_phase(alloc, out, select, &rows, kinds, p, steps),
         Err(error) => out.see(error),
     }
@@ -210,11 +213,13 @@ pub(crate) fn add_selects<L: Ledger>(
     out: &mut Output,
     plan: &Plan,
     selects: &[Select],
+    from: &[FromTables<'_>],
     kinds: &[Kind],
     tables: &Given<'_>,
     p: &Profile,
     steps: &mut Steps<L>,
 ) -> Result<(), ScalarErr>
+    requires from { from.now ≡ map (from_given tables.now) (map select_tree selects.now) }
     requires parts { AllByRecursion (IsPart (base_held p.now tables.now) kinds.now) (map select_tree selects.now) }
     requires plan { IsPlan (map select_tree selects.now) plan.now.ways }
     requires lawful { IsLawful (base_held p.now tables.now) }
@@ -228,7 +233,18 @@ pub(crate) fn add_selects<L: Ledger>(
         let select = &selects[place];
         let by_index = planned.joins[place].as_slice();
         let early = planned.early[place].as_slice();
-        add_select(alloc, out, select, by_index, early, kinds, tables, p, steps)?;
+        add_select(
+            alloc,
+            out,
+            select,
+            by_index,
+            early,
+            &from[place],
+            kinds,
+            tables,
+            p,
+            steps,
+        )?;
     }
     Ok(())
 }

@@ -1,6 +1,6 @@
 -- The tables of sources: those that are held, and those of SERIES over them.
 use Rattle.std.proofs.Common.{◌≡◌, ℕ, suc, ◌+◌, Bool, true, false, cond, not, List, [], ◌∷◌, ◌++◌, map, length, Option, Some, None, IsSome, refl, sym, ap, ◌∙◌, subst, arith}
-use Rattle.std.specs.Prelude.{IfSome, is_some, option_map, ◌&&◌}
+use Rattle.std.specs.Prelude.{is_some, option_map, ◌&&◌}
 use Rattle.std.specs.List.{AllByRecursion, list_all}
 use Rattle.std.proofs.lemmas.List.{map-append}
 use Rattle.vtl_decimal.specs.Settings.{Settings}
@@ -26,11 +26,10 @@ use Rattle.sql_meaning.proofs.Lists.{under}
 use Rattle.sql_meaning.proofs.Profiled.{dated_is, source_is}
 use Rattle.sql_meaning.proofs.SeriesColumns.{entry_named, given_columns, series_columns}
 use Rattle.sql_meaning.proofs.SeriesRows.{series_all}
-use Rattle.sql_eval.specs.Origins.{AreSame, AreSameSeries, IsSeriesOf, rows_at, rows_by}
+use Rattle.sql_eval.specs.Origins.{IsSeriesOf, rows_at, rows_by}
 use Rattle.sql_eval.specs.declared.origin.Origin.{Origin}
 use Rattle.sql_eval.specs.declared.origin.SeriesPlaces.{SeriesPlaces}
-use Rattle.sql_from.specs.Given.{HasPlaces, IsMade, IsOriginIn, IsTableOf, filled}
-use Rattle.sql_from.specs.declared.given.MadeSeries.{MadeSeries}
+use Rattle.sql_from.specs.Given.{filled}
 use Rattle.sql_from.specs.Held.{IsHeld, base_held, columns_held, rows_held, tables_held}
 use Rattle.sql_from.specs.Sources.{given_table, or_nothing, series_table, table_given, table_named}
 use Rattle.sql_from.proofs.Named.{same_text-is}
@@ -129,43 +128,3 @@ filled_is s t x h = λ i. record {
         (λ i. map (column_at t.columns) (h.by i ++ h.on i ∷ []))
         ∙ ap (map (column_at t.columns)) (sym (map-append place s.by (s.on ∷ [])))
         ∙ at_places (series_names s)
-
--- the table that an origin has is that of its source
-pub origin_table : (held : NamedTables) (s : Series) (name : Text) (own t : Listed) (o : Origin) → table_of name held ≡ Some own → IsOriginIn own name s o → IsTableOf held o t → t ≡ series_table s own
-origin_table held s name own t o there of is = go o.series of.series is
-  where
-    named : table_named held o.table ≡ own
-    named = ap (table_named held) of.table ∙ ap or_nothing there
-
-    go : (x : Option SeriesPlaces) → HasPlaces (columns_held own) s x → IfSome x (λ y. t ≡ filled y (table_named held o.table)) → t ≡ series_table s own
-    go None h e = absurd h
-    go (Some y) h e = e ∙ ap (filled y) named ∙ filled_is s own y h
-
--- an origin that is the same has the same table
-pub made_is : (held : NamedTables) (m : MadeSeries) (o : Origin) → IsMade held m → AreSame m.origin o → IsTableOf held o m.table
-made_is held m o made same = go m.origin.series o.series same.series made
-  where
-    go : (x y : Option SeriesPlaces) → AreSameSeries x y → IfSome x (λ s. m.table ≡ filled s (table_named held m.origin.table)) → IfSome y (λ s. m.table ≡ filled s (table_named held o.table))
-    go None None s e = tt
-    go None (Some y) s e = absurd s
-    go (Some x) None s e = absurd s
-    go (Some x) (Some y) s e =
-        e
-        ∙ (λ i. record {
-          columns = map (column_at (table_named held (same.table i)).columns) (s.by i ++ s.on i ∷ []);
-          rows = series_rows (s.extent i) (s.on i) (s.by i) (table_named held (same.table i)).rows;
-        })
-
--- what is made of the places of an origin is its table
-pub table_made : (held : NamedTables) (s : Series) (name : Text) (own t : Listed) (o : Origin) (x : SeriesPlaces) → table_of name held ≡ Some own → IsOriginIn own name s o → o.series ≡ Some x → t ≡ filled x own → IsTableOf held o t
-table_made held s name own t o x there of is e =
-    let named : table_named held o.table ≡ own = ap (table_named held) of.table ∙ ap or_nothing there in
-    subst (λ (z : Option SeriesPlaces). IfSome z (λ y. t ≡ filled y (table_named held o.table))) (sym is) (e ∙ ap (filled x) (sym named))
-
--- and it has the rows of the origin
-pub origin_rows_are : (held : NamedTables) (o : Origin) (t : Listed) → is_some o.series ≡ true → IsTableOf held o t → t.rows ≡ rows_at (rows_held held) o
-origin_rows_are held o t there is = go o.series there is
-  where
-    go : (x : Option SeriesPlaces) → is_some x ≡ true → IfSome x (λ y. t ≡ filled y (table_named held o.table)) → t.rows ≡ rows_by x (rows_held held o.table)
-    go None h e = cc
-    go (Some y) h e = ap (λ (u : Listed). u.rows) e ∙ ap (λ rows. series_rows y.extent y.on y.by.items rows) (sym (named_rows held o.table))

@@ -12,6 +12,7 @@ pub mod Named
 pub mod Parted
 pub mod Sited
 pub mod GivenTables
+pub mod MadeRows
 pub mod SeriesNames
 pub mod Walks
 pub mod Means

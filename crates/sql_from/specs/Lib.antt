@@ -4,6 +4,7 @@ pub mod Rows
 pub mod Sources
 pub mod Joins
 pub mod Gains
+pub mod FromTables
 pub mod Given
 pub mod Standing
 pub mod Conditions

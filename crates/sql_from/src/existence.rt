@@ -3,14 +3,16 @@
 // EXISTS in an ON goes by look-ups of its own, made for the join over the sources up to it: they are wanted wherever
 // the select may look up at all, and an ON that is listed has no EXISTS.
 ghost use Rattle.std.specs.List.{list_all, list_any};
-ghost use Rattle.std.specs.Prelude.{◌≡◌, IfOk};
+ghost use Rattle.std.specs.Prelude.{◌≡◌, IfOk, Some};
 ghost use Rattle.vtl_cell.specs.declared.cell.Cell.TheVariants.{Null};
 ghost use Rattle.vtl_rows.specs.Places.{row_at};
+ghost use Rattle.sql_eval.specs.Origins.{rows_by};
 ghost use Rattle.sql_eval.specs.Placed.{has_partner, is_tied, side_cell};
 ghost use Rattle.sql_from.specs.Held.{rows_held};
 
-use crate::{Given, OuterRow};
-use sql_eval::{Existence, Side, Tie};
+use crate::series_table::table_of_series;
+use crate::{Given, HeldTable, OuterRow};
+use sql_eval::{Existence, SeriesPlaces, Side, Tie};
 use std::alloc::{AllocError, Global};
 use vtl_cell::{Cell, ScalarOp};
 use vtl_decimal::Profile;
@@ -105,6 +107,39 @@ pub(crate) fn is_among<R: OuterRow>(
     Ok(false)
 }
 
+// Whether some row of a table makes every equality with a row true.
+fn has_tied<R: OuterRow>(
+    alloc: Global,
+    table: &Table,
+    ties: &[Tie],
+    outer: &R,
+    p: &Profile,
+) -> Result<bool, AllocError>
+    ensures { IfOk result (λ b. b ≡ list_any (λ inner. list_all (is_tied p.now (R.lends outer.now) inner) ties.now) table.now.rows) }
+{
+    for i in 0..table.len() {
+        if all_tied(alloc, ties, table.row(i), outer, p)? {
+            return Ok(true);
+        }
+    }
+    Ok(false)
+}
+
+// The same of a SERIES over a table, which is made to be walked over once.
+fn has_tied_in_series<R: OuterRow>(
+    alloc: Global,
+    table: &HeldTable,
+    series: &SeriesPlaces,
+    ties: &[Tie],
+    outer: &R,
+    p: &Profile,
+) -> Result<bool, AllocError>
+    ensures { IfOk result (λ b. b ≡ list_any (λ inner. list_all (is_tied p.now (R.lends outer.now) inner) ties.now) (rows_by (Some series.now) table.now.rows)) }
+{
+    let made = table_of_series(alloc, table, series)?;
+    has_tied(alloc, made.table(), ties, outer, p)
+}
+
 /// Whether some row of the table of EXISTS makes every equality with a row true, by a walk over its rows. It fails only if
 /// memory runs out.
 pub fn has_partner<R: OuterRow>(
@@ -116,14 +151,14 @@ pub fn has_partner<R: OuterRow>(
 ) -> Result<bool, AllocError>
     ensures { IfOk result (λ b. b ≡ has_partner p.now (rows_held tables.now) test.now.table test.now.ties.items (R.lends outer.now)) }
 {
-    let Some(held) = tables.origin(&test.table)? else {
+    let Some(table) = tables.held().held(&test.table.table) else {
         return Ok(false);
     };
-    let table = held.table();
-    for i in 0..table.len() {
-        if all_tied(alloc, &test.ties, table.row(i), outer, p)? {
-            return Ok(true);
-        }
+    let Some(series) = &test.table.series else {
+        return has_tied(alloc, table.table(), &test.ties, outer, p);
+    };
+    match tables.series(&test.table) {
+        Some(made) => has_tied(alloc, made.table(), &test.ties, outer, p),
+        None => has_tied_in_series(alloc, table, series, &test.ties, outer, p),
     }
-    Ok(false)
 }

@@ -73,8 +73,8 @@ fn tied_pairs(alloc: Global, ties: &[Tie]) -> Result<Option<Vec<KeyPair>>, Alloc
 }
 
 impl<'a> KeyIndex<'a> {
-    /// The index for an EXISTS, where it has equalities and each ties a column of its table and one of the key; else
-    /// none. It takes a step for each row of the table. It fails only if memory runs out.
+    /// The index for an EXISTS, where it has equalities, each ties a column of its table and one of the key, and the table is
+    /// found; else none. It takes a step for each row of the table. It fails only if memory runs out.
     pub(crate) fn of<L: Ledger>(
         alloc: Global,
         held: &'a Given<'a>,
@@ -88,7 +88,7 @@ impl<'a> KeyIndex<'a> {
         if test.ties.is_empty() {
             return Ok(None);
         }
-        let Some(own) = held.origin(&test.table)? else {
+        let Some(own) = held.found(&test.table) else {
             return Ok(None);
         };
         match tied_pairs(alloc, &test.ties)? {

@@ -1,9 +1,11 @@
 //! FROM and WHERE of a select of the SQL dialect, on tables that the program holds.
 //!
-//! `HeldTables` has the tables by name, and the columns of each by name; `Given` has besides the tables of the SERIES of a
-//! query, which are made once when it is begun (`given_for`) and then are tables like any other. A row of FROM is kept as a tuple of row numbers, one for each source, and no cell of it is copied: `TupleRow` lends
-//! the cells to the evaluator (`sql_eval`), and `Sources` says where those of each column stand, worked out once for a
-//! select. Where the rows are those of the only source, each once and in order, its table is lent (`lent_table.rt`).
+//! `HeldTables` has the tables by name, and the columns of each by name. `FromTables` has those of the sources of a select,
+//! and makes the tables of its SERIES, which then are tables like any other; `Given` has the tables that EXISTS asks, and
+//! those of its SERIES, which are made once when a query is begun (`given_for`). A row of FROM is kept as a tuple of row
+//! numbers, one for each source, and no cell of it is copied: `TupleRow` lends the cells to the evaluator (`sql_eval`),
+//! and `Sources` says where those of each column stand, worked out once for a select. Where the rows are those of the
+//! only source, each once and in order, its table is lent (`lent_table.rt`).
 //! How the rows are found that go together with a tuple is left to the trait `Pairing`: each row is tried, or, where the
 //! caller gives a list of joins, rows are looked up by cells that ON or WHERE equates. Parts of WHERE that the caller lists
 //! are tried before a join too. `Partners` holds look-ups for the EXISTS of a select, made once for all its rows, and
@@ -22,6 +24,7 @@ mod conditions;
 mod counting;
 mod early;
 mod existence;
+mod from_tables;
 mod given;
 mod held_tables;
 mod joining;
@@ -53,6 +56,7 @@ mod tuples;
 
 pub use asking::asks;
 pub use existence::has_partner;
+pub use from_tables::FromTables;
 pub use given::Given;
 pub use held_tables::{HeldTable, HeldTables};
 pub use key_partners::KeyPartners;

@@ -48,8 +48,8 @@ impl Drop for PartnerIndex<'_> {
 }
 
 impl<'a> PartnerIndex<'a> {
-    /// The index for an EXISTS, where one of its equalities ties a column of its table and one of a source; else none. It
-    /// takes a step for each row of both tables. It fails only if memory runs out.
+    /// The index for an EXISTS, where one of its equalities ties a column of its table and one of a source, and the table is
+    /// found; else none. It takes a step for each row of both tables. It fails only if memory runs out.
     pub(crate) fn of<L: Ledger>(
         alloc: Global,
         sources: &Sources<'a>,
@@ -63,7 +63,7 @@ impl<'a> PartnerIndex<'a> {
         let Some(lead) = lead_of_ties(sources, &test.ties) else {
             return Ok(None);
         };
-        let Some(own) = sources.held().origin(&test.table)? else {
+        let Some(own) = sources.held().found(&test.table) else {
             return Ok(None);
         };
         let rows = own.table();

@@ -1,5 +1,6 @@
 // FROM and WHERE of a select.
 ghost use Rattle.std.specs.List.{AllByRecursion};
+ghost use Rattle.std.specs.Option.{option_copied};
 ghost use Rattle.std.specs.Prelude.{◌≡◌, ℕ, ◌+◌, ◌<◌, ◌≤◌, ◌++◌, ◌∷◌, [], fold, length, true, false, IfErr, IfOk, IfSome, IsSome};
 ghost use Rattle.vtl_cell.specs.Outcome.{join, unless};
 ghost use Rattle.vtl_decimal.specs.Settings.{Settings};
@@ -14,6 +15,7 @@ ghost use Rattle.sql_meaning.specs.Plans.{planned_source_rows, try_early};
 ghost use Rattle.sql_from.specs.Asking.{asks};
 ghost use Rattle.sql_from.specs.Columns.{source_columns};
 ghost use Rattle.sql_from.specs.Conditions.{AreSound, conditions_at, filtered, kind_of, on_of, trees_of};
+ghost use Rattle.sql_from.specs.FromTables.{from_given, maybe_given};
 ghost use Rattle.sql_from.specs.Held.{base_held, tables_held};
 ghost use Rattle.sql_from.specs.Keys.{AreLinked, last_of, linked_count};
 ghost use Rattle.sql_from.specs.Lookups.{Finds};
@@ -26,10 +28,11 @@ ghost use Rattle.sql_from.specs.Steps.{IsPlainJoin, JoinsTwo, is_listed, most_st
 use crate::conditions::Conditions;
 use crate::counting::count_pairs;
 use crate::early::{conjuncts_of, due_parts};
+use crate::from_tables::source_of;
 use crate::joining::{join_each, join_found, keep};
 use crate::key_lookup::{JoinLookup, lookup_of};
 use crate::pairs::Walked;
-use crate::{Given, Sources, TupleRows, Tuples};
+use crate::{FromTables, Given, HeldTable, Sources, TupleRows, Tuples};
 use sql_meaning::Early;
 use sql_tree::{Join, JoinKind, Select, Source, SqlExpr};
 use std::alloc::{AllocError, Global};
@@ -249,15 +252,6 @@ fn on_of(alloc: Global, join: &Join) -> Result<Vec<&SqlExpr>, AllocError>
     Ok(conditions)
 }
 
-fn source_of(join: &Join) -> &Source
-    ensures { result.now ≡ join_source (join_tree join.now) }
-{
-    match join {
-        Join::On { source, .. } => source,
-        Join::Cross(source) => source,
-    }
-}
-
 // The sources so far, their tuples, and the fault so far.
 struct Joining<'a> {
     sources: Sources<'a>,
@@ -274,18 +268,20 @@ impl Drop for Joining<'_> {
     }
 }
 
-// The first source, with a tuple for each of its rows.
+// The first source, of this table, with a tuple for each of its rows.
 fn first_source<'a>(
     alloc: Global,
     source: &Source,
+    table: Option<&'a HeldTable>,
     tables: &'a Given<'a>,
 ) -> Result<Joining<'a>, AllocError>
-    requires { IsSourceTyped (tables_held tables.now) [] source.now }
+    requires typed { IsSourceTyped (tables_held tables.now) [] source.now }
+    requires table { option_copied table ≡ maybe_given tables.now source.now }
     ensures held { IfOk result (λ j. j.sources.held ≡ tables.now) }
     ensures source { IfOk result (λ j. j.sources.sources ≡ (source.now.alias, table_given tables.now source.now) ∷ []) }
     ensures stands { IfOk result (λ j. (p : Settings) → StandsFor (first_of (base_held p tables.now) source.now) j.sources j.walked.rows (seen_of j.walked.seen)) }
 {
-    let sources = Sources::over(alloc, tables).with(alloc, source)?;
+    let sources = Sources::over(alloc, tables).with(source, table)?;
     let count = sources.last_count();
     Ok(Joining {
         sources,
@@ -297,12 +293,13 @@ fn first_source<'a>(
 }
 
 impl<'a> Joining<'a> {
-    // With the source of a join, and of its tuples those at which conditions are true. Rows are looked up where that is
-    // wanted, and so is what EXISTS asks.
+    // With the source of a join, of this table, and of its tuples those at which conditions are true. Rows are looked up
+    // where that is wanted, and so is what EXISTS asks.
     fn with_join<L: Ledger>(
         self,
         alloc: Global,
         join: &Join,
+        table: Option<&'a HeldTable>,
         parts: &[&SqlExpr],
         by_index: bool,
         p: &Profile,
@@ -310,6 +307,7 @@ impl<'a> Joining<'a> {
     ) -> Result<Joining<'a>, ScalarErr>
         requires whole { self.walked.rows.width ≡ length self.sources.sources }
         requires source { IsSourceTyped (tables_held self.sources.held) (scope_held self.sources.sources) (join_source (join_tree join.now)) }
+        requires table { option_copied table ≡ maybe_given self.sources.held (join_source (join_tree join.now)) }
         requires lawful { by_index ≡ true → IsLawful (base_held p.now self.sources.held) }
         ensures held { IfOk result (λ j. j.sources.held ≡ self.entry.sources.held) }
         ensures stands { IfOk result (λ j. (f : Joined) → StandsFor f self.entry.sources self.entry.walked.rows (seen_of self.entry.walked.seen) → StandsFor (fold (try_early (sight_of p.now j.sources)) (with_join (base_held p.now self.entry.sources.held) f (join_tree join.now)) (trees_of parts.now)) j.sources j.walked.rows (seen_of j.walked.seen)) }
@@ -318,7 +316,7 @@ impl<'a> Joining<'a> {
     {
         let Joining { sources, walked } = self;
         let marks = sources.marks(alloc)?;
-        let sources = sources.with(alloc, source_of(join))?;
+        let sources = sources.with(source_of(join), table)?;
         let conditions = on_of(alloc, join)?;
         let walked = joined_with(
             alloc,
@@ -375,6 +373,7 @@ impl<'a> Joining<'a> {
 fn joined<'a, L: Ledger>(
     alloc: Global,
     select: &Select,
+    from: &'a FromTables<'a>,
     tables: &'a Given<'a>,
     by_index: Option<&[usize]>,
     early: &[Early],
@@ -382,6 +381,7 @@ fn joined<'a, L: Ledger>(
     steps: &mut Steps<L>,
 ) -> Result<Joining<'a>, ScalarErr>
     requires typed { IsSelectTyped p.now (tables_held tables.now) (select_tree select.now) }
+    requires from { from.now ≡ from_given tables.now (select_tree select.now) }
     requires lawful { MayLookUp (base_held p.now tables.now) by_index }
     ensures held { IfOk result (λ j. j.sources.held ≡ tables.now) }
     ensures stands { IfOk result (λ j. StandsFor (filtered (base_held p.now tables.now) (select_tree select.now) early.now) j.sources j.walked.rows (seen_of j.walked.seen)) }
@@ -392,18 +392,19 @@ fn joined<'a, L: Ledger>(
     let looks_up = by_index.is_some();
     let parts = conjuncts_of(alloc, &select.condition)?;
     let due = due_parts(alloc, select, &parts, early)?;
-    let first = first_source(alloc, &select.from, tables)?;
+    let first = first_source(alloc, &select.from, from.at(0), tables)?;
     let begun = &due[0];
     let mut so_far = first.with_parts(alloc, begun, looks_up, p, steps)?;
     for place in 0..joins.len() {
+        let table = from.at(place + 1);
         let next = &due[place + 1];
-        so_far = so_far.with_join(alloc, &joins[place], next, looks_up, p, steps)?;
+        so_far = so_far.with_join(alloc, &joins[place], table, next, looks_up, p, steps)?;
     }
     Ok(so_far)
 }
 
-/// The rows that FROM gives and WHERE keeps, as tuples of row numbers, with the sources of the select: over the tables
-/// that the program holds, for a select that is typed over their columns. A fault is the worst of those of every ON, at
+/// The rows that FROM gives and WHERE keeps, as tuples of row numbers, with the sources of the select, whose tables are
+/// given (`FromTables`): over the tables that the program holds, for a select that is typed over their columns. A fault is the worst of those of every ON, at
 /// each pair that it is tried on, and of WHERE, at each row of FROM: a division by zero, wherever it comes, and then
 /// what is out of range. It takes memory for the tuples, and copies no cell.
 ///
@@ -423,6 +424,7 @@ fn joined<'a, L: Ledger>(
 pub fn source_tuples<'a, L: Ledger>(
     alloc: Global,
     select: &Select,
+    from: &'a FromTables<'a>,
     tables: &'a Given<'a>,
     by_index: Option<&[usize]>,
     early: &[Early],
@@ -430,28 +432,31 @@ pub fn source_tuples<'a, L: Ledger>(
     steps: &mut Steps<L>,
 ) -> Result<TupleRows<'a>, ExecErr>
     requires typed { IsSelectTyped p.now (tables_held tables.now) (select_tree select.now) }
+    requires from { from.now ≡ from_given tables.now (select_tree select.now) }
     requires lawful { MayLookUp (base_held p.now tables.now) by_index }
     ensures held { IfOk result (λ r. r.sources.held ≡ tables.now) }
     ensures scope { IfOk result (λ r. scope_held r.sources.sources ≡ scope_of (tables_held tables.now) (select_tree select.now)) }
     ensures rows { AnswersBy (λ r. rows_for r.sources r.tuples) result (planned_source_rows (base_held p.now tables.now) (select_tree select.now) [] early.now) }
     ensures steps { is_listed by_index.entry 0 ≡ true → IsPlainJoin (select_tree select.now) → steps.new ≤ steps.old + most_steps (base_held p.now tables.now) (select_tree select.now) }
 {
-    joined(alloc, select, tables, by_index, early, p, steps)?.finish()
+    joined(alloc, select, from, tables, by_index, early, p, steps)?.finish()
 }
 
 /// The table of the rows that FROM gives and WHERE keeps: the columns of the sources in order, each named by the alias, a
-/// line feed and its name. The select is typed over the columns of the tables that the program holds. Each join tries
-/// each pair. Faults are those of `source_tuples`; each cell is copied once.
+/// line feed and its name. The select is typed over the columns of the tables that the program holds, and the tables of
+/// its sources are given. Each join tries each pair. Faults are those of `source_tuples`; each cell is copied once.
 pub fn source_rows<L: Ledger>(
     alloc: Global,
     select: &Select,
+    from: &FromTables<'_>,
     tables: &Given<'_>,
     p: &Profile,
     steps: &mut Steps<L>,
 ) -> Result<Table, ExecErr>
-    requires { IsSelectTyped p.now (tables_held tables.now) (select_tree select.now) }
+    requires typed { IsSelectTyped p.now (tables_held tables.now) (select_tree select.now) }
+    requires from { from.now ≡ from_given tables.now (select_tree select.now) }
     ensures columns { IfOk result (λ t. t.columns ≡ source_columns (scope_of (tables_held tables.now) (select_tree select.now))) }
     ensures rows { AnswersBy (λ t. t.rows) result (source_rows (base_held p.now tables.now) (select_tree select.now)) }
 {
-    Ok(source_tuples(alloc, select, tables, None, &[], p, steps)?.table(alloc)?)
+    Ok(source_tuples(alloc, select, from, tables, None, &[], p, steps)?.table(alloc)?)
 }

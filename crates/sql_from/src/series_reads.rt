@@ -1,11 +1,11 @@
-// The SERIES of a query: those of FROM and of EXISTS.
+// The SERIES that the EXISTS of a query ask.
 ghost use Rattle.std.specs.Prelude.{◌≡◌, IfOk};
 
 use crate::{Given, HeldTables};
 use sql_tree::{Branch, Item, ItemValue, Join, Select, SqlExpr};
 use std::alloc::{AllocError, Global};
 
-// Makes the tables of the SERIES that an expression asks in EXISTS.
+// Makes the tables of the SERIES that the EXISTS of an expression ask.
 #[cycle(made)]
 fn make_asked(alloc: Global, e: &SqlExpr, given: &mut Given<'_>) -> Result<(), AllocError>
     ensures { given.new ≡ given.old }
@@ -71,15 +71,8 @@ fn make_join(alloc: Global, join: &Join, given: &mut Given<'_>) -> Result<(), Al
     ensures { given.new ≡ given.old }
 {
     match join {
-        Join::On {
-            source,
-            condition,
-            ..
-        } => {
-            given.make(alloc, source)?;
-            make_asked(alloc, condition, given)
-        }
-        Join::Cross(source) => given.make(alloc, source),
+        Join::On { condition, .. } => make_asked(alloc, condition, given),
+        Join::Cross(_) => Ok(()),
     }
 }
 
@@ -113,15 +106,14 @@ fn make_items(alloc: Global, items: &[Item], given: &mut Given<'_>) -> Result<()
 fn make_select(alloc: Global, select: &Select, given: &mut Given<'_>) -> Result<(), AllocError>
     ensures { given.new ≡ given.old }
 {
-    given.make(alloc, &select.from)?;
     make_joins(alloc, select.joins.as_slice(), given)?;
     make_maybe(alloc, &select.condition, given)?;
     make_maybe(alloc, &select.having, given)?;
     make_items(alloc, select.items.as_slice(), given)
 }
 
-/// The tables that the program holds, with the tables of all SERIES of these selects, those of FROM and of EXISTS. It
-/// takes time for the rows of the tables and for those that the SERIES give. It fails only if memory runs out.
+/// The tables that the program holds, with those of the SERIES that the EXISTS of these selects ask. It takes time for the
+/// rows of their tables and for those that the SERIES give. It fails only if memory runs out.
 pub fn given_for<'a>(
     alloc: Global,
     held: &'a HeldTables,

@@ -3,7 +3,7 @@
 // Where each cell stands is a list of picks (`picks_from`), as `vtl_rows` puts rows together: the same list serves a
 // look-up by place and the table that is made at the end.
 ghost use Rattle.std.specs.List.{AllByRecursion};
-ghost use Rattle.std.specs.Option.{option_map};
+ghost use Rattle.std.specs.Option.{option_copied, option_map};
 ghost use Rattle.std.specs.Prelude.{◌≡◌, ◌+◌, ◌<◌, ◌≤◌, ◌^◌, ◌++◌, ◌∷◌, [], length, map, slice_get, Some, IfOk, IfSome, OnOk};
 ghost use Rattle.vtl_cell.specs.Row.{column_of};
 ghost use Rattle.vtl_cell.specs.declared.cell.Cell.TheVariants.{Null};
@@ -13,6 +13,7 @@ ghost use Rattle.sql_check_parts.specs.Scopes.{found, placed};
 ghost use Rattle.sql_check_laws.specs.Selects.{IsSourceTyped};
 ghost use Rattle.sql_meaning.specs.Tables.{column_entry};
 ghost use Rattle.sql_from.specs.Columns.{columns_below, line_feed, source_columns};
+ghost use Rattle.sql_from.specs.FromTables.{maybe_given};
 ghost use Rattle.sql_from.specs.Held.{IsHeld, tables_held};
 ghost use Rattle.sql_from.specs.Joins.{marks_of};
 ghost use Rattle.sql_from.specs.Keys.{IsSpot, last_of, spot_of};
@@ -128,8 +129,13 @@ impl<'a> Sources<'a> {
     }
 
     /// With one source more, whose table is there and whose alias is new. It fails only if memory runs out.
-    pub fn with(self, alloc: Global, source: &Source) -> Result<Sources<'a>, AllocError>
-        requires { IsSourceTyped (tables_held self.held) (scope_held self.sources) source.now }
+    pub fn with(
+        self,
+        source: &Source,
+        table: Option<&'a HeldTable>,
+    ) -> Result<Sources<'a>, AllocError>
+        requires typed { IsSourceTyped (tables_held self.held) (scope_held self.sources) source.now }
+        requires table { option_copied table ≡ maybe_given self.held source.now }
         ensures held { IfOk result (λ s. s.held ≡ self.entry.held) }
         ensures wide { IfOk result (λ s. AllByRecursion IsWide (parts_of s.sources)) }
         ensures sources { IfOk result (λ s. s.sources ≡ self.entry.sources ++ (source.now.alias, table_given self.entry.held source.now) ∷ []) }
@@ -142,7 +148,7 @@ impl<'a> Sources<'a> {
         } = self;
         let mut sources = sources;
         let mut picks = picks;
-        let table = held.source(alloc, source)?.unwrap();
+        let table = table.unwrap();
         let first = picks.len();
         push_picks(&mut picks, sources.len(), table.table().columns().len())?;
         sources.put(source.alias.share()?, SourceTable { table, first })?;

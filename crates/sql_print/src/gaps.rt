@@ -150,8 +150,10 @@ fn is_open_ended(before: &TokenKind, kind: &TokenKind, prefix: bool) -> bool
     ensures { result ≡ true → (kinds : List TokenKind) (text : List ℕ) → IsApart (kinds ++ before.now ∷ []) text }
 {
     match before {
-        TokenKind::Word(Word::Open | Word::Dot) => true,
-        TokenKind::Word(Word::Plus | Word::Minus) => prefix && !is_sign(kind),
+        TokenKind::Word(Word::Open) => true,
+        TokenKind::Word(Word::Dot) => true,
+        TokenKind::Word(Word::Plus) => prefix && !is_sign(kind),
+        TokenKind::Word(Word::Minus) => prefix && !is_sign(kind),
         _ => false,
     }
 }

@@ -1,10 +1,11 @@
 mod AgainLemmas
-mod DatedLemmas
+pub mod DatedLemmas
+mod EmptyLemmas
 mod FitLemmas
 mod GroupLemmas
 mod ListLemmas
-mod NumberLemmas
+pub mod NumberLemmas
 mod OrderLemmas
 mod SeriesLemmas
-mod SpanLemmas
+pub mod SpanLemmas
 mod WholeLemmas

@@ -10,6 +10,7 @@
 //! Begin with specs/Series.antt and src/laws.rt, then `series.rt`.
 #![tactic(auto)]
 
+mod columns;
 mod extent;
 mod laws;
 mod series;

@@ -1,6 +1,7 @@
 // The rows of series, from groups of rows.
 ghost use Rattle.std.specs.Prelude.{◌≡◌, ◌<◌, ◌++◌, [], ◌∷◌, true, Some, length, map, All, IfOk, IfSome, OnOk};
 ghost use Rattle.std.specs.List.{flat_map};
+ghost use Rattle.vtl_cell.specs.Row.{column_of};
 ghost use Rattle.vtl_cell.specs.declared.kind.Kind.TheVariants as k;
 ghost use Rattle.vtl_index.specs.Groups.{firsts};
 ghost use Rattle.vtl_index.specs.Leads.{leads_of};
@@ -10,41 +11,13 @@ ghost use Rattle.vtl_series.specs.Kept.{AreWithin, FitsDated, IsWithin, chosen, 
 ghost use Rattle.vtl_series.specs.Series.{dated, frequencies, keys_by, series_rows, tuple_rows};
 
 use crate::Extent;
+use crate::columns::{are_periods, series_columns};
 use crate::spans::{Span, Spans, chosen};
 use std::alloc::{AllocError, Global};
 use vtl_cell::{Cell, clone_cell};
 use vtl_index::Groups;
 use vtl_rows::{Column, Table};
 use vtl_time::{Frequency, Period};
-
-// An equal column.
-fn copy_column(column: &Column) -> Result<Column, AllocError>
-    ensures { IfOk result (λ copy. copy ≡ column.now) }
-{
-    Ok(Column {
-        name: column.name.share()?,
-        kind: column.kind,
-    })
-}
-
-// The columns of a series' rows: the others as they are listed, and behind them that of the periods.
-fn series_columns(
-    alloc: Global,
-    columns: &[Column],
-    on: usize,
-    by: &[usize],
-) -> Result<Vec<Column>, AllocError>
-    requires on { on < length columns.now }
-    requires by { All (λ i. i < length columns.now) by.now }
-    ensures { IfOk result (λ made. made.items ≡ map (column_at columns.now) (by.now ++ on ∷ [])) }
-{
-    let mut made = Vec::with_capacity(alloc, by.len().saturating_add(1))?;
-    for place in by {
-        made.push(copy_column(&columns[*place])?)?;
-    }
-    made.push(copy_column(&columns[on])?)?;
-    Ok(made)
-}
 
 // The spans of all rows of a table.
 fn spans_of_table(table: &Table, on: usize) -> Spans
@@ -203,14 +176,23 @@ fn push_group(
     push_span(rows, room, key, Frequency::Month, months)
 }
 
+// A cell equal to the one at a place, or null past the last one.
+fn copy_at(row: &[Cell], place: usize) -> Result<Cell, AllocError>
+    ensures { IfOk result (λ copy. copy ≡ column_of place row.now) }
+{
+    match row.get(place) {
+        Some(cell) => clone_cell(cell),
+        None => Ok(Cell::Null),
+    }
+}
+
 // Puts copies of the cells of a row at places in the place of what the list held.
 fn put_key(key: &mut Vec<Cell>, row: &[Cell], by: &[usize]) -> Result<(), AllocError>
-    requires { All (λ i. i < length row.now) by.now }
     ensures { OnOk result (key.new.items ≡ cells_at by.now row.now) }
 {
     key.clear();
     for place in by {
-        key.push(clone_cell(&row[*place])?)?;
+        key.push(copy_at(row, *place)?)?;
     }
     Ok(())
 }
@@ -229,7 +211,6 @@ fn push_one_group(
     all: &Spans,
 ) -> Result<(), AllocError>
     requires periods { (column_at table.now.columns on).kind ≡ k.Period }
-    requires by { All (λ i. i < length table.now.columns) by.now }
     requires fit { AllFit table.now.columns table.now.rows }
     requires columns { rows.old.columns ≡ map (column_at table.now.columns) (by.now ++ on ∷ []) }
     requires groups { groups.now ≡ leads_of (cells_at by.now) table.now.rows }
@@ -247,28 +228,22 @@ fn push_one_group(
     push_group(rows, room, key, extent, &own, all)
 }
 
-/// The rows of the series of a table's rows, below the columns at the places `by` and behind them the column `on` of the
-/// periods: two rows are in one series where they agree in the columns at `by`, null being equal to null, and their
-/// periods have one frequency, and for each series there is a row for each period from its first to its last, or to the
-/// last of all rows of its frequency. A row whose period is null is in no series.
-///
-/// It takes time that is linear in the rows of the table and those that it gives, whatever the cells are, and asks for
-/// room for all that it gives at once. It fails only if memory runs out.
-pub fn rows_of_series(
+// The rows of all series, below their columns, where the periods are of their kind.
+fn filled(
     alloc: Global,
+    columns: Vec<Column>,
     table: &Table,
     on: usize,
     by: &[usize],
     extent: Extent,
 ) -> Result<Table, AllocError>
-    requires on { on < length table.now.columns }
     requires periods { (column_at table.now.columns on).kind ≡ k.Period }
-    requires by { All (λ i. i < length table.now.columns) by.now }
-    ensures columns { IfOk result (λ t. t.columns ≡ map (column_at table.now.columns) (by.now ++ on ∷ [])) }
+    requires fit { AllFit table.now.columns table.now.rows }
+    requires columns { columns.items ≡ map (column_at table.now.columns) (by.now ++ on ∷ []) }
+    requires some { 0 < length columns.items }
+    ensures columns { IfOk result (λ t. t.columns ≡ columns.items) }
     ensures rows { IfOk result (λ t. t.rows ≡ series_rows extent on by.now table.now.rows) }
 {
-    let own = table.columns();
-    let columns = series_columns(alloc, own, on, by)?;
     let groups = Groups::by(alloc, table, by)?;
     let all = spans_of_table(table, on);
     let mut rows = Table::new(alloc, columns);
@@ -281,4 +256,30 @@ pub fn rows_of_series(
         )?;
     }
     Ok(rows)
+}
+
+/// The rows of the series of a table's rows, below the columns at the places `by` and behind them the column `on` of the
+/// periods: two rows are in one series where they agree in the columns at `by`, null being equal to null, and their
+/// periods have one frequency, and for each series there is a row for each period from its first to its last, or to the
+/// last of all rows of its frequency. A row whose period is null is in no series; where the column at `on` is not of
+/// periods there is none, and so there are no rows. At a place past the last column each row counts as null.
+///
+/// It takes time that is linear in the rows of the table and those that it gives, whatever the cells are, and asks for
+/// room for all that it gives at once. It fails only if memory runs out.
+pub fn rows_of_series(
+    alloc: Global,
+    table: &Table,
+    on: usize,
+    by: &[usize],
+    extent: Extent,
+) -> Result<Table, AllocError>
+    ensures columns { IfOk result (λ t. t.columns ≡ map (column_at table.now.columns) (by.now ++ on ∷ [])) }
+    ensures rows { IfOk result (λ t. t.rows ≡ series_rows extent on by.now table.now.rows) }
+{
+    let own = table.columns();
+    let columns = series_columns(alloc, own, on, by)?;
+    if !are_periods(own, on) {
+        return Ok(Table::new(alloc, columns));
+    }
+    filled(alloc, columns, table, on, by, extent)
 }

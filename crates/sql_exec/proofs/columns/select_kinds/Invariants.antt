@@ -6,9 +6,9 @@ use Rattle.sql_from.specs.Held.{tables_held}
 use Rattle.sql_from.specs.Sources.{scope_held}
 use Rattle.sql_exec.proofs.columns.select_kinds.Given as goal
 
-abbrev pub invariant-loop-join : goal.invariant-loop-join
-invariant-loop-join l =
-    let left = map join_tree (drop l.join-index l.select.joins) in
+abbrev pub invariant-loop-place : goal.invariant-loop-place
+invariant-loop-place l =
+    let left = map join_tree (drop l.place l.select.joins) in
     record {
       held : l.sources.held ≡ l.tables;
       typed : AreJoinsTyped l.p (tables_held l.tables) (scope_held l.sources.sources) left;

@@ -12,6 +12,7 @@ use Rattle.sql_exec.specs.Outputs.{Adds}
 use Rattle.sql_exec.specs.Parts.{HasRowsOf, IsPart, phase_of}
 use Rattle.sql_exec.proofs.Added.{added_all, added_more}
 use Rattle.sql_exec.proofs.Counted.{select_taken}
+use Rattle.sql_exec.proofs.FromEach.{from_long, from_select}
 use Rattle.sql_exec.proofs.PlannedLists.{list_read}
 use Rattle.sql_exec.proofs.PlannedSelects.{has_rows, phase_planned, planned_at, planned_many, planned_read}
 use Rattle.sql_exec.proofs.QueryColumns.{drop_read}
@@ -34,6 +35,12 @@ add_select-requires-clause-same g c =
     let part = holds_mapped (IsPart b c.args.kinds.now) select_tree selects i x c.requires.parts c.loop-place-test.true c.index-selects-place.is in
     subst (λ (early : List Early). HasRowsOf b early (select_tree x)) (sym (c.as_slice-early.ensures.value ∙ list_read (early_in c.args.plan.now.ways) (length selects) c.in_ok-planned.planned.early.items i c.index-in-loop-place.result.now c.in_ok-planned.ensures.early c.loop-place-test.true c.index-in-loop-place.ensures))
     (has_rows c.args.plan.now.ways b c.args.kinds.now (map select_tree selects) c.requires.plan i (select_tree x) (map select_tree (drop (i + 1) selects)) (here selects i x c.loop-place-test.true c.index-selects-place.is) c.requires.lawful part)
+
+pub bounds-from-place : goal.bounds-from-place
+bounds-from-place g c = let long = from_long c.args.tables.now c.args.selects.now c.args.from.now c.requires.from in omega (arith, long, c.loop-place-test.true)
+
+pub add_select-requires-clause-from : goal.add_select-requires-clause-from
+add_select-requires-clause-from g c = from_select c.args.tables.now c.args.selects.now c.args.from.now c.requires.from c.loop-place.place c.index-selects-place.result c.index-from-place.result c.loop-place-test.true c.index-selects-place.is c.index-from-place.is
 
 pub loop-place-preserved : goal.loop-place-preserved
 loop-place-preserved g c =

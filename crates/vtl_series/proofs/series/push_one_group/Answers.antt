@@ -1,5 +1,5 @@
-use Rattle.std.proofs.Common.{◌≡◌, ◌<◌, ◌++◌, ◌∷◌, [], Err, List, Result, map, get_or, rules, sym, ap, ◌∙◌, subst}
-use Rattle.std.specs.Prelude.{All, OnOk}
+use Rattle.std.proofs.Common.{◌≡◌, ◌++◌, ◌∷◌, [], Err, List, Result, map, get_or, rules, sym, ap, ◌∙◌, subst}
+use Rattle.std.specs.Prelude.{OnOk}
 use Rattle.std.specs.declared.alloc.AllocError.{AllocError}
 use Rattle.vtl_cell.specs.Row.{Row}
 use Rattle.vtl_rows.specs.Places.{row_at}
@@ -21,9 +21,6 @@ pub row-requires : goal.row-requires
 row-requires c =
     let places = c.rows-places.result.now in
     group_front c.args.by.now c.args.table.now.rows c.args.group places (group_is c.args.by.now c.args.table.now.rows c.args.groups.now c.args.group places c.requires.groups c.requires.group c.rows-places.ensures)
-
-pub put_key-requires : goal.put_key-requires
-put_key-requires c = subst (λ n. All (λ i. i < n) c.args.by.now) (sym c.row.ensures.width) c.requires.by
 
 pub spans_of_rows-own-requires : goal.spans_of_rows-own-requires
 spans_of_rows-own-requires c =
