@@ -20,14 +20,14 @@ use Rattle.vtl_lineage.specs.Numbers.{Numbers, each_alone, input_numbers, inputs
 -- ---- places
 places_append : (i : ℕ) (f : Pair → Bool) (xs ys : Pairs) → places_from i f (xs ++ ys) ≡ places_from i f xs ++ places_from (i + length xs) f ys
 places_append i f [] ys = ap (λ n. places_from n f ys) (let e : i ≡ i + 0 = omega arith in e)
-places_append i f (x ∷ xs) ys = go (f x)
+places_append i f (x ∷ xs) ys =
+    let e : suc i + length xs ≡ i + suc (length xs) = omega arith in
+    go (f x) (places_append (suc i) f xs ys ∙ ap (λ n. places_from (suc i) f xs ++ places_from n f ys) e)
   where
-    more : places_from (suc i) f (xs ++ ys) ≡ places_from (suc i) f xs ++ places_from (i + suc (length xs)) f ys
-    more = places_append (suc i) f xs ys ∙ ap (λ n. places_from (suc i) f xs ++ places_from n f ys) (let e : suc i + length xs ≡ i + suc (length xs) = omega arith in e)
-
-    go : (b : Bool) → cond b (i ∷ places_from (suc i) f (xs ++ ys)) (places_from (suc i) f (xs ++ ys)) ≡ cond b (i ∷ places_from (suc i) f xs) (places_from (suc i) f xs) ++ places_from (i + suc (length xs)) f ys
-    go true = ap (λ l. i ∷ l) more
-    go false = more
+    go : (b : Bool) → places_from (suc i) f (xs ++ ys) ≡ places_from (suc i) f xs ++ places_from (i + suc (length xs)) f ys
+        → cond b (i ∷ places_from (suc i) f (xs ++ ys)) (places_from (suc i) f (xs ++ ys)) ≡ cond b (i ∷ places_from (suc i) f xs) (places_from (suc i) f xs) ++ places_from (i + suc (length xs)) f ys
+    go true more = ap (λ l. i ∷ l) more
+    go false more = more
 
 none_here : (i : ℕ) (f : Pair → Bool) (xs : Pairs) → AllByRecursion (λ q. f q ≡ false) xs → places_from i f xs ≡ []
 none_here i f [] h = refl
@@ -40,8 +40,12 @@ all_here i f (x ∷ xs) h = ap (λ b. cond b (i ∷ places_from (suc i) f xs) (p
 -- of three parts the middle one alone
 middle : (f : Pair → Bool) (before own behind : Pairs) (ns : Numbers) → AllByRecursion (λ q. f q ≡ false) before → AllByRecursion (λ q. f q ≡ false) behind → places_from (length before) f own ≡ ns → places_from 0 f (before ++ (own ++ behind)) ≡ ns
 middle f before own behind ns h k e =
+    let start : 0 + length before ≡ length before = omega arith in
     places_append 0 f before (own ++ behind)
-    ∙ (λ i. none_here 0 f before h i ++ (places_append (length before) f own behind ∙ (λ j. e j ++ none_here (length before + length own) f behind k j)) i)
+    ∙ ap (λ l. l ++ places_from (0 + length before) f (own ++ behind)) (none_here 0 f before h)
+    ∙ ap (λ n. places_from n f (own ++ behind)) start
+    ∙ places_append (length before) f own behind
+    ∙ (λ j. e j ++ none_here (length before + length own) f behind k j)
     ∙ append-nil ns
 
 -- ---- pairs of one data set

@@ -1,5 +1,5 @@
 -- The links by numbers are the links.
-use Rattle.std.proofs.Common.{◌≡◌, ℕ, suc, ◌+◌, Bool, true, false, cond, List, [], ◌∷◌, ◌++◌, append_assoc, length, length-append, map, Some, option_map, refl, sym, ap, ◌∙◌, arith}
+use Rattle.std.proofs.Common.{◌≡◌, ℕ, suc, Bool, true, false, cond, List, [], ◌∷◌, ◌++◌, append_assoc, length, length-append, map, Some, option_map, refl, sym, ap, ◌∙◌, arith}
 use Rattle.std.specs.Prelude.{slice_get}
 use Rattle.std.specs.List.{cons_option, filter, filter_map, flat_map, list_any}
 use Rattle.std.specs.Map.{keys_of, set_value}
@@ -21,19 +21,21 @@ there (p ∷ before) q qs = there before q qs
 
 by_numbers : {A : Type 0} (g : Pair → A) (f : Pair → Bool) (before qs : Pairs) → filter_map (λ i. option_map g (slice_get (before ++ qs) i)) (places_from (length before) f qs) ≡ map g (filter f qs)
 by_numbers g f before [] = refl
-by_numbers g f before (q ∷ qs) = go (f q)
+by_numbers g f before (q ∷ qs) = go (f q) ((λ j. filter_map (λ i. option_map g (slice_get (sym whole j) i)) (places_from (more j) f qs)) ∙ by_numbers g f (before ++ q ∷ []) qs)
   where
     P : Pairs
     P = before ++ q ∷ qs
 
-    rest : filter_map (λ i. option_map g (slice_get P i)) (places_from (suc (length before)) f qs) ≡ map g (filter f qs)
-    rest =
-        (λ j. filter_map (λ i. option_map g (slice_get (sym (append_assoc before (q ∷ []) qs) j) i)) (places_from ((let e : suc (length before) ≡ length (before ++ q ∷ []) = (let l = length-append before (q ∷ []) in omega (arith, l)) in e) j) f qs))
-        ∙ by_numbers g f (before ++ q ∷ []) qs
+    whole : (before ++ q ∷ []) ++ qs ≡ P
+    whole = append_assoc before (q ∷ []) qs
 
-    go : (b : Bool) → filter_map (λ i. option_map g (slice_get P i)) (cond b (length before ∷ places_from (suc (length before)) f qs) (places_from (suc (length before)) f qs)) ≡ map g (cond b (q ∷ filter f qs) (filter f qs))
-    go true = (λ j. cons_option (option_map g (there before q qs j)) (rest j))
-    go false = rest
+    more : suc (length before) ≡ length (before ++ q ∷ [])
+    more = let l = length-append before (q ∷ []) in omega (arith, l)
+
+    go : (b : Bool) → filter_map (λ i. option_map g (slice_get P i)) (places_from (suc (length before)) f qs) ≡ map g (filter f qs)
+        → filter_map (λ i. option_map g (slice_get P i)) (cond b (length before ∷ places_from (suc (length before)) f qs) (places_from (suc (length before)) f qs)) ≡ map g (cond b (q ∷ filter f qs) (filter f qs))
+    go true rest = (λ j. cons_option (option_map g (there before q qs j)) (rest j))
+    go false rest = rest
 
 module _ (P : Pairs) where
   component_same : (output : List ℕ) (d : Traced Pairs) (x : Component) → numbered_links P output (component_numbers (numbered_traced P d) x) x.name ≡ component_links P output d x
@@ -56,11 +58,12 @@ module _ (P : Pairs) where
 
   set_same : (past : Past Pairs) (name : List ℕ) (from : Sources Pairs) → numbered_past P (set_value (same_name name) past from) ≡ set_value (same_name name) (numbered_past P past) (numbered P from)
   set_same [] name from = refl
-  set_same (e ∷ es) name from = go (same_name name e.0)
+  set_same (e ∷ es) name from = go (same_name name e.0) (set_same es name from)
     where
-      go : (b : Bool) → numbered_past P (cond b ((e.0, from) ∷ es) (e ∷ set_value (same_name name) es from)) ≡ cond b ((e.0, numbered P from) ∷ numbered_past P es) ((e.0, numbered P e.1) ∷ set_value (same_name name) (numbered_past P es) (numbered P from))
-      go true = refl
-      go false = ap (λ l. (e.0, numbered P e.1) ∷ l) (set_same es name from)
+      go : (b : Bool) → numbered_past P (set_value (same_name name) es from) ≡ set_value (same_name name) (numbered_past P es) (numbered P from)
+          → numbered_past P (cond b ((e.0, from) ∷ es) (e ∷ set_value (same_name name) es from)) ≡ cond b ((e.0, numbered P from) ∷ numbered_past P es) ((e.0, numbered P e.1) ∷ set_value (same_name name) (numbered_past P es) (numbered P from))
+      go true rest = refl
+      go false rest = ap (λ l. (e.0, numbered P e.1) ∷ l) rest
 
   behind_same : (past : Past Pairs) (name : List ℕ) (from : Sources Pairs) → numbered_past P (past ++ (name, from) ∷ []) ≡ numbered_past P past ++ (name, numbered P from) ∷ []
   behind_same [] name from = refl
@@ -76,7 +79,7 @@ module _ (P : Pairs) where
   -- ---- statements
   pub links_same : (past : Past Pairs) (ss : List Statement) → all_links P (numbered_past P past) ss ≡ links_of P (outputs_lineage either none past ss)
   links_same past [] = refl
-  links_same past (s ∷ ss) = go s.persistent
+  links_same past (s ∷ ss) = go s.persistent (ap (λ z. all_links P z ss) next ∙ links_same (with_sources past s.result from) ss)
     where
       from : Sources Pairs
       from = lineage either none past s.node
@@ -93,12 +96,10 @@ module _ (P : Pairs) where
       next : with_sources (numbered_past P past) s.result (lineage merged [] (numbered_past P past) s.node) ≡ numbered_past P (with_sources past s.result from)
       next = ap (with_sources (numbered_past P past) s.result) (ap (λ z. z.sources) own) ∙ sym (held_same past s.result from)
 
-      rest : all_links P (with_sources (numbered_past P past) s.result (lineage merged [] (numbered_past P past) s.node)) ss ≡ links_of P more
-      rest = ap (λ z. all_links P z ss) next ∙ links_same (with_sources past s.result from) ss
-
       first : output_links P s.result (operand_of s.node (lineage merged [] (numbered_past P past) s.node)) ≡ flat_map (component_links P s.result d) (columns_of d.structure)
       first = ap (output_links P s.result) own ∙ output_same s.result d
 
-      go : (b : Bool) → cond b (output_links P s.result (operand_of s.node (lineage merged [] (numbered_past P past) s.node))) [] ++ all_links P (with_sources (numbered_past P past) s.result (lineage merged [] (numbered_past P past) s.node)) ss ≡ links_of P (cond b ((s.result, d) ∷ more) more)
-      go true = λ i. first i ++ rest i
-      go false = rest
+      go : (b : Bool) → all_links P (with_sources (numbered_past P past) s.result (lineage merged [] (numbered_past P past) s.node)) ss ≡ links_of P more
+          → cond b (output_links P s.result (operand_of s.node (lineage merged [] (numbered_past P past) s.node))) [] ++ all_links P (with_sources (numbered_past P past) s.result (lineage merged [] (numbered_past P past) s.node)) ss ≡ links_of P (cond b ((s.result, d) ∷ more) more)
+      go true rest = λ i. first i ++ rest i
+      go false rest = rest

@@ -6,7 +6,7 @@ use Rattle.std.specs.Borrow.{Bor}
 use Rattle.std.proofs.lemmas.List.{append-nil, length-map, map-append, take_all, take_more}
 use Rattle.std.proofs.lemmas.List.Concat.{flat_map-append}
 use Rattle.std.specs.List.{AllByRecursion, flat_map, list_all, list_any}
-use Rattle.std.specs.Map.{keys_of, lookup}
+use Rattle.std.specs.Map.{keys_of, lookup, set_value}
 use Rattle.std.specs.Option.{option_map_or}
 use Rattle.std.specs.Cmp.Lexicographic.{bytes_decides, nat_list_eq_equiv}
 use Rattle.vtl_lists.specs.Apart.{all_apart}
@@ -17,9 +17,9 @@ use Rattle.vtl_tree.specs.Structures.{AreStructures, Named, has_name, is_declara
 use Rattle.vtl_tree.specs.Trees.{NodeTree, structure_of}
 use Rattle.vtl_tree.specs.declared.structure.Structure.{Structure}
 use Rattle.vtl_check.specs.Checked.{TypedScript, known_of, nodes_of, tree_of}
-use Rattle.vtl_check.specs.Names.{names_of}
+use Rattle.vtl_check.specs.Names.{names_of as names_in}
 use Rattle.vtl_check.specs.Transformations.{Transformation, transformations}
-use Rattle.vtl_check.specs.Uses.{read_behind, reads, results_behind, with_declared, with_new}
+use Rattle.vtl_check.specs.Uses.{read_behind, results_behind, with_declared, with_new}
 use Rattle.vtl_syntax.specs.View.{statement_tree}
 use Rattle.vtl_syntax.specs.declared.statements.Statement.{Statement}
 use Rattle.vtl_tree.specs.NodeView.{node_tree}
@@ -31,7 +31,7 @@ use Rattle.vtl_sources.specs.Links.{Linked, Pairs, inputs_lineage, links, pairs_
 use Rattle.vtl_sources.specs.Sources.{Sources}
 use Rattle.vtl_lineage.specs.Numbers.{Numbers, input_numbers, inputs_numbers}
 use Rattle.vtl_lineage.specs.Reads.{entry_named, held_inputs}
-use Rattle.vtl_lineage.specs.Shown.{all_links, lent_pairs}
+use Rattle.vtl_lineage.specs.Shown.{all_links, lent_pairs, pair_lent}
 use Rattle.vtl_lineage.proofs.InputNumbers.{all_inputs_same}
 use Rattle.vtl_lineage.proofs.Linked.{links_same}
 
@@ -53,7 +53,7 @@ read_apart declared known (name ∷ names) h =
     go (Some s) = one_apart known name s h
 
 pub inputs_apart : (t : TypedScript) → all_apart same_name (keys_of (inputs_of t)) ≡ true
-inputs_apart t = read_apart t.declared [] (names_of (nodes_of t)) refl
+inputs_apart t = read_apart t.declared [] (names_in (nodes_of t)) refl
 
 -- ---- each has a structure
 abbrev HaveStructures : Named → Type 0
@@ -86,7 +86,7 @@ read_structures declared known (name ∷ names) h i = read_structures declared (
     go (Some s) e = new_structure known name s i (declared_structure s (all_found (same_name name) declared s h e))
 
 pub inputs_structures : (t : TypedScript) → AreStructures t.declared → HaveStructures (inputs_of t)
-inputs_structures t are = read_structures t.declared [] (names_of (nodes_of t)) are.declarable tt
+inputs_structures t are = read_structures t.declared [] (names_in (nodes_of t)) are.declarable tt
 
 -- ---- each is found by its name
 found_first : (name : List ℕ) (es more : Named) (s : Structure) → lookup (same_name name) es ≡ Some s → lookup (same_name name) (es ++ more) ≡ Some s
@@ -173,7 +173,7 @@ held_all first past (e ∷ es) h k =
     let parts = and_parts (not (list_any (same_name e.0) (keys_of es))) (all_apart same_name (keys_of es)) h in
     let from = input_numbers first e.1 in
     let next = first + length (pairs_of_set e.0 e.1) in
-    let put : with_sources past e.0 from ≡ past ++ (e.0, from) ∷ [] = ap (λ b. cond b _ (past ++ (e.0, from) ∷ [])) k.0 in
+    let put : with_sources past e.0 from ≡ past ++ (e.0, from) ∷ [] = ap (λ b. cond b (set_value (same_name e.0) past from) (past ++ (e.0, from) ∷ [])) k.0 in
     ap (λ z. held_inputs next z es) put
     ∙ held_all next (past ++ (e.0, from) ∷ []) es parts.1 (still_none past e.0 from es (not_true (list_any (same_name e.0) (keys_of es)) parts.0) k.1)
     ∙ append_assoc past ((e.0, from) ∷ []) (inputs_numbers next es)
@@ -206,7 +206,10 @@ module _ (known : Named) (names : List (List ℕ)) where
 
     pub next_known : (ps : List (Bor (List ℕ) × Bor (List ℕ))) (past now : Past Numbers) → lent_pairs ps ≡ pairs_of (front i) → past ≡ held_inputs 0 [] (front i) → now ≡ held_inputs (length ps) past (entry_named known name) → now ≡ held_inputs 0 [] (front (i + 1))
     next_known ps past now f g k =
-        k ∙ (λ j. held_inputs ((sym (length-map ps (λ p. (p.0.now, p.1.now))) ∙ ap length f) j) (g j) (entry_named known name))
+        let long : length ps ≡ length (pairs_of (front i)) = sym (length-map ps pair_lent) ∙ ap length f in
+        let start : length (pairs_of (front i)) ≡ 0 + length (pairs_of (front i)) = omega arith in
+        k ∙ (λ j. held_inputs (long j) (g j) (entry_named known name))
+        ∙ ap (λ n. held_inputs n (held_inputs 0 [] (front i)) (entry_named known name)) start
         ∙ sym (held_behind 0 [] (front i) (entry_named known name)) ∙ ap (held_inputs 0 []) (sym (front_next i name h e))
 
 -- ---- behind all names

@@ -1,9 +1,12 @@
 -- The table by operands, one after the other.
 use Rattle.std.specs.Prelude.{slice_get}
-use Rattle.std.proofs.Common.{◌≡◌, ℕ, ◌≤◌, List, [], ◌∷◌, ◌++◌, append_assoc, append-nil, drop, length, map, refl, ap, sym, ◌∙◌}
+use Rattle.std.proofs.Common.{◌≡◌, ℕ, ◌≤◌, List, [], ◌∷◌, ◌++◌, append_assoc, append-nil, drop, length, map, rules, refl, ap, sym, ◌∙◌}
 use Rattle.std.proofs.lemmas.List.{drop_all, length-map}
+use Rattle.vtl_tree.specs.NodeView.{form_tree, node_tree}
 use Rattle.vtl_tree.specs.Trees as nodes
-use Rattle.vtl_tree.specs.Trees.{FormTree, MaybeNode, NodeTree, NodeTrees, OperandTrees}
+use Rattle.vtl_tree.specs.Trees.{FormTree, MaybeNode, NodeTree, NodeTrees, OperandTrees, structure_of}
+use Rattle.vtl_tree.specs.declared.nodes.Node as node
+use Rattle.vtl_tree.specs.declared.nodes.Node.{Node}
 use Rattle.vtl_tree.specs.declared.structure.Structure.{Structure}
 use Rattle.vtl_walks.specs.Operands.{form_operands, in_join, in_list, in_option, operands_in}
 use Rattle.vtl_sources.specs.Lineage.{Past, form_lineage, lineage, maybe_lineage, nodes_lineage, operands_lineage}
@@ -63,3 +66,10 @@ all_traced past ds ns i h e = sym (append-nil ds) ∙ ap (λ l. ds ++ map (trace
 
 pub as_many : (past : Past Numbers) (ds : List (Traced Numbers)) (ns : List NodeTree) → ds ≡ map (traced_node past) ns → length ds ≡ length ns
 as_many past ds ns e = ap length e ∙ length-map ns (traced_node past)
+
+-- ---- the structure of a node is that of its tree
+node_tree-is : (n : Node) → node_tree n ≡ nodes.node n.structure (form_tree n.form)
+node_tree-is n = search (rules, node.the_lemmas)
+
+pub own_structure : (n : Node) → structure_of (node_tree n) ≡ n.structure
+own_structure n = ap structure_of (node_tree-is n)

@@ -6,7 +6,7 @@ use Rattle.vtl_tree.specs.Structure.{columns_of}
 use Rattle.vtl_tree.specs.declared.structure.Component.{Component}
 use Rattle.vtl_scripts.specs.Meaning.{Statement}
 use Rattle.vtl_sources.specs.Lineage.{Past, lineage, operand_of, with_sources}
-use Rattle.vtl_sources.specs.Links.{Linked, Pairs, linked}
+use Rattle.vtl_sources.specs.Links.{Linked, Pair, Pairs, linked}
 use Rattle.vtl_sources.specs.Sources.{Traced, source_named}
 use Rattle.vtl_lineage.specs.Numbers.{Numbers, merged}
 use Rattle.vtl_lineage.specs.declared.link.Link.{Link}
@@ -18,8 +18,11 @@ abbrev pub shown_links : List Link → List Linked
 shown_links ls = map shown_link ls
 
 -- pairs whose parts are lent
+abbrev pub pair_lent : Bor (List ℕ) × Bor (List ℕ) → Pair
+pair_lent p = (p.0.now, p.1.now)
+
 abbrev pub lent_pairs : List (Bor (List ℕ) × Bor (List ℕ)) → Pairs
-lent_pairs ps = map (λ p. (p.0.now, p.1.now)) ps
+lent_pairs ps = map pair_lent ps
 
 -- of numbers, each with its pair
 abbrev pub numbered_links : Pairs → List ℕ → Numbers → (component : List ℕ) → List Linked

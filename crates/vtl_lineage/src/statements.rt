@@ -1,12 +1,14 @@
 // The statements, one after the other, and their links.
-ghost use Rattle.std.specs.Prelude.{◌≡◌, ◌++◌, ◌∷◌, [], OnOk, cond, length, map};
+ghost use Rattle.std.specs.Option.{option_copied};
+ghost use Rattle.std.specs.Prelude.{◌≡◌, ◌++◌, ◌∷◌, [], IfOk, OnOk, cond, length, map, slice_get};
 ghost use Rattle.vtl_check.specs.Transformations.{transformations};
 ghost use Rattle.vtl_syntax.specs.View.{statement_tree};
 ghost use Rattle.vtl_tree.specs.NodeView.{node_tree};
 ghost use Rattle.vtl_backend.specs.Statements.{is_written, with_nodes};
 ghost use Rattle.vtl_sources.specs.Lineage.{lineage, with_sources};
+ghost use Rattle.vtl_sources.specs.Links.{linked};
 ghost use Rattle.vtl_lineage.specs.Numbers.{merged};
-ghost use Rattle.vtl_lineage.specs.Shown.{all_links, lent_pairs, numbered_links, output_links, shown_links, statement_links};
+ghost use Rattle.vtl_lineage.specs.Shown.{all_links, lent_pairs, numbered_links, output_links, pair_lent, shown_link, shown_links, statement_links};
 ghost use Rattle.vtl_lineage.specs.Statements.{result_named};
 
 use crate::inputs::Pair;
@@ -19,6 +21,24 @@ use vtl_syntax::{AssignKind, Statement};
 use vtl_text::Txt;
 use vtl_tree::Node;
 
+fn pair_at<'b, 'a>(pairs: &'b [Pair<'a>], number: usize) -> Option<&'b Pair<'a>>
+    ensures { option_copied result ≡ slice_get pairs.now number }
+{
+    pairs.get(number)
+}
+
+fn link(output: &Txt, component: &Txt, pair: &Pair) -> Result<Link, AllocError>
+    ensures { IfOk result (λ l. shown_link l ≡ linked output.now component.now (pair_lent pair.now)) }
+{
+    let (dataset, source) = pair;
+    Ok(Link {
+        output: output.share()?,
+        component: component.share()?,
+        dataset: dataset.share()?,
+        source: source.share()?,
+    })
+}
+
 // Puts the link to the pair of a number behind others, where there is one.
 fn push_numbered(
     links: &mut Vec<Link>,
@@ -29,14 +49,9 @@ fn push_numbered(
 ) -> Result<(), AllocError>
     ensures { OnOk result (shown_links links.new.items ≡ shown_links links.old.items ++ numbered_links (lent_pairs pairs.now) output.now (number ∷ []) component.now) }
 {
-    match pairs.get(number) {
-        Some((dataset, source)) => {
-            links.push(Link {
-                output: output.share()?,
-                component: component.share()?,
-                dataset: dataset.share()?,
-                source: source.share()?,
-            })?;
+    match pair_at(pairs, number) {
+        Some(pair) => {
+            links.push(link(output, component, pair)?)?;
             Ok(())
         }
         None => Ok(()),

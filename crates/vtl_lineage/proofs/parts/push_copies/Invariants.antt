@@ -3,5 +3,5 @@ use Rattle.vtl_tree.specs.Shown.{shown}
 use Rattle.vtl_lineage.specs.Copies.{copies}
 use Rattle.vtl_lineage.proofs.parts.push_copies.Given as goal
 
-abbrev pub invariant-loop-_column : goal.invariant-loop-_column
-invariant-loop-_column l = l.out.items ≡ l.fn.out.items ++ copies l.set (shown (take l._column-index l.columns))
+abbrev pub invariant-loop-column : goal.invariant-loop-column
+invariant-loop-column l = l.out.items ≡ l.fn.out.items ++ copies l.set (shown (take l._column-index l.columns))
