@@ -25,6 +25,7 @@ use Rattle.sql_tree.specs.Trees.{QueryTree, StatementTree, Text}
 use Rattle.sql_tree.specs.declared.statements.SqlInput.{SqlInput}
 use Rattle.sql_check_parts.specs.Queries.{query_columns}
 use Rattle.sql_check_parts.specs.Scopes.{Columns, Tables, is_among}
+use Rattle.sql_tree.specs.declared.statements.SqlExport.{SqlExport}
 use Rattle.sql_check_parts.specs.Statements.{Given, after, input_columns, is_taken, nothing}
 use Rattle.sql_check_laws.specs.Selects.{IsQueryTyped}
 use Rattle.sql_check_laws.specs.Statements.{AreTyped}
@@ -257,6 +258,10 @@ let_go_running p inputs last final whole place rest held now gone r =
 
 -- ---- the beginning and the end
 
+-- what holds of the names of all EXPORTs
+exported_under : (P Q : Text → Type 0) → ((name : Text) → P name → Q name) → (ss : List StatementTree) → EachExported P ss → EachExported Q ss
+exported_under P Q f ss all = under {P = λ (s : SqlExport). P s.name} {Q = λ (s : SqlExport). Q s.name} (λ s h. f s.name h) (exports_in ss) all
+
 module _ (p : Settings) (inputs : NamedTables) (last : LastPlaces) (ss : List StatementTree) where
   abbrev pub Whole : Result Made NamedFault
   Whole = statements_made p (rows_given inputs) nothing_made ss
@@ -279,12 +284,13 @@ module _ (p : Settings) (inputs : NamedTables) (last : LastPlaces) (ss : List St
       }
 
   pub run_ends : (place : ℕ) (rest : List StatementTree) (held : NamedTables) → rest ≡ [] → EachExported (IsReadFrom place last) ss → Running p inputs last (fold after nothing ss) Whole place rest held → HaveMade p inputs ss held
-  run_ends place rest held e exported r =
-      let here = subst (λ (l : List StatementTree). Running p inputs last (fold after nothing ss) Whole place l held) e r in
-      record {
+  run_ends place rest held e exported r = ended (subst (λ (l : List StatementTree). Running p inputs last (fold after nothing ss) Whole place l held) e r)
+    where
+      ended : Running p inputs last (fold after nothing ss) Whole place [] held → HaveMade p inputs ss held
+      ended here = record {
         made = here.made;
         made_is = sym here.whole_is;
         same = here.stands.same;
         given = ap (λ (g : Given). g.tables) (sym here.ends) ∙ here.known;
-        rows = under (λ s k. here.stands.rows s.name k) (exports_in ss) exported;
+        rows = exported_under (IsReadFrom place last) (λ name. Perm (table_named here.made.tables name).rows (rows_of (table_of name held))) here.stands.rows ss exported;
       }

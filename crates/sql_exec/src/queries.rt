@@ -58,7 +58,9 @@ fn exec_over<L: Ledger>(
     let kinds = query_kinds(alloc, p, tables, from, selects)?;
     let columns = named_columns(alloc, selects[0].items.as_slice(), &kinds)?;
     let mut out = Output::new(alloc, columns);
-    add_selects(alloc, &mut out, plan, selects, from, &kinds, tables, p, steps)?;
+    add_selects(
+        alloc, &mut out, plan, selects, from, &kinds, tables, p, steps,
+    )?;
     out.finish()
 }
 
@@ -112,7 +114,8 @@ pub fn source_rows<L: Ledger>(
     ensures rows { (s : SelectTree) → query_tree plan.now.query ≡ s ∷ [] → AnswersBy (λ t. t.rows) result (source_rows (base_held p.now tables.now) s) }
 {
     let selects = plan.query().selects.as_slice();
+    let select = &selects[0];
     let given = given_for(alloc, tables, selects)?;
-    let from = FromTables::of(alloc, tables, &selects[0])?;
-    sql_from::source_rows(alloc, &selects[0], &from, &given, p, steps)
+    let from = FromTables::of(alloc, tables, select)?;
+    sql_from::source_rows(alloc, select, &from, &given, p, steps)
 }

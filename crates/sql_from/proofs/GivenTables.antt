@@ -24,7 +24,7 @@ use Rattle.sql_meaning.specs.Profiles.{AreOfProfile, IsRowOfProfile, TablesOfPro
 use Rattle.sql_meaning.specs.Tables.{column_entry, columns_given, columns_named, given_rows, place_among, rows_from, rows_of}
 use Rattle.sql_meaning.proofs.Lists.{under}
 use Rattle.sql_meaning.proofs.Profiled.{dated_is, source_is}
-use Rattle.sql_meaning.proofs.SeriesColumns.{entry_named, given_columns, series_columns}
+use Rattle.sql_meaning.proofs.SeriesColumns.{given_columns, series_columns}
 use Rattle.sql_meaning.proofs.SeriesRows.{series_all}
 use Rattle.sql_eval.specs.Origins.{IsSeriesOf, rows_at, rows_by}
 use Rattle.sql_eval.specs.declared.origin.Origin.{Origin}
@@ -72,6 +72,9 @@ origin_ranged p held o ranged = go o.series
     go (Some x) = series_all (IsRowOfProfile p) x.extent x.on x.by.items (rows_held held o.table) (under (λ r h. dated_is p x.by.items r h) (rows_held held o.table) (ranged o.table))
 
 -- ---- the columns of a source
+
+abbrev entry_named : Columns → Text → Text × Kind
+entry_named table name = (name, or_null (value_among table name))
 
 -- the column at the place of a name that is known has that name, and its kind
 entry_at : (columns : List TableColumn) (name : Text) → is_some (value_among (map column_entry columns) name) ≡ true → column_entry (column_at columns (place_among (map column_entry columns) name)) ≡ entry_named (map column_entry columns) name

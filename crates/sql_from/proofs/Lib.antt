@@ -11,6 +11,7 @@ pub mod Marks
 pub mod Named
 pub mod Parted
 pub mod Sited
+pub mod FromGiven
 pub mod GivenTables
 pub mod MadeRows
 pub mod SeriesNames

@@ -10,7 +10,7 @@ use Rattle.vtl_cell.specs.declared.kind.Kind.{Kind}
 use Rattle.sql_tree.specs.Trees.{Text}
 use Rattle.sql_tree.specs.declared.parts.Column.{Column}
 use Rattle.sql_tree.specs.declared.parts.Series.{Series}
-use Rattle.sql_check_parts.specs.Scopes.{Columns, Named, add_column, columns_within, is_among, numbered, or_null, row_of, series_names, value_among}
+use Rattle.sql_check_parts.specs.Scopes.{Columns, Named, add_column, columns_within, is_among, maybe_within, numbered, or_null, row_of, series_names, value_among}
 use Rattle.sql_meaning.specs.Tables.{place_among}
 use Rattle.sql_meaning.specs.Values.{inner_scope, place_in}
 use Rattle.sql_from.specs.Columns.{and_number}
@@ -38,7 +38,9 @@ number_added columns name kind =
   where
     go : (b : Bool) → cond b (numbered 0 columns) (numbered 0 columns ++ (name, length columns) ∷ []) ≡ numbered 0 (cond b columns (columns ++ (name, kind) ∷ []))
     go true = refl
-    go false = sym (numbers_behind 0 columns name kind)
+    go false =
+        let many : length columns ≡ 0 + length columns = omega arith in
+        ap (λ n. numbered 0 columns ++ (name, n) ∷ []) many ∙ sym (numbers_behind 0 columns name kind)
 
 names_numbered : (table done : Columns) (names : List Text) → fold and_number (numbered 0 done) names ≡ numbered 0 (fold (λ columns name. add_column columns name (or_null (value_among table name))) done names)
 names_numbered table done [] = refl
@@ -70,7 +72,10 @@ place_from i (x ∷ xs) name = go (same_text name x.0) (place_from (suc i) xs na
 
 -- the number of a name, or how many there are
 pub number_is : (columns : Columns) (name : Text) → unwrap_or (value_among (numbered 0 columns) name) (length columns) ≡ place_among columns name
-number_is columns name = place_from 0 columns name
+number_is columns name =
+    let many : length columns ≡ 0 + length columns = omega arith in
+    let place : 0 + place_among columns name ≡ place_among columns name = omega arith in
+    ap (unwrap_or (value_among (numbered 0 columns) name)) many ∙ place_from 0 columns name ∙ place
 
 -- the place of a column in a row of the source of EXISTS
 module _ (alias : Text) (x : Column) where
@@ -86,3 +91,7 @@ module _ (alias : Text) (x : Column) where
       go : (b : Bool) → unwrap_or (option_and_then (λ named. value_among named x.name) (cond b (Some (numbered 0 columns)) None)) (length (row_of {V = Kind} ((alias, columns) ∷ []))) ≡ cond b (place_among columns x.name) (length columns)
       go true = ap (unwrap_or (value_among (numbered 0 columns) x.name)) (alone_wide columns) ∙ number_is columns x.name
       go false = alone_wide columns
+
+pub none_within : (o : Option Series) → maybe_within o None ≡ None
+none_within None = refl
+none_within (Some s) = refl

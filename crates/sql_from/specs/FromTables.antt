@@ -1,5 +1,5 @@
 -- The tables of the sources of a select.
-use Rattle.std.specs.Prelude.{ℕ, List, map, slice_index_or, option_map, Option, None, Some}
+use Rattle.std.specs.Prelude.{ℕ, List, map, get_or, option_map, Option, None, Some}
 use Rattle.vtl_rows.specs.Named.{NamedTables, table_of}
 use Rattle.vtl_rows.specs.Tables.{Listed}
 use Rattle.sql_tree.specs.Trees.{SelectTree}
@@ -19,7 +19,7 @@ from_given held s = map (maybe_given held) (all_sources s)
 
 -- the one at a place; none past the last
 abbrev pub from_at : List (Option Listed) → ℕ → Option Listed
-from_at tables i = slice_index_or tables i None
+from_at tables i = get_or tables i None
 
 -- the table that is kept of a source
 abbrev pub kept_table : FromTable → Option Listed

@@ -17,7 +17,6 @@ use std::alloc::{AllocError, Global};
 use std::marker::Model;
 
 // The table of a source.
-#[derive(Drop)]
 pub(crate) enum FromTable<'a> {
     // There is no table of this name.
     Missing,
@@ -27,13 +26,20 @@ pub(crate) enum FromTable<'a> {
     Made(HeldTable),
 }
 
+// Written out, so that a proof sees one call and not the drop of each part.
+impl Drop for FromTable<'_> {
+    fn drop(self) {
+        match self {
+            FromTable::Missing => {}
+            FromTable::Held(_table) => {}
+            FromTable::Made(_table) => {}
+        }
+    }
+}
+
 impl<'a> FromTable<'a> {
     // That of a source. It fails only if memory runs out.
-    fn of(
-        alloc: Global,
-        held: &'a HeldTables,
-        source: &Source,
-    ) -> Result<FromTable<'a>, AllocError>
+    fn of(alloc: Global, held: &'a HeldTables, source: &Source) -> Result<FromTable<'a>, AllocError>
         ensures { IfOk result (λ t. kept_table t ≡ maybe_given held.now source.now) }
     {
         let Some(table) = held.held(&source.table) else {
@@ -101,9 +107,11 @@ impl<'a> FromTables<'a> {
         ensures { IfOk result (λ f. f ≡ from_given held.now (select_tree select.now)) }
     {
         let mut tables = Vec::new(alloc);
-        tables.push(FromTable::of(alloc, held, &select.from)?)?;
+        let first = FromTable::of(alloc, held, &select.from)?;
+        tables.push(first)?;
         for join in select.joins.as_slice() {
-            tables.push(FromTable::of(alloc, held, source_of(join))?)?;
+            let table = FromTable::of(alloc, held, source_of(join))?;
+            tables.push(table)?;
         }
         Ok(FromTables { tables })
     }

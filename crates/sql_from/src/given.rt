@@ -112,7 +112,8 @@ impl<'a> Given<'a> {
         ensures { self.new ≡ self.old }
     {
         self.places.insert(origin.copy(alloc)?, self.made.len())?;
-        self.made.push(MadeSeries { origin, table })
+        self.made.push(MadeSeries { origin, table })?;
+        Ok(())
     }
 
     /// Makes the table of a source, if it is a SERIES over a table that is held, and is not made yet. It fails only if memory

@@ -25,7 +25,7 @@ pub(crate) fn place_of(table: &HeldTable, name: &Txt) -> usize
 
 // The same, where there may be no table, which has no column.
 fn place_in(table: Option<&HeldTable>, name: &Txt) -> usize
-    ensures { result ≡ place_among (columns_held (or_nothing (option_copied table))) name.now }
+    ensures { result ≡ place_among (columns_held (or_nothing (option_copied table.entry))) name.now }
 {
     match table {
         Some(table) => place_of(table, name),
@@ -38,7 +38,7 @@ fn places_in(
     table: Option<&HeldTable>,
     names: &[Txt],
 ) -> Result<Vec<usize>, AllocError>
-    ensures { IfOk result (λ v. v.items ≡ map (place_among (columns_held (or_nothing (option_copied table)))) names.now) }
+    ensures { IfOk result (λ v. v.items ≡ map (place_among (columns_held (or_nothing (option_copied table.entry)))) names.now) }
 {
     let mut places = Vec::with_capacity(alloc, names.len())?;
     for name in names {
@@ -62,7 +62,7 @@ pub(crate) fn series_places(
     table: Option<&HeldTable>,
     series: &Series,
 ) -> Result<SeriesPlaces, AllocError>
-    ensures { IfOk result (IsSeriesOf (columns_held (or_nothing (option_copied table))) series.now) }
+    ensures { IfOk result (IsSeriesOf (columns_held (or_nothing (option_copied table.entry))) series.now) }
 {
     Ok(SeriesPlaces {
         extent: extent_of(series.span),

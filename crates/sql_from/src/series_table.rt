@@ -16,12 +16,6 @@ pub(crate) fn table_of_series(
 ) -> Result<HeldTable, AllocError>
     ensures { IfOk result (λ t. t ≡ filled series.now table.now) }
 {
-    let made = rows_of_series(
-        alloc,
-        table.table(),
-        series.on,
-        &series.by,
-        series.extent,
-    )?;
+    let made = rows_of_series(alloc, table.table(), series.on, &series.by, series.extent)?;
     HeldTable::of(alloc, made)
 }

@@ -1,4 +1,4 @@
-use Rattle.std.proofs.Common.{◌≡◌, ◌∙◌, ◌+◌, [], ◌∷◌, ◌++◌, ◌≤◌, List, length, ap, sym, subst, map, drop, drop_of_length-le, arith}
+use Rattle.std.proofs.Common.{◌≡◌, ◌∙◌, ◌+◌, [], ◌∷◌, ◌++◌, ◌<◌, ◌≤◌, List, Option, get_or, length, ap, sym, subst, map, drop, drop_of_length-le, arith}
 use Rattle.std.specs.List.{AllByRecursion}
 use Rattle.sql_tree.specs.View.{item_tree, join_tree, select_tree}
 use Rattle.sql_tree.specs.declared.statements.Item.{Item}
@@ -11,6 +11,10 @@ use Rattle.sql_from.specs.Held.{tables_held}
 use Rattle.sql_tree.specs.declared.parts.Source.{Source}
 use Rattle.sql_from.specs.Sources.{scope_held, table_given}
 use Rattle.sql_exec.specs.Items.{IsKindKnown}
+use Rattle.sql_from.specs.FromTables.{from_at, maybe_given}
+use Rattle.vtl_rows.specs.Named.{NamedTables}
+use Rattle.vtl_rows.specs.Tables.{Listed}
+use Rattle.sql_exec.proofs.FromEach.{from_join}
 use Rattle.sql_exec.proofs.QueryParts.{kinds_known}
 use Rattle.sql_exec.proofs.QueryColumns.{drop_read, scope_with}
 use Rattle.sql_exec.proofs.columns.select_kinds.Goals as goal
@@ -68,3 +72,34 @@ item_kinds-requires c =
     let whole : scope_held sources.sources ≡ scope_of tables s = sym (ap (λ (js : List Join). joined_scope tables (scope_held sources.sources) (map join_tree js)) none) ∙ c.loop-place.invariant.scope in
     subst (λ (items : List Item). AllByRecursion (IsKindKnown (scope_held sources.sources)) (map item_tree items)) (sym c.as_slice.ensures)
     (subst (λ (scope : Scope). AllByRecursion (IsKindKnown scope) s.items) (sym whole) (kinds_known (site c.args.p.now tables (scope_of tables s)) (groups_of s) s.items c.requires.typed.items))
+
+pub with-requires-clause-table : goal.with-requires-clause-table
+with-requires-clause-table c =
+    c.at.ensures ∙ ap (λ (l : List (Option Listed)). from_at l 0) c.requires.from
+    ∙ ap (λ (h : NamedTables). maybe_given h (select_tree c.args.select.now).source) (sym c.over.ensures.held)
+
+pub with-requires-in-loop-place-clause-table : goal.with-requires-in-loop-place-clause-table
+with-requires-in-loop-place-clause-table c =
+    let s = select_tree c.args.select.now in
+    let joins = c.args.select.now.joins in
+    let i = c.loop-place.place in
+    let join = c.index-joins-place.result in
+    let long = ap (λ (js : List Join). length js) c.as_slice-joins.ensures in
+    let here : i < length joins = omega (arith, c.loop-place-test.true, long) in
+    let read = from_join c.args.tables.now s.source joins i join here (c.index-joins-place.is ∙ ap (λ (js : List Join). get_or js i join) c.as_slice-joins.ensures) in
+    c.at-in-loop-place.ensures ∙ ap (λ (l : List (Option Listed)). from_at l (i + 1)) c.requires.from ∙ read
+    ∙ (λ j. maybe_given (sym c.loop-place.invariant.held j) (sym c.join_source-source.ensures j))
+
+pub with-requires-in-loop-place-clause-typed : goal.with-requires-in-loop-place-clause-typed
+with-requires-in-loop-place-clause-typed c =
+    let joins = c.args.select.now.joins in
+    let tables = tables_held c.args.tables.now in
+    let before = c.loop-place.sources in
+    let i = c.loop-place.place in
+    let join = c.index-joins-place.result in
+    let rest = map join_tree (drop (i + 1) joins) in
+    let read : map join_tree (drop i joins) ≡ join_tree join ∷ rest =
+    subst (λ (js : List Join). map join_tree (drop i js) ≡ join_tree join ∷ map join_tree (drop (i + 1) js)) c.as_slice-joins.ensures (ap (map join_tree) (drop_read c.as_slice-joins.result.now i join c.loop-place-test.true c.index-joins-place.is)) in
+    let typed : AreJoinsTyped c.args.p.now tables (scope_held before.sources) (join_tree join ∷ rest) = subst (AreJoinsTyped c.args.p.now tables (scope_held before.sources)) read c.loop-place.invariant.typed in
+    subst (IsSourceTyped (tables_held before.held) (scope_held before.sources)) (sym c.join_source-source.ensures)
+    (subst (λ t. IsSourceTyped t (scope_held before.sources) (join_source (join_tree join))) (sym (ap tables_held c.loop-place.invariant.held)) typed.0)

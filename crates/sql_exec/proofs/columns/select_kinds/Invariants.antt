@@ -10,7 +10,7 @@ abbrev pub invariant-loop-place : goal.invariant-loop-place
 invariant-loop-place l =
     let left = map join_tree (drop l.place l.select.joins) in
     record {
-      held : l.sources.held ≡ l.tables;
-      typed : AreJoinsTyped l.p (tables_held l.tables) (scope_held l.sources.sources) left;
-      scope : joined_scope (tables_held l.tables) (scope_held l.sources.sources) left ≡ scope_of (tables_held l.tables) (select_tree l.select);
+      held : l.sources.held ≡ l.fn.tables;
+      typed : AreJoinsTyped l.p (tables_held l.fn.tables) (scope_held l.sources.sources) left;
+      scope : joined_scope (tables_held l.fn.tables) (scope_held l.sources.sources) left ≡ scope_of (tables_held l.fn.tables) (select_tree l.select);
     }

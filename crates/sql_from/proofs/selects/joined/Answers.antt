@@ -17,10 +17,12 @@ use Rattle.sql_meaning.specs.Profiles.{IsLawful}
 use Rattle.sql_meaning.specs.From.{Joined, first_of, with_join}
 use Rattle.sql_meaning.specs.Plans.{try_early}
 use Rattle.sql_from.specs.Conditions.{due_at, trees_of}
+use Rattle.sql_from.specs.FromTables.{maybe_given}
 use Rattle.sql_from.specs.Held.{base_held, tables_held}
 use Rattle.vtl_scalar.specs.Seen.{seen_of}
 use Rattle.sql_from.specs.Sources.{Sourced, scope_held}
 use Rattle.sql_from.specs.Standing.{StandsFor, sight_of}
+use Rattle.sql_from.proofs.FromGiven.{first_given, join_given}
 use Rattle.sql_from.proofs.Counted.{due_asks, first_counted, join_taken, only_join}
 use Rattle.sql_from.specs.Asking.{asks}
 use Rattle.sql_from.specs.Steps.{IsPlainJoin}
@@ -193,3 +195,14 @@ returns-in_err-so_far-2-clause-steps g c listed plain =
     join_taken p c.args.tables.now s early c.requires.typed.joins plain (join_tree x) (only_join s (join_tree x) (map join_tree (drop (i + 1) joins)) plain.one (ap (λ n. map join_tree (drop n joins)) (sym start) ∙ next)) i old.sources old.walked.rows (seen_of old.walked.seen) c.args.steps.now c.loop-place.steps taken start c.loop-place.invariant.held
     c.with_join.new.steps
     (c.with_join.ensures.steps (c.is_some-looks_up.ensures ∙ looked_up c.args.by_index listed) (subst (λ (es : List Exp). AllByRecursion (λ e. asks e ≡ false) es) (sym due) (due_asks s early (suc i) plain.condition)))
+
+pub first_source-requires-clause-table : goal.first_source-requires-clause-table
+first_source-requires-clause-table g c = c.at.ensures ∙ first_given c.args.tables.now (select_tree c.args.select.now) c.args.from.now c.requires.from
+
+pub with_join-requires-clause-table : goal.with_join-requires-clause-table
+with_join-requires-clause-table g c =
+    let s = select_tree c.args.select.now in
+    let items = c.as_slice-joins.result.now in
+    c.at-table.ensures
+    ∙ join_given c.args.tables.now s c.args.from.now c.args.select.now.joins items c.loop-place.place c.index-joins-place.result c.requires.from refl c.as_slice-joins.ensures c.loop-place-test.true c.index-joins-place.is
+    ∙ ap (λ (held : NamedTables). maybe_given held (join_source (join_tree c.index-joins-place.result))) (sym c.loop-place.invariant.held)

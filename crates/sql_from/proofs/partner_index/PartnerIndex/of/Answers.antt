@@ -1,11 +1,9 @@
-use Rattle.std.proofs.Common.{◌≡◌, ◌∙◌, List, ap, subst, sym}
-use Rattle.std.specs.Option.{option_copied}
+use Rattle.std.proofs.Common.{◌≡◌, ◌∙◌, IfSome, List, ap, subst, sym}
 use Rattle.vtl_rows.specs.Tables.{Listed, listed}
 use Rattle.sql_eval.specs.Origins.{rows_at}
 use Rattle.sql_eval.specs.declared.resolved.Tie.{Tie}
 use Rattle.sql_from.specs.Held.{rows_held}
 use Rattle.sql_from.specs.Lookups.{IsKeyed}
-use Rattle.sql_from.specs.Sources.{or_nothing}
 use Rattle.sql_from.specs.Partners.{AreTiedBy, AreTiesImplying}
 use Rattle.sql_from.specs.declared.key_pairs.KeyPair.{KeyPair}
 use Rattle.sql_from.specs.declared.partner_index.PartnerIndex.{PartnerIndex}
@@ -18,13 +16,13 @@ returns g c =
     let s = c.args.sources.now in
     let p = c.args.p.now in
     let lead = c.in-Some.lead in
-    let own = c.in-Some-2.own.now in
+    let own = c.in-Some-found.own.now in
     let rows = c.table-rows.result in
     let table = listed c.table-table.result.now in
     let keys = c.in_ok-keys.keys.items in
     let x : PartnerIndex = record { table = c.in_ok-copy.field-0; ties = c.in_ok-copied.field-0; p = p; rows = rows; keys = c.in_ok-keyed.field-0; is_whole = c.in_ok-keys.is_whole } in
     let asked : own.rows ≡ rows_at (rows_held c.held.result.now) c.args.test.now.table =
-    subst (λ o. (or_nothing (option_copied o)).rows ≡ rows_at (rows_held c.held.result.now) c.args.test.now.table) c.in-Some-2.is c.in_ok-origin.ensures in
+    subst (λ o. IfSome o (λ t. t.now.rows ≡ rows_at (rows_held c.held.result.now) c.args.test.now.table)) c.in-Some-found.is c.found.ensures in
     let own_rows : rows_at (rows_held s.held) x.table ≡ rows.now.rows =
     sym (same_rows c.args.test.now.table x.table (rows_held s.held) c.in_ok-copy.ensures)
     ∙ (λ i. rows_at (rows_held (sym c.held.ensures i)) c.args.test.now.table)

@@ -8,6 +8,7 @@ use Rattle.sql_tree.specs.declared.word_groups.JoinKind.{JoinKind}
 use Rattle.sql_meaning.specs.Profiles.{IsLawful}
 use Rattle.sql_check_parts.specs.Queries.{join_source}
 use Rattle.sql_from.specs.Conditions.{conditions_at, kind_of, on_of, trees_of}
+use Rattle.sql_from.specs.FromTables.{maybe_given}
 use Rattle.sql_from.specs.Held.{base_held}
 use Rattle.sql_from.specs.Joins.{joined_tuples, kept_fault, kept_tuples, pairs_fault}
 use Rattle.sql_from.specs.Keys.{AreLinked, last_of, linked_count}
@@ -77,3 +78,6 @@ returns-in_err-walked-clause-steps g c by silent f before two =
     (subst (λ (cs : List Exp). AreLinked new lead cs → c.joined_with.new.steps ≤ c.args.steps.now + linked_count new lead + length (joined_tuples c.kind_of.result (conditions_at p new cs) marks (length (last_of new).rows) t.tuples)) on
     (c.joined_with.ensures.steps by silent lead) linked))
     two
+
+pub with-requires-clause-table : goal.with-requires-clause-table
+with-requires-clause-table g c = c.requires.table ∙ ap (maybe_given c.args.self.sources.held) (sym c.source_of.ensures)

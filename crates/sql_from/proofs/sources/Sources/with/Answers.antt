@@ -12,21 +12,21 @@ use Rattle.sql_from.specs.Held.{IsHeld}
 use Rattle.sql_from.specs.Rows.{picks_from, picks_at, width_of}
 use Rattle.sql_from.specs.Sources.{AreSited, IsWide, parts_of, scope_held, source_of, table_given, table_named}
 use Rattle.sql_from.specs.declared.sources.SourceTable.{SourceTable}
+use Rattle.sql_from.proofs.FromGiven.{copied_is, copied_there, maybe_there}
 use Rattle.sql_from.proofs.GivenTables.{source_held}
 use Rattle.sql_from.proofs.Parted.{length-picks_from, picks_last}
-use Rattle.sql_from.proofs.Sited.{all_last, keys_are, sited_last, table_there}
+use Rattle.sql_from.proofs.Sited.{all_last, keys_are, sited_last}
 use Rattle.sql_from.proofs.sources.Sources.with.Goals as goal
 
 pub unwrap-table-requires : goal.unwrap-table-requires
 unwrap-table-requires c =
-    let name = c.args.source.now.table in
-    let there : table_of name c.args.self.held ≡ Some (table_named c.args.self.held name) = table_there c.args.self.held name c.requires.0 in
-    c.in_ok-source.ensures.some (subst (λ o. IsSome o) (sym (ap (λ s. table_of name s.held) c.self.view_is ∙ there)) refl)
+    let source = c.args.source.now in
+    copied_there c.args.table (table_given c.args.self.held source) (c.requires.table ∙ maybe_there c.args.self.held source c.requires.typed.0)
 
 pub put-requires : goal.put-requires
 put-requires c =
     ap (λ n. list_any (same_text n) (keys_of c.self.inside.sources)) c.in_ok-share.ensures
-    ∙ ap (list_any (same_text c.args.source.now.alias)) (sym (keys_are c.self.inside.sources) ∙ ap (λ s. keys_of (scope_held s.sources)) c.self.view_is) ∙ c.requires.1
+    ∙ ap (list_any (same_text c.args.source.now.alias)) (sym (keys_are c.self.inside.sources) ∙ ap (λ s. keys_of (scope_held s.sources)) c.self.view_is) ∙ c.requires.typed.1
 
 pub invariant_of-result : goal.invariant_of-result
 invariant_of-result c =
@@ -34,7 +34,9 @@ invariant_of-result c =
     let table = c.unwrap-table.result in
     let alias = c.in_ok-share.field-0 in
     let held = c.self.inside.held.now in
-    let is : table.now ≡ table_given held c.args.source.now = subst (λ o. IfSome o (λ (t : Bor Listed). t.now ≡ table_given held c.args.source.now)) (sym c.unwrap-table.ensures) c.in_ok-source.ensures.table in
+    let source = c.args.source.now in
+    let is : table.now ≡ table_given held source =
+    copied_is c.args.table table (table_given c.args.self.held source) c.unwrap-table.ensures (c.requires.table ∙ maybe_there c.args.self.held source c.requires.typed.0) ∙ ap (λ s. table_given s.held source) (sym c.self.view_is) in
     let now : SourceTable = record { table = table; first = c.len-first.result } in
     let parts = parts_of (map source_of ss) in
     let made : c.put.new.self ≡ ss ++ (alias, now) ∷ [] = c.in_ok-put.ensures.put in
@@ -52,6 +54,6 @@ invariant_of-result c =
       sited = subst (AreSited 0) (sym made) sited;
       picked = picked ∙ ap (picks_from 0) (sym shown) ∙ ap (λ l. picks_from 0 (parts_of (map source_of l))) (sym made);
       wide = subst (λ l. AllByRecursion IsWide (parts_of (map source_of l))) (sym made) (subst (AllByRecursion IsWide) (sym shown) rows);
-      among = subst (λ l. AllByRecursion (IsHeld held) (parts_of (map source_of l))) (sym made) (subst (AllByRecursion (IsHeld held)) (sym shown) (all_last (IsHeld held) parts table.now c.self.invariant.among (subst (IsHeld held) (sym is) (source_held held c.args.source.now))));
+      among = subst (λ l. AllByRecursion (IsHeld held) (parts_of (map source_of l))) (sym made) (subst (AllByRecursion (IsHeld held)) (sym shown) (all_last (IsHeld held) parts table.now c.self.invariant.among (subst (IsHeld held) (sym is) (source_held held source))));
       null = c.self.invariant.null;
     }

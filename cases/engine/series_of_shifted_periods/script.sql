@@ -1,0 +1,9 @@
+SET SCALE 2 ROUNDING HALF_UP;
+INPUT "T" ("id" INTEGER, "g" TEXT, "p" PERIOD) KEY ("id");
+CREATE TABLE "K" AS
+  SELECT PERIOD_SHIFT("t"."p", 2) AS "p"
+  FROM "T" AS "t";
+CREATE TABLE "U" AS
+  SELECT "s"."p" AS "p"
+  FROM SERIES "K" ON "p" SINGLE AS "s";
+EXPORT "U";
