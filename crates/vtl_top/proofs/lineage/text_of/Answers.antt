@@ -8,5 +8,5 @@ use Rattle.vtl_top.proofs.lineage.text_of.Goals as goal
 pub returns : goal.returns
 returns c =
     let rows : c.in_ok-table.table.rows ≡ map link_row (links_of (typed_view c.args.checked.now)) =
-        c.in_ok-table.ensures.rows ∙ ap (λ ls. map link_row (shown_links ls)) c.deref.ensures.value ∙ ap (map link_row) c.in_ok-links.ensures in
+    c.in_ok-table.ensures.rows ∙ ap (λ ls. map link_row (shown_links ls)) c.deref.ensures.value ∙ ap (map link_row) c.in_ok-links.ensures in
     subst (λ b. IfOk c.write_rows.result (λ text. text.items ≡ b)) (λ i. rows_text (c.profile.ensures i) (c.in_ok-table.ensures.columns i) (rows i)) c.write_rows.ensures
