@@ -637,6 +637,7 @@ for folder in cases/*/; do
                 is_formed_in "$case"
             done
             ;;
+        lineage) for case in cases/lineage/*/; do run "$top/${case%/}"; done ;;
         engine) for case in cases/engine/*/; do run "$top/${case%/}"; done ;;
         translated) for case in cases/translated/*/; do translated "$top/${case%/}"; done ;;
         explain)
