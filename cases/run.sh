@@ -382,14 +382,14 @@ files_written() {
     done
 }
 
-# A call over a front of a file: it must come to a code, and to a line or to files; `sql` to a text where nothing is refused
-# before data are read.
+# A call over a front of a file: it must come to a code, and to a line or to files; `sql` and `lineage` to a text where nothing is
+# refused before data are read.
 comes_to() {
     called "$@"
     line=
     read -r line <"$made/said"
     case $way:$code:$line in
-        sql:0:'SET SCALE '*)
+        sql:0:'SET SCALE '* | lineage:0:output,component,dataset,source)
             line=$answer
             [ "$wanted_code" -lt 4 ] || code=$wanted_code
             ;;
@@ -415,7 +415,7 @@ fronts_of() {
     while read -r way; do
         set -- "$way" script.vtl structures.csv in out
         case $way in
-            sql) set -- sql script.vtl structures.csv ;;
+            sql | lineage) set -- "$way" script.vtl structures.csv ;;
             engine) set -- engine script.sql in out ;;
         esac
         while IFS='	' read -r from to wanted_code answer; do
@@ -458,7 +458,7 @@ devices() {
     while IFS='	' read -r way kind error chunk from to wanted_code answer; do
         set -- "$way" script.vtl structures.csv in out
         case $way in
-            sql) set -- sql script.vtl structures.csv ;;
+            sql | lineage) set -- "$way" script.vtl structures.csv ;;
             format) set -- format script.vtl ;;
             engine) set -- engine script.sql in out ;;
             demo) set -- demo 2 ;;
@@ -717,6 +717,7 @@ for folder in cases/*/; do
             case=$top/cases/devices
             laid_out
             without_output 6 sql script.vtl structures.csv
+            without_output 6 lineage script.vtl structures.csv
             without_output 6 format script.vtl
             without_output 6 demo 2
             without_output 1 run

@@ -100,6 +100,7 @@ def main(folder):
         ('sqlrun', of_run, [('out/X.csv', x), ('out/Y.csv', y)], ''),
         ('engine', of_engine, [('out/A.csv', x), ('out/B.csv', y)], ''),
         ('sql', of_text, [], *held('script.printed').values()),
+        ('lineage', of_text, [], *held('links').values()),
         ('format', held('script.vtl'), [], *held('script.vtl').values()),
         ('demo', {}, [], *held('demo').values()),
     ]

@@ -1,7 +1,7 @@
 #!/bin/sh
 # Runs examples in which memory runs out, by the built program: no-memory.sh [EXAMPLE ..], each a folder in the form of
 # examples/ or its name there; `balance` where none is named, and for `all` those of examples/ and cases/translated/, which hold
-# every form and every operator, and texts of the dialect. A script is run by `run` and `sqlrun`, and printed by `sql` and
+# every form and every operator, and texts of the dialect. A script is run by `run` and `sqlrun`, and told by `sql`, `lineage` and
 # `format`; a text is run by `engine`; `demo` takes no example. Each is called once for each call that asks for memory: that call
 # alone finds none, or no call from there on. Each answer is to be that the call is done, with the expected files or the whole
 # text; that there is no memory, with nothing written; or that a file could not be read or written, since the system asks for
@@ -138,7 +138,7 @@ for example; do
     fi
     if [ -e "$folder/script.vtl" ]; then
         for way in run sqlrun; do without_memory "$way" script.vtl structures.csv in "$made/out"; done
-        without_memory sql script.vtl structures.csv
+        for way in sql lineage; do without_memory "$way" script.vtl structures.csv; done
         without_memory format script.vtl
     fi
     [ -e "$folder/script.vtl" ] || [ -e "$folder/script.sql" ] || { echo "no-memory.sh: $folder has no script" >&2; exit 1; }

@@ -40,10 +40,10 @@ least() {
 for case; do
     folder=$made/cases/$case
     if [ -e "$folder/script.vtl" ]; then
-        for command in format sql run sqlrun; do
+        for command in format sql lineage run sqlrun; do
             case $command in
                 format) set -- format script.vtl ;;
-                sql) set -- sql script.vtl structures.csv ;;
+                sql | lineage) set -- "$command" script.vtl structures.csv ;;
                 *) set -- "$command" script.vtl structures.csv in "$made/out" ;;
             esac
             echo "$command $(least "$@") $case"
