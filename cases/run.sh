@@ -800,7 +800,8 @@ if wanted pages; then
 fi
 # Runs at the limits and beyond them, which scripts/limits.py makes: all but the large ones by the name `limits`.
 for size in limits large; do
-    wanted "$size" && command -v python3 >/dev/null || continue
+    wanted "$size" || continue
+    command -v python3 >/dev/null || continue
     set --
     [ "$size" = limits ] || set -- large
     scripts/limits.py "$made/limits" "$@" || fail "scripts/limits.py: exit code $?"

@@ -300,7 +300,7 @@ def declared(text):
         role = 'identifier' if name in keys else 'measure'
         made[name] = role, TYPES[kind], re.findall("'([^']*)'", codes), bool(not_null)
     components = {n: c for role in ROLES for n, c in made.items() if c[0] == role}
-    order = re.findall('"(\w+)"', re.search('ORDER BY (.*);', text).group(1))
+    order = re.findall(r'"(\w+)"', re.search('ORDER BY (.*);', text).group(1))
     return (int(scale), ROUNDINGS[rounding]), components, order
 
 

@@ -211,10 +211,6 @@ SETS = (PLAIN + components('DS_2', KEY, ('Me_1', 'measure', 'string')) + compone
 DATA = {'DS_1': 'Id_1,Me_1\na,7\n', 'DS_2': 'Id_1,Me_1\na,s\n', 'DS_3': 'Id_1,Me_1\na,true\n', 'DS_4': 'Id_1\na\n', 'DS_5': 'Id_1,I_2,Me_1\na,B0,7\n'}
 
 
-def numbered(text, count):
-    return ''.join(text.replace('#N', str(i)) for i in range(count))
-
-
 # a name, what opens a level, what stands innermost, what closes a level, how many levels there are, and the value
 SHAPES = [
     ('brackets', '(', 'DS_1', ')', 127, 7),
