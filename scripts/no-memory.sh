@@ -12,6 +12,7 @@ vtl=$top/crates/vtl/out/vtl
 [ -x "$vtl" ] || { echo "no-memory.sh: there is no program: scripts/build.sh builds it" >&2; exit 1; }
 made=$(mktemp -d) || exit 1
 trap 'rm -rf "$made"' EXIT
+mkdir "$made/out"
 passed=0
 failed=0
 [ "$#" != 0 ] || set -- balance
@@ -66,8 +67,7 @@ scarce() {
     first=$1
     last=$2
     shift 2
-    rm -rf "$made/out"
-    mkdir "$made/out" || exit 1
+    is_bare || rm -f "$made"/out/*
     (cd "$folder" && FIRST=$first LAST=$last LD_PRELOAD=$made/scarce.so exec "$vtl" "$@") >"$made/said" 2>"$made/told" </dev/null
     code=$?
     said=
@@ -82,7 +82,9 @@ are_fronts() {
 }
 
 # Whether nothing was written.
-is_bare() { [ -z "$(ls "$made/out")" ]; }
+is_bare() {
+    for file in "$made"/out/*; do [ ! -e "$file" ] || return 1; done
+}
 
 # Compares what the call has come to with what may be.
 judged() {
