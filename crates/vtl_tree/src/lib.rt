@@ -35,7 +35,7 @@ mod structure;
 mod structures;
 mod targets;
 
-pub use calls::{AnalyticCall, AnalyticOp, Bound, Frame, OrderKey, Window};
+pub use calls::{AnalyticCall, AnalyticOp, Bound, Frame, OrderKey, TimeOp, Window};
 pub use choices::{Choice, is_chosen, is_identifier, is_identifier_name, push_chosen};
 pub use clauses::{CalcItem, CalcValue, SubItem};
 pub use columns::{common_identifiers, kind_named, place_of, places_in};
