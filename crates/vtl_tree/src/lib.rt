@@ -34,6 +34,7 @@ mod specifications;
 mod structure;
 mod structures;
 mod targets;
+mod times;
 
 pub use calls::{AnalyticCall, AnalyticOp, Bound, Frame, OrderKey, TimeOp, Window};
 pub use choices::{Choice, is_chosen, is_identifier, is_identifier_name, push_chosen};
@@ -61,3 +62,4 @@ pub use specifications::{AggItems, AggSpec, AggTarget, AnalyticSpec, CheckSpec, 
 pub use structure::{Component, Role, Structure, is_same_role};
 pub use structures::Structures;
 pub use targets::Target;
+pub use times::{has_time, is_time};
