@@ -1,0 +1,2 @@
+pub mod SpanSeries
+pub mod TimeExamples
