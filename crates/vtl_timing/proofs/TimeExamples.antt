@@ -57,12 +57,12 @@ abbrev int : ℕ → Cell
 int n = Int (pos n)
 
 -- ---- a shift stays in its frequency, and leaves no year
-a_period_before : timeshift_of p (negsuc 0) (of (at (quarter 2020 1) (int 1) ∷ at (in_month 2020 12) (int 2) ∷ []))
+a_period_before : timeshift_of (negsuc 0) (of (at (quarter 2020 1) (int 1) ∷ at (in_month 2020 12) (int 2) ∷ []))
     ≡ Ok (at (quarter 2019 4) (int 1) ∷ at (in_month 2020 11) (int 2) ∷ [])
 unfolding shift_of
 a_period_before = refl
 
-no_year_behind : timeshift_of p (pos 1) (of (at (year 9999) (int 1) ∷ [])) ≡ Err Range
+no_year_behind : timeshift_of (pos 1) (of (at (year 9999) (int 1) ∷ [])) ≡ Err Range
 unfolding shift_of
 no_year_behind = refl
 

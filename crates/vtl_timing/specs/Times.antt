@@ -1,7 +1,7 @@
 -- The time operators: `timeshift`, `fill_time_series`, `flow_to_stock` and `stock_to_flow`. The time of an operand is its one identifier of
 -- kind time_period. A series is the points that agree in the other identifiers and in the frequency of their time; what comes before what
 -- in it is said by the order of periods, so no series is sorted and no point has a place.
-use Rattle.std.specs.Prelude.{ℕ, ℤ, pos, ◌≡◌, ◌-◌, Bool, not, ◌&&◌, List, [], ◌∷◌, ◌++◌, map, filter, find, length, take, drop, Option, Ok, if◌then◌else◌}
+use Rattle.std.specs.Prelude.{ℕ, ℤ, pos, ◌≡◌, Bool, not, ◌&&◌, List, [], ◌∷◌, ◌++◌, map, filter, find, length, Option, Some, Ok, if◌then◌else◌}
 use Rattle.std.specs.List.{list_all, position_or_len}
 use Rattle.std.specs.Option.{option_map_or}
 use Rattle.std.specs.Ordering.{is_le, is_lt}
@@ -15,31 +15,31 @@ use Rattle.vtl_cell.specs.declared.cell.Cell.TheVariants as c
 use Rattle.vtl_cell.specs.declared.kind.Kind.TheVariants as k
 use Rattle.vtl_cell.specs.declared.operator.AggKind.TheVariants as agg
 use Rattle.vtl_cell.specs.declared.operator.ScalarOp.TheVariants as op
-use Rattle.vtl_cell.specs.ScalarPeriods.{frequency_of}
+use Rattle.vtl_cell.specs.ScalarPeriods.{frequency_of, shifted_of}
 use Rattle.vtl_decimal.specs.Settings.{Settings}
 use Rattle.vtl_series.specs.Series.{series_rows}
 use Rattle.vtl_series.specs.declared.extent.Extent.{Extent}
-use Rattle.vtl_tree.specs.Columns.{column_named, identifiers_of, others_of, places_in}
-use Rattle.vtl_tree.specs.CompExp.{CompExp, call, comp_exp, const, no_comp_exps}
+use Rattle.vtl_tree.specs.Columns.{identifiers_of, places_in}
 use Rattle.vtl_tree.specs.Environment.{DataSet}
 use Rattle.vtl_tree.specs.Measures.{is_measure}
-use Rattle.vtl_tree.specs.Structure.{columns_of}
+use Rattle.vtl_tree.specs.Structure.{columns_of, same_role}
 use Rattle.vtl_tree.specs.Value.{called}
 use Rattle.vtl_tree.specs.declared.structure.Component.{Component}
+use Rattle.vtl_tree.specs.declared.structure.Role.TheVariants as role
 use Rattle.vtl_tree.specs.declared.structure.Structure.{Structure}
 use Rattle.vtl_meaning.specs.Aggregates.{Made}
 use Rattle.vtl_meaning.specs.Agreement.{values_in}
 use Rattle.vtl_meaning.specs.Analytics.{each_point as each_made}
 use Rattle.vtl_meaning.specs.Joined.{tuple_at, tuple_point}
-use Rattle.vtl_meaning.specs.LookUps.{value_named}
-use Rattle.vtl_meaning.specs.Points.{each_point}
+use Rattle.vtl_meaning.specs.LookUps.{value_named, values_named}
 
 -- ---- the time
 
+-- an identifier that holds periods
 abbrev pub is_time : Component → Bool
-is_time x = same_kind x.kind k.Period
+is_time x = same_role x.role role.Identifier && same_kind x.kind k.Period
 
--- exactly one identifier holds periods
+-- exactly one identifier does
 abbrev pub HasTime : Structure → Type 0
 HasTime a = length (filter is_time (identifiers_of a)) ≡ 1
 
@@ -77,22 +77,21 @@ abbrev pub previous : DataSet → Row → Option Row
 previous d r = find (λ q. list_all (λ z. is_le (cell_cmp (time_of d.structure z) (time_of d.structure q))) (before d r)) (before d r)
 
 -- ---- `timeshift`: each point with its time so many periods later, or earlier for a negative number
-abbrev pub shifted_exp : ℤ → Structure → Component → CompExp
-shifted_exp n a x =
-    if is_time x then call op.PeriodShift k.Period (comp_exp (column_named (columns_of a) x.name) (comp_exp (const (c.Int n)) no_comp_exps))
-    else column_named (columns_of a) x.name
+abbrev pub shifted_value : ℤ → Structure → Component → Row → Outcome Cell
+shifted_value n a y r = let v = value_named (columns_of a) r y.name in if is_time y then shifted_of v (Some n) else Ok v
 
-abbrev pub shifted_exps : ℤ → Structure → List CompExp
-shifted_exps n a = map (shifted_exp n a) (identifiers_of a) ++ map (λ x. column_named (columns_of a) x.name) (others_of a)
-
-abbrev pub timeshift_of : Settings → ℤ → DataSet → Outcome (List Row)
-timeshift_of p n d = each_point p (shifted_exps n d.structure) d.points
+abbrev pub timeshift_of : ℤ → DataSet → Outcome (List Row)
+timeshift_of n d = each_made (shifted_value n d.structure) (columns_of d.structure) d.points
 
 -- ---- `fill_time_series`: a point for each period of each series, with null in all that is no identifier where there was none
 
--- a row of a series, whose last cell is the period, as identifiers in their order
+-- the columns of a row of a series, of which the period is the last
+abbrev pub series_columns : Structure → List Component
+series_columns a = other_identifiers a ++ filter is_time (identifiers_of a)
+
+-- such a row as the identifiers of a point, in their order
 abbrev pub in_order : Structure → Row → Row
-in_order a r = let t = time_place a in take t r ++ column_of (length r - 1) r ∷ take (length r - 1 - t) (drop t r)
+in_order a r = values_named (series_columns a) (identifiers_of a) r
 
 abbrev pub filled_keys : Extent → DataSet → List Row
 filled_keys e d = map (in_order d.structure) (series_rows e (time_place d.structure) (places_in (columns_of d.structure) (other_identifiers d.structure)) d.points)
