@@ -77,11 +77,11 @@ abbrev pub previous : DataSet → Row → Option Row
 previous d r = find (λ q. list_all (λ z. is_le (cell_cmp (time_of d.structure z) (time_of d.structure q))) (before d r)) (before d r)
 
 -- ---- `timeshift`: each point with its time so many periods later, or earlier for a negative number
-abbrev pub shifted_value : ℤ → Structure → Component → Row → Outcome Cell
-shifted_value n a y r = let v = value_named (columns_of a) r y.name in if is_time y then shifted_of v (Some n) else Ok v
+abbrev pub shifted_value : ℤ → List Component → Component → Row → Outcome Cell
+shifted_value n xs y r = let v = value_named xs r y.name in if is_time y then shifted_of v (Some n) else Ok v
 
 abbrev pub timeshift_of : ℤ → DataSet → Outcome (List Row)
-timeshift_of n d = each_made (shifted_value n d.structure) (columns_of d.structure) d.points
+timeshift_of n d = each_made (shifted_value n (columns_of d.structure)) (columns_of d.structure) d.points
 
 -- ---- `fill_time_series`: a point for each period of each series, with null in all that is no identifier where there was none
 
