@@ -50,9 +50,8 @@ fn asked_places(alloc: Global, structure: &Structure) -> Result<Vec<usize>, Allo
 fn own_places(alloc: Global, structure: &Structure) -> Result<Vec<usize>, AllocError>
     ensures { IfOk result (λ v. v.items ≡ places_in (columns_of structure.now) (identifiers_of structure.now)) }
 {
-    let columns = structure.columns(alloc)?;
     let identifiers = structure.identifiers(alloc)?;
-    places_in(alloc, &columns, &identifiers)
+    vtl_expr::places_in(alloc, structure, &identifiers)
 }
 
 // For each row of the series the number of the point with its identifiers, or how many points there are.

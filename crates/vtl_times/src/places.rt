@@ -1,7 +1,6 @@
 // Where the time and the other identifiers stand.
-ghost use Rattle.std.specs.Prelude.{◌≡◌, ◌++◌, IfOk, OnOk};
+ghost use Rattle.std.specs.Prelude.{◌≡◌, ◌++◌, not, IfOk, OnOk};
 ghost use Rattle.std.specs.List.{filter, position_or_len};
-ghost use Rattle.vtl_tree.specs.Columns.{identifiers_of};
 ghost use Rattle.vtl_tree.specs.Shown.{shown};
 ghost use Rattle.vtl_timing.specs.Times.{is_time, other_identifiers, series_columns, time_place};
 
@@ -36,6 +35,36 @@ pub(crate) fn time_place(alloc: Global, structure: &Structure) -> Result<usize, 
     Ok(first_time(&identifiers))
 }
 
+// Puts those of some identifiers that are no time behind other components.
+fn push_others<'a>(
+    columns: &mut Vec<&'a Component>,
+    identifiers: &[&'a Component],
+) -> Result<(), AllocError>
+    ensures { OnOk result (shown columns.new.items ≡ shown columns.old.items ++ filter (λ x. not (is_time x)) (shown identifiers.now)) }
+{
+    for identifier in identifiers {
+        if !is_time(identifier) {
+            columns.push(*identifier)?;
+        }
+    }
+    Ok(())
+}
+
+// Puts those that are a time behind other components.
+fn push_times<'a>(
+    columns: &mut Vec<&'a Component>,
+    identifiers: &[&'a Component],
+) -> Result<(), AllocError>
+    ensures { OnOk result (shown columns.new.items ≡ shown columns.old.items ++ filter is_time (shown identifiers.now)) }
+{
+    for identifier in identifiers {
+        if is_time(identifier) {
+            columns.push(*identifier)?;
+        }
+    }
+    Ok(())
+}
+
 /// The identifiers without the time. It fails only if memory runs out.
 pub(crate) fn other_identifiers(
     alloc: Global,
@@ -43,28 +72,10 @@ pub(crate) fn other_identifiers(
 ) -> Result<Vec<&Component>, AllocError>
     ensures { IfOk result (λ v. shown v.items ≡ other_identifiers structure.now) }
 {
+    let identifiers = structure.identifiers(alloc)?;
     let mut others = Vec::new(alloc);
-    for component in structure.components.as_slice() {
-        if is_same_role(component.role, Role::Identifier) && !is_time(component) {
-            others.push(component)?;
-        }
-    }
+    push_others(&mut others, &identifiers)?;
     Ok(others)
-}
-
-// Puts the times of a structure behind other components.
-fn push_times<'a>(
-    columns: &mut Vec<&'a Component>,
-    structure: &'a Structure,
-) -> Result<(), AllocError>
-    ensures { OnOk result (shown columns.new.items ≡ shown columns.old.items ++ filter is_time (identifiers_of structure.now)) }
-{
-    for component in structure.components.as_slice() {
-        if is_time(component) {
-            columns.push(component)?;
-        }
-    }
-    Ok(())
 }
 
 /// The columns of the rows of series: the other identifiers, and behind them the time. It fails only if memory runs out.
@@ -74,7 +85,9 @@ pub(crate) fn series_columns(
 ) -> Result<Vec<&Component>, AllocError>
     ensures { IfOk result (λ v. shown v.items ≡ series_columns structure.now) }
 {
-    let mut columns = other_identifiers(alloc, structure)?;
-    push_times(&mut columns, structure)?;
+    let identifiers = structure.identifiers(alloc)?;
+    let mut columns = Vec::with_capacity(alloc, identifiers.len())?;
+    push_others(&mut columns, &identifiers)?;
+    push_times(&mut columns, &identifiers)?;
     Ok(columns)
 }
