@@ -35,7 +35,7 @@ use Rattle.vtl_meaning.specs.Analytics.{each_point as each_made, point_of}
 use Rattle.vtl_meaning.specs.Points.{cell_or_null}
 use Rattle.vtl_meaning.proofs.AnalyticColumns.{all_front, cells_are, columns_found, columns_split, identifier_cells}
 use Rattle.vtl_meaning.proofs.Drawn.{AreDrawn, drawn_all, drawn_apart, map_drawn}
-use Rattle.vtl_meaning.proofs.GroupKinds.{IsOf}
+use Rattle.vtl_meaning.proofs.GroupKinds.{IsOf, null_is_of}
 use Rattle.vtl_meaning.proofs.GroupPoints.{HasCell, all_more, found_cell}
 use Rattle.vtl_meaning.proofs.Kept.{unless_ok}
 use Rattle.vtl_timing.specs.TimeShapes.{AreDated, IsDated}
@@ -112,6 +112,15 @@ module _ (n : ℤ) where
       go : (q : YearPart) (o : Option YearPart) → fault_in (period o) ≡ None → HasCell y (cell_or_null (period o))
       go q None e = cc
       go q (Some m) e = period_has y m t
+
+  later_of : (y : Component) (v : Cell) → HasCell y v → is_time y ≡ true → IsOf y.kind (cell_or_null (later v))
+  later_of y v h t =
+      let is = time_cell y v h t in
+      subst (λ x. IsOf y.kind (cell_or_null (later x))) (sym is.1) (go (shift_of is.0 n))
+    where
+      go : (o : Option YearPart) → IsOf y.kind (cell_or_null (period o))
+      go None = null_is_of y.kind
+      go (Some m) = (period_has y m t).0
 
   later_back : (y : Component) (v w : Cell) → HasCell y v → HasCell y w → is_time y ≡ true → IsDated v → IsDated w → fault_in (later v) ≡ None → fault_in (later w) ≡ None
       → cell_or_null (later v) ≡ cell_or_null (later w) → v ≡ w
@@ -191,6 +200,16 @@ module _ (n : ℤ) (a : Structure) (well : IsStructure a) where
       go : (b : Bool) → is_time y ≡ b → fault_in (of b r) ≡ None → fault_in (of b q) ≡ None → cell_or_null (of b r) ≡ cell_or_null (of b q) → at r y ≡ at q y
       go true t e f same = later_back n y (at r y) (at q y) h i t dr dq e f same
       go false t e f same = same
+
+  made_of : (r : Row) (y : Component) → HasCell y (at r y) → IsOf y.kind (cell_or_null (made y r))
+  made_of r y h = go (is_time y) refl
+    where
+      go : (b : Bool) → is_time y ≡ b → IsOf y.kind (cell_or_null (if b then later n (at r y) else Ok (at r y)))
+      go true t = later_of n y (at r y) h t
+      go false t = h.0
+
+  pub made_of_kinds : (r : Row) → is_point xs r ≡ true → AllByRecursion (λ y. IsOf y.kind (cell_or_null (made y r))) xs
+  made_of_kinds r h = all_more (λ y. HasCell y (at r y)) (λ y. IsOf y.kind (cell_or_null (made y r))) (made_of r) xs (own_cells r h)
 
   abbrev point : Row → Row
   point = point_of made xs
