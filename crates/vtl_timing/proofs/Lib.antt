@@ -1,0 +1,3 @@
+pub mod ShiftKept
+pub mod SpanSeries
+pub mod TimeExamples

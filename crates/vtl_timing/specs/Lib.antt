@@ -1,0 +1,2 @@
+pub mod TimeShapes
+pub mod Times
