@@ -87,6 +87,16 @@ module _ (P : FormTree → Type 0) where
       (λ a ha. then (IsNodeUpTo P d) (IsTreeUpTo P d) (dataset_in y) (λ b. pairs.exists_form (structure_of a) (structure_of b) >>= made_of (nodes.exists_in a b (unwrap_or r retain.All))) (dataset-in-up d y hy)
       (λ b hb. dataset-up P d (nodes.exists_in a b (unwrap_or r retain.All)) _ (λ s. node-up P d s _ ha.some tt tt tt (beside P d (nodes_in a) (nodes_in b) ha.each hb.each))))
 
+  -- ---- time operators
+  time-node-up : (d : ℕ) (o : TimeOp) (a : NodeTree) → IsNodeUpTo P d a → Gives (IsTreeUpTo P d) (time_node o a)
+  time-node-up d o a h = dataset-up P d (nodes.time a o) _ (λ s. node-up P d s _ h.some tt tt tt h.each)
+
+  pub time-up : (d : ℕ) (p : Settings) (call : TimeCall) (x : TypedTree) → IsTreeUpTo P d x → Gives (IsTreeUpTo P d) (time_form p call x)
+  unfolding time_form
+  time-up d p call x h =
+      after (IsTreeUpTo P d) (operator_typed p call) (λ o. dataset_in x >>= time_node o)
+      (λ o. then (IsNodeUpTo P d) (IsTreeUpTo P d) (dataset_in x) (time_node o) (dataset-in-up d x h) (time-node-up d o))
+
   -- ---- `check`
   imbalance-up : (d : ℕ) (i : Option TypedTree) → IfSome i (IsTreeUpTo P d) → Gives (λ b. IfSome b (IsNodeUpTo P d)) (imbalance_in i)
   imbalance-up d None h = tt

@@ -70,6 +70,7 @@ module _ (P : FormTree → Type 0) (sight : Sight) (calls : AreCalls P sight.cal
     deep at (tree.exists_in a b r) d le =
         then (IsTreeUpTo P d) (IsTreeUpTo P d) (typed sight place.Outside a) (λ x. typed sight place.Outside b >>= exists_form r x) (deep place.Outside a d (omega arith))
         (λ x hx. then (IsTreeUpTo P d) (IsTreeUpTo P d) (typed sight place.Outside b) (exists_form r x) (deep place.Outside b d (omega arith)) (λ y hy. exists-up P d r x y hx hy))
+    deep at (tree.time e call) d le = then (IsTreeUpTo P d) (IsTreeUpTo P d) (typed sight place.Outside e) (time_form sight.settings call) (deep place.Outside e d (omega arith)) (λ x h. time-up P d sight.settings call x h)
     deep at (tree.check e err i o) d le =
         then (IsTreeUpTo P d) (IsTreeUpTo P d) (typed sight place.Outside e) (λ x. check_spec sight.settings err o >>= λ s. maybe_typed sight place.Outside i >>= check_form s x) (deep place.Outside e d (omega arith))
         (λ x hx. after (IsTreeUpTo P d) (check_spec sight.settings err o) (λ s. maybe_typed sight place.Outside i >>= check_form s x)

@@ -209,6 +209,7 @@ module _ (sight : Sight) (are : AreShaped sight.known) (calls : AreSoundRulings 
     sound at (tree.exists_in a b r) =
         then (IsWellTyped env place.Outside) (IsWellTyped env at) (typed sight place.Outside a) (λ x. typed sight place.Outside b >>= exists_form r x) (sound place.Outside a)
         (λ x hx. then (IsWellTyped env place.Outside) (IsWellTyped env at) (typed sight place.Outside b) (exists_form r x) (sound place.Outside b) (λ y hy. exists-gives env at r x y hx hy))
+    sound at (tree.time e call) = then (IsWellTyped env place.Outside) (IsWellTyped env at) (typed sight place.Outside e) (time_form sight.settings call) (sound place.Outside e) (λ x h. time-gives env at call x h)
     sound at (tree.check e err i o) =
         then (IsWellTyped env place.Outside) (IsWellTyped env at) (typed sight place.Outside e) (λ x. check_spec sight.settings err o >>= λ s. maybe_typed sight place.Outside i >>= check_form s x) (sound place.Outside e)
         (λ x hx. then (λ s. IsLevel sight.settings s.errorlevel) (IsWellTyped env at) (check_spec sight.settings err o) (λ s. maybe_typed sight place.Outside i >>= check_form s x) (spec-gives sight.settings err o)
