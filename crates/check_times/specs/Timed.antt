@@ -1,12 +1,10 @@
 -- Time operators: what they are given behind their operand, what they ask of it, and what they give.
-use Rattle.std.specs.Prelude.{ℕ, ℤ, pos, neg_ℤ, Bool, true, false, not, [], ◌∷◌, Option, Some, None, Result, Ok, Err, cond, unwrap_or}
+use Rattle.std.specs.Prelude.{ℕ, ℤ, pos, neg_ℤ, Bool, true, false, not, [], ◌∷◌, Result, Ok, unwrap_or}
 use Rattle.vtl_decimal.specs.Settings.{Settings}
-use Rattle.vtl_cell.specs.AggregateKinds.{is_number}
 use Rattle.vtl_syntax.specs.declared.parts.TimeCall.{TimeCall}
 use Rattle.vtl_syntax.specs.declared.parts.TimeCall.TheVariants as call
 use Rattle.vtl_syntax.specs.declared.word_groups.Filling.TheVariants as filling
-use Rattle.vtl_tree.specs.Measures.{Gives}
-use Rattle.vtl_tree.specs.Times.{has_time}
+use Rattle.vtl_tree.specs.Times.{flow_gives, has_time}
 use Rattle.vtl_tree.specs.Trees.{NodeTree, structure_of, time}
 use Rattle.vtl_tree.specs.declared.calls.TimeOp.{TimeOp}
 use Rattle.vtl_tree.specs.declared.calls.TimeOp.TheVariants as op
@@ -36,10 +34,6 @@ operator_typed p call.FlowToStock = Ok op.FlowToStock
 operator_typed p call.StockToFlow = Ok op.StockToFlow
 
 -- ---- the operand
-
--- flows and stocks are numbers or integers, and keep their kind
-abbrev pub flow_gives : Gives
-flow_gives a b = cond (is_number a) (Some a) None
 
 -- identifiers and measures, of which there is one at least
 abbrev pub flow_structure : Structure → Result Structure Rule

@@ -20,7 +20,7 @@ use vtl_tree::{Choice, Node, NodeForm, Outcome, Structure, TimeOp, has_time, sha
 struct Flow;
 
 impl Operator for Flow {
-    ghost use Rattle.check_times.specs.Timed.{flow_gives};
+    ghost use Rattle.vtl_tree.specs.Times.{flow_gives};
 
     ghost gives = { λ operator. flow_gives };
 

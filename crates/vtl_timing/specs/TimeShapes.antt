@@ -1,5 +1,5 @@
 -- What typing tells of the operands and the results of time operators.
-use Rattle.std.specs.Prelude.{◌≡◌, ◌≤◌, true, not, IfSome, IsTrue, List, filter, length}
+use Rattle.std.specs.Prelude.{◌≡◌, ◌≤◌, true, IfSome, IsTrue, List, length}
 use Rattle.std.specs.List.{AllByRecursion}
 use Rattle.vtl_cell.specs.AggregateKinds.{is_number}
 use Rattle.vtl_cell.specs.Held.{IsHeld}
@@ -8,15 +8,10 @@ use Rattle.vtl_cell.specs.declared.cell.Cell.{Cell}
 use Rattle.vtl_series.specs.Series.{period_in}
 use Rattle.vtl_time.specs.Periods.{is_year_part}
 use Rattle.vtl_tree.specs.Measures.{measures}
-use Rattle.vtl_tree.specs.Structure.{IsStructure, same_role}
-use Rattle.vtl_tree.specs.declared.structure.Component.{Component}
-use Rattle.vtl_tree.specs.declared.structure.Role.TheVariants as role
+use Rattle.vtl_tree.specs.Structure.{IsStructure}
+use Rattle.vtl_tree.specs.Times.{flow_components}
 use Rattle.vtl_tree.specs.declared.structure.Structure.{Structure}
 use Rattle.vtl_timing.specs.Times.{HasTime}
-
--- identifiers and measures, in their order
-abbrev pub without_attributes : List Component → List Component
-without_attributes xs = filter (λ x. not (same_role x.role role.Attribute)) xs
 
 -- a time, some measure, and no measure but numbers and integers
 pub record IsFlowed (a s : Structure) : Type 0 where
@@ -25,7 +20,7 @@ pub record IsFlowed (a s : Structure) : Type 0 where
   pub time : HasTime a
   pub some : 1 ≤ length (measures a.components)
   pub numbers : AllByRecursion (λ x. is_number x.kind ≡ true) (measures a.components)
-  pub shape : s.components ≡ without_attributes a.components
+  pub shape : s.components ≡ flow_components a.components
 
 -- each cell is one that a program holds: its time a period of the years 0 to 9999, its numbers in their range
 abbrev pub AreHeld : List Row → Type 0
