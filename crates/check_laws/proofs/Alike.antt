@@ -57,6 +57,7 @@ use Rattle.check_laws.specs.Scripts.{AreCalledAlike, AreKnownAlike}
 use Rattle.check_laws.specs.SoundRulings.{env_of}
 use Rattle.vtl_meaning.proofs.Lists as lists
 use Rattle.check_laws.proofs.SoundRulings.{looked}
+use Rattle.check_times.specs.Timed.{time_form}
 
 same-each : {A B : Type 0} (s : Result A Rule) (f g : A → Result B Rule) → ((x : A) → f x ≡ g x) → (s >>= f) ≡ (s >>= g)
 same-each (Ok x) f g h = h x

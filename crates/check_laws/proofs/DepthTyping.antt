@@ -30,9 +30,10 @@ use Rattle.check_laws.specs.Gives.{Gives}
 use Rattle.check_laws.proofs.DepthBounds.{IsItemUpTo, IsNodeUpTo, IsTreeUpTo, IsUpTo, IsValueUpTo, call-over-up}
 use Rattle.check_laws.proofs.DepthClauses.{IsOperandUpTo, IsPartUpTo, aggr-up, calc-up, condition-up, end-up, filter-up, joined-up, keeping-up, operands-up, part-up, pivot-up, renaming-up, sub-up, target-up, tree-step, unpivot-up}
 use Rattle.check_laws.proofs.DepthOperators.{behind-up, constants-up, names-up, operator-step, or-component-up, set-step, two-step}
-use Rattle.check_laws.proofs.DepthSets.{check-up, dataset-step, difference-up, exists-up, grouped-up, member-up, over-up, sets-up}
+use Rattle.check_laws.proofs.DepthSets.{check-up, dataset-step, difference-up, exists-up, grouped-up, member-up, over-up, sets-up, time-up}
 use Rattle.vtl_meaning.proofs.Lists as lists
 use Rattle.check_laws.proofs.Steps.{after, then, weaker}
+use Rattle.check_times.specs.Timed.{time_form}
 
 -- where what calls give stands over their operands, and this holds of it
 module _ (P : FormTree → Type 0) (sight : Sight) (calls : AreCalls P sight.called) where

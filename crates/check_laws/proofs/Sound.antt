@@ -67,6 +67,8 @@ use Rattle.check_laws.proofs.Operators.{AreFit, operator-gives, set-form-gives}
 use Rattle.check_laws.proofs.Sets.{IsLevel, check-gives, dataset-gives, difference-gives, exists-gives, member-gives, sets-give, spec-gives}
 use Rattle.check_laws.proofs.Steps.{after, both, then, weaker}
 use Rattle.check_laws.proofs.Values.{constants-give, names-give, written-gives}
+use Rattle.check_times.specs.Timed.{time_form}
+use Rattle.check_laws.proofs.Timed.{time-gives}
 
 -- ---- parts of the walk
 tree-gives : (env : Env) (at : Place) (r : Result NodeTree Rule) → Gives (IsMade env.settings env.known) r → Gives (IsWellTyped env at) (as_dataset r)

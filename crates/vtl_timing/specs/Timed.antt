@@ -1,7 +1,5 @@
 -- What a node with a time operator means, and what typing gives of it.
-use Rattle.std.specs.Prelude.{◌≡◌, Ok, Unit, List, IsTrue, ◌&&◌, neg_ℤ}
-use Rattle.std.specs.Int.RustNames.{int_le}
-use Rattle.vtl_cell.specs.Literals.{longest_reach}
+use Rattle.std.specs.Prelude.{◌≡◌, Ok, true, List, unsigned_abs}
 use Rattle.vtl_cell.specs.Outcome.{Outcome}
 use Rattle.vtl_cell.specs.Row.{Row}
 use Rattle.vtl_decimal.specs.Settings.{Settings}
@@ -13,6 +11,7 @@ use Rattle.vtl_tree.specs.Environment.{DataSet}
 use Rattle.vtl_tree.specs.declared.calls.TimeOp.{TimeOp}
 use Rattle.vtl_tree.specs.declared.calls.TimeOp.TheVariants as op
 use Rattle.vtl_tree.specs.declared.structure.Structure.{Structure}
+use Rattle.vtl_meaning.specs.Reaches.{is_near}
 use Rattle.vtl_timing.specs.TimeShapes.{IsFlowed}
 use Rattle.vtl_timing.specs.Times.{HasTime, fill_of, flow_of, stock_of, timeshift_of}
 
@@ -30,7 +29,7 @@ timed_of p op.StockToFlow d s = flow_of p d s
 
 -- a period is shifted no farther than a literal may say
 abbrev pub IsReached : TimeOp → Type 0
-IsReached (op.Shift n) = IsTrue (int_le (neg_ℤ longest_reach) n && int_le n longest_reach)
+IsReached (op.Shift n) = is_near (unsigned_abs n) ≡ true
 IsReached other = Unit {0}
 
 -- the structure of the result
