@@ -185,8 +185,7 @@ name_of_time (time_call.FillTimeSeries f) = time_name.FillTimeSeries
 name_of_time time_call.FlowToStock = time_name.FlowToStock
 name_of_time time_call.StockToFlow = time_name.StockToFlow
 
--- what stands behind the operand of a time operator
--- time_part = "," [ "-" ] INTEGER | [ "," filling ] |
+-- what stands behind the operand of a time operator: the "," [ "-" ] INTEGER of `timeshift`, the [ "," filling ] of `fill_time_series`
 abbrev pub time_part_onto : TimeCall → Tokens → Tokens
 time_part_onto (time_call.Timeshift true n) ts = comma ∷ sign s.Minus ∷ integer n ∷ ts
 time_part_onto (time_call.Timeshift false n) ts = comma ∷ integer n ∷ ts

@@ -239,7 +239,7 @@ retain_at (token.Keyword keyword.True) = Some retain.True
 retain_at (token.Keyword keyword.False) = Some retain.False
 retain_at _ = None
 
--- time_name = "timeshift" | "fill_time_series" | "flow_to_stock" | "stock_to_flow"
+-- the time operators
 abbrev pub time_name_token : TimeName → TokenKind
 time_name_token time_name.Timeshift = token.Keyword keyword.Timeshift
 time_name_token time_name.FillTimeSeries = token.Keyword keyword.FillTimeSeries
