@@ -18,10 +18,10 @@ use Rattle.vtl_cell.proofs.Rows.{same_row-is, same_row-refl, split_and}
 use Rattle.vtl_decimal.specs.declared.number.Fault.{Fault}
 use Rattle.vtl_decimal.specs.declared.number.Fault.TheVariants.{DivZero, Range}
 use Rattle.vtl_rows.specs.Tables.{cells_at}
-use Rattle.vtl_series.specs.Series.{period_in}
 use Rattle.vtl_time.specs.Periods.{YearPart, index_of, parts_in_year, period_at, period_within, shift_of}
 use Rattle.vtl_time.specs.declared.periods.Frequency.{Frequency}
-use Rattle.vtl_time.proofs.PeriodLemmas.{IsPart, index-period_at, period_at-index}
+use Rattle.vtl_time.proofs.PeriodLaws.{shift_whole}
+use Rattle.vtl_time.proofs.PeriodLemmas.{IsPart, index-period_at, period_at-index, shift_is}
 use Rattle.vtl_tree.specs.Columns.{identifiers_of, others_of, place_of, places_in}
 use Rattle.vtl_tree.specs.DataSet.{IsDataSet, is_point}
 use Rattle.vtl_tree.specs.Environment.{DataSet}
@@ -38,7 +38,6 @@ use Rattle.vtl_meaning.proofs.Drawn.{AreDrawn, drawn_all, drawn_apart, map_drawn
 use Rattle.vtl_meaning.proofs.GroupKinds.{IsOf, null_is_of}
 use Rattle.vtl_meaning.proofs.GroupPoints.{HasCell, all_more, found_cell}
 use Rattle.vtl_meaning.proofs.Kept.{unless_ok}
-use Rattle.vtl_timing.specs.TimeShapes.{AreDated, IsDated}
 use Rattle.vtl_timing.specs.Times.{is_time, shifted_value, timeshift_of}
 
 -- ---- a shift can be taken back
@@ -49,8 +48,7 @@ pub record IsMoved (q m : YearPart) (n : ℤ) : Type 0 where
   pub is : m ≡ period_at q.frequency number
 
 moved : (q m : YearPart) (n : ℤ) → shift_of q n ≡ Some m → IsMoved q m n
-unfolding shift_of
-moved q m n e = go (pos (index_of q) +ℤ n) refl e
+moved q m n e = go (pos (index_of q) +ℤ n) refl (sym (shift_is q n (shift_whole q m n e)) ∙ e)
   where
     within : (i : ℕ) → pos (index_of q) +ℤ n ≡ pos i → (b : Bool) → cond b (Some (period_at q.frequency i)) None ≡ Some m → IsMoved q m n
     within i s true f = let same : period_at q.frequency i ≡ m = cc in record { number = i; sum = s; is = sym same }
@@ -122,22 +120,22 @@ module _ (n : ℤ) where
       go None = null_is_of y.kind
       go (Some m) = (period_has y m t).0
 
-  later_back : (y : Component) (v w : Cell) → HasCell y v → HasCell y w → is_time y ≡ true → IsDated v → IsDated w → fault_in (later v) ≡ None → fault_in (later w) ≡ None
+  later_back : (y : Component) (v w : Cell) → HasCell y v → HasCell y w → is_time y ≡ true → fault_in (later v) ≡ None → fault_in (later w) ≡ None
       → cell_or_null (later v) ≡ cell_or_null (later w) → v ≡ w
-  later_back y v w h i t dv dw a b same =
+  later_back y v w h i t a b same =
       let q = time_cell y v h t in
       let s = time_cell y w i t in
       q.1
       ∙ ap c.Period
-          (go q.0 s.0 (subst IsDated q.1 dv) (subst IsDated s.1 dw) (shift_of q.0 n) (shift_of s.0 n) refl refl
+          (go q.0 s.0 (shift_of q.0 n) (shift_of s.0 n) refl refl
           (ap (λ x. fault_in (later x)) (sym q.1) ∙ a) (ap (λ x. fault_in (later x)) (sym s.1) ∙ b)
           (ap (λ x. cell_or_null (later x)) (sym q.1) ∙ same ∙ ap (λ x. cell_or_null (later x)) s.1))
       ∙ sym s.1
     where
-      go : (q s : YearPart) → IsPart q → IsPart s → (o u : Option YearPart) → shift_of q n ≡ o → shift_of s n ≡ u → fault_in (period o) ≡ None → fault_in (period u) ≡ None → cell_or_null (period o) ≡ cell_or_null (period u) → q ≡ s
-      go q s hq hs None u e f a b same = cc
-      go q s hq hs (Some m) None e f a b same = cc
-      go q s hq hs (Some m) (Some l) e f a b same = let one : m ≡ l = cc in one_back q s m n hq hs e (f ∙ ap Some (sym one))
+      go : (q s : YearPart) (o u : Option YearPart) → shift_of q n ≡ o → shift_of s n ≡ u → fault_in (period o) ≡ None → fault_in (period u) ≡ None → cell_or_null (period o) ≡ cell_or_null (period u) → q ≡ s
+      go q s None u e f a b same = cc
+      go q s (Some m) None e f a b same = cc
+      go q s (Some m) (Some l) e f a b same = let one : m ≡ l = cc in one_back q s m n (shift_whole q m n e) (shift_whole s l n f) e (f ∙ ap Some (sym one))
 
 -- ---- lists
 none_parts : (f g : Option Fault) → join f g ≡ None → (f ≡ None) × (g ≡ None)
@@ -150,11 +148,6 @@ none_parts (Some Range) (Some Range) e = cc
 pub each_without : {X : Type 0} (f : X → Option Fault) (xs : List X) → faults_by f xs ≡ None → AllByRecursion (λ x. f x ≡ None) xs
 each_without f [] e = tt
 each_without f (x ∷ xs) e = let parts = none_parts (f x) (faults_by f xs) e in (parts.0, each_without f xs parts.1)
-
-dated_at : (place : ℕ) (r : Row) → AllByRecursion IsDated r → IsDated (column_of place r)
-dated_at place [] all = tt
-dated_at zero (v ∷ r) all = all.0
-dated_at (suc place) (v ∷ r) all = dated_at place r all.1
 
 all_three : {X : Type 0} (P Q R S : X → Type 0) → ((x : X) → P x → Q x → R x → S x) → (xs : List X) → AllByRecursion P xs → AllByRecursion Q xs → AllByRecursion R xs → AllByRecursion S xs
 all_three P Q R S f [] a b d = tt
@@ -177,7 +170,6 @@ module _ (n : ℤ) (a : Structure) (well : IsStructure a) where
   -- a point that has no fault
   record IsSound (r : Row) : Type 0 where
     pub point : is_point xs r ≡ true
-    pub dated : AllByRecursion IsDated r
     pub none : AllByRecursion (λ y. fault_in (made y r) ≡ None) xs
 
   own_cells : (r : Row) → is_point xs r ≡ true → AllByRecursion (λ y. HasCell y (at r y)) xs
@@ -190,15 +182,15 @@ module _ (n : ℤ) (a : Structure) (well : IsStructure a) where
       go true t e = later_has n y (at r y) h t e
       go false t e = h
 
-  made_back : (r q : Row) (y : Component) → HasCell y (at r y) → HasCell y (at q y) → IsDated (at r y) → IsDated (at q y) → fault_in (made y r) ≡ None → fault_in (made y q) ≡ None
+  made_back : (r q : Row) (y : Component) → HasCell y (at r y) → HasCell y (at q y) → fault_in (made y r) ≡ None → fault_in (made y q) ≡ None
       → cell_or_null (made y r) ≡ cell_or_null (made y q) → at r y ≡ at q y
-  made_back r q y h i dr dq e f same = go (is_time y) refl e f same
+  made_back r q y h i e f same = go (is_time y) refl e f same
     where
       of : Bool → Row → Outcome Cell
       of b z = if b then later n (at z y) else Ok (at z y)
 
       go : (b : Bool) → is_time y ≡ b → fault_in (of b r) ≡ None → fault_in (of b q) ≡ None → cell_or_null (of b r) ≡ cell_or_null (of b q) → at r y ≡ at q y
-      go true t e f same = later_back n y (at r y) (at q y) h i t dr dq e f same
+      go true t e f same = later_back n y (at r y) (at q y) h i t e f same
       go false t e f same = same
 
   made_of : (r : Row) (y : Component) → HasCell y (at r y) → IsOf y.kind (cell_or_null (made y r))
@@ -233,14 +225,14 @@ module _ (n : ℤ) (a : Structure) (well : IsStructure a) where
   abbrev Both : Row → Row → Component → Type 0
   Both r q y = HasCell y (at r y) × HasCell y (at q y) × (fault_in (made y r) ≡ None) × (fault_in (made y q) ≡ None)
 
-  cells_back : (r q : Row) → AllByRecursion IsDated r → AllByRecursion IsDated q → (ys : List Component) → AllByRecursion (Both r q) ys
+  cells_back : (r q : Row) (ys : List Component) → AllByRecursion (Both r q) ys
       → map (λ y. cell_or_null (made y r)) ys ≡ map (λ y. cell_or_null (made y q)) ys → map (at r) ys ≡ map (at q) ys
-  cells_back r q dr dq [] all e = refl
-  cells_back r q dr dq (y ∷ ys) all e =
+  cells_back r q [] all e = refl
+  cells_back r q (y ∷ ys) all e =
       let parts = same_head (cell_or_null (made y r)) (cell_or_null (made y q)) (map (λ z. cell_or_null (made z r)) ys) (map (λ z. cell_or_null (made z q)) ys) e in
       let b = all.0 in
-      let one = made_back r q y b.0 b.1 (dated_at (place_of y.name xs) r dr) (dated_at (place_of y.name xs) q dq) b.2 b.3 parts.0 in
-      let more = cells_back r q dr dq ys all.1 parts.1 in
+      let one = made_back r q y b.0 b.1 b.2 b.3 parts.0 in
+      let more = cells_back r q ys all.1 parts.1 in
       λ i. one i ∷ more i
 
   both : (r q : Row) → IsSound r → IsSound q → AllByRecursion (Both r q) (identifiers_of a)
@@ -252,7 +244,7 @@ module _ (n : ℤ) (a : Structure) (well : IsStructure a) where
   keys_back : (r q : Row) → IsSound r → IsSound q → same_key (key_width a) (point r) (point q) ≡ true → same_key (key_width a) r q ≡ true
   keys_back r q h i e =
       let made_same = sym (key_of_point r) ∙ same_row-is (take (key_width a) (point r)) (take (key_width a) (point q)) e ∙ key_of_point q in
-      let cells = cells_back r q h.dated i.dated (identifiers_of a) (both r q h i) made_same in
+      let cells = cells_back r q (identifiers_of a) (both r q h i) made_same in
       let own = sym (identifier_cells a r well h.point) ∙ sym (own_key r (identifiers_of a)) ∙ cells ∙ own_key q (identifiers_of a) ∙ identifier_cells a q well i.point in
       ap (λ z. same_row z (take (key_width a) q)) own ∙ same_row-refl (take (key_width a) q)
 
@@ -263,20 +255,20 @@ module _ (n : ℤ) (a : Structure) (well : IsStructure a) where
   drawn_back : (r t q z : Row) → Drawn r q → Drawn t z → same_key (key_width a) q z ≡ true → same_key (key_width a) r t ≡ true
   drawn_back r t q z h i e = keys_back r t h.0 i.0 (ap (λ x. same_key (key_width a) x (point t)) (sym h.1) ∙ ap (same_key (key_width a) q) (sym i.1) ∙ e)
 
-  sound : (points : List Row) → AllByRecursion (λ r. is_point xs r ≡ true) points → AreDated points → AllByRecursion (λ r. point_fault made xs r ≡ None) points → AllByRecursion (λ r. Drawn r (point r)) points
-  sound points h d none = all_three (λ r. is_point xs r ≡ true) (λ r. AllByRecursion IsDated r) (λ r. point_fault made xs r ≡ None) (λ r. Drawn r (point r)) (λ r i e f. (record { point = i; dated = e; none = each_without (λ y. fault_in (made y r)) xs f }, refl)) points h d none
+  sound : (points : List Row) → AllByRecursion (λ r. is_point xs r ≡ true) points → AllByRecursion (λ r. point_fault made xs r ≡ None) points → AllByRecursion (λ r. Drawn r (point r)) points
+  sound points h none = all_three (λ r. is_point xs r ≡ true) (λ r. point_fault made xs r ≡ None) (λ r. point_fault made xs r ≡ None) (λ r. Drawn r (point r)) (λ r i e f. (record { point = i; none = each_without (λ y. fault_in (made y r)) xs f }, refl)) points h none none
 
-  kept : (points : List Row) → IsDataSet a points → AreDated points → faults_by (point_fault made xs) points ≡ None → IsDataSet a (map point points)
-  kept points h d none =
-      let all = sound points h.typed d (each_without (point_fault made xs) points none) in
+  kept : (points : List Row) → IsDataSet a points → faults_by (point_fault made xs) points ≡ None → IsDataSet a (map point points)
+  kept points h none =
+      let all = sound points h.typed (each_without (point_fault made xs) points none) in
       subst (IsDataSet a) (sym (map_drawn point points)) (record {
         well_formed = well;
         typed = drawn_all Drawn (λ q. is_point xs q ≡ true) (λ r q i. ap (is_point xs) i.1 ∙ point_is r i.0) (λ r. point r ∷ []) points all;
         distinct = drawn_apart Drawn (same_key (key_width a)) (same_key (key_width a)) drawn_back (λ r. point r ∷ []) points all h.distinct;
       })
 
-pub shift_kept : (n : ℤ) (d : DataSet) (out : List Row) → IsDataSet d.structure d.points → AreDated d.points → timeshift_of n d ≡ Ok out → IsDataSet d.structure out
-shift_kept n d out h dated e =
+pub shift_kept : (n : ℤ) (d : DataSet) (out : List Row) → IsDataSet d.structure d.points → timeshift_of n d ≡ Ok out → IsDataSet d.structure out
+shift_kept n d out h e =
     let xs = columns_of d.structure in
     let parts = unless_ok (faults_by (point_fault (shifted_value n xs) xs) d.points) (map (point_of (shifted_value n xs) xs) d.points) out e in
-    subst (IsDataSet d.structure) parts.1 (kept n d.structure h.well_formed d.points h dated parts.0)
+    subst (IsDataSet d.structure) parts.1 (kept n d.structure h.well_formed d.points h parts.0)
