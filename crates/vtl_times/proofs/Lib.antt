@@ -1,1 +1,3 @@
+mod FillLemmas
+mod PutLemmas
 mod RowLemmas

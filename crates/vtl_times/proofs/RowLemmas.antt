@@ -14,6 +14,8 @@ use Rattle.vtl_scalar.specs.Answers.{AnswersBy}
 use Rattle.vtl_scalar.specs.declared.error.ScalarErr.{ScalarErr}
 use Rattle.vtl_sets.specs.TableOf.{column_for, table_columns}
 use Rattle.vtl_sets.proofs.ColumnLemmas.{kinds_of_columns}
+use Rattle.std.specs.Borrow.{Bor}
+use Rattle.vtl_tree.specs.Shown.{shown}
 use Rattle.vtl_tree.specs.declared.structure.Component.{Component}
 use Rattle.vtl_meaning.specs.Aggregates.{Made, group_fault as point_fault}
 use Rattle.vtl_meaning.specs.Analytics.{each_point as each_made, point_of}
@@ -37,6 +39,13 @@ module _ {X : Type 0} (f : X → Outcome Cell) (xs : List X) (k : ℕ) (x : X) (
 
   pub fault_more : fault_of (map f (take (k + 1) xs)) ≡ join (fault_of (map f (take k xs))) (fault_in (f x))
   fault_more = ap fault_of one ∙ faults_by-append fault_in (map f (take k xs)) (f x ∷ []) ∙ ap (join (fault_of (map f (take k xs)))) (join_none (fault_in (f x)))
+
+-- ---- one more column
+pub made_more : (f : Column → Outcome Cell) (g : Component → Outcome Cell) (old new : List Column) (x : Column) (ys : List (Bor Component)) (k : ℕ) (y : Bor Component)
+    → new ≡ old ++ x ∷ [] → map f old ≡ map g (shown (take k ys)) → f x ≡ g y.now → k < length ys → y ≡ get_or ys k y → map f new ≡ map g (shown (take (k + 1) ys))
+made_more f g old new x ys k y n before one h at =
+    ap (map f) n ∙ map-append f old (x ∷ []) ∙ ap (λ l. l ++ f x ∷ []) before ∙ ap (λ v. map g (shown (take k ys)) ++ v ∷ []) (one ∙ ap (λ (z : Bor Component). g z.now) at)
+    ∙ sym (map-append g (shown (take k ys)) ((get_or ys k y).now ∷ [])) ∙ ap (map g) (sym (map_more (λ (z : Bor Component). z.now) ys k y h))
 
 -- ---- one more row
 module _ (values : ℕ → List (Outcome Cell)) (k : ℕ) where
