@@ -1,3 +1,9 @@
+pub mod FillKept
+pub mod FlowOrders
+pub mod FlowsKept
 pub mod ShiftKept
 pub mod SpanSeries
 pub mod TimeExamples
+pub mod TimeOrders
+pub mod TimeProfiles
+pub mod Timed
