@@ -14,7 +14,8 @@ use Rattle.vtl_meaning.specs.Points.{with_points}
 use Rattle.vtl_meaning.proofs.Determined.{same_shape}
 use Rattle.vtl_timing.specs.Timed.{HasGiven, IsTimed, extent_of, timed_of}
 use Rattle.vtl_timing.specs.Times.{fill_of}
-use Rattle.vtl_timing.proofs.FillKept.{fill_kept, fill_profile, fill_respects}
+use Rattle.vtl_timing.proofs.FillKept.{fill_kept, fill_respects}
+use Rattle.vtl_timing.proofs.FillProfiles.{fill_profile}
 use Rattle.vtl_timing.proofs.FlowOrders.{flows_respect}
 use Rattle.vtl_timing.proofs.FlowsKept.{flows_kept, stocks_kept}
 use Rattle.vtl_timing.proofs.ShiftKept.{shift_kept}
