@@ -1,4 +1,5 @@
 pub mod FillKept
+pub mod FillOrders
 pub mod FillProfiles
 pub mod FlowOrders
 pub mod FlowsKept

@@ -14,7 +14,8 @@ use Rattle.vtl_meaning.specs.Points.{with_points}
 use Rattle.vtl_meaning.proofs.Determined.{same_shape}
 use Rattle.vtl_timing.specs.Timed.{HasGiven, IsTimed, extent_of, timed_of}
 use Rattle.vtl_timing.specs.Times.{fill_of}
-use Rattle.vtl_timing.proofs.FillKept.{fill_kept, fill_respects}
+use Rattle.vtl_timing.proofs.FillKept.{fill_kept}
+use Rattle.vtl_timing.proofs.FillOrders.{fill_respects}
 use Rattle.vtl_timing.proofs.FillProfiles.{fill_profile}
 use Rattle.vtl_timing.proofs.FlowOrders.{flows_respect}
 use Rattle.vtl_timing.proofs.FlowsKept.{flows_kept, stocks_kept}
@@ -46,6 +47,6 @@ timed_profile p op.StockToFlow d s i h = flows_give p d s h
 
 pub timed_respects : (p : Settings) (o : TimeOp) (a : Structure) (us vs : List Row) (s : Structure) → IsTimed o a s → IsDataSet a us → Perm us vs → Same (timed_of p o (with_points a us) s) (timed_of p o (with_points a vs) s)
 timed_respects p (op.Shift n) a us vs s i h q = shift_respects a us vs q n
-timed_respects p (op.Fill f) a us vs s i h q = fill_respects (extent_of f) a us vs h q
+timed_respects p (op.Fill f) a us vs s i h q = fill_respects a us vs h q (extent_of f)
 timed_respects p op.FlowToStock a us vs s i h q = stocks_respect a us vs q p s
-timed_respects p op.StockToFlow a us vs s i h q = flows_respect p a us vs s i.time h q
+timed_respects p op.StockToFlow a us vs s i h q = flows_respect a h.well_formed i.time us vs h q p s
