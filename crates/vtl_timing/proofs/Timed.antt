@@ -35,7 +35,7 @@ ok_is x y e = cc
 
 pub timed_kept : (p : Settings) (o : TimeOp) (d : DataSet) (s : Structure) (out : List Row) → IsTimed o d.structure s → IsDataSet d.structure d.points → timed_of p o d s ≡ Ok out → IsDataSet s out
 timed_kept p (op.Shift n) d s out i h e = subst (λ x. IsDataSet x out) (sym i.given) (shift_kept n d out h e)
-timed_kept p (op.Fill f) d s out i h e = subst (λ x. IsDataSet x out) (sym i.given) (subst (IsDataSet d.structure) (ok_is (fill_of (extent_of f) d) out e) (fill_kept (extent_of f) d i.time h))
+timed_kept p (op.Fill f) d s out i h e = subst (λ x. IsDataSet x out) (sym i.given) (subst (IsDataSet d.structure) (ok_is (fill_of (extent_of f) d) out e) (fill_kept d.structure h.well_formed i.time d.points h.typed (extent_of f)))
 timed_kept p op.FlowToStock d s out i h e = subst (λ m. IfOk m (IsDataSet s)) e (stocks_kept p d s i.given.well_formed i.given.numbers i.given.shape h)
 timed_kept p op.StockToFlow d s out i h e = subst (λ m. IfOk m (IsDataSet s)) e (flows_kept p d s i.given.well_formed i.given.numbers i.given.shape h)
 

@@ -5,3 +5,7 @@
 //! It knows no table, no tree of a script and no text. It has no code: the functions are laws of the definitions.
 //! Begin with specs/Times.antt, then proofs/TimeExamples.antt.
 #![tactic(auto)]
+
+mod laws;
+
+pub use laws::{time_operators_do_not_see_order, time_operators_keep_data_sets};
