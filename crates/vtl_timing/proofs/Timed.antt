@@ -3,6 +3,7 @@ use Rattle.std.proofs.Common.{◌≡◌, ◌∙◌, List, Ok, sym, subst}
 use Rattle.std.specs.Prelude.{IfOk}
 use Rattle.vtl_lists.specs.Perm.{Perm}
 use Rattle.vtl_decimal.specs.Settings.{Settings}
+use Rattle.vtl_cell.specs.Outcome.{Outcome}
 use Rattle.vtl_cell.specs.Outcomes.{Same}
 use Rattle.vtl_cell.specs.Row.{Row}
 use Rattle.vtl_tree.specs.DataSet.{AreOfProfile, IsDataSet}
@@ -30,7 +31,7 @@ timed_shape (op.Fill f) a s t h k = h ∙ sym k
 timed_shape op.FlowToStock a s t h k = same_shape s t _ h.shape k.shape
 timed_shape op.StockToFlow a s t h k = same_shape s t _ h.shape k.shape
 
-ok_is : (x y : List Row) → Ok x ≡ Ok y → x ≡ y
+ok_is : (x y : List Row) → ◌≡◌ {A = Outcome (List Row)} (Ok x) (Ok y) → x ≡ y
 ok_is x y e = cc
 
 pub timed_kept : (p : Settings) (o : TimeOp) (d : DataSet) (s : Structure) (out : List Row) → IsTimed o d.structure s → IsDataSet d.structure d.points → timed_of p o d s ≡ Ok out → IsDataSet s out
