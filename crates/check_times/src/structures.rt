@@ -25,7 +25,11 @@ impl Operator for Flow {
     ghost gives = { λ operator. flow_gives };
 
     fn gives(&self, measure: Kind, _: Kind) -> Option<Kind> {
-        if is_number(measure) { Some(measure) } else { None }
+        if is_number(measure) {
+            Some(measure)
+        } else {
+            None
+        }
     }
 }
 
@@ -43,11 +47,7 @@ fn flow_structure(alloc: Global, structure: &Structure) -> Result<Structure, Typ
     )
 }
 
-fn given_structure(
-    alloc: Global,
-    op: TimeOp,
-    structure: &Structure,
-) -> Result<Structure, TypeErr>
+fn given_structure(alloc: Global, op: TimeOp, structure: &Structure) -> Result<Structure, TypeErr>
     ensures { Answers (λ s. s) result (given_structure op structure.now) }
 {
     match op {
@@ -57,11 +57,7 @@ fn given_structure(
 }
 
 #[tactic(auto, unfolding(crate::specs::Timed::time_structure))]
-fn time_structure(
-    alloc: Global,
-    op: TimeOp,
-    structure: &Structure,
-) -> Result<Structure, TypeErr>
+fn time_structure(alloc: Global, op: TimeOp, structure: &Structure) -> Result<Structure, TypeErr>
     ensures { Answers (λ s. s) result (time_structure op structure.now) }
 {
     let given = given_structure(alloc, op, structure)?;

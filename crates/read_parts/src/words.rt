@@ -13,8 +13,8 @@ use vtl_grammar::CallForm;
 use vtl_lexer::{Keyword, Sign, Token, TokenKind};
 use vtl_syntax::{
     Addition, AggregateName, AssignKind, BasicOut, BinaryOp, CastKind, CheckOut, Comparison,
-    DifferenceName, Direction, Filling, FunctionName, GroupKind, HierInput, HierOut, JoinKind, Mode, Retain,
-    SetOpName, ShiftName, Side, TimeName, UnaryOp, ValueWindowName, WrittenRole,
+    DifferenceName, Direction, Filling, FunctionName, GroupKind, HierInput, HierOut, JoinKind,
+    Mode, Retain, SetOpName, ShiftName, Side, TimeName, UnaryOp, ValueWindowName, WrittenRole,
 };
 
 /// A word or a sign that is one of a group.

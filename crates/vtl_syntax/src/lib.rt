@@ -23,6 +23,6 @@ pub use parts::{
 pub use statements::{HierRule, PointRule, Script, Statement};
 pub use word_groups::{
     Addition, AggregateName, AssignKind, BasicOut, BinaryOp, CastKind, CheckOut, Comparison,
-    DifferenceName, Direction, Filling, FunctionName, GroupKind, HierInput, HierOut, JoinKind, Mode, Retain,
-    SetOpName, ShiftName, Side, TimeName, UnaryOp, ValueWindowName, WrittenRole,
+    DifferenceName, Direction, Filling, FunctionName, GroupKind, HierInput, HierOut, JoinKind,
+    Mode, Retain, SetOpName, ShiftName, Side, TimeName, UnaryOp, ValueWindowName, WrittenRole,
 };

@@ -211,8 +211,8 @@ module _ (a s : Structure) (w : IsStructure a) (numbers : AllByRecursion (λ x. 
 
     others_other : AllByRecursion IsOther (others_of s)
     others_other = all_append IsOther (of_role role.Measure s) (of_role role.Attribute s)
-      (all_more (λ x. same_role x.role role.Measure ≡ true) IsOther (λ x. measure_role x.role) (of_role role.Measure s) (all_filtered (λ x. same_role x.role role.Measure) s.components))
-      (all_more (λ x. same_role x.role role.Attribute ≡ true) IsOther (λ x. attribute_role x.role) (of_role role.Attribute s) (all_filtered (λ x. same_role x.role role.Attribute) s.components))
+        (all_more (λ x. same_role x.role role.Measure ≡ true) IsOther (λ x. measure_role x.role) (of_role role.Measure s) (all_filtered (λ x. same_role x.role role.Measure) s.components))
+        (all_more (λ x. same_role x.role role.Attribute ≡ true) IsOther (λ x. attribute_role x.role) (of_role role.Attribute s) (all_filtered (λ x. same_role x.role role.Attribute) s.components))
 
     cells_have : (r : Row) → IsRow r → AllByRecursion (λ y. HasCell y (cell_or_null (made y r))) (columns_of s)
     cells_have r t =
