@@ -1,3 +1,4 @@
 mod FillLemmas
+mod OrderLemmas
 mod PutLemmas
 mod RowLemmas

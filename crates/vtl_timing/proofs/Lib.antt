@@ -1,3 +1,4 @@
+pub mod SeriesColumns
 pub mod ShiftKept
 pub mod SpanSeries
 pub mod TimeExamples
