@@ -1,7 +1,7 @@
 -- Points that are gathered from the rows of series and from points.
 use Rattle.std.proofs.Common.{◌≡◌, ℕ, zero, suc, ◌+◌, ◌<◌, ◌≤◌, List, [], ◌∷◌, ◌++◌, length, map, take, get_or, refl, sym, ap, ◌∙◌, arith}
 use Rattle.std.specs.List.{filter, range_with_len}
-use Rattle.std.proofs.lemmas.List.{get_or-map, length-append, map-append}
+use Rattle.std.proofs.lemmas.List.{get_or-map, get_or_append_left, length-append, map-append}
 use Rattle.vtl_tree.specs.Columns.{identifiers_of, measures_of, others_of, place_of, places_in}
 use Rattle.vtl_tree.specs.Structure.{columns_of}
 use Rattle.vtl_tree.specs.declared.structure.Component.{Component}
@@ -41,11 +41,6 @@ pub numbered_all : (ns : List ℕ) (i : ℕ) → length ns ≤ i → beside_each
 numbered_all ns i h = all_from 0 ns i h
 
 -- ---- the columns of the rows of series
-front_at : {X : Type 0} (xs ys : List X) (i : ℕ) (d : X) → i < length xs → get_or (xs ++ ys) i d ≡ get_or xs i d
-front_at [] ys i d h = absurd (omega (arith, h))
-front_at (x ∷ xs) ys zero d h = refl
-front_at (x ∷ xs) ys (suc i) d h = front_at xs ys i d (omega (arith, h))
-
 pub columns_are : (a : Structure) → IsStructure a → HasTime a → map (column_at (table_columns a)) (places_in (columns_of a) (other_identifiers a) ++ time_place a ∷ []) ≡ map column_for (series_columns a)
 columns_are a well h =
     let xs = columns_of a in
@@ -57,7 +52,7 @@ columns_are a well h =
     let within : tp < length xs = omega (arith, wide, many, one.within) in
     let none : Column = record { name = []; kind = k.Null } in
     let here : column_at (table_columns a) tp ≡ column_for one.item
-            = get_or-map column_for xs tp one.item none within ∙ ap (λ (l : List Component). column_for (get_or l tp one.item)) (columns_split a) ∙ ap column_for (front_at ids (others_of a) tp one.item one.within ∙ one.at) in
+            = get_or-map column_for xs tp one.item none within ∙ ap (λ (l : List Component). column_for (get_or l tp one.item)) (columns_split a) ∙ ap column_for (get_or_append_left ids (others_of a) one.item tp one.within ∙ one.at) in
     let last : column_at (table_columns a) tp ∷ [] ≡ map column_for (filter is_time ids) = ap (λ c. c ∷ []) here ∙ ap (map column_for) (sym one.only) in
     map-append (column_at (table_columns a)) (places_in xs (other_identifiers a)) (tp ∷ [])
     ∙ (λ i. chosen_columns xs (other_identifiers a) (others_among a well) i ++ last i)
