@@ -33,9 +33,9 @@ use Rattle.vtl_tuples.proofs.Lists.{map-map}
 use Rattle.vtl_series.specs.Series.{series_rows}
 use Rattle.vtl_series.specs.declared.extent.Extent.{Extent}
 use Rattle.vtl_timing.specs.Times.{fill_of, in_order, other_identifiers, series_columns, time_place}
+use Rattle.vtl_timing.proofs.FilledPoints.{behind_cells, named_cells}
 use Rattle.vtl_timing.proofs.SeriesColumns.{identifiers_among}
 use Rattle.vtl_times.specs.Filling.{beside_each, filled_picks, numbered, picks_of, sought_in}
-use Rattle.vtl_times.proofs.FillLemmas.{places_append}
 
 -- ---- cells of two parts
 module _ (s t : Listed) where
@@ -119,31 +119,6 @@ module _ (s t : Listed) (ps qs : List ℕ) (g : Row → ℕ) where
   rows_picked = ap (map (picked (two s t) (picks_of 0 ps ++ picks_of 1 qs))) (pieces_are 0 (map g s.rows)) ∙ rows_from 0 s.rows (λ k h. let e : 0 + k ≡ k = omega arith in ap (row_at s.rows) e)
 
 -- ---- a row of a series and the point with its identifiers
-named_cells : (xs ys : List Component) (r : Row) → cells_at (places_in xs ys) r ≡ values_named xs ys r
-named_cells xs [] r = refl
-named_cells xs (y ∷ ys) r = ap (λ l. column_of (place_of y.name xs) r ∷ l) (named_cells xs ys r)
-
-nulls_are : (xs ys : List Component) → cells_at (places_in xs ys) [] ≡ map (λ y. c.Null) ys
-nulls_are xs [] = refl
-nulls_are xs (y ∷ ys) = ap (λ l. c.Null ∷ l) (nulls_are xs ys)
-
-cells_append : (ps qs : List ℕ) (r : Row) → cells_at (ps ++ qs) r ≡ cells_at ps r ++ cells_at qs r
-cells_append ps qs r = map-append (λ i. column_of i r) ps qs
-
-module _ (a : Structure) where
-  abbrev xs : List Component
-  xs = columns_of a
-
-  abbrev attributes : List Component
-  attributes = of_role role.Attribute a
-
-  behind_cells : (o : Option Row) → cells_at (places_in xs (others_of a)) (unwrap_or o []) ≡ values_or_nulls a (measures_of a) o ++ values_or_nulls a attributes o
-  behind_cells o = ap (λ ps. cells_at ps (unwrap_or o [])) (places_append xs (measures_of a) attributes) ∙ cells_append (places_in xs (measures_of a)) (places_in xs attributes) (unwrap_or o []) ∙ go o
-    where
-      go : (o : Option Row) → cells_at (places_in (columns_of a) (measures_of a)) (unwrap_or o []) ++ cells_at (places_in (columns_of a) (of_role role.Attribute a)) (unwrap_or o []) ≡ values_or_nulls a (measures_of a) o ++ values_or_nulls a (of_role role.Attribute a) o
-      go None = λ j. nulls_are (columns_of a) (measures_of a) j ++ nulls_are (columns_of a) (of_role role.Attribute a) j
-      go (Some q) = λ j. named_cells (columns_of a) (measures_of a) q j ++ named_cells (columns_of a) (of_role role.Attribute a) q j
-
 pub tuple_is : (d : DataSet) (r : Row)
     → cells_at (places_in (series_columns d.structure) (identifiers_of d.structure)) r ++ cells_at (places_in (columns_of d.structure) (others_of d.structure)) (row_at d.points (first_meant (sought_in d) r))
     ≡ tuple_point (tuple_at (identifiers_of d.structure) (d ∷ []) (in_order d.structure r))

@@ -1,3 +1,4 @@
+pub mod FilledPoints
 pub mod SeriesColumns
 pub mod ShiftKept
 pub mod SpanSeries
