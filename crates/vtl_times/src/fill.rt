@@ -19,7 +19,7 @@ use std::marker::Brand;
 use std::sync::ledger::{Blank, Ledger};
 use vtl_index::{Seeker, Steps};
 use vtl_rows::{Pick, Table, gather_beside};
-use vtl_series::{Extent, rows_of_series};
+use vtl_series::{Extent, rows_of_series, rows_stand_once};
 use vtl_sets::{DataSet, table_columns};
 use vtl_tree::{Role, Structure, places_in};
 
@@ -127,6 +127,7 @@ fn filled_table(alloc: Global, a: &DataSet, extent: Extent) -> Result<Table, All
     ensures table { IfOk result (λ t. IsTableOf a.now.structure (listed t)) }
     ensures rows { IfOk result (λ t. t.rows ≡ fill_of extent a.now) }
 {
+    rows_stand_once();
     let series = series_of(alloc, a, extent)?;
     let numbers = partners::<Brand>(alloc, a, &series, Blank::new(1))?;
     let pairs = numbered(alloc, &numbers)?;

@@ -9,9 +9,13 @@ use Rattle.vtl_rows.specs.Tables.{Listed, Tabled, column_kinds, listed}
 use Rattle.vtl_rows.specs.declared.column.Column.{Column}
 use Rattle.vtl_rows.specs.declared.gather.Pick.{Pick}
 use Rattle.vtl_sets.proofs.ColumnLemmas.{some_table_columns}
+use Rattle.vtl_sets.proofs.TableLemmas.{made_is_table}
+use Rattle.vtl_tree.specs.Columns.{places_in}
+use Rattle.vtl_tree.specs.Structure.{columns_of}
+use Rattle.vtl_timing.proofs.FilledPoints.{fill_kept}
 use Rattle.vtl_sets.specs.TableOf.{column_for, table_columns}
 use Rattle.vtl_tree.specs.declared.structure.Structure.{Structure}
-use Rattle.vtl_timing.specs.Times.{fill_of, series_columns}
+use Rattle.vtl_timing.specs.Times.{fill_of, other_identifiers, time_place}
 use Rattle.vtl_times.specs.Filling.{filled_picks, numbered, sought_in}
 use Rattle.vtl_times.proofs.FilledRows.{all_within, filled_kinds, filled_rows}
 use Rattle.vtl_times.proofs.fill.filled_table.Goals as goal
@@ -46,4 +50,12 @@ returns-clause-rows c =
     (λ x e. e ∙ (λ j. map (picked (series ∷ table ∷ []) (picks j)) (pieces 2 (pairs j))) ∙ filled_rows c.args.extent d series table c.table.ensures.points c.in_ok-series.ensures.rows) c.gather_beside.ensures.rows
 
 pub returns-clause-table : goal.returns-clause-table
-returns-clause-table c = ?
+returns-clause-table c =
+    let d = c.args.a.now in
+    let s = d.structure in
+    let on = time_place s in
+    let by = places_in (columns_of s) (other_identifiers s) in
+    let columns = c.in_ok-columns.ensures ∙ ap table_columns c.structure-structure.ensures.structure in
+    made_is_table s c.gather_beside.result (fill_of c.args.extent d)
+    (IfOk-weaker c.gather_beside.result (λ (x : Tabled). x.columns ≡ c.in_ok-columns.columns.items) (λ (x : Tabled). x.columns ≡ table_columns s) (λ x e. e ∙ columns) c.gather_beside.ensures.columns)
+    (returns-clause-rows c) (fill_kept c.args.extent d c.requires c.structure-structure.ensures.points (c.rows_stand_once.ensures c.args.extent on by d.points))
