@@ -19,7 +19,7 @@ use std::marker::Brand;
 use std::sync::ledger::{Blank, Ledger};
 use vtl_index::{Seeker, Steps};
 use vtl_rows::{Pick, Table, gather_beside};
-use vtl_series::{Extent, rows_of_series};
+use vtl_series::{Extent, rows_of_series, rows_stand_once};
 use vtl_sets::{DataSet, table_columns};
 use vtl_tree::{Role, Structure, places_in};
 
@@ -67,8 +67,9 @@ fn partners<L: Ledger>(
     ensures { IfOk result (λ v. v.items ≡ map (first_meant (sought_in a.now)) series.now.rows) }
 {
     let mut steps: Steps<L> = Steps::new(blank);
-    let own = own_places(alloc, a.structure())?;
-    let asked = asked_places(alloc, a.structure())?;
+    let structure = a.structure();
+    let own = own_places(alloc, structure)?;
+    let asked = asked_places(alloc, structure)?;
     let seeker = Seeker::of(alloc, a.table(), &own, &asked, &mut steps)?;
     seeker.firsts(alloc, series, &mut steps)
 }
@@ -126,11 +127,13 @@ fn filled_table(alloc: Global, a: &DataSet, extent: Extent) -> Result<Table, All
     ensures table { IfOk result (λ t. IsTableOf a.now.structure (listed t)) }
     ensures rows { IfOk result (λ t. t.rows ≡ fill_of extent a.now) }
 {
+    rows_stand_once();
     let series = series_of(alloc, a, extent)?;
     let numbers = partners::<Brand>(alloc, a, &series, Blank::new(1))?;
     let pairs = numbered(alloc, &numbers)?;
-    let picks = filled_picks(alloc, a.structure())?;
-    let columns = table_columns(alloc, a.structure())?;
+    let structure = a.structure();
+    let picks = filled_picks(alloc, structure)?;
+    let columns = table_columns(alloc, structure)?;
     gather_beside(alloc, &[&series, a.table()], &pairs, &picks, columns)
 }
 

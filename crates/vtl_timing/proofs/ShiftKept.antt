@@ -93,7 +93,7 @@ time_cell y v h t =
     go (c.Day x) o m = cc
     go (c.Period q) o m = (q, refl)
 
-period_has : (y : Component) (q : YearPart) → is_time y ≡ true → HasCell y (c.Period q)
+pub period_has : (y : Component) (q : YearPart) → is_time y ≡ true → HasCell y (c.Period q)
 period_has y q t =
     let both = split_and (same_role y.role role.Identifier) (same_kind y.kind k.Period) t in
     (subst (λ kind. IsOf kind (c.Period q)) (sym (period_kind y.kind both.1)) refl, ap (λ b. not (b && false)) both.0)
