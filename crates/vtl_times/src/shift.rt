@@ -1,5 +1,5 @@
 // `timeshift`
-ghost use Rattle.std.specs.Prelude.{◌≡◌, ℕ, map, All, IfOk};
+ghost use Rattle.std.specs.Prelude.{◌≡◌, ℕ, map, IfOk};
 ghost use Rattle.vtl_cell.specs.Row.{Row};
 ghost use Rattle.vtl_decimal.specs.Settings.{Settings};
 ghost use Rattle.vtl_rows.specs.Tables.{listed};
@@ -8,7 +8,6 @@ ghost use Rattle.vtl_sets.specs.DataSets.{with_structure};
 ghost use Rattle.vtl_sets.specs.TableOf.{IsTableOf};
 ghost use Rattle.vtl_tree.specs.Shown.{shown};
 ghost use Rattle.vtl_tree.specs.Structure.{columns_of};
-ghost use Rattle.vtl_timing.specs.TimeShapes.{AreDated, IsDated};
 ghost use Rattle.vtl_timing.specs.Times.{HasTime, shifted_value, timeshift_of};
 ghost use Rattle.vtl_times.specs.Columns.{column_value};
 
@@ -16,7 +15,6 @@ use crate::column::Column;
 use crate::places::is_time;
 use crate::rows::each_row;
 use std::alloc::{AllocError, Global};
-use vtl_cell::Cell;
 use vtl_decimal::Profile;
 use vtl_rows::Table;
 use vtl_scalar::ScalarErr;
@@ -47,37 +45,11 @@ fn shifted_columns(alloc: Global, a: &Structure, n: i64) -> Result<Vec<Column>, 
     Ok(shifted)
 }
 
-// Each period in a row is one of the years 0 to 9999, as each tells of itself.
-fn row_is_dated(row: &[Cell])
-    ensures { All IsDated row.now }
-{
-    for cell in row {
-        if let Cell::Period(period) = cell {
-            period.index();
-        }
-    }
-}
-
-// So is each in a table.
-fn are_dated(table: &Table)
-    ensures { AreDated table.now.rows }
-{
-    for i in 0..table.len() {
-        row_is_dated(table.row(i));
-    }
-}
-
-fn shifted_table(
-    alloc: Global,
-    a: &DataSet,
-    n: i64,
-    p: &Profile,
-) -> Result<Table, ScalarErr>
+fn shifted_table(alloc: Global, a: &DataSet, n: i64, p: &Profile) -> Result<Table, ScalarErr>
     requires { HasTime a.now.structure }
     ensures table { IfOk result (λ t. IsTableOf a.now.structure (listed t)) }
     ensures rows { AnswersBy (λ t. t.rows) result (timeshift_of n a.now) }
 {
-    are_dated(a.table());
     let structure = a.structure();
     let columns = shifted_columns(alloc, structure, n)?;
     each_row(alloc, &columns, a, structure, p)
@@ -85,12 +57,7 @@ fn shifted_table(
 
 /// Each point with its time so many periods later, or earlier for a negative number, as a data set of the operand's
 /// structure. The answer is Range where a year would lie outside 0 to 9999; otherwise it fails only if memory runs out.
-pub fn timeshift(
-    alloc: Global,
-    a: &DataSet,
-    n: i64,
-    p: &Profile,
-) -> Result<DataSet, ScalarErr>
+pub fn timeshift(alloc: Global, a: &DataSet, n: i64, p: &Profile) -> Result<DataSet, ScalarErr>
     requires { HasTime a.now.structure }
     ensures { Answers result (with_structure a.now.structure (timeshift_of n a.now)) }
 {

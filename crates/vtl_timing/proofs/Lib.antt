@@ -1,13 +1,9 @@
-<<<<<<< HEAD
-pub mod FillKept
 pub mod FillOrders
 pub mod FillProfiles
+pub mod FilledPoints
 pub mod FlowOrders
 pub mod FlowsKept
-=======
-pub mod FilledPoints
 pub mod SeriesColumns
->>>>>>> d4af6f07179c85f75d9ed410e98d38f356c0d72a
 pub mod ShiftKept
 pub mod SpanSeries
 pub mod TimeExamples

@@ -6,18 +6,21 @@ use Rattle.vtl_decimal.specs.Settings.{Settings}
 use Rattle.vtl_cell.specs.Outcome.{Outcome}
 use Rattle.vtl_cell.specs.Outcomes.{Same}
 use Rattle.vtl_cell.specs.Row.{Row}
+use Rattle.vtl_series.proofs.OrderLemmas.{once}
+use Rattle.vtl_tree.specs.Columns.{places_in}
 use Rattle.vtl_tree.specs.DataSet.{AreOfProfile, IsDataSet}
 use Rattle.vtl_tree.specs.Environment.{DataSet}
 use Rattle.vtl_tree.specs.declared.calls.TimeOp.{TimeOp}
 use Rattle.vtl_tree.specs.declared.calls.TimeOp.TheVariants as op
+use Rattle.vtl_tree.specs.Structure.{columns_of}
 use Rattle.vtl_tree.specs.declared.structure.Structure.{Structure}
 use Rattle.vtl_meaning.specs.Points.{with_points}
 use Rattle.vtl_meaning.proofs.Determined.{same_shape}
 use Rattle.vtl_timing.specs.Timed.{HasGiven, IsTimed, extent_of, timed_of}
-use Rattle.vtl_timing.specs.Times.{fill_of}
-use Rattle.vtl_timing.proofs.FillKept.{fill_kept}
+use Rattle.vtl_timing.specs.Times.{fill_of, other_identifiers, time_place}
 use Rattle.vtl_timing.proofs.FillOrders.{fill_respects}
 use Rattle.vtl_timing.proofs.FillProfiles.{fill_profile}
+use Rattle.vtl_timing.proofs.FilledPoints.{fill_kept}
 use Rattle.vtl_timing.proofs.FlowOrders.{flows_respect}
 use Rattle.vtl_timing.proofs.FlowsKept.{flows_kept, stocks_kept}
 use Rattle.vtl_timing.proofs.ShiftKept.{shift_kept}
@@ -36,7 +39,7 @@ ok_is x y e = cc
 
 pub timed_kept : (p : Settings) (o : TimeOp) (d : DataSet) (s : Structure) (out : List Row) → IsTimed o d.structure s → IsDataSet d.structure d.points → timed_of p o d s ≡ Ok out → IsDataSet s out
 timed_kept p (op.Shift n) d s out i h e = subst (λ x. IsDataSet x out) (sym i.given) (shift_kept n d out h e)
-timed_kept p (op.Fill f) d s out i h e = subst (λ x. IsDataSet x out) (sym i.given) (subst (IsDataSet d.structure) (ok_is (fill_of (extent_of f) d) out e) (fill_kept d.structure h.well_formed i.time d.points h.typed (extent_of f)))
+timed_kept p (op.Fill f) d s out i h e = subst (λ x. IsDataSet x out) (sym i.given) (subst (IsDataSet d.structure) (ok_is (fill_of (extent_of f) d) out e) (fill_kept (extent_of f) d i.time h (once (extent_of f) (time_place d.structure) (places_in (columns_of d.structure) (other_identifiers d.structure)) d.points)))
 timed_kept p op.FlowToStock d s out i h e = subst (λ m. IfOk m (IsDataSet s)) e (stocks_kept p d s i.given.well_formed i.given.numbers i.given.shape h)
 timed_kept p op.StockToFlow d s out i h e = subst (λ m. IfOk m (IsDataSet s)) e (flows_kept p d s i.given.well_formed i.given.numbers i.given.shape h)
 

@@ -16,7 +16,6 @@ use Rattle.vtl_tree.specs.DataSet.{is_point}
 use Rattle.vtl_tree.specs.Structure.{columns_of}
 use Rattle.vtl_tree.specs.declared.structure.Structure.{Structure}
 use Rattle.vtl_timing.proofs.ShiftKept.{made_of_kinds, shift_kept}
-use Rattle.vtl_timing.specs.TimeShapes.{AreDated}
 use Rattle.vtl_timing.specs.Times.{shifted_value, timeshift_of}
 use Rattle.vtl_times.specs.declared.column.Column.{Column}
 use Rattle.vtl_times.specs.Columns.{cells_of, column_value, row_values}
@@ -34,9 +33,9 @@ each_row-requires-clause-fits c i h =
     let made : Made = shifted_value c.args.n xs in
     let values : ℕ → List (Outcome Cell) = row_values p c.deref.result.now a.points in
     let same : (j : ℕ) → j < length a.points → values j ≡ map (λ y. made y (row_at a.points j)) xs
-            = λ j l. ap (map (column_value p (row_at a.points j) j)) c.deref.ensures.value ∙ c.in_ok-columns.ensures p (row_at a.points j) j
-            ∙ ap (λ (t : Structure). map (λ y. shifted_value m (columns_of t) y (row_at a.points j)) (columns_of t)) c.structure-structure.ensures.structure
-            ∙ ap (λ k. map (λ y. shifted_value k xs y (row_at a.points j)) xs) e in
+    = λ j l. ap (map (column_value p (row_at a.points j) j)) c.deref.ensures.value ∙ c.in_ok-columns.ensures p (row_at a.points j) j
+    ∙ ap (λ (t : Structure). map (λ y. shifted_value m (columns_of t) y (row_at a.points j)) (columns_of t)) c.structure-structure.ensures.structure
+    ∙ ap (λ k. map (λ y. shifted_value k xs y (row_at a.points j)) xs) e in
     let typed = all_get (λ r. is_point xs r ≡ true) a.points i [] h c.structure-structure.ensures.points.typed in
     ap (λ (t : Structure). fits (table_columns t) (cells_of (values i))) c.structure-structure.ensures.structure
     ∙ ap (fits (table_columns s)) (row_is made xs a.points values same i h)
@@ -52,15 +51,14 @@ returns-clause-rows c =
     let made : Made = shifted_value c.args.n xs in
     let values : ℕ → List (Outcome Cell) = row_values p c.deref.result.now a.points in
     let same : (j : ℕ) → j < length a.points → values j ≡ map (λ y. made y (row_at a.points j)) xs
-            = λ j l. ap (map (column_value p (row_at a.points j) j)) c.deref.ensures.value ∙ c.in_ok-columns.ensures p (row_at a.points j) j
-            ∙ ap (λ (t : Structure). map (λ y. shifted_value m (columns_of t) y (row_at a.points j)) (columns_of t)) c.structure-structure.ensures.structure
-            ∙ ap (λ k. map (λ y. shifted_value k xs y (row_at a.points j)) xs) e in
+    = λ j l. ap (map (column_value p (row_at a.points j) j)) c.deref.ensures.value ∙ c.in_ok-columns.ensures p (row_at a.points j) j
+    ∙ ap (λ (t : Structure). map (λ y. shifted_value m (columns_of t) y (row_at a.points j)) (columns_of t)) c.structure-structure.ensures.structure
+    ∙ ap (λ k. map (λ y. shifted_value k xs y (row_at a.points j)) xs) e in
     subst (AnswersBy (λ (t : Tabled). t.rows) c.each_row.result) (rows_made made xs a.points values same) c.each_row.ensures.rows
 
 pub returns-clause-table : goal.returns-clause-table
 returns-clause-table c =
     let a = c.args.a.now in
     let s = a.structure in
-    let dated = subst AreDated c.table.ensures.points c.are_dated.ensures in
     let columns = subst (λ (t : Structure). IfOk c.each_row.result (λ x. x.columns ≡ table_columns t)) c.structure-structure.ensures.structure c.each_row.ensures.columns in
-    answered_is_table s c.each_row.result (timeshift_of c.args.n a) columns (returns-clause-rows c) (λ out e. shift_kept c.args.n a out c.structure-structure.ensures.points dated e)
+    answered_is_table s c.each_row.result (timeshift_of c.args.n a) columns (returns-clause-rows c) (λ out e. shift_kept c.args.n a out c.structure-structure.ensures.points e)
