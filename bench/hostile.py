@@ -486,6 +486,91 @@ def exists_of_one_source(folder, count):
     looked_up(folder, count, JOINED, 'WHERE EXISTS (SELECT 1 FROM "T" AS "t" WHERE "t"."id" = "a"."id" AND "t"."v" = "a"."v")')
 
 
+# ---- what is cut off, at a limit or beyond it
+
+def one_record(folder, data):
+    structures = b'DS_1,Id_1,identifier,string,\n'
+    run_folder(folder, COPY, [structures])
+    write(f'{folder}/in/DS_1.csv', [b'Id_1\n', data])
+
+
+def open_quote(folder, count):
+    """A quote at the start of a field that nothing closes."""
+    one_record(folder, b'"' + b'x,\n' * (count // 3))
+
+
+def closed_quote(folder, count):
+    one_record(folder, b'"' + b'x,\n' * (count // 3) + b'"\n')
+
+
+def commas(folder, count):
+    one_record(folder, b',' * count)
+
+
+def one_point_too_many(folder, count):
+    numbered(folder, 1000001, count)
+
+
+def as_many_points(folder, count):
+    numbered(folder, 1000000, count)
+
+
+def numbered(folder, rows, count):
+    data_sets(folder, COPY, [INTEGER_KEY], DS_1=(b'%d' % i for i in range(rows * count // 1000000)))
+
+
+def most_nodes(folder, count):
+    """As many operators on a data set as a script may have."""
+    statements = ''.join(f'r{i} := {"- " * 126}{f"r{i - 1}" if i else "DS_1"};\n' for i in range(32))
+    data_sets(folder, statements + 'DS_r <- r31;\n', [INTEGER_KEY, INTEGER], DS_1=(b'%d,1' % i for i in range(count)))
+
+
+def as_many_results(folder, count):
+    """Half as many, each a result of its own."""
+    statements = ''.join(f'r{i} := - {f"r{i - 1}" if i else "DS_1"};\n' for i in range(2016))
+    data_sets(folder, statements + 'DS_r <- r2015;\n', [INTEGER_KEY, INTEGER], DS_1=(b'%d,1' % i for i in range(2 * count)))
+
+
+def selected(folder, items):
+    one_table(folder, 100, '\nUNION ALL '.join(f'SELECT {item} AS "x" FROM "T" AS "t"' for item in items))
+
+
+def deepest_cases(folder, count):
+    selected(folder, ['CASE WHEN "t"."v" > 5 THEN ' * 511 + '"t"."v"' + ' ELSE 0 END' * 511] * count)
+
+
+def flat_cases(folder, count):
+    selected(folder, ['CASE ' + 'WHEN "t"."v" < 0 THEN 0 ' * 511 + 'ELSE "t"."v" END'] * count)
+
+
+def too_deep(folder, count):
+    one_table(folder, 1, f'SELECT {"(" * count}1{")" * count} AS "x" FROM "T" AS "t"')
+
+
+def as_many_brackets(folder, count):
+    one_table(folder, 1, f'SELECT {"(1) + " * 500}1 AS "x" FROM "T" AS "t"' + f'\nUNION ALL SELECT {"(1) + " * 500}1 AS "x" FROM "T" AS "t"' * (count // 500))
+
+
+def years(folder, count, query):
+    """Two years for each of some groups, the first of all and the last."""
+    os.makedirs(f'{folder}/in')
+    os.makedirs(f'{folder}/out')
+    text = f'INPUT "T" ("g" INTEGER, "p" PERIOD) KEY ("g", "p");\nCREATE TABLE "U" AS {query};\nEXPORT "U";\n'
+    write(f'{folder}/script.sql', [(SETTINGS + text).encode()])
+    rows = (b'%d,0000\n%d,9999\n' % (i, i) for i in range(count))
+    write(f'{folder}/in/T.csv', itertools.chain([b'g,p\n'], rows))
+
+
+def sparse_series(folder, count):
+    years(folder, count, 'SELECT "s"."g" AS "g", "s"."p" AS "p" FROM SERIES "T" ON "p" BY ("g") SINGLE AS "s"')
+
+
+def dense_series(folder, count):
+    """As many rows: each group with each year."""
+    years(folder, count, 'SELECT "t"."g" AS "g", "t"."p" AS "p" FROM "T" AS "t"')
+    write(f'{folder}/in/T.csv', itertools.chain([b'g,p\n'], (b'%d,%04d\n' % (i, year) for i in range(count) for year in range(10000))))
+
+
 # the case, its plain counterpart, how many rows, and what reads it
 CASES = [
     (chosen_names, plain_names, 20164, 'vtl'),
@@ -516,6 +601,13 @@ CASES = [
     (product_with_an_equality, equality_alone, 200000, 'engine'),
     (third_of_two_sources, third_of_one_source, 200000, 'engine'),
     (exists_of_two_sources, exists_of_one_source, 200000, 'engine'),
+    (open_quote, closed_quote, 60000000, 'vtl'),
+    (commas, closed_quote, 60000000, 'vtl'),
+    (one_point_too_many, as_many_points, 1000000, 'vtl'),
+    (most_nodes, as_many_results, 2000, 'vtl'),
+    (deepest_cases, flat_cases, 500, 'engine'),
+    (too_deep, as_many_brackets, 1000000, 'engine'),
+    (sparse_series, dense_series, 90, 'engine'),
 ]
 
 

@@ -21,15 +21,15 @@ make_series() {
     }' >"$made/in/T.csv"
 }
 
-number='CAST(substr(p, 1, 4) AS INTEGER) * 12 + CAST(substr(p, 7) AS INTEGER) - 1'
+months='CAST(substr(p, 1, 4) AS INTEGER) * 12 + CAST(substr(p, 7) AS INTEGER) - 1'
 
 # A job of this name, with SINGLE or ALL.
 job() {
-    first="MIN($number)"
-    last="MAX($number)"
+    first="MIN($months)"
+    last="MAX($months)"
     if [ "$2" = ALL ]; then
-        first="(SELECT MIN($number) FROM T)"
-        last="(SELECT MAX($number) FROM T)"
+        first="(SELECT MIN($months) FROM T)"
+        last="(SELECT MAX($months) FROM T)"
     fi
     cat >"$made/script.sql" <<SQL
 SET SCALE 0 ROUNDING DOWN;

@@ -1,6 +1,7 @@
 #!/bin/sh
 # Runs all of cases/ and examples/ by the built programs, in less than a minute: cases/run.sh [NAME ..], where a NAME is a
-# folder of cases/, `examples`, `launcher`, `check`, or `sentences`, `pages`, `crates`, `edits`, for which no program is needed.
+# folder of cases/, `examples`, `launcher`, `check`, `limits`, or `sentences`, `pages`, `crates`, `edits`, for which no program is
+# needed. By the name `large` alone runs with large files are made.
 # Prints what differs, the longest chain of libraries, and at the end 'N passed, M failed'.
 top=$(CDPATH='' cd -- "$(dirname -- "$0")/.." && pwd) || exit 1
 vtl=$top/crates/vtl/out/vtl
@@ -45,10 +46,12 @@ nests() {
     table "$1" "$made/nests.csv"
 }
 
-# The fronts of a script, as a table of texts: the word for these, the script, the table.
+# The fronts of a script, as a table of texts, by the program and by the grammar of the page: the word for these, the script, the
+# table.
 fronts() {
     LC_ALL=C awk -f cases/fronts.awk "$2" "$3" >"$made/fronts.csv"
     table "$1" "$made/fronts.csv"
+    read_by_page "$1" "$made/fronts.csv"
 }
 
 # A file beside what the probe prints of it. The code says whether the file is a script.
@@ -91,7 +94,7 @@ is_formed_in() {
 }
 
 # A call of the program in the folder. What it prints is left in files, but where the case names a device for its standard
-# output. Where the case has a limit, it is killed after so many seconds of processor time.
+# output. Where the case has a limit, it is killed after so many seconds of processor time, or has so many KB of memory or stack.
 called() {
     output=$made/said
     seconds=unlimited
@@ -100,7 +103,11 @@ called() {
         : >"$made/said"
         read -r output <"$case/stdout"
     fi
-    (cd "$folder" && ulimit -t "$seconds" && "$program" "$@" >"$output" 2>"$made/told" </dev/null)
+    memory=unlimited
+    [ ! -e "$case/memory" ] || read -r memory <"$case/memory"
+    stack=
+    [ ! -e "$case/stack" ] || read -r stack <"$case/stack"
+    (cd "$folder" && ulimit -t "$seconds" && ulimit -v "$memory" && ulimit ${stack:+-s "$stack"} >/dev/null && "$program" "$@" >"$output" 2>"$made/told" </dev/null)
     code=$?
 }
 
@@ -110,7 +117,7 @@ laid_out() {
     rm -rf "$folder"
     cp -R "$case" "$folder"
     [ -e "$folder/structures.csv" ] || [ ! -e "$case/../structures.csv" ] || cp "$case/../structures.csv" "$folder"
-    (cd "$folder" && rm -rf expected line code told words setup seconds stdout unformed out && mkdir out) || return
+    (cd "$folder" && rm -rf expected line code told words setup seconds memory stack stdout unformed out && mkdir out) || return
     if [ -e "$case/setup" ] && ! (cd "$folder" && sh "$case/setup"); then
         fail "$case: setup failed"
         return 1
@@ -337,14 +344,13 @@ whole() {
     if [ "$code" = 3 ] && diff -r "$case/expected" "$folder/out" >/dev/null; then pass; else fail "scripts/run-whole.sh: exit code $code"; fi
 }
 
-# A run whose standard output is closed and whose first write to a file fails: each file that is there holds a front of its
-# text, and none the line of the status. It is left out where there is no C compiler.
+# A run whose standard output is closed and whose first write to a file fails, as on a device that is full: each file that is
+# there holds a front of its text, and none the line of the status. It is left out where there is no C compiler.
 closed_output() {
-    command -v cc >/dev/null || return
-    cc -O1 -shared -fPIC -o "$made/failing.so" cases/closed/failing_write.c || fail 'cases/closed/failing_write.c is not compiled'
+    failing_devices || return
     case=examples/balance
     laid_out
-    (cd "$folder" && LD_PRELOAD=$made/failing.so exec "$program" "$1" script.vtl structures.csv in out) >&- 2>"$made/told" </dev/null
+    (cd "$folder" && FAIL=write AT=1 ERROR=28 LD_PRELOAD=$made/failing.so exec "$program" "$1" script.vtl structures.csv in out) >&- 2>"$made/told" </dev/null
     code=$?
     if [ "$code" != 6 ]; then
         fail "closed standard output, by $1: exit code $code, wanted 6"
@@ -358,6 +364,119 @@ closed_output() {
         fi
     done
     pass
+}
+
+# A call whose standard output is closed: its exit code, and its words.
+without_output() {
+    wanted_code=$1
+    shift
+    (cd "$folder" && exec "$program" "$@") >&- 2>"$made/told" </dev/null
+    code=$?
+    if [ "$code" = "$wanted_code" ] && written '' "$folder/out"; then pass; else fail "closed standard output, $*: exit code $code, wanted $wanted_code"; fi
+}
+
+# The files that a call has written, each with its name and its text, on one line: `|` stands for LF, and `^` for CR.
+files_written() {
+    for file in "$folder"/out/*; do
+        [ ! -e "$file" ] || printf ' %s:%s' "${file##*/}" "$(tr '\n\r' '|^' <"$file")"
+    done
+}
+
+# A call over a front of a file: it must come to a code, and to a line or to files; `sql` and `lineage` to a text where nothing is
+# refused before data are read.
+comes_to() {
+    called "$@"
+    line=
+    read -r line <"$made/said"
+    case $way:$code:$line in
+        sql:0:'SET SCALE '* | lineage:0:output,component,dataset,source)
+            line=$answer
+            [ "$wanted_code" -lt 4 ] || code=$wanted_code
+            ;;
+        *:0:)
+            line=$(files_written)
+            line=${line# }
+            [ -z "$line" ] || { rm -rf "$folder/out" && mkdir "$folder/out"; }
+            ;;
+    esac
+    if [ "$code:$line" = "$wanted_code:$answer" ] && written '' "$folder/out"; then
+        passed=$((passed + 1))
+    else
+        fail "$case, $size bytes, by $way: exit code $code, $line"
+    fi
+}
+
+# Each front of a file of the folder, by each of its ways: what it comes to stands in a table, as scripts/fronts.py works it out.
+fronts_of() {
+    case=$1
+    laid_out || return
+    worked_out fronts.py "$case"
+    read -r cut <"$case/cut"
+    while read -r way; do
+        set -- "$way" script.vtl structures.csv in out
+        case $way in
+            sql | lineage) set -- "$way" script.vtl structures.csv ;;
+            engine) set -- engine script.sql in out ;;
+        esac
+        while IFS='	' read -r from to wanted_code answer; do
+            size=$from
+            while [ "$size" -le "$to" ]; do
+                head -c "$size" "$case/$cut" >"$folder/$cut"
+                comes_to "$@"
+                size=$((size + 1))
+            done
+        done <"$case/answers.tsv"
+    done <"$case/ways"
+}
+
+# A table that a script of scripts/ works out of a folder.
+worked_out() {
+    command -v python3 >/dev/null || return
+    "scripts/$1" "$2" >"$made/answers"
+    if cmp -s "$made/answers" "$2/answers.tsv"; then pass; else fail "$2/answers.tsv: not what scripts/$1 prints"; fi
+}
+
+# Compiles what stands before the C library, if there is a compiler.
+failing_devices() {
+    command -v cc >/dev/null || return
+    [ -e "$made/failing.so" ] || cc -O1 -shared -fPIC -o "$made/failing.so" cases/devices/failing.c || fail 'cases/devices/failing.c is not compiled'
+}
+
+# A call of the program in which a call about a device fails: its kind, its number, the error, and the most bytes of a call.
+with_failing() {
+    (cd "$folder" && export FAIL="$1" AT="$2" ERROR="$3" CHUNK="$4" && shift 4 && LD_PRELOAD=$made/failing.so exec "$program" "$@") \
+        >"$made/said" 2>"$made/told" </dev/null
+    code=$?
+}
+
+# Each command over devices of which the call of each number of each kind fails: what it comes to stands in a table.
+devices() {
+    worked_out devices.py cases/devices
+    failing_devices || return
+    case=$top/cases/devices
+    laid_out
+    while IFS='	' read -r way kind error chunk from to wanted_code answer; do
+        set -- "$way" script.vtl structures.csv in out
+        case $way in
+            sql | lineage) set -- "$way" script.vtl structures.csv ;;
+            format) set -- format script.vtl ;;
+            engine) set -- engine script.sql in out ;;
+            demo) set -- demo 2 ;;
+            none) set -- ;;
+        esac
+        size=$from
+        while [ "$size" -le "$to" ]; do
+            with_failing "$kind" "$size" "$error" "$chunk" "$@"
+            line=$(tr '\n' '|' <"$made/said")$(files_written)
+            if [ "$code:$line" = "$wanted_code:$answer" ]; then
+                passed=$((passed + 1))
+            else
+                fail "$way, $kind number $size fails by error $error, $chunk bytes a call: exit code $code, $line"
+            fi
+            case $line in *' '*.csv:*) rm -rf "$folder/out" && mkdir "$folder/out" ;; esac
+            size=$((size + 1))
+        done
+    done <"$case/answers.tsv"
 }
 
 # The rows of tables on a page, as docs/sentences.tsv has them.
@@ -436,6 +555,14 @@ refused() {
     fi
 }
 
+# The same of a case whose line says so.
+is_refused() {
+    if [ -e "$1/words" ] || [ -e "$1/setup" ] || [ ! -e "$1/line" ]; then return; fi
+    case $(cat "$1/line") in
+        'error: syntax '* | 'error: structures '* | 'error: type '*) refused "$1" ;;
+    esac
+}
+
 # A table of texts, read by the grammar that the launcher takes from a page.
 read_by_page() {
     parts=scripts/explain
@@ -454,12 +581,12 @@ within() {
 
 wanted() { case " $names " in *" $1 "*) ;; *) return 1 ;; esac; }
 
-# All of it, in three parts side by side.
+# All of it, in four parts side by side.
 run_all() {
     names='examples launcher check sentences pages crates edits'
     for folder in "$top"/cases/*/; do
         case $(basename "$folder") in
-            run | engine | translated) ;;
+            run | engine | translated | cut | devices) ;;
             *) names="$names $(basename "$folder")" ;;
         esac
     done
@@ -467,14 +594,15 @@ run_all() {
     "$top/cases/run.sh" engine translated >"$made/part.2" &
     # shellcheck disable=SC2086 # the names are parted by blanks
     "$top/cases/run.sh" $names >"$made/part.3" &
+    "$top/cases/run.sh" cut devices limits >"$made/part.4" &
     wait
     awk '
         /^[0-9]+ passed, [0-9]+ failed$/ { passed += $1; failed += $3; parts++; next }
         { print }
         END {
-            if (parts != 3) print "a part has no verdict"
+            if (parts != 4) print "a part has no verdict"
             print passed + 0 " passed, " failed + 0 " failed"
-            exit failed > 0 || parts != 3
+            exit failed > 0 || parts != 4
         }' "$made"/part.*
 }
 
@@ -509,6 +637,7 @@ for folder in cases/*/; do
                 is_formed_in "$case"
             done
             ;;
+        lineage) for case in cases/lineage/*/; do run "$top/${case%/}"; done ;;
         engine) for case in cases/engine/*/; do run "$top/${case%/}"; done ;;
         translated) for case in cases/translated/*/; do translated "$top/${case%/}"; done ;;
         explain)
@@ -582,6 +711,19 @@ for folder in cases/*/; do
             fi
             ;;
         closed) for command in run sqlrun; do closed_output "$command"; done ;;
+        devices)
+            devices
+            for command in run sqlrun; do closed_output "$command"; done
+            case=$top/cases/devices
+            laid_out
+            without_output 6 sql script.vtl structures.csv
+            without_output 6 lineage script.vtl structures.csv
+            without_output 6 format script.vtl
+            without_output 6 demo 2
+            without_output 1 run
+            without_output 4 run script.vtl structures.csv nowhere out
+            ;;
+        cut) for case in cases/cut/*/; do fronts_of "$top/${case%/}"; done ;;
         prefix) for file in cases/prefix/*.csv; do fronts syntax "${file%.*}.vtl" "$file"; done ;;
         *) for file in "cases/$word"/*.csv; do table "$word" "$file"; done ;;
     esac
@@ -643,14 +785,7 @@ if wanted sentences; then
     shown docs/SQL.md sql cases/translated/filter_and_sum/script.sql
     shown docs/SQL.md sql cases/translated/datapoint_rules_and_check/script.sql
 fi
-if wanted check && [ -x "$vtl" ]; then
-    for case in cases/run/*/; do
-        if [ -e "$case/words" ] || [ -e "$case/setup" ]; then continue; fi
-        case $(cat "$case/line" 2>/dev/null) in
-            'error: syntax '* | 'error: structures '* | 'error: type '*) refused "${case%/}" ;;
-        esac
-    done
-fi
+if wanted check && [ -x "$vtl" ]; then for case in cases/run/*/; do is_refused "${case%/}"; done; fi
 # The pages that are taken from the files of the crates.
 if wanted pages; then
     scripts/index.sh "$made/pages" || fail "scripts/index.sh: exit code $?"
@@ -663,6 +798,19 @@ if wanted pages; then
         fi
     done
 fi
+# Runs at the limits and beyond them, which scripts/limits.py makes: all but the large ones by the name `limits`.
+for size in limits large; do
+    wanted "$size" || continue
+    command -v python3 >/dev/null || continue
+    set --
+    [ "$size" = limits ] || set -- large
+    scripts/limits.py "$made/limits" "$@" || fail "scripts/limits.py: exit code $?"
+    for case in "$made"/limits/*/; do
+        run_three_ways "${case%/}"
+        is_refused "${case%/}"
+    done
+    rm -rf "${made:?}/limits"
+done
 # The grammars for editors, which are taken from the blocks of docs/LANGUAGE.md.
 if wanted pages; then
     scripts/editors.sh "$made/editors"

@@ -95,13 +95,13 @@ breaches() {
             for (i = 1; i <= count; i++) barred[names[i]] = barred[names[i]] " " what " "
         }
         BEGIN {
-            vtl = "facts values tables read speak check files evaluate"
+            vtl = "facts values tables read speak check files evaluate trace"
             bar(vtl, "SQL translate programs")
-            bar("facts values tables read speak check evaluate SQL translate", "vtl_files vtl_csv vtl_status")
+            bar("facts values tables read speak check evaluate trace SQL translate", "vtl_files vtl_csv vtl_status")
             bar("files", "vtl_files vtl_status")
-            bar("facts values tables read speak", "check files evaluate")
-            bar("check", "tables files evaluate")
-            bar("SQL", "read check files evaluate vtl_meaning vtl_rulings vtl_scripts vtl_readings vtl_aggregate_laws vtl_meaning_laws")
+            bar("facts values tables read speak", "check files evaluate trace")
+            bar("check", "tables files evaluate trace")
+            bar("SQL", "read check files evaluate trace vtl_meaning vtl_rulings vtl_scripts vtl_readings vtl_aggregate_laws vtl_meaning_laws")
             bar("translate", "vtl_expr vtl_clause vtl_join vtl_combine vtl_group vtl_window vtl_interp")
         }
         /^# [a-zA-Z]+: / { layer = substr($2, 1, length($2) - 1) }

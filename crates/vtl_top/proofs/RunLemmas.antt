@@ -28,6 +28,7 @@ use Rattle.vtl_backend.specs.Inputs.{environment_of, inputs_of}
 use Rattle.vtl_top.specs.Expected.{IsTextOf, Typed, fault_status, folder_step, meant, outputs_of, points_or_fault, run_step, script_step, structures_step, text_for, text_step, typed_by, typed_step, typing_of}
 use Rattle.vtl_top.specs.InputsRead.{rows_in}
 use Rattle.vtl_top.specs.Kinds.{refused, told_by}
+use Rattle.vtl_top.specs.Linked.{lineage_step, lineage_text}
 use Rattle.vtl_top.specs.Refusal.{IsOrMemory, IsTableRead, SettlesBy, faulted, input_refusal}
 use Rattle.vtl_top.specs.Steps.{File, Made, Path, Step, ◌>>=◌, settled}
 use Rattle.vtl_top.specs.Informed.{HasRun, typed_view}
@@ -149,6 +150,16 @@ module _ {F X : Type 0} (g : Ghosts F) (s : Source) (view : X → List ℕ) (a b
     text_made x is =
         takes_onward g (typed_step s) text_for a b b typed_view view t (Ok x) typed
         (record { reads = nothing_read g b; came = if_some_all (g.held b) (λ held. (text_for (typed_view t)).gives held (Ok (view x))) (λ held. (view x, is, refl)); misses = refl })
+
+-- ---- the links of a script
+module _ {F X : Type 0} (g : Ghosts F) (s : Source) (view : X → List ℕ) (a b : F) where
+  pub links_refused : (status : Status) → Takes g a b (typed_step s) typed_view (Err status) → Takes g a b (lineage_step s) view (Err status)
+  links_refused status t = takes_stopped g (typed_step s) (λ t. settled (Ok (lineage_text t))) a b typed_view view status t
+
+  pub links_made : (t : TypedScript) → Takes g a b (typed_step s) typed_view (Ok t) → (x : X) → view x ≡ lineage_text (typed_view t) → Takes g a b (lineage_step s) view (Ok x)
+  links_made t typed x is =
+      takes_onward g (typed_step s) (λ t. settled (Ok (lineage_text t))) a b b typed_view view t (Ok x) typed
+      (settled_given g b view (Ok (lineage_text (typed_view t))) (λ status e. cc) (Ok x) (ap Ok (sym is)))
 
 -- ---- what is made of files, or of a text
 module _ {F A X : Type 0} (g : Ghosts F) (a b : F) (step : Step A) (wrap : A → Made) (view : X → A) where

@@ -19,7 +19,7 @@ use Rattle.vtl_top.specs.SqlInputs.{inputs_wanted}
 use Rattle.vtl_top.specs.SqlRun.{engine_step, sql_checked_step, sql_in, sql_of}
 use Rattle.vtl_top.specs.Steps.{Behind, File, Held, Made, Path, Step, Text, ◌>>=◌, as_files, as_text, looked, only_text, read_as, settled, status_of}
 use Rattle.vtl_top.specs.Wanted.{Placed, Wanted, all_in, all_placed_in}
-use Rattle.vtl_top.specs.Words.{Command, Engine, Run, Source, demo, engine, format, run, sql, sqlrun}
+use Rattle.vtl_top.specs.Words.{Command, Engine, Run, Source, demo, engine, format, lineage, run, sql, sqlrun}
 use Rattle.vtl_status.specs.declared.status.Status.{Status}
 use Rattle.vtl_top.proofs.MeantLemmas.{accepted_only}
 use Rattle.vtl_top.proofs.ReadScripts.{form_there, formatted_once, parsed_once}
@@ -138,6 +138,7 @@ sure_or_text (Some (run r)) = inl (files_sure _ (run_sure r))
 sure_or_text (Some (sqlrun r)) = inl (files_sure _ (run_sure r))
 sure_or_text (Some (sql s)) = inr (s, refl)
 sure_or_text (Some (engine e)) = inl (files_sure _ (engine_sure e))
+sure_or_text (Some (lineage s)) = inl (text_sure _ (then_sure _ _ (typed_sure s) (λ t. settled_sure _)))
 sure_or_text (Some (format path)) = inl (text_sure _ (then_sure _ _ (looked_sure _ _) (λ bytes. form_sure path bytes)))
 sure_or_text (Some (demo n)) = inl (settled_sure _)
 

@@ -6,6 +6,7 @@ pub mod Forms
 pub mod Informed
 pub mod InputsRead
 pub mod Kinds
+pub mod Linked
 pub mod MadeView
 pub mod Meant
 pub mod OutputView

@@ -1,5 +1,5 @@
 -- A run, without where its paths and its profile lie in memory.
-use Rattle.vtl_top.specs.Words.{Command, Engine, Run, Setting, Source, demo, engine, format, rounding, run, scale, sql, sqlrun}
+use Rattle.vtl_top.specs.Words.{Command, Engine, Run, Setting, Source, demo, engine, format, lineage, rounding, run, scale, sql, sqlrun}
 use Rattle.vtl_top.specs.declared.words.Source.{Source as SourceWords}
 use Rattle.vtl_top.specs.declared.words.Command.{Command as CommandWords}
 use Rattle.vtl_top.specs.declared.words.Command.TheVariants as asked
@@ -22,6 +22,7 @@ command_view (asked.Run w) = run (run_view w)
 command_view (asked.SqlRun w) = sqlrun (run_view w)
 command_view (asked.Sql w) = sql (source_view w)
 command_view (asked.Engine w) = engine (engine_view w)
+command_view (asked.Lineage w) = lineage (source_view w)
 command_view (asked.Format path) = format path.now
 command_view (asked.Demo points) = demo points
 

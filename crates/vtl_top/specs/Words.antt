@@ -34,12 +34,13 @@ pub record Engine : Type 0 where
   pub output : Path
 
 -- a command, with its paths and options: a script is run by the interpreter, or by its text in SQL; its text in SQL is said; an SQL
--- file is run; the canonical text of the script at a path is said; the demonstration is run over so many points
+-- file is run; the links of a script are said; the canonical text of the script at a path is said; the demonstration is run over so many points
 pub data Command : Type 0 where
   run : Run → Command
   sqlrun : Run → Command
   sql : Source → Command
   engine : Engine → Command
+  lineage : Source → Command
   format : Path → Command
   demo : ℕ → Command
 
@@ -120,7 +121,7 @@ settings_of s = settings_for s.chosen None
 abbrev pub source_with : (script structures : Path) → Chosen → Source
 source_with script structures chosen = record { script = script; structures = structures; chosen = chosen }
 
--- the words behind `sql`: SCRIPT STRUCTURES, each a path, and then options
+-- the words behind `sql` and `lineage`: SCRIPT STRUCTURES, each a path, and then options
 abbrev pub source_of : List Text → Option Source
 source_of (script ∷ structures ∷ options) =
     if list_all is_path (script ∷ structures ∷ []) then option_map (source_with script structures) (chosen_in options) else None
@@ -170,5 +171,6 @@ command_of (name ∷ words) =
     else (if same_name name (codes "sqlrun") then option_map sqlrun (run_of words)
     else (if same_name name (codes "sql") then option_map sql (source_of words)
     else (if same_name name (codes "engine") then option_map engine (engine_of words)
+    else (if same_name name (codes "lineage") then option_map lineage (source_of words)
     else (if same_name name (codes "format") then option_map format (path_of words)
-    else (if same_name name (codes "demo") then option_map demo (points_of words) else None)))))
+    else (if same_name name (codes "demo") then option_map demo (points_of words) else None))))))

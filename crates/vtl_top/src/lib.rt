@@ -17,6 +17,7 @@ mod agreement;
 mod form;
 mod inputs;
 mod laws;
+mod lineage;
 mod made;
 mod output;
 mod points;

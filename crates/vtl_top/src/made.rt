@@ -19,9 +19,10 @@ ghost use Rattle.vtl_top.specs.RunView.{command_view, engine_view, run_view, sou
 ghost use Rattle.vtl_top.specs.Informed.{HasRun, Informs, IsToldOf, TellsRun};
 ghost use Rattle.vtl_top.specs.Refusal.{SettlesBy};
 ghost use Rattle.vtl_top.specs.Steps.{only_text, status_of};
-ghost use Rattle.vtl_top.specs.Words.{engine, format, run, sql};
+ghost use Rattle.vtl_top.specs.Words.{engine, format, lineage, run, sql};
 
 use crate::form::prepare_form;
+use crate::lineage::prepare_links;
 use crate::output::Output;
 use crate::points::Points;
 use crate::run::{prepare, prepare_text};
@@ -64,6 +65,7 @@ pub fn make<B: Backend, F: Files>(
         Command::SqlRun(run) => make_run(alloc, back, files, run),
         Command::Sql(source) => make_text(alloc, files, source),
         Command::Engine(engine) => make_exports(alloc, files, engine),
+        Command::Lineage(source) => make_links(alloc, files, source),
         Command::Format(path) => make_form(alloc, files, *path),
         Command::Demo(points) => make_lines(alloc, back, points),
     }
@@ -104,6 +106,17 @@ fn make_exports<F: Files>(alloc: Global, files: &mut F, asked: &Engine<'_>) -> R
 {
     match prepare_exports(alloc, files, asked) {
         Ok(outputs) => made_of(alloc, outputs, Vec::new(alloc)),
+        Err(status) => Err(status),
+    }
+}
+
+fn make_links<F: Files>(alloc: Global, files: &mut F, asked: &Source<'_>) -> Result<Made, Status>
+    ensures takes { Takes F.Files files.old files.new (asked_step (Some (lineage (source_view asked.now)))) made_view result }
+    ensures named { IfOk result Names }
+    ensures shape { IfOk result (λ m. outputs_view m.outputs ≡ []) }
+{
+    match prepare_links(alloc, files, asked) {
+        Ok(text) => made_of(alloc, Vec::new(alloc), text),
         Err(status) => Err(status),
     }
 }

@@ -35,6 +35,8 @@ use vtl_status::{Status, tell};
 /// - `sql SCRIPT STRUCTURES` hands such a text to `out`, whole on Done; it reads no data set.
 /// - `engine SQLFILE IN OUT` runs a text of the SQL dialect: it reads the CSV file of each INPUT, and writes that of each
 ///   EXPORT.
+/// - `lineage SCRIPT STRUCTURES` hands the links of the script to `out` as CSV, whole on Done: which components of data
+///   sets each component of an output depends on. It reads no data set.
 /// - `format SCRIPT` hands the canonical text of the script to `out`, whole on Done; it reads nothing else.
 /// - `demo POINTS` runs a script of its own over data sets of its own of so many points, 1 to a million, in both ways, and
 ///   hands a line on each to `out`: what it gave, with its rows and the bytes of its CSV text. It reads and writes no file.

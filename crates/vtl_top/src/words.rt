@@ -107,6 +107,8 @@ pub enum Command<'a> {
     Sql(Source<'a>),
     /// An SQL file is run.
     Engine(Engine<'a>),
+    /// The links of a script are said.
+    Lineage(Source<'a>),
     /// The canonical text of the script at this path is said.
     Format(&'a str),
     /// The demonstration is run over so many points, in both ways.
@@ -130,7 +132,7 @@ fn is_path(word: &str) -> bool
 
 /// The command that the words are, by its name: `run` or `sqlrun`, and SCRIPT STRUCTURES IN OUT, each a path that is not
 /// empty, and then the options `--scale D` and `--round R`, each at most once; `sql`, and SCRIPT STRUCTURES and such
-/// options; `engine`, and SQLFILE IN OUT; `format`, and SCRIPT; or `demo`, and the decimal of a number of points.
+/// options; `engine`, and SQLFILE IN OUT; `lineage`, with the same words as `sql`; `format`, and SCRIPT; or `demo`, and the decimal of a number of points.
 pub fn command_of(words: &[String]) -> Option<Command<'_>>
     ensures { option_map command_view result ≡ command_of (map string_bytes words.now) }
 {
@@ -164,6 +166,12 @@ fn named<'a>(name: &str, words: &'a [String]) -> Option<Command<'a>>
     if name == "engine" {
         return match engine_of(words) {
             Some(engine) => Some(Command::Engine(engine)),
+            None => None,
+        };
+    }
+    if name == "lineage" {
+        return match source_of(words) {
+            Some(source) => Some(Command::Lineage(source)),
             None => None,
         };
     }

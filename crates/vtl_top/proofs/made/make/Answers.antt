@@ -3,7 +3,7 @@ use Rattle.vtl_demo.specs.Said.{said}
 use Rattle.vtl_top.specs.MadeView.{made_view}
 use Rattle.vtl_top.specs.RunView.{command_view, engine_view, run_view, source_view}
 use Rattle.vtl_top.specs.Steps.{only_text}
-use Rattle.vtl_top.specs.Words.{demo, engine, format, run, sql, sqlrun}
+use Rattle.vtl_top.specs.Words.{demo, engine, format, lineage, run, sql, sqlrun}
 use Rattle.vtl_top.proofs.MadeLemmas.{of_command}
 use Rattle.vtl_top.proofs.ReadScripts.{settled_given}
 use Rattle.vtl_top.proofs.made.make.Goals as goal
@@ -23,6 +23,10 @@ returns-in-Sql-clause-takes g c =
 pub returns-in-Engine-clause-takes : goal.returns-in-Engine-clause-takes
 returns-in-Engine-clause-takes g c =
     of_command g.F.Files c.args.files.now c.make_exports.new.files (engine (engine_view c.in-Engine.engine)) (command_view c.args.command.now) c.make_exports.result c.make_exports.ensures.takes (sym (ap command_view c.in-Engine.is))
+
+pub returns-in-Lineage-clause-takes : goal.returns-in-Lineage-clause-takes
+returns-in-Lineage-clause-takes g c =
+    of_command g.F.Files c.args.files.now c.make_links.new.files (lineage (source_view c.in-Lineage.source)) (command_view c.args.command.now) c.make_links.result c.make_links.ensures.takes (sym (ap command_view c.in-Lineage.is))
 
 pub returns-in-Format-clause-takes : goal.returns-in-Format-clause-takes
 returns-in-Format-clause-takes g c =

@@ -1,0 +1,3 @@
+SET SCALE 2 ROUNDING HALF_EVEN;
+INPUT "T" ("k" INTEGER, "d" DATE, "v" NUMBER NOT NULL, "c" TEXT CODES ('x', 'x, "y"'), "b" BOOLEAN) KEY ("k", "c");
+EXPORT "T" ORDER BY "v";

@@ -1,0 +1,17 @@
+pub mod Togethers
+pub mod Rows
+pub mod Values
+pub mod Columns
+pub mod Clauses
+pub mod Namesakes
+pub mod Pairs
+pub mod Joins
+pub mod Fulls
+pub mod Groups
+pub mod Sorts
+pub mod Windows
+pub mod Turned
+pub mod Rulings
+pub mod Nodes
+pub mod Scripts
+pub mod Inputs

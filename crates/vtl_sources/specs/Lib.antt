@@ -1,0 +1,4 @@
+pub mod Sources
+pub mod Table
+pub mod Lineage
+pub mod Links
