@@ -82,7 +82,7 @@ mutual
       ((x.0, y.0), (retain_tells r (close_bracket ∷ ts) y.1).1.1)
   exp_tells (time e call) ts fits h =
       let x = exp_tells e (time_part_onto call (close_bracket ∷ ts)) fits h.1.1 in
-      (x.0, (time_part_tells call (close_bracket ∷ ts) x.1).1)
+      (x.0, (time_part_tells call (close_bracket ∷ ts) x.1).1.1)
   exp_tells (check e err i o) ts fits h =
       let out : Tokens = maybe_onto basic_out_token o (close_bracket ∷ ts) in
       let imbalance : Tokens = maybe_exp_after_onto (token.Keyword keyword.Imbalance) i out in
