@@ -32,6 +32,7 @@ use Rattle.check_operators.specs.declared.places.Place.{Place}
 use Rattle.check_operators.specs.declared.places.Place.TheVariants as place
 use Rattle.check_groups.specs.Aggregates.{aggregate_node, count_call, aggregate_value}
 use Rattle.check_groups.specs.Windowed.{over_typed, target_typed}
+use Rattle.check_times.specs.Timed.{time_form}
 use Rattle.check_clauses.specs.Clauses.{filter_form, keeping_form, pivot_of, renaming_form, sub_form, unpivot_of}
 use Rattle.check_clauses.specs.JoinOperands.{PartTyped, joined_node, joined_of, last_naming, operands_in, with_part}
 use Rattle.check_clauses.specs.Targets.{aggr_clause, aggr_name, calc_clause, calc_name, with_item, with_made}
@@ -118,6 +119,7 @@ abbrev mutual
   typed env at (tree.set_op f es) = operands_typed env place.Outside [] es >>= sets_form f
   typed env at (tree.difference f a b) = typed env place.Outside a >>= λ x. typed env place.Outside b >>= difference_form f x
   typed env at (tree.exists_in a b r) = typed env place.Outside a >>= λ x. typed env place.Outside b >>= exists_form r x
+  typed env at (tree.time e call) = typed env place.Outside e >>= time_form env.settings call
   typed env at (tree.check e err i o) = typed env place.Outside e >>= λ x. check_spec env.settings err o >>= λ s. maybe_typed env place.Outside i >>= check_form s x
   typed env at (tree.check_datapoint e n o) = typed env place.Outside e >>= env.called.datapoint (names_in env) n o
   typed env at (tree.check_hierarchy e n r m d o) = typed env place.Outside e >>= env.called.check_hierarchy n r m o

@@ -36,6 +36,7 @@ use check_operators::{
     groups, in_aggregate, member, member_inside, name, operator, points, regrouped, set, sets,
     written,
 };
+use check_times::time;
 use check_values::{binary_operator, grouping, grouping_of, unary_operator};
 use std::alloc::{AllocError, Global};
 use vtl_cell::ScalarOp;
@@ -626,6 +627,10 @@ pub fn typing<R: Rulesets>(
         } => {
             let left = outside(alloc, scope, rulesets, left)?;
             exists_behind(alloc, scope, rulesets, right, *retain, left)
+        }
+        Expr::Time { operand, call } => {
+            let operand = outside(alloc, scope, rulesets, operand)?;
+            time(alloc, &scope.profile, call, operand)
         }
         Expr::Check {
             operand,

@@ -35,3 +35,4 @@ number_of rule.CircularHierarchy = 18
 number_of rule.NullKind = 19
 number_of rule.TooManyNodes = 20
 number_of rule.JoinMisuse = 21
+number_of rule.NoTime = 22

@@ -47,6 +47,8 @@ pub enum Rule {
     TooManyNodes = 20,
     /// An operand of a join that is no plain name lacks an alias, or `using` stands on a full or cross join.
     JoinMisuse = 21,
+    /// The operand of a time operator has not exactly one identifier that holds periods.
+    NoTime = 22,
 }
 
 impl Rule {

@@ -57,6 +57,7 @@ use Rattle.check_laws.specs.Scripts.{AreCalledAlike, AreKnownAlike}
 use Rattle.check_laws.specs.SoundRulings.{env_of}
 use Rattle.vtl_meaning.proofs.Lists as lists
 use Rattle.check_laws.proofs.SoundRulings.{looked}
+use Rattle.check_times.specs.Timed.{time_form}
 
 same-each : {A B : Type 0} (s : Result A Rule) (f g : A → Result B Rule) → ((x : A) → f x ≡ g x) → (s >>= f) ≡ (s >>= g)
 same-each (Ok x) f g h = h x
@@ -162,6 +163,7 @@ module _ (p : Settings) (known other : Named) (called : Rulings) (calls : AreCal
     typed-alike at (tree.exists_in a b r) h =
         same-then (typed one place.Outside a) (typed two place.Outside a) (λ x. typed one place.Outside b >>= exists_form r x) (λ x. typed two place.Outside b >>= exists_form r x) (typed-alike place.Outside a (front (names_read false a) (names_read false b) h))
         (λ x. same-first (typed one place.Outside b) (typed two place.Outside b) (exists_form r x) (typed-alike place.Outside b (back (names_read false a) (names_read false b) h)))
+    typed-alike at (tree.time e call) h = same-first (typed one place.Outside e) (typed two place.Outside e) (time_form p call) (typed-alike place.Outside e h)
     typed-alike at (tree.check e err i o) h =
         same-then (typed one place.Outside e) (typed two place.Outside e) (λ x. check_spec p err o >>= λ s. maybe_typed one place.Outside i >>= check_form s x) (λ x. check_spec p err o >>= λ s. maybe_typed two place.Outside i >>= check_form s x) (typed-alike place.Outside e (front (names_read false e) (maybe_read false i) h))
         (λ x. same-rest (check_spec p err o) (λ s. maybe_typed one place.Outside i >>= check_form s x) (λ s. maybe_typed two place.Outside i >>= check_form s x) (λ s. same-first (maybe_typed one place.Outside i) (maybe_typed two place.Outside i) (check_form s x) (maybe-alike place.Outside i (back (names_read false e) (maybe_read false i) h))))

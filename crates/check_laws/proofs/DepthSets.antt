@@ -12,6 +12,7 @@ use Rattle.check_faults.specs.declared.rules.Rule.TheVariants as rule
 use Rattle.vtl_syntax.specs.Trees.{Exp, MaybeExp}
 use Rattle.vtl_syntax.specs.declared.parts.Comp.{Comp}
 use Rattle.vtl_syntax.specs.declared.parts.GroupPart.{GroupPart}
+use Rattle.vtl_syntax.specs.declared.parts.TimeCall.{TimeCall}
 use Rattle.vtl_syntax.specs.declared.word_groups.AggregateName.{AggregateName}
 use Rattle.vtl_syntax.specs.declared.word_groups.DifferenceName.{DifferenceName}
 use Rattle.vtl_syntax.specs.declared.word_groups.DifferenceName.TheVariants as difference
@@ -24,6 +25,7 @@ use Rattle.vtl_tree.specs.declared.structure.Structure.{Structure}
 use Rattle.vtl_tree.specs.Nodes.{maybe_nodes, nodes_in}
 use Rattle.vtl_tree.specs.Trees as nodes
 use Rattle.vtl_tree.specs.Trees.{FormTree, NodeTree, maybe_node, nodes_of, structure_of}
+use Rattle.vtl_tree.specs.declared.calls.TimeOp.{TimeOp}
 use Rattle.vtl_tree.specs.declared.calls.Window.{Window}
 use Rattle.vtl_tree.specs.declared.specifications.CheckSpec.{CheckSpec}
 use Rattle.check_shapes.specs.Pairs as pairs
@@ -39,6 +41,7 @@ use Rattle.check_groups.specs.Aggregates.{aggregate_kind, aggregate_node, aggreg
 use Rattle.check_expressions.specs.Typing.{Having, grouped_of, own_groups}
 use Rattle.check_groups.specs.Windowed.{given_structure, or_count, over_dataset, over_form, over_node, over_typed}
 use Rattle.check_groups.specs.declared.calls.Call.{Call}
+use Rattle.check_times.specs.Timed.{operator_typed, time_form, time_node}
 use Rattle.vtl_tree.specs.Depths.{argument_depth}
 use Rattle.check_laws.specs.Gives.{Gives}
 use Rattle.check_laws.proofs.DepthBounds.{AreOwnUpTo, IsNodeUpTo, IsTreeUpTo, IsUpTo, all-beside, beside, dataset-up, node-up, option-up, some-tree, tree-raised}
@@ -86,6 +89,16 @@ module _ (P : FormTree → Type 0) where
       then (IsNodeUpTo P d) (IsTreeUpTo P d) (dataset_in x) (λ a. dataset_in y >>= λ b. pairs.exists_form (structure_of a) (structure_of b) >>= made_of (nodes.exists_in a b (unwrap_or r retain.All))) (dataset-in-up d x hx)
       (λ a ha. then (IsNodeUpTo P d) (IsTreeUpTo P d) (dataset_in y) (λ b. pairs.exists_form (structure_of a) (structure_of b) >>= made_of (nodes.exists_in a b (unwrap_or r retain.All))) (dataset-in-up d y hy)
       (λ b hb. dataset-up P d (nodes.exists_in a b (unwrap_or r retain.All)) _ (λ s. node-up P d s _ ha.some tt tt tt (beside P d (nodes_in a) (nodes_in b) ha.each hb.each))))
+
+  -- ---- time operators
+  time-node-up : (d : ℕ) (o : TimeOp) (a : NodeTree) → IsNodeUpTo P d a → Gives (IsTreeUpTo P d) (time_node o a)
+  time-node-up d o a h = dataset-up P d (nodes.time a o) _ (λ s. node-up P d s _ h.some tt tt tt h.each)
+
+  pub time-up : (d : ℕ) (p : Settings) (call : TimeCall) (x : TypedTree) → IsTreeUpTo P d x → Gives (IsTreeUpTo P d) (time_form p call x)
+  unfolding time_form
+  time-up d p call x h =
+      after (IsTreeUpTo P d) (operator_typed p call) (λ o. dataset_in x >>= time_node o)
+      (λ o. then (IsNodeUpTo P d) (IsTreeUpTo P d) (dataset_in x) (time_node o) (dataset-in-up d x h) (time-node-up d o))
 
   -- ---- `check`
   imbalance-up : (d : ℕ) (i : Option TypedTree) → IfSome i (IsTreeUpTo P d) → Gives (λ b. IfSome b (IsNodeUpTo P d)) (imbalance_in i)

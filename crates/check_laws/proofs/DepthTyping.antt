@@ -30,9 +30,10 @@ use Rattle.check_laws.specs.Gives.{Gives}
 use Rattle.check_laws.proofs.DepthBounds.{IsItemUpTo, IsNodeUpTo, IsTreeUpTo, IsUpTo, IsValueUpTo, call-over-up}
 use Rattle.check_laws.proofs.DepthClauses.{IsOperandUpTo, IsPartUpTo, aggr-up, calc-up, condition-up, end-up, filter-up, joined-up, keeping-up, operands-up, part-up, pivot-up, renaming-up, sub-up, target-up, tree-step, unpivot-up}
 use Rattle.check_laws.proofs.DepthOperators.{behind-up, constants-up, names-up, operator-step, or-component-up, set-step, two-step}
-use Rattle.check_laws.proofs.DepthSets.{check-up, dataset-step, difference-up, exists-up, grouped-up, member-up, over-up, sets-up}
+use Rattle.check_laws.proofs.DepthSets.{check-up, dataset-step, difference-up, exists-up, grouped-up, member-up, over-up, sets-up, time-up}
 use Rattle.vtl_meaning.proofs.Lists as lists
 use Rattle.check_laws.proofs.Steps.{after, then, weaker}
+use Rattle.check_times.specs.Timed.{time_form}
 
 -- where what calls give stands over their operands, and this holds of it
 module _ (P : FormTree → Type 0) (sight : Sight) (calls : AreCalls P sight.called) where
@@ -70,6 +71,7 @@ module _ (P : FormTree → Type 0) (sight : Sight) (calls : AreCalls P sight.cal
     deep at (tree.exists_in a b r) d le =
         then (IsTreeUpTo P d) (IsTreeUpTo P d) (typed sight place.Outside a) (λ x. typed sight place.Outside b >>= exists_form r x) (deep place.Outside a d (omega arith))
         (λ x hx. then (IsTreeUpTo P d) (IsTreeUpTo P d) (typed sight place.Outside b) (exists_form r x) (deep place.Outside b d (omega arith)) (λ y hy. exists-up P d r x y hx hy))
+    deep at (tree.time e call) d le = then (IsTreeUpTo P d) (IsTreeUpTo P d) (typed sight place.Outside e) (time_form sight.settings call) (deep place.Outside e d (omega arith)) (λ x h. time-up P d sight.settings call x h)
     deep at (tree.check e err i o) d le =
         then (IsTreeUpTo P d) (IsTreeUpTo P d) (typed sight place.Outside e) (λ x. check_spec sight.settings err o >>= λ s. maybe_typed sight place.Outside i >>= check_form s x) (deep place.Outside e d (omega arith))
         (λ x hx. after (IsTreeUpTo P d) (check_spec sight.settings err o) (λ s. maybe_typed sight place.Outside i >>= check_form s x)

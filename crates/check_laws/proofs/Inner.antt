@@ -44,6 +44,7 @@ module _ (p : Settings) (known : Named) where
     form-made s (nodes.exists_in a b r) m = two (nodes_in a) (nodes_in b) (inner-made a m.0) (inner-made b m.1)
     form-made s (nodes.aggregate a spec) m = inner-made a m.0
     form-made s (nodes.analytic_of a spec) m = inner-made a m.0
+    form-made s (nodes.time a o) m = inner-made a m.0
     form-made s (nodes.check a i spec) m = two (nodes_in a) (maybe_nodes i) (inner-made a m.0) (maybe-made i m.1)
     form-made s (nodes.check_datapoint a rules out) m = inner-made a m.0
     form-made s (nodes.check_hierarchy a rules mode out) m = inner-made a m.0

@@ -41,6 +41,7 @@ pub mod Sound
 pub mod SoundRulings
 pub mod Steps
 pub mod Tests
+pub mod Timed
 pub mod Turned
 pub mod Turns
 pub mod Twins

@@ -55,6 +55,7 @@ mutual
   form_over p known other s (nodes.exists_in a b r) h m = (made_over p known other a (front known other (nodes_in a) (nodes_in b) h) m.0, made_over p known other b (back known other (nodes_in a) (nodes_in b) h) m.1, m.2)
   form_over p known other s (nodes.aggregate a spec) h m = (made_over p known other a h m.0, m.1)
   form_over p known other s (nodes.analytic_of a spec) h m = (made_over p known other a h m.0, m.1, m.2)
+  form_over p known other s (nodes.time a o) h m = (made_over p known other a h m.0, m.1)
   form_over p known other s (nodes.check a i spec) h m = (made_over p known other a (front known other (nodes_in a) (maybe_nodes i) h) m.0, maybe_over p known other i (back known other (nodes_in a) (maybe_nodes i) h) m.1, m.2)
   form_over p known other s (nodes.check_datapoint a rules out) h m = (made_over p known other a h m.0, m.1)
   form_over p known other s (nodes.check_hierarchy a rules mode out) h m = (made_over p known other a h m.0, m.1)

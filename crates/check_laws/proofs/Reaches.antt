@@ -40,7 +40,7 @@ use Rattle.check_laws.proofs.Steps.{after, then}
 use Rattle.check_laws.proofs.Tests.{and-true}
 use Rattle.check_operators.specs.Places.{columns_in}
 
-points-near : (o : Option ℤ) → Gives (λ n. is_near n ≡ true) (points_in o)
+pub points-near : (o : Option ℤ) → Gives (λ n. is_near n ≡ true) (points_in o)
 points-near None = tt
 points-near (Some (pos n)) = go (int_le (pos 0) (pos n) && int_le (pos n) longest_reach) refl
   where

@@ -67,6 +67,8 @@ use Rattle.check_laws.proofs.Operators.{AreFit, operator-gives, set-form-gives}
 use Rattle.check_laws.proofs.Sets.{IsLevel, check-gives, dataset-gives, difference-gives, exists-gives, member-gives, sets-give, spec-gives}
 use Rattle.check_laws.proofs.Steps.{after, both, then, weaker}
 use Rattle.check_laws.proofs.Values.{constants-give, names-give, written-gives}
+use Rattle.check_times.specs.Timed.{time_form}
+use Rattle.check_laws.proofs.Timed.{time-gives}
 
 -- ---- parts of the walk
 tree-gives : (env : Env) (at : Place) (r : Result NodeTree Rule) → Gives (IsMade env.settings env.known) r → Gives (IsWellTyped env at) (as_dataset r)
@@ -209,6 +211,7 @@ module _ (sight : Sight) (are : AreShaped sight.known) (calls : AreSoundRulings 
     sound at (tree.exists_in a b r) =
         then (IsWellTyped env place.Outside) (IsWellTyped env at) (typed sight place.Outside a) (λ x. typed sight place.Outside b >>= exists_form r x) (sound place.Outside a)
         (λ x hx. then (IsWellTyped env place.Outside) (IsWellTyped env at) (typed sight place.Outside b) (exists_form r x) (sound place.Outside b) (λ y hy. exists-gives env at r x y hx hy))
+    sound at (tree.time e call) = then (IsWellTyped env place.Outside) (IsWellTyped env at) (typed sight place.Outside e) (time_form sight.settings call) (sound place.Outside e) (λ x h. time-gives env at call x h)
     sound at (tree.check e err i o) =
         then (IsWellTyped env place.Outside) (IsWellTyped env at) (typed sight place.Outside e) (λ x. check_spec sight.settings err o >>= λ s. maybe_typed sight place.Outside i >>= check_form s x) (sound place.Outside e)
         (λ x hx. then (λ s. IsLevel sight.settings s.errorlevel) (IsWellTyped env at) (check_spec sight.settings err o) (λ s. maybe_typed sight place.Outside i >>= check_form s x) (spec-gives sight.settings err o)

@@ -39,6 +39,7 @@ abbrev mutual
   names_read inside (tree.set_op f es) = all_read false es
   names_read inside (tree.difference f a b) = names_read false a ++ names_read false b
   names_read inside (tree.exists_in a b r) = names_read false a ++ names_read false b
+  names_read inside (tree.time e call) = names_read false e
   names_read inside (tree.check e err i o) = names_read false e ++ maybe_read false i
   names_read inside (tree.check_datapoint e n o) = names_read false e
   names_read inside (tree.check_hierarchy e n r m d o) = names_read false e

@@ -2,7 +2,7 @@
 ghost use Rattle.std.specs.Prelude.{◌≡◌, Some, None, MatchResult};
 ghost use Rattle.std.specs.Option.{option_map};
 ghost use Rattle.vtl_grammar.specs.Faults.{kinds};
-ghost use Rattle.vtl_grammar.specs.ReadExpressions.{cast_call, check_call, check_datapoint_call, check_hierarchy_call, dataset_part, difference_call, exists_in_call, function_call, hierarchy_call, rank_call, read, set_op_call, shift_call, value_window_call};
+ghost use Rattle.vtl_grammar.specs.ReadExpressions.{cast_call, check_call, check_datapoint_call, check_hierarchy_call, dataset_part, difference_call, exists_in_call, function_call, hierarchy_call, rank_call, read, set_op_call, shift_call, time_call, value_window_call};
 ghost use Rattle.vtl_grammar.specs.Reading.{spared};
 ghost use Rattle.vtl_grammar.specs.declared.levels.Level.TheVariants as level;
 ghost use Rattle.read_expressions.specs.Reads.{GetsBy, Nests, box_tree};
@@ -13,12 +13,13 @@ use crate::grammar::{Grammar, node};
 use crate::reads::Read;
 use read_parts::{
     Front, Unread, after_keyword, after_sign, cast_part, error_part, maybe_word, over_part,
-    retain_part, rule_part, ruleset_part, shift_part,
+    retain_part, rule_part, ruleset_part, shift_part, time_part,
 };
 use vtl_grammar::Level;
 use vtl_lexer::{Keyword, Sign, Token};
 use vtl_syntax::{
-    Constant, DifferenceName, Expr, FunctionName, OverPart, SetOpName, ShiftName, ValueWindowName,
+    Constant, DifferenceName, Expr, FunctionName, OverPart, SetOpName, ShiftName, TimeName,
+    ValueWindowName,
 };
 
 // How deep the names of a window make it.
@@ -187,6 +188,25 @@ impl<F: Fn(Level, &[Token]) -> Result<Read<'_, Box<Expr>>, Unread>> Grammar<F> {
             retain: retain.part,
         };
         node(self.alloc, tree, left.spare.min(right.spare), retain.rest)
+    }
+
+    // `operator(operand ..)`, with a time operator
+    #[tactic(auto, using(crate::proofs::Views::views), unfolding(vtl_grammar::specs::ReadExpressions::time_call))]
+    pub(crate) fn time_call<'t>(
+        &self,
+        name: TimeName,
+        tokens: &'t [Token],
+    ) -> Result<Read<'t, Box<Expr>>, Unread>
+        requires { Nests self.now.budget (F.pre self.now.read) (F.post self.now.read) }
+        ensures { GetsBy box_tree (time_call (read self.now.budget level.Expression) name (kinds tokens.now)) result }
+    {
+        let operand = (self.read)(Level::Expression, tokens)?;
+        let behind = time_part(name, operand.rest)?;
+        let tree = Expr::Time {
+            operand: operand.tree,
+            call: behind.part,
+        };
+        node(self.alloc, tree, operand.spare, behind.rest)
     }
 
     // `check(operand error imbalance expression output)`

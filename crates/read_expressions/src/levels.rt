@@ -64,6 +64,7 @@ impl<F: Fn(Level, &[Token]) -> Result<Read<'_, Box<Expr>>, Unread>> Grammar<F> {
             CallForm::SetOp(operator) => self.set_op_call(operator, tokens),
             CallForm::Difference(operator) => self.difference_call(operator, tokens),
             CallForm::ExistsIn => self.exists_in_call(tokens),
+            CallForm::Time(name) => self.time_call(name, tokens),
             CallForm::Check => self.check_call(tokens),
             CallForm::CheckDatapoint => self.check_datapoint_call(tokens),
             CallForm::CheckHierarchy => self.check_hierarchy_call(tokens),

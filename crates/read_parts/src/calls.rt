@@ -1,7 +1,7 @@
 // Parts of calls.
 ghost use Rattle.std.specs.Prelude.{Some};
 ghost use Rattle.vtl_grammar.specs.Faults.{kinds};
-ghost use Rattle.vtl_grammar.specs.ReadParts.{retain_part, rule_part, ruleset_part, shift_part};
+ghost use Rattle.vtl_grammar.specs.ReadParts.{filling_part, periods_part, retain_part, rule_part, ruleset_part, shift_part, time_part};
 ghost use Rattle.read_parts.specs.Fronts.{ReadsAs};
 
 use crate::front::{Front, Unread, absent, after_keyword, after_sign, some};
@@ -9,7 +9,7 @@ use crate::literals::literal;
 use crate::names::{comp, integer, name};
 use crate::words::word;
 use vtl_lexer::{Keyword, Sign, Token};
-use vtl_syntax::{Comp, Literal, Retain};
+use vtl_syntax::{Comp, Filling, Literal, Retain, TimeCall, TimeName};
 use vtl_text::Txt;
 
 /// `, points` or `, points, default`
@@ -40,6 +40,62 @@ pub fn retain_part(tokens: &[Token]) -> Result<Front<'_, Option<Retain>>, Unread
     match after_sign(tokens, Sign::Comma) {
         Some(after) => Ok(some(word(after).ok_or(Unread::Absent)?)),
         None => Ok(absent(tokens)),
+    }
+}
+
+// `, periods` or `, -periods`
+#[tactic(auto, unfolding(vtl_grammar::specs::ReadParts::periods_part))]
+fn periods_part(tokens: &[Token]) -> Result<Front<'_, TimeCall>, Unread>
+    ensures { ReadsAs (periods_part (kinds tokens.now)) result }
+{
+    let after = after_sign(tokens, Sign::Comma).ok_or(Unread::Absent)?;
+    let (negative, digits) = match after_sign(after, Sign::Minus) {
+        Some(behind) => (true, behind),
+        None => (false, after),
+    };
+    let periods = integer(digits)?;
+    Ok(Front {
+        part: TimeCall::Timeshift {
+            negative,
+            periods: periods.part,
+        },
+        rest: periods.rest,
+    })
+}
+
+// `, single` or `, all`, if one stands there.
+#[tactic(auto, unfolding(vtl_grammar::specs::ReadParts::filling_part))]
+fn filling_part(tokens: &[Token]) -> Result<Front<'_, Option<Filling>>, Unread>
+    ensures { ReadsAs (filling_part (kinds tokens.now)) result }
+{
+    match after_sign(tokens, Sign::Comma) {
+        Some(after) => Ok(some(word(after).ok_or(Unread::Absent)?)),
+        None => Ok(absent(tokens)),
+    }
+}
+
+/// What stands behind the operand of the time operator.
+#[tactic(auto, unfolding(vtl_grammar::specs::ReadParts::time_part))]
+pub fn time_part(name: TimeName, tokens: &[Token]) -> Result<Front<'_, TimeCall>, Unread>
+    ensures { ReadsAs (time_part name (kinds tokens.now)) result }
+{
+    match name {
+        TimeName::Timeshift => periods_part(tokens),
+        TimeName::FillTimeSeries => {
+            let filling = filling_part(tokens)?;
+            Ok(Front {
+                part: TimeCall::FillTimeSeries(filling.part),
+                rest: filling.rest,
+            })
+        }
+        TimeName::FlowToStock => Ok(Front {
+            part: TimeCall::FlowToStock,
+            rest: tokens,
+        }),
+        TimeName::StockToFlow => Ok(Front {
+            part: TimeCall::StockToFlow,
+            rest: tokens,
+        }),
     }
 }
 

@@ -17,7 +17,7 @@ mod names;
 mod windows;
 mod words;
 
-pub use calls::{retain_part, rule_part, ruleset_part, shift_part};
+pub use calls::{retain_part, rule_part, ruleset_part, shift_part, time_part};
 pub use clauses::{
     alias_part, error_part, group_part, maybe_keeping, maybe_renames, sub_parts, two_comps,
     using_part,

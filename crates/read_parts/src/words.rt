@@ -13,8 +13,8 @@ use vtl_grammar::CallForm;
 use vtl_lexer::{Keyword, Sign, Token, TokenKind};
 use vtl_syntax::{
     Addition, AggregateName, AssignKind, BasicOut, BinaryOp, CastKind, CheckOut, Comparison,
-    DifferenceName, Direction, FunctionName, GroupKind, HierInput, HierOut, JoinKind, Mode, Retain,
-    SetOpName, ShiftName, Side, UnaryOp, ValueWindowName, WrittenRole,
+    DifferenceName, Direction, Filling, FunctionName, GroupKind, HierInput, HierOut, JoinKind,
+    Mode, Retain, SetOpName, ShiftName, Side, TimeName, UnaryOp, ValueWindowName, WrittenRole,
 };
 
 /// A word or a sign that is one of a group.
@@ -141,6 +141,20 @@ impl WordGroup for Retain {
             TokenKind::Keyword(Keyword::All) => Some(Retain::All),
             TokenKind::Keyword(Keyword::True) => Some(Retain::True),
             TokenKind::Keyword(Keyword::False) => Some(Retain::False),
+            _ => None,
+        }
+    }
+}
+
+impl WordGroup for Filling {
+    ghost use Rattle.vtl_grammar.specs.Words.{filling_at};
+
+    ghost spelled = { filling_at };
+
+    fn spelled_by(kind: &TokenKind) -> Option<Filling> {
+        match kind {
+            TokenKind::Keyword(Keyword::Single) => Some(Filling::Single),
+            TokenKind::Keyword(Keyword::All) => Some(Filling::All),
             _ => None,
         }
     }
@@ -345,6 +359,10 @@ impl WordGroup for CallForm {
             Keyword::Setdiff => CallForm::Difference(DifferenceName::Setdiff),
             Keyword::Symdiff => CallForm::Difference(DifferenceName::Symdiff),
             Keyword::ExistsIn => CallForm::ExistsIn,
+            Keyword::Timeshift => CallForm::Time(TimeName::Timeshift),
+            Keyword::FillTimeSeries => CallForm::Time(TimeName::FillTimeSeries),
+            Keyword::FlowToStock => CallForm::Time(TimeName::FlowToStock),
+            Keyword::StockToFlow => CallForm::Time(TimeName::StockToFlow),
             Keyword::Check => CallForm::Check,
             Keyword::CheckDatapoint => CallForm::CheckDatapoint,
             Keyword::CheckHierarchy => CallForm::CheckHierarchy,

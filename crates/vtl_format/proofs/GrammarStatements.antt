@@ -6,7 +6,7 @@ use Rattle.vtl_lexer.specs.declared.token.Sign.TheVariants as sign
 use Rattle.vtl_lexer.specs.declared.token.Token.{Token}
 use Rattle.vtl_lexer.specs.declared.token.TokenKind.{TokenKind}
 use Rattle.vtl_lexer.specs.declared.token.TokenKind.TheVariants as token
-use Rattle.vtl_syntax.specs.Trees.{if_then, binary, in_set, unary, with_clause, member, component, constant, brackets, function, aggregate, aggregate_over, value_window, shift, rank, set_op, difference, exists_in, check, check_datapoint, check_hierarchy, hierarchy, join, no_exps, exp, no_exp, some_exp, filter, targets, keeping, rename, sub, pivot, unpivot, calc, aggr, no_targets, some_targets, no_calcs, calc_part, no_parts, join_part, point_rule, StatementTree, assignment, datapoint, hierarchical, ScriptTree}
+use Rattle.vtl_syntax.specs.Trees.{if_then, binary, in_set, unary, with_clause, member, component, constant, brackets, function, aggregate, aggregate_over, value_window, shift, rank, set_op, difference, exists_in, time, check, check_datapoint, check_hierarchy, hierarchy, join, no_exps, exp, no_exp, some_exp, filter, targets, keeping, rename, sub, pivot, unpivot, calc, aggr, no_targets, some_targets, no_calcs, calc_part, no_parts, join_part, point_rule, StatementTree, assignment, datapoint, hierarchical, ScriptTree}
 use Rattle.vtl_syntax.specs.declared.parts.Comp.{Comp}
 use Rattle.vtl_syntax.specs.declared.parts.Comp.TheVariants as comp
 use Rattle.vtl_syntax.specs.declared.parts.Constant.TheVariants as constants
@@ -16,16 +16,17 @@ use Rattle.vtl_syntax.specs.declared.parts.Literal.TheVariants as literal
 use Rattle.vtl_syntax.specs.declared.parts.Numeral.{Numeral}
 use Rattle.vtl_syntax.specs.declared.parts.Numeral.TheVariants as numeral
 use Rattle.vtl_syntax.specs.declared.parts.Reference.TheVariants as reference
+use Rattle.vtl_syntax.specs.declared.parts.TimeCall.TheVariants as time_call
 use Rattle.vtl_syntax.specs.declared.word_groups.Addition.{Addition}
 use Rattle.vtl_syntax.specs.declared.word_groups.CastKind.{CastKind}
 use Rattle.vtl_grammar.specs.declared.call_forms.CallForm.{CallForm}
 use Rattle.vtl_grammar.specs.declared.call_forms.CallForm.TheVariants as form
 use Rattle.vtl_grammar.specs.Faults.{kinds}
 use Rattle.vtl_grammar.specs.Fits.{SpellsScript}
-use Rattle.vtl_grammar.specs.Grammar.{Tokens, comma, open_bracket, close_bracket, more_onto, listed_onto, maybe_onto, maybe_after_onto, comp_onto, comps_onto, constant_onto, literal_onto, set_onto, string_onto, integer_onto, name_onto, error_onto, group_onto, order_part_onto, limit_onto, partition_onto, order_onto, points_onto, over_onto, reference_onto, keeping_onto, maybe_keeping_onto, rename_part_onto, sub_part_onto, dataset_onto, retain_onto, exp_onto, exps_onto, more_exps_onto, maybe_exp_onto, maybe_exp_after_onto, clause_onto, targets_onto, maybe_targets_onto, calcs_onto, more_calcs_onto, parts_onto, more_parts_onto, rule_name_onto, when_onto, point_rule_onto, signed_onto, hier_rule_onto, more_rules_onto, rules_onto, statement_onto, script_onto}
-use Rattle.vtl_grammar.specs.Words.{addition_at, addition_token, assign_kind_at, assign_kind_token, basic_out_at, basic_out_token, binary_op_at, binary_op_token, boolean_token, cast_kind_at, cast_kind_token, check_out_at, check_out_token, comp_token, comparison_at, comparison_token, direction_at, direction_token, form_at, form_token, group_kind_at, group_kind_token, hier_input_at, hier_input_token, hier_out_at, hier_out_token, in_token, mode_at, mode_token, numeral_token, retain_at, retain_token, side_at, side_token, unary_op_at, unary_op_token, written_role_at, written_role_token}
+use Rattle.vtl_grammar.specs.Grammar.{Tokens, comma, open_bracket, close_bracket, more_onto, listed_onto, maybe_onto, maybe_after_onto, comp_onto, comps_onto, constant_onto, literal_onto, set_onto, string_onto, integer_onto, name_onto, error_onto, group_onto, order_part_onto, limit_onto, partition_onto, order_onto, points_onto, over_onto, reference_onto, keeping_onto, maybe_keeping_onto, rename_part_onto, sub_part_onto, dataset_onto, retain_onto, name_of_time, time_part_onto, exp_onto, exps_onto, more_exps_onto, maybe_exp_onto, maybe_exp_after_onto, clause_onto, targets_onto, maybe_targets_onto, calcs_onto, more_calcs_onto, parts_onto, more_parts_onto, rule_name_onto, when_onto, point_rule_onto, signed_onto, hier_rule_onto, more_rules_onto, rules_onto, statement_onto, script_onto}
+use Rattle.vtl_grammar.specs.Words.{addition_at, addition_token, assign_kind_at, assign_kind_token, basic_out_at, basic_out_token, binary_op_at, binary_op_token, boolean_token, cast_kind_at, cast_kind_token, check_out_at, check_out_token, comp_token, comparison_at, comparison_token, direction_at, direction_token, filling_at, filling_token, form_at, form_token, group_kind_at, group_kind_token, hier_input_at, hier_input_token, hier_out_at, hier_out_token, in_token, mode_at, mode_token, numeral_token, retain_at, retain_token, side_at, side_token, unary_op_at, unary_op_token, written_role_at, written_role_token}
 use Rattle.vtl_grammar.proofs.AppendExpressions.{statement-append}
-use Rattle.vtl_grammar.proofs.CompleteTables.{addition_read, assign_kind_read, basic_out_read, binary_op_read, cast_kind_read, check_out_read, comparison_read, direction_read, form_read, group_kind_read, hier_input_read, hier_out_read, mode_read, retain_read, side_read, unary_op_read, written_role_read}
+use Rattle.vtl_grammar.proofs.CompleteTables.{addition_read, assign_kind_read, basic_out_read, binary_op_read, cast_kind_read, check_out_read, comparison_read, direction_read, filling_read, form_read, group_kind_read, hier_input_read, hier_out_read, mode_read, retain_read, side_read, unary_op_read, written_role_read}
 use Rattle.vtl_format.specs.Form.{ends_statement, is_inside, kinds_of, lexemes_at, statements, with_first}
 use Rattle.vtl_format.specs.Layout.{Lexeme}
 
@@ -215,6 +216,14 @@ module _ (i : Bool) where
   retain-keeps None ts h = h
   retain-keeps (Some r) ts h = word-keeps retain_token (word-plain retain_at retain_token retain_read refl refl refl) r ts h
 
+  time_part-keeps : Keeps i time_part_onto
+  time_part-keeps (time_call.Timeshift true n) ts h = h
+  time_part-keeps (time_call.Timeshift false n) ts h = h
+  time_part-keeps (time_call.FillTimeSeries None) ts h = h
+  time_part-keeps (time_call.FillTimeSeries (Some f)) ts h = word-keeps filling_token (word-plain filling_at filling_token filling_read refl refl refl) f ts h
+  time_part-keeps time_call.FlowToStock ts h = h
+  time_part-keeps time_call.StockToFlow ts h = h
+
   call-keeps : Keeps i (λ x ts. form_token x ∷ ts)
   call-keeps = word-keeps form_token call-plain
 
@@ -287,6 +296,9 @@ mutual
   exp-keeps i (exists_in a b r) ts h =
       let retain : Tokens = retain_onto r (close_bracket ∷ ts) in
       exp-keeps i a (comma ∷ exp_onto b retain) (exp-keeps i b retain (retain-keeps i r (close_bracket ∷ ts) h))
+  exp-keeps i (time e call) ts h =
+      let behind : Tokens = time_part_onto call (close_bracket ∷ ts) in
+      call-keeps i (form.Time (name_of_time call)) (open_bracket ∷ exp_onto e behind) (exp-keeps i e behind (time_part-keeps i call (close_bracket ∷ ts) h))
   exp-keeps i (check e err im o) ts h =
       let out : Tokens = maybe_onto basic_out_token o (close_bracket ∷ ts) in
       let imbalance : Tokens = maybe_exp_after_onto (token.Keyword keyword.Imbalance) im out in

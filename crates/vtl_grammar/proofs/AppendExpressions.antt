@@ -4,10 +4,10 @@ use Rattle.vtl_lexer.specs.declared.keyword.Keyword.TheVariants as keyword
 use Rattle.vtl_lexer.specs.declared.token.Sign.TheVariants as sign
 use Rattle.vtl_lexer.specs.declared.token.TokenKind.{TokenKind}
 use Rattle.vtl_lexer.specs.declared.token.TokenKind.TheVariants as token
-use Rattle.vtl_syntax.specs.Trees.{Exp, if_then, binary, in_set, unary, with_clause, member, component, constant, brackets, function, aggregate, aggregate_over, value_window, shift, rank, set_op, difference, exists_in, check, check_datapoint, check_hierarchy, hierarchy, join, Exps, no_exps, exp, MaybeExp, no_exp, some_exp, ClauseTree, filter, targets, keeping, rename, sub, pivot, unpivot, TargetsTree, calc, aggr, MaybeTargets, no_targets, some_targets, Calcs, no_calcs, calc_part, Parts, no_parts, join_part, point_rule, assignment, datapoint, hierarchical}
-use Rattle.vtl_grammar.specs.Grammar.{Tokens, comma, close_bracket, listed_onto, maybe_onto, maybe_after_onto, comp_onto, comps_onto, set_onto, name_onto, literal_onto, error_onto, group_onto, over_onto, maybe_keeping_onto, rename_part_onto, dataset_onto, retain_onto, exp_onto, exps_onto, more_exps_onto, maybe_exp_onto, maybe_exp_after_onto, clause_onto, targets_onto, maybe_targets_onto, calcs_onto, more_calcs_onto, parts_onto, more_parts_onto, rule_name_onto, when_onto, point_rule_onto, signed_onto, hier_rule_onto, more_rules_onto, rules_onto, statement_onto, script_onto}
+use Rattle.vtl_syntax.specs.Trees.{Exp, if_then, binary, in_set, unary, with_clause, member, component, constant, brackets, function, aggregate, aggregate_over, value_window, shift, rank, set_op, difference, exists_in, time, check, check_datapoint, check_hierarchy, hierarchy, join, Exps, no_exps, exp, MaybeExp, no_exp, some_exp, ClauseTree, filter, targets, keeping, rename, sub, pivot, unpivot, TargetsTree, calc, aggr, MaybeTargets, no_targets, some_targets, Calcs, no_calcs, calc_part, Parts, no_parts, join_part, point_rule, assignment, datapoint, hierarchical}
+use Rattle.vtl_grammar.specs.Grammar.{Tokens, comma, close_bracket, listed_onto, maybe_onto, maybe_after_onto, comp_onto, comps_onto, set_onto, name_onto, literal_onto, error_onto, group_onto, over_onto, maybe_keeping_onto, rename_part_onto, dataset_onto, retain_onto, time_part_onto, exp_onto, exps_onto, more_exps_onto, maybe_exp_onto, maybe_exp_after_onto, clause_onto, targets_onto, maybe_targets_onto, calcs_onto, more_calcs_onto, parts_onto, more_parts_onto, rule_name_onto, when_onto, point_rule_onto, signed_onto, hier_rule_onto, more_rules_onto, rules_onto, statement_onto, script_onto}
 use Rattle.vtl_grammar.specs.Words.{binary_op_token, mode_token, basic_out_token, check_out_token, hier_input_token, hier_out_token, written_role_token, addition_token, comparison_token, comp_token, in_token}
-use Rattle.vtl_grammar.proofs.AppendParts.{Appends, maybe-append, maybe_after-append, comp-append, comps-append, constant-append, literal-append, set-append, name-append, error-append, group-append, over-append, maybe_keeping-append, keeping-append, renames-append, subs-append, dataset-append, retain-append}
+use Rattle.vtl_grammar.proofs.AppendParts.{Appends, maybe-append, maybe_after-append, comp-append, comps-append, constant-append, literal-append, set-append, name-append, error-append, group-append, over-append, maybe_keeping-append, keeping-append, renames-append, subs-append, dataset-append, retain-append, time_part-append}
 
 mutual
   pub exp-append : (e : Exp) (a b : Tokens) → exp_onto e (a ++ b) ≡ exp_onto e a ++ b
@@ -41,6 +41,7 @@ mutual
   exp-append (exists_in x y r) a b =
       let retain : Tokens = retain_onto r (close_bracket ∷ a) in
       rw (retain-append r (close_bracket ∷ a) b, exp-append y retain b, exp-append x (comma ∷ exp_onto y retain) b) refl
+  exp-append (time e call) a b = rw (time_part-append call (close_bracket ∷ a) b, exp-append e (time_part_onto call (close_bracket ∷ a)) b) refl
   exp-append (check e err i o) a b =
       let out : Tokens = maybe_onto basic_out_token o (close_bracket ∷ a) in
       let imbalance : Tokens = maybe_exp_after_onto (token.Keyword keyword.Imbalance) i out in

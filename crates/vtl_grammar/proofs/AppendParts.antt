@@ -9,7 +9,8 @@ use Rattle.vtl_syntax.specs.declared.parts.Keeping.TheVariants as kept
 use Rattle.vtl_syntax.specs.declared.parts.Limit.TheVariants as limit
 use Rattle.vtl_syntax.specs.declared.parts.Literal.TheVariants as literal
 use Rattle.vtl_syntax.specs.declared.parts.Reference.TheVariants as reference
-use Rattle.vtl_grammar.specs.Grammar.{Tokens, close_bracket, more_onto, listed_onto, maybe_onto, maybe_after_onto, comp_onto, comps_onto, constant_onto, literal_onto, set_onto, string_onto, integer_onto, name_onto, error_onto, group_onto, order_part_onto, limit_onto, partition_onto, order_onto, points_onto, over_onto, reference_onto, keeping_onto, maybe_keeping_onto, rename_part_onto, sub_part_onto, dataset_onto, retain_onto}
+use Rattle.vtl_syntax.specs.declared.parts.TimeCall.TheVariants as time_call
+use Rattle.vtl_grammar.specs.Grammar.{Tokens, close_bracket, more_onto, listed_onto, maybe_onto, maybe_after_onto, comp_onto, comps_onto, constant_onto, literal_onto, set_onto, string_onto, integer_onto, name_onto, error_onto, group_onto, order_part_onto, limit_onto, partition_onto, order_onto, points_onto, over_onto, reference_onto, keeping_onto, maybe_keeping_onto, rename_part_onto, sub_part_onto, dataset_onto, retain_onto, time_part_onto}
 use Rattle.vtl_grammar.specs.Words.{direction_token}
 use Rattle.vtl_grammar.proofs.CompleteBase.{Grows}
 
@@ -136,3 +137,11 @@ dataset-append false a b = refl
 pub retain-append : Appends retain_onto
 retain-append None a b = refl
 retain-append (Some r) a b = refl
+
+pub time_part-append : Appends time_part_onto
+time_part-append (time_call.Timeshift true n) a b = refl
+time_part-append (time_call.Timeshift false n) a b = refl
+time_part-append (time_call.FillTimeSeries None) a b = refl
+time_part-append (time_call.FillTimeSeries (Some f)) a b = refl
+time_part-append time_call.FlowToStock a b = refl
+time_part-append time_call.StockToFlow a b = refl

@@ -17,6 +17,7 @@ use Rattle.vtl_syntax.specs.declared.parts.Keeping.TheVariants as kept
 use Rattle.vtl_syntax.specs.declared.parts.Literal.{Literal}
 use Rattle.vtl_syntax.specs.declared.parts.OverPart.{OverPart}
 use Rattle.vtl_syntax.specs.declared.parts.RenamePart.{RenamePart}
+use Rattle.vtl_syntax.specs.declared.parts.TimeCall.{TimeCall}
 use Rattle.vtl_syntax.specs.declared.word_groups.AggregateName.{AggregateName}
 use Rattle.vtl_syntax.specs.declared.word_groups.BasicOut.{BasicOut}
 use Rattle.vtl_syntax.specs.declared.word_groups.CheckOut.{CheckOut}
@@ -32,16 +33,16 @@ use Rattle.vtl_syntax.specs.declared.word_groups.SetOpName.{SetOpName}
 use Rattle.vtl_syntax.specs.declared.word_groups.ShiftName.{ShiftName}
 use Rattle.vtl_syntax.specs.declared.word_groups.ValueWindowName.{ValueWindowName}
 use Rattle.vtl_grammar.specs.Fits.{Fits, OverFits, exps_count, parts_count}
-use Rattle.vtl_grammar.specs.Grammar.{Tokens, comma, close_bracket, listed_onto, maybe_onto, maybe_after_onto, comp_onto, comps_onto, string_onto, integer_onto, literal_onto, error_onto, group_onto, over_onto, maybe_keeping_onto, rename_part_onto, dataset_onto, retain_onto, exp_onto, exps_onto, maybe_exp_onto, maybe_exp_after_onto, maybe_targets_onto, parts_onto}
+use Rattle.vtl_grammar.specs.Grammar.{Tokens, comma, close_bracket, listed_onto, maybe_onto, maybe_after_onto, comp_onto, comps_onto, string_onto, integer_onto, literal_onto, error_onto, group_onto, over_onto, maybe_keeping_onto, rename_part_onto, dataset_onto, retain_onto, name_of_time, time_part_onto, exp_onto, exps_onto, maybe_exp_onto, maybe_exp_after_onto, maybe_targets_onto, parts_onto}
 use Rattle.vtl_grammar.specs.Reading.{Gets, got, is_keyword, is_sign, after_keyword, after_sign, spared}
-use Rattle.vtl_grammar.specs.ReadExpressions.{no_operand, function_call, set_op_call, over_call, group_call, aggregate_call, value_window_call, shift_call, rank_call, two_exps, difference_call, exists_in_call, check_call, check_datapoint_call, dataset_part, check_hierarchy_call, hierarchy_call, join_body, join_call}
+use Rattle.vtl_grammar.specs.ReadExpressions.{no_operand, function_call, set_op_call, over_call, group_call, aggregate_call, value_window_call, shift_call, rank_call, two_exps, difference_call, exists_in_call, time_call, check_call, check_datapoint_call, dataset_part, check_hierarchy_call, hierarchy_call, join_body, join_call}
 use Rattle.vtl_grammar.specs.ReadParts.{rule_part}
 use Rattle.vtl_grammar.specs.Words.{comp_at, mode_at, mode_token, basic_out_at, basic_out_token, check_out_at, check_out_token, hier_input_at, hier_input_token, hier_out_at, hier_out_token}
 use Rattle.vtl_grammar.specs.declared.levels.Level.TheVariants as level
 use Rattle.vtl_grammar.proofs.CompleteBase.{Lacks, in_table, lacks_keyword, maybe_lacks, maybe_after_lacks, maybe_word_complete, CompleteGets}
 use Rattle.vtl_grammar.proofs.CompleteForms.{maybe_exp_after_lacks, group_lacks, targets_lacks, maybe_exp_after_complete, maybe_operand_complete, exps_complete, targets_complete, join_parts_complete}
 use Rattle.vtl_grammar.proofs.CompleteLevels.{goes_on}
-use Rattle.vtl_grammar.proofs.CompleteParts.{error_complete, group_complete, over_complete, maybe_keeping_complete, maybe_renames_complete, using_complete, shift_complete, retain_complete, ruleset_complete, rule_complete, rule_lacks, rule_alone}
+use Rattle.vtl_grammar.proofs.CompleteParts.{error_complete, group_complete, over_complete, maybe_keeping_complete, maybe_renames_complete, using_complete, shift_complete, retain_complete, time_part_complete, time_part_lacks, ruleset_complete, rule_complete, rule_lacks, rule_alone}
 use Rattle.vtl_grammar.proofs.CompleteTables.{mode_read, mode_lacks, basic_out_read, basic_out_lacks, check_out_read, check_out_lacks, hier_input_read, hier_input_lacks, hier_out_read, hier_out_lacks}
 use Rattle.vtl_grammar.proofs.CompleteTrees.{exp_option, exp_list, exps_of-list, exps_count-list, part_list, parts_of-list, parts_count-list, maybe_exp-option, maybe_targets-option}
 
@@ -171,6 +172,14 @@ module _ (n : ℕ) (part : Gets Exp) (reads : CompleteGets n part exp_onto Fits 
   exists_in_complete a b r rest fits shallow =
       let stops : Lacks (goes_on level.Expression) (retain_onto r (close_bracket ∷ rest)) = elim r as (λ v. Lacks (goes_on level.Expression) (retain_onto v (close_bracket ∷ rest))) [ None ↦ refl | Some x ↦ refl ] in
       rw (two_complete a b (retain_onto r (close_bracket ∷ rest)) fits shallow stops, retain_complete r (close_bracket ∷ rest) refl) refl
+
+  pub time_complete : (e : Exp) (c : TimeCall) (rest : Tokens) → Fits (tree.time e c) → exp_depth e ≤ n
+      → time_call part (name_of_time c) (exp_onto e (time_part_onto c (close_bracket ∷ rest))) ≡ Some (got (tree.time e c) (n - exp_depth e) (close_bracket ∷ rest))
+  unfolding time_call
+  time_complete e c rest fits shallow =
+      let behind : Tokens = time_part_onto c (close_bracket ∷ rest) in
+      let stops : Lacks (goes_on level.Expression) behind = time_part_lacks (goes_on level.Expression) refl c (close_bracket ∷ rest) refl in
+      rw (reads e behind fits shallow stops, time_part_complete c (close_bracket ∷ rest) refl) refl
 
   pub check_complete : (e : Exp) (err : ErrorPart) (i : MaybeExp) (o : Option BasicOut) (rest : Tokens) → Fits (tree.check e err i o) → max (exp_depth e) (maybe_depth i) ≤ n
       → check_call n part (exp_onto e (error_onto err (maybe_exp_after_onto (token.Keyword keyword.Imbalance) i (maybe_onto basic_out_token o (close_bracket ∷ rest)))))

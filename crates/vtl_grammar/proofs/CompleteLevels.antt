@@ -7,7 +7,7 @@ use Rattle.vtl_lexer.specs.declared.token.Sign.{Sign}
 use Rattle.vtl_lexer.specs.declared.token.Sign.TheVariants as sign
 use Rattle.vtl_lexer.specs.declared.token.TokenKind.{TokenKind}
 use Rattle.vtl_lexer.specs.declared.token.TokenKind.TheVariants as token
-use Rattle.vtl_syntax.specs.Trees.{Exp, if_then, binary, in_set, unary, with_clause, member, component, constant, brackets, function, aggregate, aggregate_over, value_window, shift, rank, set_op, difference, exists_in, check, check_datapoint, check_hierarchy, hierarchy, join}
+use Rattle.vtl_syntax.specs.Trees.{Exp, if_then, binary, in_set, unary, with_clause, member, component, constant, brackets, function, aggregate, aggregate_over, value_window, shift, rank, set_op, difference, exists_in, time, check, check_datapoint, check_hierarchy, hierarchy, join}
 use Rattle.vtl_syntax.specs.declared.parts.Comp.{Comp}
 use Rattle.vtl_syntax.specs.declared.parts.Constant.{Constant}
 use Rattle.vtl_syntax.specs.declared.parts.Constant.TheVariants as constants
@@ -18,7 +18,7 @@ use Rattle.vtl_syntax.specs.declared.word_groups.BinaryOp.TheVariants as op
 use Rattle.vtl_syntax.specs.declared.word_groups.UnaryOp.{UnaryOp}
 use Rattle.vtl_syntax.specs.declared.word_groups.UnaryOp.TheVariants as unary_op
 use Rattle.vtl_grammar.specs.Fits.{Fits}
-use Rattle.vtl_grammar.specs.Grammar.{Tokens, open_bracket, set_onto, clause_onto, exp_onto}
+use Rattle.vtl_grammar.specs.Grammar.{Tokens, open_bracket, set_onto, clause_onto, exp_onto, name_of_time}
 use Rattle.vtl_grammar.specs.Levels.{looseness, tighter, operator_level, level_of, Within}
 use Rattle.vtl_grammar.specs.Reading.{is_keyword, is_sign, word}
 use Rattle.vtl_grammar.specs.ReadExpressions.{operator_at, membership_at, ends_operand, leaf_at}
@@ -252,6 +252,7 @@ starts l p lacks (rank o) within fits rest = lacks.no_form form.Rank
 starts l p lacks (set_op f es) within fits rest = lacks.no_form (form.SetOp f)
 starts l p lacks (difference f a b) within fits rest = lacks.no_form (form.Difference f)
 starts l p lacks (exists_in a b r) within fits rest = lacks.no_form form.ExistsIn
+starts l p lacks (time e call) within fits rest = lacks.no_form (form.Time (name_of_time call))
 starts l p lacks (check e err i o) within fits rest = lacks.no_form form.Check
 starts l p lacks (check_datapoint e n o) within fits rest = lacks.no_form form.CheckDatapoint
 starts l p lacks (check_hierarchy e n r m d o) within fits rest = lacks.no_form form.CheckHierarchy

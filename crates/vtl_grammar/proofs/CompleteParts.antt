@@ -25,14 +25,16 @@ use Rattle.vtl_syntax.specs.declared.parts.RenamePart.{RenamePart}
 use Rattle.vtl_syntax.specs.declared.parts.SubPart.{SubPart}
 use Rattle.vtl_syntax.specs.declared.word_groups.CastKind.{CastKind}
 use Rattle.vtl_syntax.specs.declared.word_groups.Retain.{Retain}
+use Rattle.vtl_syntax.specs.declared.parts.TimeCall.{TimeCall}
+use Rattle.vtl_syntax.specs.declared.parts.TimeCall.TheVariants as time_calls
 use Rattle.vtl_grammar.specs.Fits.{Filled, MaybeFilled, GroupFits, OverFits, MaybeKeepingFits}
-use Rattle.vtl_grammar.specs.Grammar.{Tokens, comma, close_bracket, listed_onto, maybe_after_onto, comp_onto, comps_onto, literal_onto, set_onto, string_onto, integer_onto, name_onto, error_onto, group_onto, order_part_onto, limit_onto, partition_onto, order_onto, points_onto, over_onto, reference_onto, maybe_keeping_onto, rename_part_onto, sub_part_onto, retain_onto}
+use Rattle.vtl_grammar.specs.Grammar.{Tokens, comma, close_bracket, listed_onto, maybe_after_onto, comp_onto, comps_onto, literal_onto, set_onto, string_onto, integer_onto, name_onto, error_onto, group_onto, order_part_onto, limit_onto, partition_onto, order_onto, points_onto, over_onto, reference_onto, maybe_keeping_onto, rename_part_onto, sub_part_onto, retain_onto, name_of_time, time_part_onto}
 use Rattle.vtl_grammar.specs.Reading.{Reads, is_keyword, is_sign, after_keyword, after_sign, word, maybe_after}
-use Rattle.vtl_grammar.specs.ReadParts.{cast_part, cast_literal, literal, literals_listed, literal_set, comps, error_part, group_part, order_part, order_parts, current, limit, partition_part, order_by_part, limits_between, points_part, over_part, reference, references_listed, rename_part, rename_parts, maybe_renames, sub_part, sub_parts, maybe_keeping, two_comps, using_part, alias_part, shift_part, retain_part, ruleset_part, rule_part}
+use Rattle.vtl_grammar.specs.ReadParts.{cast_part, cast_literal, literal, literals_listed, literal_set, comps, error_part, group_part, order_part, order_parts, current, limit, partition_part, order_by_part, limits_between, points_part, over_part, reference, references_listed, rename_part, rename_parts, maybe_renames, sub_part, sub_parts, maybe_keeping, two_comps, using_part, alias_part, shift_part, retain_part, periods_part, filling_part, time_part, ruleset_part, rule_part}
 use Rattle.vtl_grammar.specs.Words.{name_at, string_at, integer_at, comp_at, comp_token, cast_kind_token, direction_at, direction_token, boolean_token}
 use Rattle.vtl_grammar.proofs.AppendParts.{grows, literal-append, comp-append, order_part-append, reference-append, rename_part-append, sub_part-append}
 use Rattle.vtl_grammar.proofs.CompleteBase.{Lacks, in_table, never, lacks_never, lacks_keyword, lacks_sign, lacks_word, maybe_after_lacks, maybe_word_complete, Complete, listed_complete}
-use Rattle.vtl_grammar.proofs.CompleteTables.{cast_kind_read, group_kind_read, side_read, direction_read, retain_read}
+use Rattle.vtl_grammar.proofs.CompleteTables.{cast_kind_read, group_kind_read, side_read, direction_read, retain_read, filling_read}
 
 pub comp_read : (c : Comp) → comp_at (comp_token c) ≡ Some c
 comp_read (comp.Name n) = refl
@@ -207,6 +209,24 @@ pub retain_complete : (r : Option Retain) (rest : Tokens) → Lacks (is_sign sig
 unfolding retain_part after_sign
 retain_complete None rest ends = rw (lacks_sign sign.Comma rest ends) refl
 retain_complete (Some r) rest ends = rw (retain_read r) refl
+
+pub time_part_complete : (call : TimeCall) (rest : Tokens) → Lacks (is_sign sign.Comma) rest → time_part (name_of_time call) (time_part_onto call rest) ≡ Some (call, rest)
+unfolding time_part periods_part filling_part after_sign
+time_part_complete (time_calls.Timeshift true n) rest ends = refl
+time_part_complete (time_calls.Timeshift false n) rest ends = refl
+time_part_complete (time_calls.FillTimeSeries None) rest ends = rw (lacks_sign sign.Comma rest ends) refl
+time_part_complete (time_calls.FillTimeSeries (Some f)) rest ends = rw (filling_read f) refl
+time_part_complete time_calls.FlowToStock rest ends = refl
+time_part_complete time_calls.StockToFlow rest ends = refl
+
+-- what stands behind an operand begins with no token but a comma, or is what follows it
+pub time_part_lacks : (p : TokenKind → Bool) → p comma ≡ false → (call : TimeCall) (rest : Tokens) → Lacks p rest → Lacks p (time_part_onto call rest)
+time_part_lacks p no_comma (time_calls.Timeshift true n) rest h = no_comma
+time_part_lacks p no_comma (time_calls.Timeshift false n) rest h = no_comma
+time_part_lacks p no_comma (time_calls.FillTimeSeries None) rest h = h
+time_part_lacks p no_comma (time_calls.FillTimeSeries (Some f)) rest h = no_comma
+time_part_lacks p no_comma time_calls.FlowToStock rest h = h
+time_part_lacks p no_comma time_calls.StockToFlow rest h = h
 
 pub ruleset_complete : (n : List ℕ) (rest : Tokens) → ruleset_part (comma ∷ token.Name n ∷ rest) ≡ Some (n, rest)
 unfolding ruleset_part after_sign

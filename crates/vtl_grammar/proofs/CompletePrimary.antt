@@ -9,7 +9,7 @@ use Rattle.vtl_syntax.specs.declared.parts.Constant.{Constant}
 use Rattle.vtl_syntax.specs.declared.parts.Constant.TheVariants as constants
 use Rattle.vtl_syntax.specs.declared.parts.Numeral.TheVariants as numeral
 use Rattle.vtl_grammar.specs.Fits.{Fits}
-use Rattle.vtl_grammar.specs.Grammar.{Tokens, open_bracket, close_bracket, exp_onto}
+use Rattle.vtl_grammar.specs.Grammar.{Tokens, open_bracket, close_bracket, exp_onto, name_of_time}
 use Rattle.vtl_grammar.specs.Levels.{Within}
 use Rattle.vtl_grammar.specs.Reading.{Gets, got, is_sign, after_sign}
 use Rattle.vtl_grammar.specs.ReadExpressions.{call, cast_call, closed, leaf_at, bracketed, formed, primary}
@@ -18,7 +18,7 @@ use Rattle.vtl_grammar.specs.declared.call_forms.CallForm.{CallForm}
 use Rattle.vtl_grammar.specs.declared.call_forms.CallForm.TheVariants as form
 use Rattle.vtl_grammar.specs.declared.levels.Level.TheVariants as level
 use Rattle.vtl_grammar.proofs.CompleteBase.{lacks_word, CompleteGets}
-use Rattle.vtl_grammar.proofs.CompleteCalls.{function_complete, set_op_complete, aggregate_complete, aggregate_over_complete, value_window_complete, shift_call_complete, rank_complete, difference_complete, exists_in_complete, check_complete, check_datapoint_complete, check_hierarchy_complete, hierarchy_complete, join_complete}
+use Rattle.vtl_grammar.proofs.CompleteCalls.{function_complete, set_op_complete, aggregate_complete, aggregate_over_complete, value_window_complete, shift_call_complete, rank_complete, difference_complete, exists_in_complete, time_complete, check_complete, check_datapoint_complete, check_hierarchy_complete, hierarchy_complete, join_complete}
 use Rattle.vtl_grammar.proofs.CompleteLevels.{goes_on, form_no_leaf, form_lacks, operator_loose, sign_apart}
 use Rattle.vtl_grammar.proofs.CompleteParts.{comp_read, cast_part_complete}
 use Rattle.vtl_grammar.proofs.CompleteTables.{form_read}
@@ -93,6 +93,9 @@ module _ (n : ℕ) (part : Gets Exp) (reads : CompleteGets n part exp_onto Fits 
       let d : ℕ = max (exp_depth a) (exp_depth b) in
       let s : suc n - suc d ≡ n - d = omega arith in
       rw s (formed_complete form.ExistsIn _ rest (tree.exists_in a b r) (n - d) (exists_in_complete n part reads a b r rest fits (omega arith)))
+  primary_complete (tree.time e c) rest within fits shallow =
+      let s : suc n - suc (exp_depth e) ≡ n - exp_depth e = omega arith in
+      rw s (formed_complete (form.Time (name_of_time c)) _ rest (tree.time e c) (n - exp_depth e) (time_complete n part reads e c rest fits (omega arith)))
   primary_complete (tree.check e err i o) rest within fits shallow =
       let d : ℕ = max (exp_depth e) (maybe_depth i) in
       let s : suc n - suc d ≡ n - d = omega arith in

@@ -22,7 +22,7 @@ use Rattle.vtl_syntax.specs.declared.word_groups.BinaryOp.{BinaryOp}
 use Rattle.vtl_syntax.specs.declared.word_groups.UnaryOp.{UnaryOp}
 use Rattle.vtl_syntax.specs.declared.word_groups.UnaryOp.TheVariants as unary_op
 use Rattle.vtl_grammar.specs.Fits.{Filled, Fits, PointRuleFits, OptionFits}
-use Rattle.vtl_grammar.specs.Grammar.{Tokens, maybe_onto, set_onto, clause_onto, error_onto, exp_onto, constant_onto, rule_name_onto, when_onto, point_rule_onto, signed_onto, hier_rule_onto, more_rules_onto, rules_onto}
+use Rattle.vtl_grammar.specs.Grammar.{Tokens, maybe_onto, set_onto, clause_onto, error_onto, exp_onto, constant_onto, rule_name_onto, when_onto, point_rule_onto, signed_onto, hier_rule_onto, more_rules_onto, rules_onto, name_of_time}
 use Rattle.vtl_grammar.specs.Reading.{Reads, is_keyword, is_sign, after_keyword, after_sign}
 use Rattle.vtl_grammar.specs.ReadStatements.{whole_exp, rule_name, when_part, holds_read, rule_behind, point_rule_read, more_signed, right_side, hier_rule_read, ends_rules, more_rules, rules_read, point_rules, hier_rules}
 use Rattle.vtl_grammar.specs.Words.{binary_op_token, unary_op_token, name_at, comp_token, comparison_token, addition_at, addition_token, in_token}
@@ -93,6 +93,7 @@ exp_no_rule_name (tree.rank o) rest h = no_name _ _ refl
 exp_no_rule_name (tree.set_op f es) rest h = no_name _ _ (form_no_name (form.SetOp f))
 exp_no_rule_name (tree.difference f a b) rest h = no_name _ _ (form_no_name (form.Difference f))
 exp_no_rule_name (tree.exists_in a b r) rest h = no_name _ _ refl
+exp_no_rule_name (tree.time e call) rest h = no_name _ _ (form_no_name (form.Time (name_of_time call)))
 exp_no_rule_name (tree.check e err i o) rest h = no_name _ _ refl
 exp_no_rule_name (tree.check_datapoint e n o) rest h = no_name _ _ refl
 exp_no_rule_name (tree.check_hierarchy e n r m d o) rest h = no_name _ _ refl

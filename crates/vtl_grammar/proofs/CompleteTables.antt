@@ -40,6 +40,10 @@ use Rattle.vtl_syntax.specs.declared.word_groups.Mode.{Mode}
 use Rattle.vtl_syntax.specs.declared.word_groups.Mode.TheVariants as mode
 use Rattle.vtl_syntax.specs.declared.word_groups.Retain.{Retain}
 use Rattle.vtl_syntax.specs.declared.word_groups.Retain.TheVariants as retain
+use Rattle.vtl_syntax.specs.declared.word_groups.Filling.{Filling}
+use Rattle.vtl_syntax.specs.declared.word_groups.Filling.TheVariants as filling
+use Rattle.vtl_syntax.specs.declared.word_groups.TimeName.{TimeName}
+use Rattle.vtl_syntax.specs.declared.word_groups.TimeName.TheVariants as time_name
 use Rattle.vtl_syntax.specs.declared.word_groups.SetOpName.{SetOpName}
 use Rattle.vtl_syntax.specs.declared.word_groups.SetOpName.TheVariants as set_op_name
 use Rattle.vtl_syntax.specs.declared.word_groups.ShiftName.{ShiftName}
@@ -52,7 +56,7 @@ use Rattle.vtl_syntax.specs.declared.word_groups.ValueWindowName.{ValueWindowNam
 use Rattle.vtl_syntax.specs.declared.word_groups.ValueWindowName.TheVariants as value_window_name
 use Rattle.vtl_syntax.specs.declared.word_groups.WrittenRole.{WrittenRole}
 use Rattle.vtl_syntax.specs.declared.word_groups.WrittenRole.TheVariants as written_role
-use Rattle.vtl_grammar.specs.Words.{binary_op_token, unary_op_token, function_name_token, aggregate_name_token, value_window_name_token, shift_name_token, set_op_name_token, difference_name_token, join_kind_token, mode_token, basic_out_token, check_out_token, hier_input_token, hier_out_token, retain_token, written_role_token, group_kind_token, direction_token, side_token, cast_kind_token, comparison_token, addition_token, assign_kind_token, form_token, addition_at, assign_kind_at, basic_out_at, binary_op_at, cast_kind_at, check_out_at, comparison_at, direction_at, form_at, group_kind_at, hier_input_at, hier_out_at, mode_at, retain_at, side_at, unary_op_at, written_role_at}
+use Rattle.vtl_grammar.specs.Words.{binary_op_token, unary_op_token, function_name_token, aggregate_name_token, value_window_name_token, shift_name_token, set_op_name_token, difference_name_token, join_kind_token, mode_token, basic_out_token, check_out_token, hier_input_token, hier_out_token, retain_token, time_name_token, filling_token, written_role_token, group_kind_token, direction_token, side_token, cast_kind_token, comparison_token, addition_token, assign_kind_token, form_token, addition_at, assign_kind_at, basic_out_at, binary_op_at, cast_kind_at, check_out_at, comparison_at, direction_at, form_at, group_kind_at, hier_input_at, hier_out_at, filling_at, mode_at, retain_at, side_at, unary_op_at, written_role_at}
 
 pub binary_op_read : (x : BinaryOp) → binary_op_at (binary_op_token x) ≡ Some x
 binary_op_read binary_op.Or = refl
@@ -161,6 +165,10 @@ retain_read retain.All = refl
 retain_read retain.True = refl
 retain_read retain.False = refl
 
+pub filling_read : (x : Filling) → filling_at (filling_token x) ≡ Some x
+filling_read filling.Single = refl
+filling_read filling.All = refl
+
 pub retain_lacks : (p : TokenKind → Bool) → p (token.Keyword keyword.All) ≡ false → p (token.Keyword keyword.True) ≡ false → p (token.Keyword keyword.False) ≡ false → (x : Retain) → p (retain_token x) ≡ false
 retain_lacks p h0 h1 h2 retain.All = h0
 retain_lacks p h0 h1 h2 retain.True = h1
@@ -263,6 +271,12 @@ difference_name_form : (f : DifferenceName) → form_at (difference_name_token f
 difference_name_form difference_name.Setdiff = refl
 difference_name_form difference_name.Symdiff = refl
 
+time_name_form : (f : TimeName) → form_at (time_name_token f) ≡ Some (form.Time f)
+time_name_form time_name.Timeshift = refl
+time_name_form time_name.FillTimeSeries = refl
+time_name_form time_name.FlowToStock = refl
+time_name_form time_name.StockToFlow = refl
+
 join_kind_form : (f : JoinKind) → form_at (join_kind_token f) ≡ Some (form.Join f)
 join_kind_form join_kind.Inner = refl
 join_kind_form join_kind.Left = refl
@@ -276,6 +290,7 @@ form_read (form.ValueWindow f) = value_window_name_form f
 form_read (form.Shift f) = shift_name_form f
 form_read (form.SetOp f) = set_op_name_form f
 form_read (form.Difference f) = difference_name_form f
+form_read (form.Time f) = time_name_form f
 form_read (form.Join f) = join_kind_form f
 form_read form.Rank = refl
 form_read form.ExistsIn = refl

@@ -17,7 +17,7 @@ same_number a b e = grind (arith, nat_tests)
 
 -- the values in the order of their places
 abbrev keywords : List Keyword
-keywords = k.Abs ∷ k.Aggr ∷ k.All ∷ k.AllMeasures ∷ k.AlwaysNull ∷ k.AlwaysZero ∷ k.And ∷ k.As ∷ k.Asc ∷ k.Attribute ∷ k.Avg ∷ k.Between ∷ k.By ∷ k.Calc ∷ k.Cast ∷ k.Ceil ∷ k.Check ∷ k.CheckDatapoint ∷ k.CheckHierarchy ∷ k.Computed ∷ k.Count ∷ k.CrossJoin ∷ k.Current ∷ k.Data ∷ k.Datapoint ∷ k.Dataset ∷ k.Date ∷ k.Define ∷ k.Desc ∷ k.Drop ∷ k.Else ∷ k.End ∷ k.Errorcode ∷ k.Errorlevel ∷ k.Except ∷ k.ExistsIn ∷ k.False ∷ k.FillTimeSeries ∷ k.Filter ∷ k.FirstValue ∷ k.Floor ∷ k.FlowToStock ∷ k.Following ∷ k.FullJoin ∷ k.Group ∷ k.Having ∷ k.Hierarchical ∷ k.Hierarchy ∷ k.If ∷ k.Imbalance ∷ k.In ∷ k.InnerJoin ∷ k.Instr ∷ k.Intersect ∷ k.Invalid ∷ k.Is ∷ k.Isnull ∷ k.Keep ∷ k.Lag ∷ k.LastValue ∷ k.Lead ∷ k.LeftJoin ∷ k.Length ∷ k.Ltrim ∷ k.Max ∷ k.Measure ∷ k.Median ∷ k.Min ∷ k.Mod ∷ k.NonNull ∷ k.NonZero ∷ k.Not ∷ k.NotIn ∷ k.Null ∷ k.Nvl ∷ k.Or ∷ k.Order ∷ k.Over ∷ k.PartialNull ∷ k.PartialZero ∷ k.Partition ∷ k.Pivot ∷ k.Point ∷ k.Points ∷ k.Preceding ∷ k.Rank ∷ k.RatioToReport ∷ k.Rename ∷ k.Replace ∷ k.Round ∷ k.Rtrim ∷ k.Rule ∷ k.RulePriority ∷ k.Ruleset ∷ k.Setdiff ∷ k.StockToFlow ∷ k.Sub ∷ k.Substr ∷ k.Sum ∷ k.Symdiff ∷ k.Then ∷ k.TimePeriod ∷ k.Timeshift ∷ k.To ∷ k.Trim ∷ k.True ∷ k.Trunc ∷ k.Unbounded ∷ k.Union ∷ k.Unpivot ∷ k.Using ∷ k.Variable ∷ k.When ∷ k.Xor ∷ []
+keywords = k.Abs ∷ k.Aggr ∷ k.All ∷ k.AllMeasures ∷ k.AlwaysNull ∷ k.AlwaysZero ∷ k.And ∷ k.As ∷ k.Asc ∷ k.Attribute ∷ k.Avg ∷ k.Between ∷ k.By ∷ k.Calc ∷ k.Cast ∷ k.Ceil ∷ k.Check ∷ k.CheckDatapoint ∷ k.CheckHierarchy ∷ k.Computed ∷ k.Count ∷ k.CrossJoin ∷ k.Current ∷ k.Data ∷ k.Datapoint ∷ k.Dataset ∷ k.Date ∷ k.Define ∷ k.Desc ∷ k.Drop ∷ k.Else ∷ k.End ∷ k.Errorcode ∷ k.Errorlevel ∷ k.Except ∷ k.ExistsIn ∷ k.False ∷ k.FillTimeSeries ∷ k.Filter ∷ k.FirstValue ∷ k.Floor ∷ k.FlowToStock ∷ k.Following ∷ k.FullJoin ∷ k.Group ∷ k.Having ∷ k.Hierarchical ∷ k.Hierarchy ∷ k.If ∷ k.Imbalance ∷ k.In ∷ k.InnerJoin ∷ k.Instr ∷ k.Intersect ∷ k.Invalid ∷ k.Is ∷ k.Isnull ∷ k.Keep ∷ k.Lag ∷ k.LastValue ∷ k.Lead ∷ k.LeftJoin ∷ k.Length ∷ k.Ltrim ∷ k.Max ∷ k.Measure ∷ k.Median ∷ k.Min ∷ k.Mod ∷ k.NonNull ∷ k.NonZero ∷ k.Not ∷ k.NotIn ∷ k.Null ∷ k.Nvl ∷ k.Or ∷ k.Order ∷ k.Over ∷ k.PartialNull ∷ k.PartialZero ∷ k.Partition ∷ k.Pivot ∷ k.Point ∷ k.Points ∷ k.Preceding ∷ k.Rank ∷ k.RatioToReport ∷ k.Rename ∷ k.Replace ∷ k.Round ∷ k.Rtrim ∷ k.Rule ∷ k.RulePriority ∷ k.Ruleset ∷ k.Setdiff ∷ k.Single ∷ k.StockToFlow ∷ k.Sub ∷ k.Substr ∷ k.Sum ∷ k.Symdiff ∷ k.Then ∷ k.TimePeriod ∷ k.Timeshift ∷ k.To ∷ k.Trim ∷ k.True ∷ k.Trunc ∷ k.Unbounded ∷ k.Union ∷ k.Unpivot ∷ k.Using ∷ k.Variable ∷ k.When ∷ k.Xor ∷ []
 
 keyword_at_place : (x : Keyword) → get_or keywords (place_of x) k.Abs ≡ x
 keyword_at_place k.Abs = refl
@@ -115,6 +115,7 @@ keyword_at_place k.Rule = refl
 keyword_at_place k.RulePriority = refl
 keyword_at_place k.Ruleset = refl
 keyword_at_place k.Setdiff = refl
+keyword_at_place k.Single = refl
 keyword_at_place k.StockToFlow = refl
 keyword_at_place k.Sub = refl
 keyword_at_place k.Substr = refl

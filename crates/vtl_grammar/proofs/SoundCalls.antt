@@ -14,12 +14,13 @@ use Rattle.vtl_syntax.specs.declared.word_groups.FunctionName.{FunctionName}
 use Rattle.vtl_syntax.specs.declared.word_groups.JoinKind.{JoinKind}
 use Rattle.vtl_syntax.specs.declared.word_groups.SetOpName.{SetOpName}
 use Rattle.vtl_syntax.specs.declared.word_groups.ShiftName.{ShiftName}
+use Rattle.vtl_syntax.specs.declared.word_groups.TimeName.{TimeName}
 use Rattle.vtl_syntax.specs.declared.word_groups.ValueWindowName.{ValueWindowName}
 use Rattle.vtl_grammar.specs.Fits.{Fits, parts_count}
 use Rattle.vtl_grammar.specs.Grammar.{Tokens, close_bracket, comma, dataset_onto, exp_onto, maybe_onto, open_bracket}
 use Rattle.vtl_grammar.specs.Levels.{level_of}
-use Rattle.vtl_grammar.specs.ReadExpressions.{aggregate_call, call, cast_call, check_call, check_datapoint_call, check_hierarchy_call, dataset_part, difference_call, exists_in_call, exps, function_call, group_call, hierarchy_call, join_body, join_call, join_parts, targets_part, maybe_exp_after, maybe_operand, over_call, rank_call, set_op_call, shift_call, two_exps, value_window_call}
-use Rattle.vtl_grammar.specs.ReadParts.{cast_part, error_part, group_part, maybe_keeping, maybe_renames, over_part, retain_part, rule_part, ruleset_part, shift_part, using_part}
+use Rattle.vtl_grammar.specs.ReadExpressions.{aggregate_call, call, cast_call, check_call, check_datapoint_call, check_hierarchy_call, dataset_part, difference_call, exists_in_call, exps, function_call, group_call, hierarchy_call, join_body, join_call, join_parts, targets_part, maybe_exp_after, maybe_operand, over_call, rank_call, set_op_call, shift_call, time_call, two_exps, value_window_call}
+use Rattle.vtl_grammar.specs.ReadParts.{cast_part, error_part, group_part, maybe_keeping, maybe_renames, over_part, retain_part, rule_part, ruleset_part, shift_part, time_part, using_part}
 use Rattle.vtl_grammar.specs.Reading.{Gets, Got, after_keyword, after_sign, got, maybe_word, spared}
 use Rattle.vtl_grammar.specs.Words.{basic_out_at, basic_out_token, check_out_at, check_out_token, form_token, hier_input_at, hier_input_token, hier_out_at, hier_out_token, mode_at, mode_token}
 use Rattle.vtl_grammar.specs.declared.call_forms.CallForm.{CallForm}
@@ -27,7 +28,7 @@ use Rattle.vtl_grammar.specs.declared.call_forms.CallForm.TheVariants as form
 use Rattle.vtl_grammar.specs.declared.levels.Level.TheVariants as level
 use Rattle.vtl_grammar.proofs.SoundForms.{IsExp, OptionalFits, operand_onto, optional_depth, exps-sound, join_parts-sound, targets_part-sound, maybe_exp_after-sound, maybe_operand-sound}
 use Rattle.vtl_grammar.proofs.SoundGot.{IsGot, PartsTreeFit, exps_counted, parts_counted, parts_tree_depth, parts_tree_onto}
-use Rattle.vtl_grammar.proofs.SoundParts.{cast_part-sound, error_part-sound, group_part-sound, maybe_keeping-sound, maybe_renames-sound, over_part-sound, retain_part-sound, rule_part-sound, ruleset_part-sound, shift_part-sound, using_part-sound}
+use Rattle.vtl_grammar.proofs.SoundParts.{cast_part-sound, error_part-sound, group_part-sound, maybe_keeping-sound, maybe_renames-sound, over_part-sound, retain_part-sound, rule_part-sound, ruleset_part-sound, shift_part-sound, time_part-sound, using_part-sound}
 use Rattle.vtl_grammar.proofs.SoundSteps.{Gives, either, either_way, follow, none_gives, some_gives, under_test}
 use Rattle.vtl_grammar.proofs.SoundTables.{basic_out_table, check_out_table, hier_input_table, hier_out_table, mode_table}
 use Rattle.vtl_grammar.proofs.SoundTokens.{Spelled, after_keyword-sound, after_sign-sound, maybe_word-sound}
@@ -150,6 +151,18 @@ module _ (n : ℕ) (part : Gets Exp) (h : (ts : Tokens) → Gives (IsExp level.E
       (λ p is. follow (retain_part p.rest) _ (retain_part-sound p.rest)
       (λ r ir. some_gives (got (tree.exists_in p.tree.0 p.tree.1 r.0) p.spare r.1) (record { spelled = λ rest er. cc; tight = refl; fits = is.fits; deep = omega arith })))
 
+  -- ---- time operators
+
+  time_call-sound : (f : TimeName) (ts : Tokens) → Gives (IsCall (form.Time f) n ts) (time_call part f ts)
+  unfolding time_call
+  time_call-sound f ts =
+      follow (part ts) _ (h ts)
+      (λ e is. follow (time_part f e.rest) _ (time_part-sound f e.rest)
+      (λ c ic.
+      let named = ic.name in
+      let behind = ic.spelled in
+      some_gives (got (tree.time e.tree c.0) e.spare c.1) (record { spelled = λ rest er. cc; tight = refl; fits = is.fits; deep = omega arith })))
+
   -- ---- checks and hierarchies
 
   check_call-sound : (ts : Tokens) → Gives (IsCall form.Check n ts) (check_call n part ts)
@@ -246,6 +259,7 @@ module _ (n : ℕ) (part : Gets Exp) (h : (ts : Tokens) → Gives (IsExp level.E
   call-sound (form.SetOp f) ts = set_op_call-sound f ts
   call-sound (form.Difference f) ts = difference_call-sound f ts
   call-sound form.ExistsIn ts = exists_in_call-sound ts
+  call-sound (form.Time f) ts = time_call-sound f ts
   call-sound form.Check ts = check_call-sound ts
   call-sound form.CheckDatapoint ts = check_datapoint_call-sound ts
   call-sound form.CheckHierarchy ts = check_hierarchy_call-sound ts

@@ -14,14 +14,19 @@ use Rattle.vtl_syntax.specs.declared.parts.Limit.TheVariants as limits
 use Rattle.vtl_syntax.specs.declared.parts.Literal.TheVariants as literals
 use Rattle.vtl_syntax.specs.declared.parts.Reference.TheVariants as references
 use Rattle.vtl_syntax.specs.declared.word_groups.CastKind.{CastKind}
+use Rattle.vtl_syntax.specs.declared.parts.TimeCall.{TimeCall}
+use Rattle.vtl_syntax.specs.declared.parts.TimeCall.TheVariants as time_calls
+use Rattle.vtl_syntax.specs.declared.word_groups.Filling.{Filling}
+use Rattle.vtl_syntax.specs.declared.word_groups.TimeName.{TimeName}
+use Rattle.vtl_syntax.specs.declared.word_groups.TimeName.TheVariants as time_names
 use Rattle.vtl_grammar.specs.Fits.{Filled, GroupFits, MaybeFilled, MaybeKeepingFits, OverFits}
-use Rattle.vtl_grammar.specs.Grammar.{Tokens, comma, comp_onto, comps_onto, constant_onto, error_onto, group_onto, integer_onto, limit_onto, listed_onto, literal_onto, maybe_after_onto, maybe_keeping_onto, name_onto, order_onto, order_part_onto, over_onto, partition_onto, points_onto, reference_onto, rename_part_onto, retain_onto, set_onto, string_onto, sub_part_onto}
-use Rattle.vtl_grammar.specs.ReadParts.{alias_part, cast_literal, cast_part, comps, current, error_part, group_part, limit, limits_between, literal, literal_of, literal_set, literals_listed, maybe_keeping, maybe_renames, order_by_part, order_part, order_parts, over_part, partition_part, plain_name, points_part, reference, references_listed, rename_part, rename_parts, retain_part, rule_part, ruleset_part, shift_part, sub_part, sub_parts, two_comps, using_part}
+use Rattle.vtl_grammar.specs.Grammar.{Tokens, comma, comp_onto, comps_onto, constant_onto, error_onto, group_onto, integer_onto, limit_onto, listed_onto, literal_onto, maybe_after_onto, maybe_keeping_onto, name_onto, order_onto, order_part_onto, over_onto, partition_onto, points_onto, reference_onto, rename_part_onto, retain_onto, name_of_time, set_onto, string_onto, sub_part_onto, time_part_onto}
+use Rattle.vtl_grammar.specs.ReadParts.{alias_part, cast_literal, cast_part, comps, current, error_part, filling_part, group_part, limit, limits_between, literal, literal_of, literal_set, literals_listed, maybe_keeping, maybe_renames, order_by_part, order_part, order_parts, over_part, partition_part, periods_part, plain_name, points_part, reference, references_listed, rename_part, rename_parts, retain_part, rule_part, ruleset_part, shift_part, sub_part, sub_parts, time_part, two_comps, using_part}
 use Rattle.vtl_grammar.specs.Reading.{after_keyword, after_sign, maybe_after, maybe_word, word}
-use Rattle.vtl_grammar.specs.Words.{cast_kind_at, cast_kind_token, comp_at, comp_token, constant_at, direction_at, direction_token, group_kind_at, group_kind_token, integer_at, name_at, numeral_at, numeral_token, retain_at, retain_token, side_at, side_token, string_at}
+use Rattle.vtl_grammar.specs.Words.{cast_kind_at, cast_kind_token, comp_at, comp_token, constant_at, direction_at, direction_token, filling_at, filling_token, group_kind_at, group_kind_token, integer_at, name_at, numeral_at, numeral_token, retain_at, retain_token, side_at, side_token, string_at}
 use Rattle.vtl_grammar.proofs.SoundLists.{IsRead, OptionAll, listed-sound, maybe_after_all-sound}
 use Rattle.vtl_grammar.proofs.SoundSteps.{Gives, either, either_way, follow, none_gives, some_gives, weaker}
-use Rattle.vtl_grammar.proofs.SoundTables.{cast_kind_table, comp_table, constant_table, direction_table, group_kind_table, integer_table, name_table, numeral_table, retain_table, side_table, string_table}
+use Rattle.vtl_grammar.proofs.SoundTables.{cast_kind_table, comp_table, constant_table, direction_table, filling_table, group_kind_table, integer_table, name_table, numeral_table, retain_table, side_table, string_table}
 use Rattle.vtl_grammar.proofs.SoundTokens.{Spelled, after_keyword-sound, after_sign-sound, maybe_after-sound, maybe_word-sound, word-sound, word_onto-sound}
 
 pub comp-sound : (ts : Tokens) → Gives (Spelled comp_onto ts) (word comp_at ts)
@@ -296,6 +301,37 @@ retain_part-sound ts =
     either (after_sign sign.Comma ts) _ _ (after_sign-sound sign.Comma ts)
     (λ after e. follow (word retain_at after) _ (word-sound retain_token retain_at retain_table after) (λ r er. some_gives (Some r.0, r.1) (cc)))
     (some_gives (None, ts) refl)
+
+-- what stands behind the operand of a time operator, which is the one of this name
+pub record IsTimePart (f : TimeName) (ts : Tokens) (p : TimeCall × Tokens) : Type 0 where
+  pub name : name_of_time p.0 ≡ f
+  pub spelled : ts ≡ time_part_onto p.0 p.1
+
+periods_part-sound : (ts : Tokens) → Gives (IsTimePart time_names.Timeshift ts) (periods_part ts)
+unfolding periods_part
+periods_part-sound ts =
+    follow (after_sign sign.Comma ts) _ (after_sign-sound sign.Comma ts)
+    (λ a ea. either (after_sign sign.Minus a) _ _ (after_sign-sound sign.Minus a)
+    (λ b eb. follow (word integer_at b) _ (integer-sound b) (λ d ed. some_gives (time_calls.Timeshift true d.0, d.1) (record { name = refl; spelled = cc })))
+    (follow (word integer_at a) _ (integer-sound a) (λ d ed. some_gives (time_calls.Timeshift false d.0, d.1) (record { name = refl; spelled = cc }))))
+
+abbrev filling_onto : Option Filling → Tokens → Tokens
+filling_onto f ts = time_part_onto (time_calls.FillTimeSeries f) ts
+
+filling_part-sound : (ts : Tokens) → Gives (Spelled filling_onto ts) (filling_part ts)
+unfolding filling_part
+filling_part-sound ts =
+    either (after_sign sign.Comma ts) _ _ (after_sign-sound sign.Comma ts)
+    (λ after e. follow (word filling_at after) _ (word-sound filling_token filling_at filling_table after) (λ r er. some_gives (Some r.0, r.1) (cc)))
+    (some_gives (None, ts) refl)
+
+pub time_part-sound : (f : TimeName) (ts : Tokens) → Gives (IsTimePart f ts) (time_part f ts)
+unfolding time_part
+time_part-sound time_names.Timeshift ts = periods_part-sound ts
+time_part-sound time_names.FillTimeSeries ts =
+    follow (filling_part ts) _ (filling_part-sound ts) (λ f ef. some_gives (time_calls.FillTimeSeries f.0, f.1) (record { name = refl; spelled = ef }))
+time_part-sound time_names.FlowToStock ts = some_gives (time_calls.FlowToStock, ts) (record { name = refl; spelled = refl })
+time_part-sound time_names.StockToFlow ts = some_gives (time_calls.StockToFlow, ts) (record { name = refl; spelled = refl })
 
 abbrev pub ruleset_onto : List ℕ → Tokens → Tokens
 ruleset_onto n ts = comma ∷ token.Name n ∷ ts

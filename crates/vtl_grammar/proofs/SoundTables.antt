@@ -23,6 +23,8 @@ use Rattle.vtl_syntax.specs.declared.word_groups.CheckOut.TheVariants as check_o
 use Rattle.vtl_syntax.specs.declared.word_groups.HierInput.TheVariants as hier_input
 use Rattle.vtl_syntax.specs.declared.word_groups.HierOut.TheVariants as hier_out
 use Rattle.vtl_syntax.specs.declared.word_groups.Retain.TheVariants as retain
+use Rattle.vtl_syntax.specs.declared.word_groups.Filling.TheVariants as filling
+use Rattle.vtl_syntax.specs.declared.word_groups.TimeName.TheVariants as time_name
 use Rattle.vtl_syntax.specs.declared.word_groups.WrittenRole.TheVariants as written_role
 use Rattle.vtl_syntax.specs.declared.word_groups.GroupKind.TheVariants as group_kind
 use Rattle.vtl_syntax.specs.declared.word_groups.Direction.TheVariants as direction
@@ -32,7 +34,7 @@ use Rattle.vtl_syntax.specs.declared.word_groups.Comparison.TheVariants as compa
 use Rattle.vtl_syntax.specs.declared.word_groups.Addition.TheVariants as addition
 use Rattle.vtl_syntax.specs.declared.word_groups.AssignKind.TheVariants as assign_kind
 use Rattle.vtl_grammar.specs.Grammar.{Tokens, constant_onto}
-use Rattle.vtl_grammar.specs.Words.{addition_at, addition_token, assign_kind_at, assign_kind_token, basic_out_at, basic_out_token, binary_op_at, binary_op_token, cast_kind_at, cast_kind_token, check_out_at, check_out_token, comp_at, comp_token, comparison_at, comparison_token, constant_at, direction_at, direction_token, form_at, form_token, group_kind_at, group_kind_token, hier_input_at, hier_input_token, hier_out_at, hier_out_token, in_at, in_token, integer_at, mode_at, mode_token, name_at, numeral_at, numeral_token, retain_at, retain_token, side_at, side_token, string_at, unary_op_at, unary_op_token, written_role_at, written_role_token}
+use Rattle.vtl_grammar.specs.Words.{addition_at, addition_token, assign_kind_at, assign_kind_token, basic_out_at, basic_out_token, binary_op_at, binary_op_token, cast_kind_at, cast_kind_token, check_out_at, check_out_token, comp_at, comp_token, comparison_at, comparison_token, constant_at, direction_at, direction_token, filling_at, filling_token, form_at, form_token, group_kind_at, group_kind_token, hier_input_at, hier_input_token, hier_out_at, hier_out_token, in_at, in_token, integer_at, mode_at, mode_token, name_at, numeral_at, numeral_token, retain_at, retain_token, side_at, side_token, string_at, unary_op_at, unary_op_token, written_role_at, written_role_token}
 use Rattle.vtl_grammar.proofs.SoundSteps.{Gives, none_gives, some_gives}
 
 pub binary_op_table : (t : TokenKind) → Gives (λ x. t ≡ binary_op_token x) (binary_op_at t)
@@ -88,6 +90,11 @@ pub hier_out_table : (t : TokenKind) → Gives (λ x. t ≡ hier_out_token x) (h
 hier_out_table (token.Keyword keyword.Computed) = some_gives hier_out.Computed refl
 hier_out_table (token.Keyword keyword.All) = some_gives hier_out.All refl
 hier_out_table _ = none_gives
+
+pub filling_table : (t : TokenKind) → Gives (λ x. t ≡ filling_token x) (filling_at t)
+filling_table (token.Keyword keyword.Single) = some_gives filling.Single refl
+filling_table (token.Keyword keyword.All) = some_gives filling.All refl
+filling_table _ = none_gives
 
 pub retain_table : (t : TokenKind) → Gives (λ x. t ≡ retain_token x) (retain_at t)
 retain_table (token.Keyword keyword.All) = some_gives retain.All refl
@@ -172,6 +179,10 @@ form_table (token.Keyword keyword.Intersect) = some_gives (form.SetOp set_op_nam
 form_table (token.Keyword keyword.Setdiff) = some_gives (form.Difference difference_name.Setdiff) refl
 form_table (token.Keyword keyword.Symdiff) = some_gives (form.Difference difference_name.Symdiff) refl
 form_table (token.Keyword keyword.ExistsIn) = some_gives form.ExistsIn refl
+form_table (token.Keyword keyword.Timeshift) = some_gives (form.Time time_name.Timeshift) refl
+form_table (token.Keyword keyword.FillTimeSeries) = some_gives (form.Time time_name.FillTimeSeries) refl
+form_table (token.Keyword keyword.FlowToStock) = some_gives (form.Time time_name.FlowToStock) refl
+form_table (token.Keyword keyword.StockToFlow) = some_gives (form.Time time_name.StockToFlow) refl
 form_table (token.Keyword keyword.Check) = some_gives form.Check refl
 form_table (token.Keyword keyword.CheckDatapoint) = some_gives form.CheckDatapoint refl
 form_table (token.Keyword keyword.CheckHierarchy) = some_gives form.CheckHierarchy refl

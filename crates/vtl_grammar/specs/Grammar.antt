@@ -5,7 +5,7 @@ use Rattle.vtl_lexer.specs.declared.keyword.Keyword.TheVariants as k
 use Rattle.vtl_lexer.specs.declared.token.Sign.TheVariants as s
 use Rattle.vtl_lexer.specs.declared.token.TokenKind.{TokenKind}
 use Rattle.vtl_lexer.specs.declared.token.TokenKind.TheVariants.{Keyword as word, Sign as sign, Name as name, Integer as integer, String as string}
-use Rattle.vtl_syntax.specs.Trees.{Exp, if_then, binary, in_set, unary, with_clause, member, component, constant, brackets, function, aggregate, aggregate_over, value_window, shift, rank, set_op, difference, exists_in, check, check_datapoint, check_hierarchy, hierarchy, join, Exps, no_exps, exp, MaybeExp, no_exp, some_exp, ClauseTree, filter, targets, keeping, rename, sub, pivot, unpivot, TargetsTree, calc, aggr, MaybeTargets, no_targets, some_targets, Calcs, no_calcs, calc_part, Parts, no_parts, join_part, PointRuleTree, point_rule, StatementTree, assignment, datapoint, hierarchical, ScriptTree}
+use Rattle.vtl_syntax.specs.Trees.{Exp, if_then, binary, in_set, unary, with_clause, member, component, constant, brackets, function, aggregate, aggregate_over, value_window, shift, rank, set_op, difference, exists_in, time, check, check_datapoint, check_hierarchy, hierarchy, join, Exps, no_exps, exp, MaybeExp, no_exp, some_exp, ClauseTree, filter, targets, keeping, rename, sub, pivot, unpivot, TargetsTree, calc, aggr, MaybeTargets, no_targets, some_targets, Calcs, no_calcs, calc_part, Parts, no_parts, join_part, PointRuleTree, point_rule, StatementTree, assignment, datapoint, hierarchical, ScriptTree}
 use Rattle.vtl_syntax.specs.declared.parts.Comp.{Comp}
 use Rattle.vtl_syntax.specs.declared.parts.Constant.{Constant}
 use Rattle.vtl_syntax.specs.declared.parts.Constant.TheVariants as constants
@@ -25,9 +25,13 @@ use Rattle.vtl_syntax.specs.declared.parts.Reference.TheVariants as reference
 use Rattle.vtl_syntax.specs.declared.parts.RenamePart.{RenamePart}
 use Rattle.vtl_syntax.specs.declared.parts.SignedComp.{SignedComp}
 use Rattle.vtl_syntax.specs.declared.parts.SubPart.{SubPart}
+use Rattle.vtl_syntax.specs.declared.parts.TimeCall.{TimeCall}
+use Rattle.vtl_syntax.specs.declared.parts.TimeCall.TheVariants as time_call
 use Rattle.vtl_syntax.specs.declared.statements.HierRule.{HierRule}
 use Rattle.vtl_syntax.specs.declared.word_groups.Retain.{Retain}
-use Rattle.vtl_grammar.specs.Words.{binary_op_token, unary_op_token, function_name_token, aggregate_name_token, value_window_name_token, shift_name_token, set_op_name_token, difference_name_token, join_kind_token, mode_token, basic_out_token, check_out_token, hier_input_token, hier_out_token, retain_token, written_role_token, group_kind_token, direction_token, side_token, cast_kind_token, comparison_token, addition_token, assign_kind_token, comp_token, numeral_token, boolean_token, in_token}
+use Rattle.vtl_syntax.specs.declared.word_groups.TimeName.{TimeName}
+use Rattle.vtl_syntax.specs.declared.word_groups.TimeName.TheVariants as time_name
+use Rattle.vtl_grammar.specs.Words.{binary_op_token, unary_op_token, function_name_token, aggregate_name_token, value_window_name_token, shift_name_token, set_op_name_token, difference_name_token, join_kind_token, mode_token, basic_out_token, check_out_token, hier_input_token, hier_out_token, retain_token, time_name_token, filling_token, written_role_token, group_kind_token, direction_token, side_token, cast_kind_token, comparison_token, addition_token, assign_kind_token, comp_token, numeral_token, boolean_token, in_token}
 
 abbrev pub Tokens : Type 0
 Tokens = List TokenKind
@@ -174,6 +178,22 @@ abbrev pub retain_onto : Option Retain → Tokens → Tokens
 retain_onto None ts = ts
 retain_onto (Some r) ts = comma ∷ retain_token r ∷ ts
 
+-- which time operator is called
+abbrev pub name_of_time : TimeCall → TimeName
+name_of_time (time_call.Timeshift negative n) = time_name.Timeshift
+name_of_time (time_call.FillTimeSeries f) = time_name.FillTimeSeries
+name_of_time time_call.FlowToStock = time_name.FlowToStock
+name_of_time time_call.StockToFlow = time_name.StockToFlow
+
+-- what stands behind the operand of a time operator: the "," [ "-" ] INTEGER of `timeshift`, the [ "," filling ] of `fill_time_series`
+abbrev pub time_part_onto : TimeCall → Tokens → Tokens
+time_part_onto (time_call.Timeshift true n) ts = comma ∷ sign s.Minus ∷ integer n ∷ ts
+time_part_onto (time_call.Timeshift false n) ts = comma ∷ integer n ∷ ts
+time_part_onto (time_call.FillTimeSeries None) ts = ts
+time_part_onto (time_call.FillTimeSeries (Some f)) ts = comma ∷ filling_token f ∷ ts
+time_part_onto time_call.FlowToStock ts = ts
+time_part_onto time_call.StockToFlow ts = ts
+
 -- ---- expressions
 
 abbrev mutual
@@ -196,7 +216,7 @@ abbrev mutual
   exp_onto (with_clause e c) ts = exp_onto e (sign s.OpenSquare ∷ clause_onto c (sign s.CloseSquare ∷ ts))
   -- member = postfix "#" comp
   exp_onto (member e c) ts = exp_onto e (sign s.Hash ∷ comp_token c ∷ ts)
-  -- primary = comp | constant | brackets | function | aggregate | aggregate_over | value_window | shift | rank | set_op | difference | exists_in | check | check_datapoint | check_hierarchy | hierarchy | join
+  -- primary = comp | constant | brackets | function | aggregate | aggregate_over | value_window | shift | rank | set_op | difference | exists_in | time | check | check_datapoint | check_hierarchy | hierarchy | join
   exp_onto (component c) ts = comp_token c ∷ ts
   exp_onto (constant c) ts = constant_onto c ts
   -- brackets = "(" exp ")"
@@ -219,6 +239,8 @@ abbrev mutual
   exp_onto (difference f a b) ts = difference_name_token f ∷ open_bracket ∷ exp_onto a (comma ∷ exp_onto b (close_bracket ∷ ts))
   -- exists_in = "exists_in" "(" exp "," exp [ "," retain ] ")"
   exp_onto (exists_in a b r) ts = word k.ExistsIn ∷ open_bracket ∷ exp_onto a (comma ∷ exp_onto b (retain_onto r (close_bracket ∷ ts)))
+  -- time = "timeshift" "(" exp "," [ "-" ] INTEGER ")" | "fill_time_series" "(" exp [ "," filling ] ")" | "flow_to_stock" "(" exp ")" | "stock_to_flow" "(" exp ")"
+  exp_onto (time e call) ts = time_name_token (name_of_time call) ∷ open_bracket ∷ exp_onto e (time_part_onto call (close_bracket ∷ ts))
   -- check = "check" "(" exp error [ "imbalance" exp ] [ basic_out ] ")"
   exp_onto (check e err i o) ts = word k.Check ∷ open_bracket ∷ exp_onto e (error_onto err (maybe_exp_after_onto (word k.Imbalance) i (maybe_onto basic_out_token o (close_bracket ∷ ts))))
   -- check_datapoint = "check_datapoint" "(" exp "," NAME [ check_out ] ")"

@@ -16,13 +16,14 @@ use Rattle.vtl_syntax.specs.declared.word_groups.FunctionName.{FunctionName}
 use Rattle.vtl_syntax.specs.declared.word_groups.JoinKind.{JoinKind}
 use Rattle.vtl_syntax.specs.declared.word_groups.SetOpName.{SetOpName}
 use Rattle.vtl_syntax.specs.declared.word_groups.ShiftName.{ShiftName}
+use Rattle.vtl_syntax.specs.declared.word_groups.TimeName.{TimeName}
 use Rattle.vtl_syntax.specs.declared.word_groups.ValueWindowName.{ValueWindowName}
 use Rattle.vtl_syntax.specs.declared.word_groups.WrittenRole.{WrittenRole}
 use Rattle.vtl_grammar.specs.Grammar.{Tokens}
 use Rattle.vtl_grammar.specs.Levels.{looseness, operator_level}
 use Rattle.vtl_lists.specs.Options.{◌>>=◌, given}
 use Rattle.vtl_grammar.specs.Reading.{Got, Gets, Reads, got, is_keyword, is_sign, after_keyword, after_sign, word, maybe_word, got_listed, spared}
-use Rattle.vtl_grammar.specs.ReadParts.{cast_part, literal_set, error_part, group_part, over_part, maybe_keeping, maybe_renames, sub_parts, two_comps, using_part, alias_part, shift_part, retain_part, ruleset_part, rule_part}
+use Rattle.vtl_grammar.specs.ReadParts.{cast_part, literal_set, error_part, group_part, over_part, maybe_keeping, maybe_renames, sub_parts, two_comps, using_part, alias_part, shift_part, retain_part, time_part, ruleset_part, rule_part}
 use Rattle.vtl_grammar.specs.Words.{binary_op_at, unary_op_at, mode_at, basic_out_at, check_out_at, hier_input_at, hier_out_at, written_role_at, comp_at, constant_at, in_at, form_at}
 use Rattle.vtl_grammar.specs.declared.call_forms.CallForm.{CallForm}
 use Rattle.vtl_grammar.specs.declared.call_forms.CallForm.TheVariants as form
@@ -170,6 +171,9 @@ unfoldable pub exists_in_call : Gets Exp → Gets Exp
 exists_in_call part ts =
     two_exps part ts >>= (λ p. retain_part p.rest >>= (λ r. Some (got (tree.exists_in p.tree.0 p.tree.1 r.0) p.spare r.1)))
 
+unfoldable pub time_call : Gets Exp → TimeName → Gets Exp
+time_call part f ts = part ts >>= (λ e. time_part f e.rest >>= (λ c. Some (got (tree.time e.tree c.0) e.spare c.1)))
+
 unfoldable pub check_call : ℕ → Gets Exp → Gets Exp
 check_call n part ts =
     part ts
@@ -234,6 +238,7 @@ call n part form.Rank = rank_call n
 call n part (form.SetOp f) = set_op_call part f
 call n part (form.Difference f) = difference_call part f
 call n part form.ExistsIn = exists_in_call part
+call n part (form.Time f) = time_call part f
 call n part form.Check = check_call n part
 call n part form.CheckDatapoint = check_datapoint_call part
 call n part form.CheckHierarchy = check_hierarchy_call part

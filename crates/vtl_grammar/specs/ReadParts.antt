@@ -21,11 +21,16 @@ use Rattle.vtl_syntax.specs.declared.parts.Reference.{Reference}
 use Rattle.vtl_syntax.specs.declared.parts.Reference.TheVariants as references
 use Rattle.vtl_syntax.specs.declared.parts.RenamePart.{RenamePart}
 use Rattle.vtl_syntax.specs.declared.parts.SubPart.{SubPart}
+use Rattle.vtl_syntax.specs.declared.parts.TimeCall.{TimeCall}
+use Rattle.vtl_syntax.specs.declared.parts.TimeCall.TheVariants as time_calls
 use Rattle.vtl_syntax.specs.declared.word_groups.CastKind.{CastKind}
+use Rattle.vtl_syntax.specs.declared.word_groups.Filling.{Filling}
+use Rattle.vtl_syntax.specs.declared.word_groups.TimeName.{TimeName}
+use Rattle.vtl_syntax.specs.declared.word_groups.TimeName.TheVariants as time_names
 use Rattle.vtl_grammar.specs.Grammar.{Tokens}
 use Rattle.vtl_lists.specs.Options.{◌>>=◌, given}
 use Rattle.vtl_grammar.specs.Reading.{Reads, after_keyword, after_sign, word, maybe_word, maybe_after, listed}
-use Rattle.vtl_grammar.specs.Words.{name_at, string_at, integer_at, comp_at, numeral_at, constant_at, cast_kind_at, group_kind_at, direction_at, side_at, retain_at}
+use Rattle.vtl_grammar.specs.Words.{name_at, string_at, integer_at, comp_at, numeral_at, constant_at, cast_kind_at, group_kind_at, direction_at, side_at, retain_at, filling_at}
 use Rattle.vtl_syntax.specs.declared.word_groups.Retain.{Retain}
 
 -- what stands between the brackets of `cast`
@@ -215,6 +220,24 @@ shift_part ts =
 -- [ "," ( "all" | "true" | "false" ) ]
 unfoldable pub retain_part : Reads (Option Retain)
 retain_part ts = given (after_sign sign.Comma ts) (λ after. word retain_at after >>= (λ r. Some (Some r.0, r.1))) (Some (None, ts))
+
+-- "," [ "-" ] integer
+unfoldable pub periods_part : Reads TimeCall
+periods_part ts =
+    after_sign sign.Comma ts
+    >>= (λ a. given (after_sign sign.Minus a) (λ b. word integer_at b >>= (λ d. Some (time_calls.Timeshift true d.0, d.1)))
+    (word integer_at a >>= (λ d. Some (time_calls.Timeshift false d.0, d.1))))
+
+-- [ "," ( "single" | "all" ) ]
+unfoldable pub filling_part : Reads (Option Filling)
+filling_part ts = given (after_sign sign.Comma ts) (λ after. word filling_at after >>= (λ f. Some (Some f.0, f.1))) (Some (None, ts))
+
+-- what stands behind the operand of the time operator
+unfoldable pub time_part : TimeName → Reads TimeCall
+time_part time_names.Timeshift ts = periods_part ts
+time_part time_names.FillTimeSeries ts = filling_part ts >>= (λ f. Some (time_calls.FillTimeSeries f.0, f.1))
+time_part time_names.FlowToStock ts = Some (time_calls.FlowToStock, ts)
+time_part time_names.StockToFlow ts = Some (time_calls.StockToFlow, ts)
 
 -- "," name
 unfoldable pub ruleset_part : Reads (List ℕ)

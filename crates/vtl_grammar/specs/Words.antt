@@ -20,6 +20,10 @@ use Rattle.vtl_syntax.specs.declared.word_groups.FunctionName.{FunctionName}
 use Rattle.vtl_syntax.specs.declared.word_groups.FunctionName.TheVariants as function_name
 use Rattle.vtl_syntax.specs.declared.word_groups.AggregateName.{AggregateName}
 use Rattle.vtl_syntax.specs.declared.word_groups.AggregateName.TheVariants as aggregate_name
+use Rattle.vtl_syntax.specs.declared.word_groups.Filling.{Filling}
+use Rattle.vtl_syntax.specs.declared.word_groups.Filling.TheVariants as filling
+use Rattle.vtl_syntax.specs.declared.word_groups.TimeName.{TimeName}
+use Rattle.vtl_syntax.specs.declared.word_groups.TimeName.TheVariants as time_name
 use Rattle.vtl_syntax.specs.declared.word_groups.ValueWindowName.{ValueWindowName}
 use Rattle.vtl_syntax.specs.declared.word_groups.ValueWindowName.TheVariants as value_window_name
 use Rattle.vtl_syntax.specs.declared.word_groups.ShiftName.{ShiftName}
@@ -235,6 +239,23 @@ retain_at (token.Keyword keyword.True) = Some retain.True
 retain_at (token.Keyword keyword.False) = Some retain.False
 retain_at _ = None
 
+-- the time operators
+abbrev pub time_name_token : TimeName → TokenKind
+time_name_token time_name.Timeshift = token.Keyword keyword.Timeshift
+time_name_token time_name.FillTimeSeries = token.Keyword keyword.FillTimeSeries
+time_name_token time_name.FlowToStock = token.Keyword keyword.FlowToStock
+time_name_token time_name.StockToFlow = token.Keyword keyword.StockToFlow
+
+-- filling = "single" | "all"
+abbrev pub filling_token : Filling → TokenKind
+filling_token filling.Single = token.Keyword keyword.Single
+filling_token filling.All = token.Keyword keyword.All
+
+abbrev pub filling_at : TokenKind → Option Filling
+filling_at (token.Keyword keyword.Single) = Some filling.Single
+filling_at (token.Keyword keyword.All) = Some filling.All
+filling_at _ = None
+
 -- written_role = "measure" | "attribute"
 abbrev pub written_role_token : WrittenRole → TokenKind
 written_role_token written_role.Measure = token.Keyword keyword.Measure
@@ -331,6 +352,7 @@ form_token form.Rank = token.Keyword keyword.Rank
 form_token (form.SetOp f) = set_op_name_token f
 form_token (form.Difference f) = difference_name_token f
 form_token form.ExistsIn = token.Keyword keyword.ExistsIn
+form_token (form.Time f) = time_name_token f
 form_token form.Check = token.Keyword keyword.Check
 form_token form.CheckDatapoint = token.Keyword keyword.CheckDatapoint
 form_token form.CheckHierarchy = token.Keyword keyword.CheckHierarchy
@@ -372,6 +394,10 @@ form_at (token.Keyword keyword.Intersect) = Some (form.SetOp set_op_name.Interse
 form_at (token.Keyword keyword.Setdiff) = Some (form.Difference difference_name.Setdiff)
 form_at (token.Keyword keyword.Symdiff) = Some (form.Difference difference_name.Symdiff)
 form_at (token.Keyword keyword.ExistsIn) = Some form.ExistsIn
+form_at (token.Keyword keyword.Timeshift) = Some (form.Time time_name.Timeshift)
+form_at (token.Keyword keyword.FillTimeSeries) = Some (form.Time time_name.FillTimeSeries)
+form_at (token.Keyword keyword.FlowToStock) = Some (form.Time time_name.FlowToStock)
+form_at (token.Keyword keyword.StockToFlow) = Some (form.Time time_name.StockToFlow)
 form_at (token.Keyword keyword.Check) = Some form.Check
 form_at (token.Keyword keyword.CheckDatapoint) = Some form.CheckDatapoint
 form_at (token.Keyword keyword.CheckHierarchy) = Some form.CheckHierarchy

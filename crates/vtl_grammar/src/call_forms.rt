@@ -1,7 +1,8 @@
 // What stands before an opening bracket.
 
 use vtl_syntax::{
-    AggregateName, DifferenceName, FunctionName, JoinKind, SetOpName, ShiftName, ValueWindowName,
+    AggregateName, DifferenceName, FunctionName, JoinKind, SetOpName, ShiftName, TimeName,
+    ValueWindowName,
 };
 
 /// A word that an opening bracket follows, by what may stand in the brackets.
@@ -23,6 +24,8 @@ pub enum CallForm {
     Difference(DifferenceName),
     /// `exists_in`
     ExistsIn,
+    /// A time operator.
+    Time(TimeName),
     /// `check`
     Check,
     /// `check_datapoint`

@@ -30,7 +30,7 @@ any-at p (y ∷ ys) (suc i) x pass e = by (p y) (any-at p ys i x pass e)
     by true more = refl
     by false more = more
 
-reserved-count : length reserved_words ≡ 114
+reserved-count : length reserved_words ≡ 115
 unfolding reserved_words
 reserved-count = refl
 
@@ -75,14 +75,14 @@ numbers-at from zero i lt = absurd (omega arith)
 numbers-at from (suc n) zero lt = ap Some (omega arith)
 numbers-at from (suc n) (suc i) lt = numbers-at (suc from) n i (omega arith) ∙ ap Some (omega arith)
 
-places-kept : map place_of KEYWORDS ≡ numbers 0 114
+places-kept : map place_of KEYWORDS ≡ numbers 0 115
 places-kept = refl
 
 -- the keyword at a place has that place
-pub keyword-at : (i : ℕ) (keyword : Keyword) → i < 114 → slice_get KEYWORDS i ≡ Some keyword → place_of keyword ≡ i
+pub keyword-at : (i : ℕ) (keyword : Keyword) → i < 115 → slice_get KEYWORDS i ≡ Some keyword → place_of keyword ≡ i
 keyword-at i keyword lt e =
-    let mapped : slice_get (numbers 0 114) i ≡ Some (place_of keyword) = ap (λ l. slice_get l i) (sym places-kept) ∙ slice_get-map place_of KEYWORDS i ∙ ap (option_map place_of) e in
-    let same : Some (place_of keyword) ≡ Some (0 + i) = sym mapped ∙ numbers-at 0 114 i lt in
+    let mapped : slice_get (numbers 0 115) i ≡ Some (place_of keyword) = ap (λ l. slice_get l i) (sym places-kept) ∙ slice_get-map place_of KEYWORDS i ∙ ap (option_map place_of) e in
+    let same : Some (place_of keyword) ≡ Some (0 + i) = sym mapped ∙ numbers-at 0 115 i lt in
     let places : place_of keyword ≡ 0 + i = cc same in
     omega arith
 
@@ -129,7 +129,7 @@ pub unplaced : (bytes : List ℕ) → reserved_place bytes ≡ None → is_reser
 unfolding reserved_place is_reserved
 unplaced bytes e = position-none (λ w. pointwise nat_eq w bytes) reserved_words (none-place (λ w. pointwise nat_eq w bytes) reserved_words e)
 
-pub placed-below : (bytes : List ℕ) (i : ℕ) → reserved_place bytes ≡ Some i → i < 114
+pub placed-below : (bytes : List ℕ) (i : ℕ) → reserved_place bytes ≡ Some i → i < 115
 unfolding reserved_place
 placed-below bytes i e = subst (λ n. i < n) reserved-count (some-place (λ w. pointwise nat_eq w bytes) reserved_words i [] e).0
 

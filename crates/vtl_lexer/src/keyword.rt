@@ -198,6 +198,8 @@ pub enum Keyword {
     Ruleset,
     /// `setdiff`
     Setdiff,
+    /// `single`
+    Single,
     /// `stock_to_flow`
     StockToFlow,
     /// `sub`
@@ -239,7 +241,7 @@ pub enum Keyword {
 }
 
 // The reserved words, by their places.
-const KEYWORDS: [Keyword; 114] = [
+const KEYWORDS: [Keyword; 115] = [
     Keyword::Abs,
     Keyword::Aggr,
     Keyword::All,
@@ -335,6 +337,7 @@ const KEYWORDS: [Keyword; 114] = [
     Keyword::RulePriority,
     Keyword::Ruleset,
     Keyword::Setdiff,
+    Keyword::Single,
     Keyword::StockToFlow,
     Keyword::Sub,
     Keyword::Substr,

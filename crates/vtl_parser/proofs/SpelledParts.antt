@@ -2,7 +2,7 @@
 use Rattle.std.proofs.Common.{ℕ, ◌≤◌, true, false, Bool, List, [], ◌∷◌, length, Option, Some, None, IfSome}
 use Rattle.std.specs.List.{AllByRecursion}
 use Rattle.vtl_grammar.specs.Fits.{GroupFits, KeepingFits, MaybeFilled, MaybeKeepingFits, OverFits}
-use Rattle.vtl_grammar.specs.Grammar.{Tokens, close_bracket, comp_onto, comps_onto, constant_onto, dataset_onto, error_onto, group_onto, integer_onto, keeping_onto, limit_onto, listed_onto, literal_onto, maybe_after_onto, maybe_keeping_onto, maybe_onto, more_onto, name_onto, order_onto, order_part_onto, over_onto, partition_onto, points_onto, reference_onto, rename_part_onto, retain_onto, rule_name_onto, set_onto, signed_onto, string_onto, sub_part_onto}
+use Rattle.vtl_grammar.specs.Grammar.{Tokens, close_bracket, comp_onto, comps_onto, constant_onto, dataset_onto, error_onto, group_onto, integer_onto, keeping_onto, limit_onto, listed_onto, literal_onto, maybe_after_onto, maybe_keeping_onto, maybe_onto, more_onto, name_onto, order_onto, order_part_onto, over_onto, partition_onto, points_onto, reference_onto, rename_part_onto, retain_onto, rule_name_onto, set_onto, signed_onto, string_onto, sub_part_onto, time_part_onto}
 use Rattle.vtl_grammar.specs.Words.{comp_token, direction_token}
 use Rattle.vtl_grammar.specs.Written.{IsSpelled}
 use Rattle.vtl_lexer.specs.declared.keyword.Keyword.TheVariants as keyword
@@ -30,6 +30,7 @@ use Rattle.vtl_syntax.specs.declared.parts.Reference.TheVariants as reference
 use Rattle.vtl_syntax.specs.declared.parts.RenamePart.{RenamePart}
 use Rattle.vtl_syntax.specs.declared.parts.SignedComp.{SignedComp}
 use Rattle.vtl_syntax.specs.declared.parts.SubPart.{SubPart}
+use Rattle.vtl_syntax.specs.declared.parts.TimeCall.TheVariants as time_call
 use Rattle.vtl_syntax.specs.declared.word_groups.Retain.{Retain}
 
 -- all of the tokens are spelled
@@ -174,6 +175,14 @@ subs_tell = listed_tell sub_part_onto (λ p. IsComponent p.component) sub_part_t
 pub dataset_tells : Tells dataset_onto Nothing
 dataset_tells true ts h = (tt, h.1)
 dataset_tells false ts h = (tt, h)
+
+pub time_part_tells : Tells time_part_onto Nothing
+time_part_tells (time_call.Timeshift true n) ts h = (tt, h.1.1.1)
+time_part_tells (time_call.Timeshift false n) ts h = (tt, h.1.1)
+time_part_tells (time_call.FillTimeSeries None) ts h = (tt, h)
+time_part_tells (time_call.FillTimeSeries (Some f)) ts h = (tt, h.1.1)
+time_part_tells time_call.FlowToStock ts h = (tt, h)
+time_part_tells time_call.StockToFlow ts h = (tt, h)
 
 pub retain_tells : Tells retain_onto Nothing
 retain_tells None ts h = (tt, h)

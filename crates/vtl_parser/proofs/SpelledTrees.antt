@@ -2,17 +2,17 @@
 use Rattle.std.proofs.Common.{ℕ, suc, ◌≤◌, true, false, Bool, List, [], ◌∷◌, Option, Some, None, IfSome, arith}
 use Rattle.std.specs.List.{AllByRecursion}
 use Rattle.vtl_grammar.specs.Fits.{CalcsFit, ClauseFits, ExpsFit, Fits, InGrammar, MaybeFits, MaybeTargetsFit, OptionFits, PartsFit, PointRuleFits, StatementFits, TargetsFit, calcs_count, exps_count, parts_count}
-use Rattle.vtl_grammar.specs.Grammar.{Tokens, calcs_onto, clause_onto, close_bracket, comma, comp_onto, dataset_onto, error_onto, exp_onto, exps_onto, group_onto, hier_rule_onto, listed_onto, literal_onto, maybe_after_onto, maybe_exp_after_onto, maybe_exp_onto, maybe_keeping_onto, maybe_onto, maybe_targets_onto, more_calcs_onto, more_exps_onto, more_parts_onto, more_rules_onto, name_onto, over_onto, parts_onto, point_rule_onto, rename_part_onto, retain_onto, rules_onto, script_onto, set_onto, signed_onto, statement_onto, targets_onto, when_onto}
+use Rattle.vtl_grammar.specs.Grammar.{Tokens, calcs_onto, clause_onto, close_bracket, comma, comp_onto, dataset_onto, error_onto, exp_onto, exps_onto, group_onto, hier_rule_onto, listed_onto, literal_onto, maybe_after_onto, maybe_exp_after_onto, maybe_exp_onto, maybe_keeping_onto, maybe_onto, maybe_targets_onto, more_calcs_onto, more_exps_onto, more_parts_onto, more_rules_onto, name_onto, over_onto, parts_onto, point_rule_onto, rename_part_onto, retain_onto, rules_onto, script_onto, set_onto, signed_onto, statement_onto, targets_onto, when_onto, time_part_onto}
 use Rattle.vtl_grammar.specs.Words.{addition_token, basic_out_token, binary_op_token, check_out_token, comp_token, comparison_token, hier_input_token, hier_out_token, in_token, mode_token, written_role_token}
 use Rattle.vtl_grammar.specs.Written.{IsSpelled, Written}
 use Rattle.vtl_lexer.specs.declared.keyword.Keyword.TheVariants as keyword
 use Rattle.vtl_lexer.specs.declared.token.Sign.TheVariants as sign
 use Rattle.vtl_lexer.specs.declared.token.TokenKind.{TokenKind}
 use Rattle.vtl_lexer.specs.declared.token.TokenKind.TheVariants as token
-use Rattle.vtl_syntax.specs.Trees.{Exp, if_then, binary, in_set, unary, with_clause, member, component, constant, brackets, function, aggregate, aggregate_over, value_window, shift, rank, set_op, difference, exists_in, check, check_datapoint, check_hierarchy, hierarchy, join, Exps, no_exps, exp, MaybeExp, no_exp, some_exp, ClauseTree, filter, targets, keeping, rename, sub, pivot, unpivot, TargetsTree, calc, aggr, MaybeTargets, no_targets, some_targets, Calcs, no_calcs, calc_part, Parts, no_parts, join_part, PointRuleTree, point_rule, ScriptTree, StatementTree, assignment, datapoint, hierarchical}
+use Rattle.vtl_syntax.specs.Trees.{Exp, if_then, binary, in_set, unary, with_clause, member, component, constant, brackets, function, aggregate, aggregate_over, value_window, shift, rank, set_op, difference, exists_in, time, check, check_datapoint, check_hierarchy, hierarchy, join, Exps, no_exps, exp, MaybeExp, no_exp, some_exp, ClauseTree, filter, targets, keeping, rename, sub, pivot, unpivot, TargetsTree, calc, aggr, MaybeTargets, no_targets, some_targets, Calcs, no_calcs, calc_part, Parts, no_parts, join_part, PointRuleTree, point_rule, ScriptTree, StatementTree, assignment, datapoint, hierarchical}
 use Rattle.vtl_syntax.specs.Written.{AreMoreCalcs, AreMoreExps, AreMoreParts, AreWritten, AreWrittenCalcs, AreWrittenExps, AreWrittenParts, AreWrittenTargets, HasWrittenParts, IsComponent, IsName, IsRenaming, IsWritten, IsWrittenClause, IsWrittenExp, IsWrittenHierRule, IsWrittenMaybe, IsWrittenRule, IsWrittenStep}
 use Rattle.vtl_syntax.specs.declared.statements.HierRule.{HierRule}
-use Rattle.vtl_parser.proofs.SpelledParts.{Spelled, Tells, after_tells, comp_tells, comp_told, constant_tells, dataset_tells, error_tells, group_tells, keeping_tells, listed_tell, literal_tells, maybe_keeping_tells, maybe_tells, name_tells, over_tells, renames_tell, retain_tells, rule_name_tells, set_tells, signed_tell, some_all, subs_tell}
+use Rattle.vtl_parser.proofs.SpelledParts.{Spelled, Tells, after_tells, comp_tells, comp_told, constant_tells, dataset_tells, error_tells, group_tells, keeping_tells, listed_tell, literal_tells, maybe_keeping_tells, maybe_tells, name_tells, over_tells, renames_tell, retain_tells, rule_name_tells, set_tells, signed_tell, some_all, subs_tell, time_part_tells}
 
 mutual
   pub exp_tells : (e : Exp) (ts : Tokens) → Fits e → Spelled (exp_onto e ts) → IsWrittenExp e × Spelled ts
@@ -80,6 +80,9 @@ mutual
       let x = exp_tells a (comma ∷ exp_onto b retain) fits.0 h.1.1 in
       let y = exp_tells b retain fits.1 x.1.1 in
       ((x.0, y.0), (retain_tells r (close_bracket ∷ ts) y.1).1.1)
+  exp_tells (time e call) ts fits h =
+      let x = exp_tells e (time_part_onto call (close_bracket ∷ ts)) fits h.1.1 in
+      (x.0, (time_part_tells call (close_bracket ∷ ts) x.1).1.1)
   exp_tells (check e err i o) ts fits h =
       let out : Tokens = maybe_onto basic_out_token o (close_bracket ∷ ts) in
       let imbalance : Tokens = maybe_exp_after_onto (token.Keyword keyword.Imbalance) i out in

@@ -35,6 +35,7 @@ fn word(e: &Expr) -> &'static str {
         Expr::InSet { negated: true, .. } => "not_in",
         Expr::InSet { .. } => "in",
         Expr::ExistsIn { .. } => "exists_in",
+        Expr::Time { .. } => "time",
         Expr::Rank(_) => "rank",
         Expr::Check { .. } => "check",
         Expr::CheckDatapoint { .. } => "check_datapoint",
@@ -83,6 +84,7 @@ fn operands(out: &mut Lines, e: &Expr) {
         | Expr::Unary { operand, .. }
         | Expr::Member { operand, .. }
         | Expr::ValueWindow { operand, .. }
+        | Expr::Time { operand, .. }
         | Expr::Shift { operand, .. }
         | Expr::CheckDatapoint { operand, .. }
         | Expr::CheckHierarchy { operand, .. }
@@ -152,6 +154,7 @@ fn plain(out: &mut Lines, e: &Expr) {
         Expr::Member { component, .. } => out.part(component),
         Expr::InSet { literals, .. } => out.part(literals),
         Expr::ExistsIn { retain, .. } => out.part(retain),
+        Expr::Time { call, .. } => out.part(call),
         Expr::AggregateOver { over, .. } | Expr::ValueWindow { over, .. } | Expr::Rank(over) =>
             out.part(over),
         Expr::Shift {

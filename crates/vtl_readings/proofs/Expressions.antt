@@ -19,6 +19,7 @@ use Rattle.vtl_meaning.specs.Turned.{pivot_of, unpivot_of}
 use Rattle.vtl_rulings.specs.Hierarchies.{hierarchy_of}
 use Rattle.vtl_rulings.specs.HierarchyChecks.{check_hierarchy_of, ruled_by}
 use Rattle.vtl_rulings.specs.PointChecks.{check_of, datapoint_of}
+use Rattle.vtl_timing.specs.Timed.{timed_of}
 use Rattle.vtl_readings.specs.Expressions.{all, both, followed_by, given, given_each, given_maybe, given_operands, of_structure, one, points_of, there, three, with_other}
 
 -- the data set of an operand whose points are given
@@ -113,6 +114,7 @@ mutual
   points_are p env s (nodes.exists_in a b retain) = pair p env a b (λ d e. Ok (existence_of d e retain)) (given_is p env a) (given_is p env b)
   points_are p env s (nodes.aggregate a spec) = first p env a (λ d. aggregate_of p spec d s) (given_is p env a)
   points_are p env s (nodes.analytic_of a spec) = first p env a (λ d. analytic_of p spec d s) (given_is p env a)
+  points_are p env s (nodes.time a o) = first p env a (λ d. timed_of p o d s) (given_is p env a)
   points_are p env s (nodes.check a m spec) = beside p env a (given_maybe p env m) (maybe_value p env m) (λ d e. Ok (check_of p spec d e)) (given_is p env a) (maybe_is p env m)
   points_are p env s (nodes.check_datapoint a rules o) = first p env a (λ d. datapoint_of p o rules.rules d) (given_is p env a)
   points_are p env s (nodes.check_hierarchy a rules m o) = first p env a (λ d. check_hierarchy_of p o (ruled_by rules d.structure) m d rules.rules) (given_is p env a)

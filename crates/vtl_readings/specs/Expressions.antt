@@ -19,6 +19,7 @@ use Rattle.vtl_meaning.specs.Turned.{pivot_of, unpivot_of}
 use Rattle.vtl_rulings.specs.Hierarchies.{hierarchy_of}
 use Rattle.vtl_rulings.specs.HierarchyChecks.{check_hierarchy_of, ruled_by}
 use Rattle.vtl_rulings.specs.PointChecks.{check_of, datapoint_of}
+use Rattle.vtl_timing.specs.Timed.{timed_of}
 
 -- ---- operands before operators
 -- what an operator gives of one data set, of both, of three or of all, unless one of them has a fault
@@ -88,6 +89,7 @@ abbrev mutual
   points_of p env s (nodes.exists_in a b retain) = both (given p env a) (given p env b) (λ d e. Ok (existence_of d e retain))
   points_of p env s (nodes.aggregate a spec) = one (given p env a) (λ d. aggregate_of p spec d s)
   points_of p env s (nodes.analytic_of a spec) = one (given p env a) (λ d. analytic_of p spec d s)
+  points_of p env s (nodes.time a o) = one (given p env a) (λ d. timed_of p o d s)
   points_of p env s (nodes.check a imbalance spec) = with_other (given p env a) (given_maybe p env imbalance) (λ d e. Ok (check_of p spec d e))
   points_of p env s (nodes.check_datapoint a rules output) = one (given p env a) (λ d. datapoint_of p output rules.rules d)
   points_of p env s (nodes.check_hierarchy a rules mode output) = one (given p env a) (λ d. check_hierarchy_of p output (ruled_by rules d.structure) mode d rules.rules)

@@ -7,6 +7,7 @@ use Rattle.vtl_tree.specs.Trees as nodes
 use Rattle.vtl_tree.specs.Trees.{FormTree}
 use Rattle.vtl_meaning.specs.Made.{AreCombined}
 use Rattle.vtl_meaning.proofs.Determined.{same_shape}
+use Rattle.vtl_timing.proofs.Timed.{timed_shape}
 use Rattle.vtl_scripts.specs.Made.{IsMadeForm, node_structures}
 
 pub combined_shape : (ss : List Structure) (s t : Structure) → AreCombined ss s → AreCombined ss t → s ≡ t
@@ -35,6 +36,7 @@ form_shape p known s t (nodes.sym_diff a c) h k = same_shape s t _ h.2.shape k.2
 form_shape p known s t (nodes.exists_in a c r) h k = same_shape s t _ h.2.shape k.2.shape
 form_shape p known s t (nodes.aggregate a spec) h k = same_shape s t _ h.1.aggregated.shape k.1.aggregated.shape
 form_shape p known s t (nodes.analytic_of a spec) h k = same_shape s t _ h.1.analyzed.shape k.1.analyzed.shape
+form_shape p known s t (nodes.time a o) h k = timed_shape o _ s t h.1.given k.1.given
 form_shape p known s t (nodes.check a m spec) h k = same_shape s t _ h.2.shape k.2.shape
 form_shape p known s t (nodes.check_datapoint a rules o) h k = same_shape s t _ h.1.shape k.1.shape
 form_shape p known s t (nodes.check_hierarchy a rules m o) h k = same_shape s t _ h.1.shape k.1.shape

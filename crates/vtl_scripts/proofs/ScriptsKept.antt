@@ -41,6 +41,8 @@ use Rattle.vtl_rulings.proofs.ChecksKept.{check_kept}
 use Rattle.vtl_rulings.proofs.HierarchiesKept.{check_hierarchy_kept}
 use Rattle.vtl_rulings.proofs.HierarchiesMade.{hierarchy_kept}
 use Rattle.vtl_rulings.proofs.PointsKept.{datapoint_kept}
+use Rattle.vtl_timing.specs.Timed.{timed_of}
+use Rattle.vtl_timing.proofs.Timed.{timed_kept}
 
 -- what a node's data set gives, where it has one
 operand_ok : (a : NodeTree) (m : Outcome (List Row)) (f : DataSet → Outcome (List Row)) (out : List Row) → with_operand a m f ≡ Ok out → (points : List Row) × (m ≡ Ok points) × (f (with_points (structure_of a) points) ≡ Ok out)
@@ -143,6 +145,9 @@ mutual
       let x = operand_ok a (node_value p env a) (λ d. analytic_of p spec d s) out e in
       let d = with_points (structure_of a) x.0 in
       subst (λ m. IfOk m (IsDataSet s)) x.2 (analytic_is p spec d s i.1.analyzed (node_kept p env a x.0 i.0 h x.1))
+  form_kept p env s (nodes.time a o) out i h e =
+      let x = operand_ok a (node_value p env a) (λ d. timed_of p o d s) out e in
+      timed_kept p o (with_points (structure_of a) x.0) s out i.1 (node_kept p env a x.0 i.0 h x.1) x.2
   form_kept p env s (nodes.join os spec) out i h e =
       let x = after_ok (operands_value p env os) (λ ds. Ok (join_of spec.kind ds)) out e in
       let sets = operands_kept p env os x.0 i.0 h x.1 in

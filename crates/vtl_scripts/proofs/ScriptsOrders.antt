@@ -37,6 +37,8 @@ use Rattle.vtl_rulings.specs.PointChecks.{check_of, datapoint_of}
 use Rattle.vtl_rulings.proofs.HierarchyOrders.{check_respects as sides_respect, output_respects}
 use Rattle.vtl_rulings.proofs.Orders.{check_respects, datapoint_respects, imbalanced_respects}
 use Rattle.vtl_scripts.proofs.ScriptsKept.{node_kept, nodes_kept, operands_kept}
+use Rattle.vtl_timing.specs.Timed.{timed_of}
+use Rattle.vtl_timing.proofs.Timed.{timed_respects}
 
 -- ---- expressions
 same_after : (m n : Outcome (List Row)) (f g : List Row → Outcome (List Row)) → Same m n → ((d e : List Row) → m ≡ Ok d → Perm d e → Same (f d) (g e)) → Same (after m f) (after n g)
@@ -143,6 +145,9 @@ module _ (p : Settings) (env other : Environment) (h : AreDataSets env) (same : 
     form_respects s (nodes.analytic_of a spec) i =
         same_operand a (node_value p env a) (node_value p other a) (λ d. analytic_of p spec d s) (λ d. analytic_of p spec d s) (node_respects a i.0)
         (λ d e is q. analytics_respect p spec (with_points (structure_of a) d) (with_points (structure_of a) e) s refl q)
+    form_respects s (nodes.time a o) i =
+        same_operand a (node_value p env a) (node_value p other a) (λ d. timed_of p o d s) (λ d. timed_of p o d s) (node_respects a i.0)
+        (λ d e is q. timed_respects p o (structure_of a) d e s i.1 (node_kept p env a d i.0 h is) q)
     form_respects s (nodes.pivot a id m) i =
         same_operand a (node_value p env a) (node_value p other a) (λ d. Ok (pivot_of d id m)) (λ d. Ok (pivot_of d id m)) (node_respects a i.0)
         (λ d e is q. pivot_order (structure_of a) id d (node_kept p env a d i.0 h is) e q m)

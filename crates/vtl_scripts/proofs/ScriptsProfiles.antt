@@ -38,6 +38,8 @@ use Rattle.vtl_rulings.specs.HierarchyChecks.{check_hierarchy_of, ruled_by}
 use Rattle.vtl_rulings.specs.PointChecks.{check_of, datapoint_of}
 use Rattle.vtl_rulings.proofs.HierarchyProfiles.{check_hierarchy_profile, hierarchy_profile}
 use Rattle.vtl_rulings.proofs.Profiles.{check_profile, datapoint_profile}
+use Rattle.vtl_timing.specs.Timed.{timed_of}
+use Rattle.vtl_timing.proofs.Timed.{timed_profile}
 
 -- ---- expressions
 named_are : (p : Settings) (name : List ℕ) (env : Environment) → AllAreOfProfile p env → AreOfProfile p (points_named name env)
@@ -129,6 +131,9 @@ module _ (p : Settings) (env : Environment) (h : AllAreOfProfile p env) where
     form_gives s (nodes.analytic_of a spec) i =
         onward (node_value p env a) (λ points. analytic_of p spec (with_points (structure_of a) points) s) (node_gives a i.0)
         (λ points k. analytic_is_proper p spec (with_points (structure_of a) points) s i.1.analyzed k)
+    form_gives s (nodes.time a o) i =
+        onward (node_value p env a) (λ points. timed_of p o (with_points (structure_of a) points) s) (node_gives a i.0)
+        (λ points k. timed_profile p o (with_points (structure_of a) points) s i.1 k)
     form_gives s (nodes.join os spec) i = onward_all (operands_value p env os) (join_of spec.kind) (operands_give os i.0) (λ ds k. join_profile p spec.kind ds k)
     form_gives s (nodes.union ns) i = onward_all (nodes_value p env ns) (λ ds. union_of ds s) (nodes_give ns i.0) (λ ds k. union_profile p ds s k)
     form_gives s (nodes.intersect ns) i = onward_all (nodes_value p env ns) (λ ds. intersection_of ds s) (nodes_give ns i.0) (λ ds k. intersection_profile p ds s k)

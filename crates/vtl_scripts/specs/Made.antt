@@ -18,6 +18,7 @@ use Rattle.vtl_rulings.specs.HierarchyChecks.{ruled_by}
 use Rattle.vtl_rulings.specs.HierarchyShapes.{IsHierarchyChecked, IsHierarchyMade}
 use Rattle.vtl_rulings.specs.Ordered.{HasOrder}
 use Rattle.vtl_rulings.specs.Shaped.{IsChecked, IsPointChecked}
+use Rattle.vtl_timing.specs.Timed.{IsTimed}
 use Rattle.vtl_scripts.specs.Meaning.{Statement}
 
 -- ---- operands
@@ -62,6 +63,7 @@ abbrev mutual
   IsMadeForm p known s (nodes.exists_in a b r) = IsMade p known a × IsMade p known b × IsExistence (structure_of a) (structure_of b) s
   IsMadeForm p known s (nodes.aggregate a spec) = IsMade p known a × IsGrouped p spec (structure_of a) s
   IsMadeForm p known s (nodes.analytic_of a spec) = IsMade p known a × IsWindowed p spec (structure_of a) s × AreNear spec
+  IsMadeForm p known s (nodes.time a o) = IsMade p known a × IsTimed o (structure_of a) s
   IsMadeForm p known s (nodes.check a i spec) = IsMade p known a × IsMadeMaybe p known i × IsChecked p spec (maybe_structure i) (structure_of a) s
   IsMadeForm p known s (nodes.check_datapoint a rules out) = IsMade p known a × IsPointChecked p out rules.rules (structure_of a) s
   IsMadeForm p known s (nodes.check_hierarchy a rules m out) = IsMade p known a × IsHierarchyChecked out (ruled_by rules (structure_of a)) rules.rules (structure_of a) s

@@ -21,6 +21,7 @@ use Rattle.vtl_meaning.specs.Turned.{pivot_of, unpivot_of}
 use Rattle.vtl_rulings.specs.Hierarchies.{hierarchy_of}
 use Rattle.vtl_rulings.specs.HierarchyChecks.{check_hierarchy_of, ruled_by}
 use Rattle.vtl_rulings.specs.PointChecks.{check_of, datapoint_of}
+use Rattle.vtl_timing.specs.Timed.{timed_of}
 
 -- each data set of an environment is one
 abbrev pub AreDataSets : Environment → Type 0
@@ -62,6 +63,7 @@ abbrev mutual
   form_value p env s (nodes.exists_in a b r) = with_operand a (node_value p env a) (λ d. with_operand b (node_value p env b) (λ e. Ok (existence_of d e r)))
   form_value p env s (nodes.aggregate a spec) = with_operand a (node_value p env a) (λ d. aggregate_of p spec d s)
   form_value p env s (nodes.analytic_of a spec) = with_operand a (node_value p env a) (λ d. analytic_of p spec d s)
+  form_value p env s (nodes.time a o) = with_operand a (node_value p env a) (λ d. timed_of p o d s)
   form_value p env s (nodes.check a i spec) = with_operand a (node_value p env a) (λ d. after (maybe_value p env i) (λ e. Ok (check_of p spec d e)))
   form_value p env s (nodes.check_datapoint a rules out) = with_operand a (node_value p env a) (λ d. datapoint_of p out rules.rules d)
   form_value p env s (nodes.check_hierarchy a rules m out) = with_operand a (node_value p env a) (λ d. check_hierarchy_of p out (ruled_by rules (structure_of a)) m d rules.rules)

@@ -5,7 +5,7 @@ mod FitLemmas
 mod GroupLemmas
 mod ListLemmas
 pub mod NumberLemmas
-mod OrderLemmas
+pub mod OrderLemmas
 mod SeriesLemmas
 pub mod SpanLemmas
 mod WholeLemmas

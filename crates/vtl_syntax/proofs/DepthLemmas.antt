@@ -1,7 +1,7 @@
 -- Each expression has a depth.
 use Rattle.std.proofs.Common.{◌≤◌, ◌<◌, suc, arith}
 use Rattle.vtl_syntax.specs.Depth.{exp_depth, hier_rule_depth}
-use Rattle.vtl_syntax.specs.Trees.{Exp, if_then, binary, in_set, unary, with_clause, member, component, constant, brackets, function, aggregate, aggregate_over, value_window, shift, rank, set_op, difference, exists_in, check, check_datapoint, check_hierarchy, hierarchy, join}
+use Rattle.vtl_syntax.specs.Trees.{Exp, if_then, binary, in_set, unary, with_clause, member, component, constant, brackets, function, aggregate, aggregate_over, value_window, shift, rank, set_op, difference, exists_in, time, check, check_datapoint, check_hierarchy, hierarchy, join}
 use Rattle.vtl_syntax.specs.declared.statements.HierRule.{HierRule}
 
 pub some_depth : (e : Exp) → 1 ≤ exp_depth e
@@ -23,6 +23,7 @@ some_depth (rank o) = omega arith
 some_depth (set_op f es) = omega arith
 some_depth (difference f a b) = omega arith
 some_depth (exists_in a b r) = omega arith
+some_depth (time e call) = omega arith
 some_depth (check e err i o) = omega arith
 some_depth (check_datapoint e n o) = omega arith
 some_depth (check_hierarchy e n r m d o) = omega arith

@@ -1,6 +1,6 @@
 -- How deep trees are. A leaf has depth 1, and each operator, call, clause, join, member, choice and pair of brackets one more than its deepest part.
 use Rattle.std.specs.Prelude.{ℕ, suc, ◌+◌, max, List, [], ◌∷◌, length, Option, None, Some}
-use Rattle.vtl_syntax.specs.Trees.{Exp, if_then, binary, in_set, unary, with_clause, member, component, constant, brackets, function, aggregate, aggregate_over, value_window, shift, rank, set_op, difference, exists_in, check, check_datapoint, check_hierarchy, hierarchy, join, Exps, no_exps, exp, MaybeExp, no_exp, some_exp, ClauseTree, filter, targets, keeping, rename, sub, pivot, unpivot, TargetsTree, calc, aggr, MaybeTargets, no_targets, some_targets, Calcs, no_calcs, calc_part, Parts, no_parts, join_part, PointRuleTree, point_rule, StatementTree, assignment, datapoint, hierarchical}
+use Rattle.vtl_syntax.specs.Trees.{Exp, if_then, binary, in_set, unary, with_clause, member, component, constant, brackets, function, aggregate, aggregate_over, value_window, shift, rank, set_op, difference, exists_in, time, check, check_datapoint, check_hierarchy, hierarchy, join, Exps, no_exps, exp, MaybeExp, no_exp, some_exp, ClauseTree, filter, targets, keeping, rename, sub, pivot, unpivot, TargetsTree, calc, aggr, MaybeTargets, no_targets, some_targets, Calcs, no_calcs, calc_part, Parts, no_parts, join_part, PointRuleTree, point_rule, StatementTree, assignment, datapoint, hierarchical}
 use Rattle.vtl_syntax.specs.declared.parts.GroupPart.{GroupPart}
 use Rattle.vtl_syntax.specs.declared.parts.OverPart.{OverPart}
 use Rattle.vtl_syntax.specs.declared.statements.HierRule.{HierRule}
@@ -40,6 +40,7 @@ abbrev mutual
   exp_depth (set_op f es) = suc (exps_depth es)
   exp_depth (difference f a b) = suc (max (exp_depth a) (exp_depth b))
   exp_depth (exists_in a b r) = suc (max (exp_depth a) (exp_depth b))
+  exp_depth (time e call) = suc (exp_depth e)
   exp_depth (check e err i o) = suc (max (exp_depth e) (maybe_depth i))
   exp_depth (check_datapoint e n o) = suc (exp_depth e)
   exp_depth (check_hierarchy e n r m d o) = suc (exp_depth e)

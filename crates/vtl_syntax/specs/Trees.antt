@@ -9,6 +9,7 @@ use Rattle.vtl_syntax.specs.declared.parts.Literal.{Literal}
 use Rattle.vtl_syntax.specs.declared.parts.OverPart.{OverPart}
 use Rattle.vtl_syntax.specs.declared.parts.RenamePart.{RenamePart}
 use Rattle.vtl_syntax.specs.declared.parts.SubPart.{SubPart}
+use Rattle.vtl_syntax.specs.declared.parts.TimeCall.{TimeCall}
 use Rattle.vtl_syntax.specs.declared.statements.HierRule.{HierRule}
 use Rattle.vtl_syntax.specs.declared.word_groups.AggregateName.{AggregateName}
 use Rattle.vtl_syntax.specs.declared.word_groups.AssignKind.{AssignKind}
@@ -48,6 +49,7 @@ mutual
     set_op : SetOpName → Exps → Exp
     difference : DifferenceName → Exp → Exp → Exp
     exists_in : Exp → Exp → Option Retain → Exp
+    time : Exp → TimeCall → Exp
     check : Exp → ErrorPart → MaybeExp → Option BasicOut → Exp
     check_datapoint : Exp → List ℕ → Option CheckOut → Exp
     check_hierarchy : Exp → List ℕ → Option Comp → Option Mode → Bool → Option CheckOut → Exp

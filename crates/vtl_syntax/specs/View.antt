@@ -48,6 +48,7 @@ expr_step (Expr-F.Rank o) = tree.rank o
 expr_step (Expr-F.SetOp f es) = tree.set_op f (exps_of es.items)
 expr_step (Expr-F.Difference f a b) = tree.difference f a.value b.value
 expr_step (Expr-F.ExistsIn a b r) = tree.exists_in a.value b.value r
+expr_step (Expr-F.Time e call) = tree.time e.value call
 expr_step (Expr-F.Check e err i o) = tree.check e.value err (boxed i) o
 expr_step (Expr-F.CheckDatapoint e n o) = tree.check_datapoint e.value n o
 expr_step (Expr-F.CheckHierarchy e n r m d o) = tree.check_hierarchy e.value n r m d o

@@ -4,7 +4,7 @@ use Rattle.std.specs.Prelude.{◌≡◌, ℕ, suc, ◌≤◌, true, List, length
 use Rattle.std.specs.List.{AllByRecursion}
 use Rattle.vtl_text.specs.Words.{is_component_name, is_name}
 use Rattle.vtl_syntax.specs.Depth.{depth_limit, statement_depth}
-use Rattle.vtl_syntax.specs.Trees.{Exp, if_then, binary, in_set, unary, with_clause, member, component, constant, brackets, function, aggregate, aggregate_over, value_window, shift, rank, set_op, difference, exists_in, check, check_datapoint, check_hierarchy, hierarchy, join, Exps, no_exps, exp, MaybeExp, no_exp, some_exp, ClauseTree, filter, targets, keeping, rename, sub, pivot, unpivot, TargetsTree, calc, aggr, MaybeTargets, no_targets, some_targets, Calcs, no_calcs, calc_part, Parts, no_parts, join_part, PointRuleTree, point_rule, StatementTree, assignment, datapoint, hierarchical, ScriptTree}
+use Rattle.vtl_syntax.specs.Trees.{Exp, if_then, binary, in_set, unary, with_clause, member, component, constant, brackets, function, aggregate, aggregate_over, value_window, shift, rank, set_op, difference, exists_in, time, check, check_datapoint, check_hierarchy, hierarchy, join, Exps, no_exps, exp, MaybeExp, no_exp, some_exp, ClauseTree, filter, targets, keeping, rename, sub, pivot, unpivot, TargetsTree, calc, aggr, MaybeTargets, no_targets, some_targets, Calcs, no_calcs, calc_part, Parts, no_parts, join_part, PointRuleTree, point_rule, StatementTree, assignment, datapoint, hierarchical, ScriptTree}
 use Rattle.vtl_syntax.specs.declared.parts.Comp.{Comp}
 use Rattle.vtl_syntax.specs.declared.parts.Comp.TheVariants as comp
 use Rattle.vtl_syntax.specs.declared.parts.GroupPart.{GroupPart}
@@ -70,6 +70,7 @@ abbrev mutual
   IsWrittenExp (set_op f es) = AreWrittenExps es
   IsWrittenExp (difference f a b) = IsWrittenExp a × IsWrittenExp b
   IsWrittenExp (exists_in a b r) = IsWrittenExp a × IsWrittenExp b
+  IsWrittenExp (time e call) = IsWrittenExp e
   IsWrittenExp (check e err i o) = IsWrittenExp e × IsWrittenMaybe i
   IsWrittenExp (check_datapoint e n o) = IsWrittenExp e × IsName n
   IsWrittenExp (check_hierarchy e n r m d o) = IsWrittenExp e × IsName n × IfSome r IsComponent

@@ -5,7 +5,8 @@
 use crate::{
     AggregateName, BasicOut, BinaryOp, CheckOut, Comp, Constant, DifferenceName, ErrorPart,
     FunctionName, GroupPart, HierInput, HierOut, JoinKind, Keeping, Literal, Mode, OverPart,
-    RenamePart, Retain, SetOpName, ShiftName, SubPart, UnaryOp, ValueWindowName, WrittenRole,
+    RenamePart, Retain, SetOpName, ShiftName, SubPart, TimeCall, UnaryOp, ValueWindowName,
+    WrittenRole,
 };
 use vtl_text::{List, Txt};
 
@@ -101,6 +102,11 @@ pub enum Expr {
         left: Box<Expr>,
         right: Box<Expr>,
         retain: Option<Retain>,
+    },
+    /// `operator(operand ..)`, with a time operator
+    Time {
+        operand: Box<Expr>,
+        call: TimeCall,
     },
     /// `check(operand error imbalance expression output)`
     Check {
@@ -221,6 +227,10 @@ impl Drop for Expr {
                 left: _left,
                 right: _right,
                 retain: _retain,
+            } => {}
+            Expr::Time {
+                operand: _operand,
+                call: _call,
             } => {}
             Expr::Check {
                 operand: _operand,

@@ -18,11 +18,11 @@ pub use expressions::{CalcPart, Clause, Expr, JoinPart, Targets};
 pub use laws::trees_have_a_depth;
 pub use parts::{
     Comp, Constant, DataPoints, ErrorPart, GroupPart, Keeping, Limit, Literal, Numeral, OrderPart,
-    OverPart, Reference, RenamePart, SignedComp, SubPart,
+    OverPart, Reference, RenamePart, SignedComp, SubPart, TimeCall,
 };
 pub use statements::{HierRule, PointRule, Script, Statement};
 pub use word_groups::{
     Addition, AggregateName, AssignKind, BasicOut, BinaryOp, CastKind, CheckOut, Comparison,
-    DifferenceName, Direction, FunctionName, GroupKind, HierInput, HierOut, JoinKind, Mode, Retain,
-    SetOpName, ShiftName, Side, UnaryOp, ValueWindowName, WrittenRole,
+    DifferenceName, Direction, Filling, FunctionName, GroupKind, HierInput, HierOut, JoinKind,
+    Mode, Retain, SetOpName, ShiftName, Side, TimeName, UnaryOp, ValueWindowName, WrittenRole,
 };

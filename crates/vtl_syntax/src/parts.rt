@@ -1,6 +1,6 @@
 // Parts of expressions and rules that hold no expression.
 
-use crate::{Addition, CastKind, Direction, GroupKind, Side};
+use crate::{Addition, CastKind, Direction, Filling, GroupKind, Side};
 use vtl_text::{List, Txt};
 
 /// The name of a component.
@@ -132,6 +132,19 @@ pub struct OverPart {
     pub order: Option<List<OrderPart>>,
     /// The frame.
     pub points: Option<DataPoints>,
+}
+
+/// A time operator with what it is given behind its operand.
+#[derive(Debug, Drop)]
+pub enum TimeCall {
+    /// `timeshift`, with the digits of a number of periods, after a `-` where it is negative
+    Timeshift { negative: bool, periods: Txt },
+    /// `fill_time_series`, with how far it fills where that is written
+    FillTimeSeries(Option<Filling>),
+    /// `flow_to_stock`
+    FlowToStock,
+    /// `stock_to_flow`
+    StockToFlow,
 }
 
 /// `errorcode code errorlevel level`

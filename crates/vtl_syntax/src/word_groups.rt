@@ -217,6 +217,28 @@ pub enum Retain {
     False,
 }
 
+/// A time operator.
+#[derive(Clone, Copy, Debug, PartialEq, Eq)]
+pub enum TimeName {
+    /// `timeshift`
+    Timeshift,
+    /// `fill_time_series`
+    FillTimeSeries,
+    /// `flow_to_stock`
+    FlowToStock,
+    /// `stock_to_flow`
+    StockToFlow,
+}
+
+/// From where to where `fill_time_series` fills a series.
+#[derive(Clone, Copy, Debug, PartialEq, Eq)]
+pub enum Filling {
+    /// `single`: from its own first period to its own last
+    Single,
+    /// `all`: from the first to the last period of its frequency that any series has
+    All,
+}
+
 /// A role that a calculated component may be given.
 #[derive(Clone, Copy, Debug, PartialEq, Eq)]
 pub enum WrittenRole {

@@ -41,7 +41,7 @@ reserved_words =
     codes "partial_null" ∷ codes "partial_zero" ∷ codes "partition" ∷ codes "pivot" ∷ codes "point" ∷
     codes "points" ∷ codes "preceding" ∷ codes "rank" ∷ codes "ratio_to_report" ∷ codes "rename" ∷
     codes "replace" ∷ codes "round" ∷ codes "rtrim" ∷ codes "rule" ∷ codes "rule_priority" ∷
-    codes "ruleset" ∷ codes "setdiff" ∷ codes "stock_to_flow" ∷ codes "sub" ∷ codes "substr" ∷ codes "sum" ∷
+    codes "ruleset" ∷ codes "setdiff" ∷ codes "single" ∷ codes "stock_to_flow" ∷ codes "sub" ∷ codes "substr" ∷ codes "sum" ∷
     codes "symdiff" ∷ codes "then" ∷ codes "time_period" ∷ codes "timeshift" ∷ codes "to" ∷ codes "trim" ∷
     codes "true" ∷ codes "trunc" ∷ codes "unbounded" ∷ codes "union" ∷ codes "unpivot" ∷ codes "using" ∷
     codes "variable" ∷ codes "when" ∷ codes "xor" ∷ []

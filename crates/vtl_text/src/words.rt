@@ -6,7 +6,7 @@ ghost use Rattle.vtl_text.specs.Words.{fits_name, starts_with_letter, is_word_ch
 const MAX_NAME_BYTES: usize = 64;
 
 // The words that the grammar gives a meaning.
-const RESERVED_WORDS: [&str; 114] = [
+const RESERVED_WORDS: [&str; 115] = [
     "abs",
     "aggr",
     "all",
@@ -102,6 +102,7 @@ const RESERVED_WORDS: [&str; 114] = [
     "rule_priority",
     "ruleset",
     "setdiff",
+    "single",
     "stock_to_flow",
     "sub",
     "substr",

@@ -134,17 +134,22 @@ pub record IsShifted (p q : YearPart) (n : ℤ) (i : ℕ) : Type 0 where
   pub below : i < 10000 * parts_in_year p.frequency
   pub period : q ≡ period_at p.frequency i
 
-back_to : (p : YearPart) (n : ℤ) (i : ℕ) → IsPart p → pos (index_of p) +ℤ n ≡ pos i → shift_of (period_at p.frequency i) (neg_ℤ n) ≡ Some p
+-- a part of a year is shifted by its index
+pub shift_is : (p : YearPart) (n : ℤ) → IsPart p → shift_of p n ≡ period_within p.frequency (pos (index_of p) +ℤ n)
 unfolding shift_of
-back_to p n i h sum =
+shift_is p n h = ap (λ b. cond b (period_within p.frequency (pos (index_of p) +ℤ n)) None) h
+
+back_to : (p : YearPart) (n : ℤ) (i : ℕ) → IsPart p → i < 10000 * parts_in_year p.frequency → pos (index_of p) +ℤ n ≡ pos i → shift_of (period_at p.frequency i) (neg_ℤ n) ≡ Some p
+back_to p n i h below sum =
     let index = index-period_at p.frequency i in
     let back : pos (index_of (period_at p.frequency i)) +ℤ neg_ℤ n ≡ pos (index_of p) = ap (λ k. pos k +ℤ neg_ℤ n) index ∙ omega (arith, ints, sum) in
-    ap (period_within p.frequency) back
+    shift_is (period_at p.frequency i) (neg_ℤ n) (period_at_is p.frequency i below)
+    ∙ ap (period_within p.frequency) back
     ∙ ap (λ b. cond b (Some (period_at p.frequency (index_of p))) None) (below_true (index_of p) (10000 * parts_in_year p.frequency) (index_below p h))
     ∙ ap Some (period_at-index p h)
 
 pub shift_back : (p q : YearPart) (n : ℤ) (i : ℕ) → IsPart p → IsShifted p q n i → shift_of q (neg_ℤ n) ≡ Some p
-shift_back p q n i h s = ap (λ k. shift_of k (neg_ℤ n)) s.period ∙ back_to p n i h s.sum
+shift_back p q n i h s = ap (λ k. shift_of k (neg_ℤ n)) s.period ∙ back_to p n i h s.below s.sum
 
 step_order : (i j : ℕ) (n : ℤ) → pos i +ℤ n ≡ pos j → nat_cmp i j ≡ int_cmp (pos 0) n
 step_order i j (pos k) sum = let e : i + k ≡ j = omega (arith, ints, sum) in grind (arith, nat_tests)
@@ -158,22 +163,21 @@ shift_order p q n i h s =
     ∙ ap (nat_cmp (index_of p)) (index-period_at f i)
     ∙ step_order (index_of p) i n s.sum
 
-pub shift_of-some : (p : YearPart) (n : ℤ) (i : ℕ) → pos (index_of p) +ℤ n ≡ pos i → i < 10000 * parts_in_year p.frequency → shift_of p n ≡ Some (period_at p.frequency i)
-unfolding shift_of
-shift_of-some p n i sum below =
-    ap (period_within p.frequency) sum
+pub shift_of-some : (p : YearPart) (n : ℤ) (i : ℕ) → IsPart p → pos (index_of p) +ℤ n ≡ pos i → i < 10000 * parts_in_year p.frequency → shift_of p n ≡ Some (period_at p.frequency i)
+shift_of-some p n i h sum below =
+    shift_is p n h
+    ∙ ap (period_within p.frequency) sum
     ∙ ap (λ b. cond b (Some (period_at p.frequency i)) None) (below_true i (10000 * parts_in_year p.frequency) below)
 
-pub shift_of-past : (p : YearPart) (n : ℤ) (i : ℕ) → pos (index_of p) +ℤ n ≡ pos i → 10000 * parts_in_year p.frequency ≤ i → shift_of p n ≡ None
-unfolding shift_of
-shift_of-past p n i sum past =
-    ap (period_within p.frequency) sum
+pub shift_of-past : (p : YearPart) (n : ℤ) (i : ℕ) → IsPart p → pos (index_of p) +ℤ n ≡ pos i → 10000 * parts_in_year p.frequency ≤ i → shift_of p n ≡ None
+shift_of-past p n i h sum past =
+    shift_is p n h
+    ∙ ap (period_within p.frequency) sum
     ∙ ap (λ b. cond b (Some (period_at p.frequency i)) None) (below_false i (10000 * parts_in_year p.frequency) past)
 
 -- no machine word holds the index of a period before the year 0
-pub shift_of-none : (p : YearPart) (n : ℤ) → ¬ FitsUnsigned w64 (pos (index_of p) +ℤ n) → shift_of p n ≡ None
-unfolding shift_of
-shift_of-none p n out = none_within p.frequency (pos (index_of p) +ℤ n) out
+pub shift_of-none : (p : YearPart) (n : ℤ) → IsPart p → ¬ FitsUnsigned w64 (pos (index_of p) +ℤ n) → shift_of p n ≡ None
+shift_of-none p n h out = shift_is p n h ∙ none_within p.frequency (pos (index_of p) +ℤ n) out
 
 -- the period with these numbers, and no period
 pub period_of-some : (f : Frequency) (y n : ℕ) → is_year_part f y n ≡ true → period_of f y n ≡ Some (record { frequency = f; year = y; part = n })
@@ -214,7 +218,7 @@ some_of : {X : Type 0} (r : Option ℕ) (f : ℕ → Option X) (x : X) → optio
 some_of None f x h = cc
 some_of (Some n) f x h = (n, refl, h)
 
-if_some : {X : Type 0} (b : Bool) (r : Option X) (x : X) → cond b r None ≡ Some x → (b ≡ true) × (r ≡ Some x)
+pub if_some : {X : Type 0} (b : Bool) (r : Option X) (x : X) → cond b r None ≡ Some x → (b ≡ true) × (r ≡ Some x)
 if_some true r x h = (refl, h)
 if_some false r x h = cc
 
@@ -267,8 +271,8 @@ module _ (p : YearPart) (n : ℤ) (i : ℕ) (fits : FitsSigned w64 n) (i_is : i 
   pub sum_is : (j : ℕ) → FitsUnsigned w64 (pos i +ℤ to_z w64 (of_z w64 n)) → j ≡ unsigned_abs (pos i +ℤ to_z w64 (of_z w64 n)) → pos (index_of p) +ℤ n ≡ pos j
   sum_is j within is = sym same_sum ∙ from_abs _ j within.0 is
 
-  pub no_sum : ¬ FitsUnsigned w64 (pos i +ℤ to_z w64 (of_z w64 n)) → shift_of p n ≡ None
-  no_sum out = shift_of-none p n (subst (λ z. ¬ FitsUnsigned w64 z) same_sum out)
+  pub no_sum : IsPart p → ¬ FitsUnsigned w64 (pos i +ℤ to_z w64 (of_z w64 n)) → shift_of p n ≡ None
+  no_sum h out = shift_of-none p n h (subst (λ z. ¬ FitsUnsigned w64 z) same_sum out)
 
 -- no part of a year but a month has two digits
 pub short_part : (f : Frequency) (y n : ℕ) → parts_in_year f ≤ 9 → is_year_part f y n ≡ true → n ≤ 9

@@ -50,9 +50,9 @@ abbrev pub period_within : Frequency → ℤ → Option YearPart
 period_within f (pos i) = if nat_lt i (10000 * parts_in_year f) then Some (period_at f i) else None
 period_within f (negsuc i) = None
 
--- the n-th period of its frequency after it, or before it for a negative n
+-- the n-th period of its frequency after it, or before it for a negative n; both are parts of the years 0 to 9999
 unfoldable pub shift_of : YearPart → ℤ → Option YearPart
-shift_of p n = period_within p.frequency (pos (index_of p) +ℤ n)
+shift_of p n = if is_year_part p.frequency p.year p.part then period_within p.frequency (pos (index_of p) +ℤ n) else None
 
 -- the letter of a frequency, and how many digits its parts are written with
 abbrev pub letter_of : Frequency → ℕ

@@ -18,8 +18,10 @@ pub fn periods_are_ordered_by_index()
     ensures { (p q : YearPart) → IsTrue (is_year_part p.frequency p.year p.part) → IsTrue (is_year_part q.frequency q.year q.part) → p.frequency ≡ q.frequency → period_cmp p q ≡ nat_cmp (index_of p) (index_of q) }
 {}
 
-/// A shift stays within its frequency, and a shift of a shift is one shift by the sum of both.
+/// What is shifted is a period of the years 0 to 9999. A shift stays within its frequency, and a shift of a shift is one
+/// shift by the sum of both.
 pub fn shifts_add_up()
+    ensures whole { (p q : YearPart) (n : ℤ) → shift_of p n ≡ Some q → IsTrue (is_year_part p.frequency p.year p.part) }
     ensures frequency { (p : YearPart) (n : ℤ) → IfSome (shift_of p n) (λ q. q.frequency ≡ p.frequency) }
     ensures sum { (p q : YearPart) (n m : ℤ) → shift_of p n ≡ Some q → shift_of q m ≡ shift_of p (n +ℤ m) }
 {}

@@ -22,6 +22,7 @@ pub mod RuleItems
 pub mod Shown
 pub mod Structure
 pub mod Structures
+pub mod Times
 pub mod Trees
 pub mod Value
 pub mod View

@@ -69,6 +69,7 @@ form_step (NodeForm-F.SymDiff a b) = tree.sym_diff a.value b.value
 form_step (NodeForm-F.ExistsIn a b retain) = tree.exists_in a.value b.value retain
 form_step (NodeForm-F.Aggregate a spec) = tree.aggregate a.value (agg_tree spec)
 form_step (NodeForm-F.Analytic a spec) = tree.analytic_of a.value (analytic_tree spec)
+form_step (NodeForm-F.Time a op) = tree.time a.value op
 form_step (NodeForm-F.Check a imbalance spec) = tree.check a.value (boxed imbalance) spec
 form_step (NodeForm-F.CheckDatapoint a rules out) = tree.check_datapoint a.value (point_rules_tree rules) out
 form_step (NodeForm-F.CheckHierarchy a rules mode out) = tree.check_hierarchy a.value rules mode out

@@ -30,6 +30,7 @@ abbrev mutual
   form_nodes (nodes.exists_in a b r) = nodes_in a ++ nodes_in b
   form_nodes (nodes.aggregate a spec) = nodes_in a
   form_nodes (nodes.analytic_of a spec) = nodes_in a
+  form_nodes (nodes.time a op) = nodes_in a
   form_nodes (nodes.check a i spec) = nodes_in a ++ maybe_nodes i
   form_nodes (nodes.check_datapoint a rules out) = nodes_in a
   form_nodes (nodes.check_hierarchy a rules m out) = nodes_in a

@@ -11,6 +11,7 @@ use Rattle.vtl_tree.specs.declared.structure.Role.{Role}
 use Rattle.vtl_tree.specs.declared.structure.Structure.{Structure}
 use Rattle.vtl_tree.specs.declared.calls.AnalyticCall.{AnalyticCall}
 use Rattle.vtl_tree.specs.declared.calls.AnalyticOp.{AnalyticOp}
+use Rattle.vtl_tree.specs.declared.calls.TimeOp.{TimeOp}
 use Rattle.vtl_tree.specs.declared.calls.Window.{Window}
 use Rattle.vtl_tree.specs.declared.renaming.Renaming.{Renaming}
 use Rattle.vtl_tree.specs.declared.clauses.SubItem.{SubItem}
@@ -87,6 +88,7 @@ mutual
     exists_in : NodeTree → NodeTree → Retain → FormTree
     aggregate : NodeTree → AggTree → FormTree
     analytic_of : NodeTree → AnalyticTree → FormTree
+    time : NodeTree → TimeOp → FormTree
     check : NodeTree → MaybeNode → CheckSpec → FormTree
     check_datapoint : NodeTree → PointRulesTree → CheckOut → FormTree
     check_hierarchy : NodeTree → HierRules → Mode → CheckOut → FormTree

@@ -1,6 +1,7 @@
-// Calls over groups and over windows.
+// Calls over groups, over windows and over series.
 
 use vtl_cell::Cell;
+use vtl_syntax::Filling;
 use vtl_text::{List, Txt};
 
 /// An analytic call: a value of each point from the points of its window.
@@ -83,4 +84,17 @@ pub enum Bound {
     Following(u32),
     /// The place of the last point.
     UnboundedFollowing,
+}
+
+/// A time operator with what it is given besides its operand.
+#[derive(Clone, Copy, Debug, PartialEq, Eq)]
+pub enum TimeOp {
+    /// `timeshift`: so many periods later, or earlier where the number is negative
+    Shift(i64),
+    /// `fill_time_series`
+    Fill(Filling),
+    /// `flow_to_stock`
+    FlowToStock,
+    /// `stock_to_flow`
+    StockToFlow,
 }

@@ -5,7 +5,7 @@ ghost use Rattle.vtl_tree.specs.Structure.{same_role};
 
 use crate::{Component, Role, is_same_role};
 
-fn one_if(counted: bool) -> usize
+pub(crate) fn one_if(counted: bool) -> usize
     ensures { result ≡ cond counted 1 0 }
 {
     if counted { 1 } else { 0 }

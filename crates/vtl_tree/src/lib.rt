@@ -34,8 +34,9 @@ mod specifications;
 mod structure;
 mod structures;
 mod targets;
+mod times;
 
-pub use calls::{AnalyticCall, AnalyticOp, Bound, Frame, OrderKey, Window};
+pub use calls::{AnalyticCall, AnalyticOp, Bound, Frame, OrderKey, TimeOp, Window};
 pub use choices::{Choice, is_chosen, is_identifier, is_identifier_name, push_chosen};
 pub use clauses::{CalcItem, CalcValue, SubItem};
 pub use columns::{common_identifiers, kind_named, place_of, places_in};
@@ -61,3 +62,4 @@ pub use specifications::{AggItems, AggSpec, AggTarget, AnalyticSpec, CheckSpec, 
 pub use structure::{Component, Role, Structure, is_same_role};
 pub use structures::Structures;
 pub use targets::Target;
+pub use times::{has_time, is_time};

@@ -2,7 +2,7 @@
 
 use crate::{
     AggSpec, AnalyticSpec, CalcItem, CheckSpec, CompExpr, DatapointRules, HierRules, JoinSpec,
-    Renaming, Structure, SubItem,
+    Renaming, Structure, SubItem, TimeOp,
 };
 use vtl_cell::ScalarOp;
 use vtl_syntax::{CheckOut, HierInput, HierOut, Mode, Retain};
@@ -132,6 +132,11 @@ pub enum NodeForm {
     Analytic {
         a: Box<Node>,
         spec: AnalyticSpec,
+    },
+    /// A time operator.
+    Time {
+        a: Box<Node>,
+        op: TimeOp,
     },
     /// `check(a ..)`
     Check {

@@ -74,6 +74,7 @@ form_nodes_by (nodes.sym_diff a b) = two a b
 form_nodes_by (nodes.exists_in a b r) = two a b
 form_nodes_by (nodes.aggregate a spec) = one a
 form_nodes_by (nodes.analytic_of a spec) = one a
+form_nodes_by (nodes.time a op) = one a
 form_nodes_by (nodes.check a i spec) = checked a i
 form_nodes_by (nodes.check_datapoint a rules out) = one a
 form_nodes_by (nodes.check_hierarchy a rules m out) = one a

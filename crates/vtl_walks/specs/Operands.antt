@@ -39,6 +39,7 @@ form_operands (nodes.sym_diff a b) = a ∷ b ∷ []
 form_operands (nodes.exists_in a b r) = a ∷ b ∷ []
 form_operands (nodes.aggregate a spec) = a ∷ []
 form_operands (nodes.analytic_of a spec) = a ∷ []
+form_operands (nodes.time a op) = a ∷ []
 form_operands (nodes.check a i spec) = a ∷ in_option i
 form_operands (nodes.check_datapoint a rules out) = a ∷ []
 form_operands (nodes.check_hierarchy a rules m out) = a ∷ []

@@ -132,6 +132,7 @@ fn form_operands(node: &Node) -> NodeOperands<'_>
         | NodeForm::Unpivot { a, .. }
         | NodeForm::Aggregate { a, .. }
         | NodeForm::Analytic { a, .. }
+        | NodeForm::Time { a, .. }
         | NodeForm::CheckDatapoint { a, .. }
         | NodeForm::CheckHierarchy { a, .. }
         | NodeForm::Hierarchy { a, .. } => NodeOperands::One(a),

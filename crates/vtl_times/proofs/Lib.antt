@@ -1,0 +1,5 @@
+mod FillLemmas
+mod FilledRows
+mod OrderLemmas
+mod PutLemmas
+mod RowLemmas

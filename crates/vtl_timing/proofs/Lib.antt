@@ -1,0 +1,12 @@
+pub mod FillOrders
+pub mod FillProfiles
+pub mod FilledPoints
+pub mod FlowOrders
+pub mod FlowsKept
+pub mod SeriesColumns
+pub mod ShiftKept
+pub mod SpanSeries
+pub mod TimeExamples
+pub mod TimeOrders
+pub mod TimeProfiles
+pub mod Timed
