@@ -1,3 +1,4 @@
+mod AlongLemmas
 mod FillLemmas
 mod FilledRows
 mod OrderLemmas
