@@ -52,7 +52,7 @@ columns_are a well h =
     let within : tp < length xs = omega (arith, wide, many, one.within) in
     let none : Column = record { name = []; kind = k.Null } in
     let here : column_at (table_columns a) tp ≡ column_for one.item
-            = get_or-map column_for xs tp one.item none within ∙ ap (λ (l : List Component). column_for (get_or l tp one.item)) (columns_split a) ∙ ap column_for (get_or_append_left ids (others_of a) one.item tp one.within ∙ one.at) in
+    = get_or-map column_for xs tp one.item none within ∙ ap (λ (l : List Component). column_for (get_or l tp one.item)) (columns_split a) ∙ ap column_for (get_or_append_left ids (others_of a) one.item tp one.within ∙ one.at) in
     let last : column_at (table_columns a) tp ∷ [] ≡ map column_for (filter is_time ids) = ap (λ c. c ∷ []) here ∙ ap (map column_for) (sym one.only) in
     map-append (column_at (table_columns a)) (places_in xs (other_identifiers a)) (tp ∷ [])
     ∙ (λ i. chosen_columns xs (other_identifiers a) (others_among a well) i ++ last i)

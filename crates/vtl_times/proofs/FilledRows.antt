@@ -130,7 +130,7 @@ tuple_is d r =
     let place = first_meant (sought_in d) r in
     let key_is : cells_at (places_in (series_columns a) ids) r ≡ key = named_cells (series_columns a) ids r in
     let found : slice_get d.points place ≡ o
-            = (λ j. slice_get d.points (position_or_len (λ q. same_row (named_cells (columns_of a) ids q j) (key_is j)) d.points)) ∙ sym (find_at (λ q. same_row (values_in a ids q) key) d.points) in
+    = (λ j. slice_get d.points (position_or_len (λ q. same_row (named_cells (columns_of a) ids q j) (key_is j)) d.points)) ∙ sym (find_at (λ q. same_row (values_in a ids q) key) d.points) in
     let row : row_at d.points place ≡ unwrap_or o [] = sym (unwrap_or-slice_get d.points place []) ∙ ap (λ x. unwrap_or x []) found in
     let ms = values_or_nulls a (measures_of a) o in
     let ts = values_or_nulls a (of_role role.Attribute a) o in

@@ -78,13 +78,7 @@ fn outcome_at(values: &[Result<Cell, Fault>], place: usize) -> Result<Cell, Scal
 }
 
 // The difference of two cells, as one of the kind.
-fn difference(
-    alloc: Global,
-    kind: Kind,
-    a: &Cell,
-    b: &Cell,
-    p: &Profile,
-) -> Result<Cell, ScalarErr>
+fn difference(alloc: Global, kind: Kind, a: &Cell, b: &Cell, p: &Profile) -> Result<Cell, ScalarErr>
     ensures { Answers result (called p.now kind (Ok a.now ∷ Ok b.now ∷ []) op.Subtract) }
 {
     Ok(to_kind(kind, apply_two(alloc, ScalarOp::Subtract, a, b, p)?, p)?)

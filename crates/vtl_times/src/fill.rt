@@ -141,11 +141,7 @@ fn filled_table(alloc: Global, a: &DataSet, extent: Extent) -> Result<Table, All
 /// frequency, that has none: null in all that is no identifier; as a data set of the operand's structure. It takes time
 /// that is linear in the points and those that it gives, and asks for room for all series at once. It fails only if
 /// memory runs out.
-pub fn fill_time_series(
-    alloc: Global,
-    a: &DataSet,
-    extent: Extent,
-) -> Result<DataSet, AllocError>
+pub fn fill_time_series(alloc: Global, a: &DataSet, extent: Extent) -> Result<DataSet, AllocError>
     requires { HasTime a.now.structure }
     ensures { IfOk result (λ d. d ≡ data_set a.now.structure (fill_of extent a.now)) }
 {

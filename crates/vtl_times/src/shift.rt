@@ -67,12 +67,7 @@ fn are_dated(table: &Table)
     }
 }
 
-fn shifted_table(
-    alloc: Global,
-    a: &DataSet,
-    n: i64,
-    p: &Profile,
-) -> Result<Table, ScalarErr>
+fn shifted_table(alloc: Global, a: &DataSet, n: i64, p: &Profile) -> Result<Table, ScalarErr>
     requires { HasTime a.now.structure }
     ensures table { IfOk result (λ t. IsTableOf a.now.structure (listed t)) }
     ensures rows { AnswersBy (λ t. t.rows) result (timeshift_of n a.now) }
@@ -85,12 +80,7 @@ fn shifted_table(
 
 /// Each point with its time so many periods later, or earlier for a negative number, as a data set of the operand's
 /// structure. The answer is Range where a year would lie outside 0 to 9999; otherwise it fails only if memory runs out.
-pub fn timeshift(
-    alloc: Global,
-    a: &DataSet,
-    n: i64,
-    p: &Profile,
-) -> Result<DataSet, ScalarErr>
+pub fn timeshift(alloc: Global, a: &DataSet, n: i64, p: &Profile) -> Result<DataSet, ScalarErr>
     requires { HasTime a.now.structure }
     ensures { Answers result (with_structure a.now.structure (timeshift_of n a.now)) }
 {

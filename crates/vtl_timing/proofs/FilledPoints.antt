@@ -105,8 +105,8 @@ series_each e on by G P h rows all =
     let K : Row → Type 0 = λ key. (f : Frequency) (i : ℕ) → P (dated f key i) in
     all_flat K P (tuple_rows e on by rows)
     (λ key d. all_flat (λ f. Unit {0}) P (series_at e on rows (rows_by by rows key) key)
-      (λ f u. all_mapped (λ i. Unit {0}) P (dated f key) (λ i v. d f i) (numbers_of f on (rows_by by rows key) (seen_by e rows (rows_by by rows key))) (all_any (λ i. Unit {0}) (λ i. tt) (numbers_of f on (rows_by by rows key) (seen_by e rows (rows_by by rows key)))))
-      frequencies (all_any (λ f. Unit {0}) (λ f. tt) frequencies))
+    (λ f u. all_mapped (λ i. Unit {0}) P (dated f key) (λ i v. d f i) (numbers_of f on (rows_by by rows key) (seen_by e rows (rows_by by rows key))) (all_any (λ i. Unit {0}) (λ i. tt) (numbers_of f on (rows_by by rows key) (seen_by e rows (rows_by by rows key)))))
+    frequencies (all_any (λ f. Unit {0}) (λ f. tt) frequencies))
     (keys_by by rows) (all_once K (map (cells_at by) rows) (all_mapped G K (cells_at by) h rows all))
 
 -- ---- their cells
@@ -148,7 +148,7 @@ module _ (a : Structure) (well : IsStructure a) (timed : HasTime a) where
   key_is r h =
       ap (is_point ids) (sym (named_cells sc ids r))
       ∙ subst (λ l. is_point ids (cells_at (places_in l ids) r) ≡ true) (append-nil sc)
-          (some_identifiers ids sc [] r (are_identifiers a) (series_identifiers a) (identifiers_among a well) (ap (λ l. is_point l r) (append-nil sc) ∙ h))
+      (some_identifiers ids sc [] r (are_identifiers a) (series_identifiers a) (identifiers_among a well) (ap (λ l. is_point l r) (append-nil sc) ∙ h))
 
   maps_same : (f g : Component → Cell) (ys : List Component) → map f ys ≡ map g ys → AllByRecursion (λ y. f y ≡ g y) ys
   maps_same f g [] e = tt
@@ -208,7 +208,7 @@ module _ (e : Extent) (d : DataSet) (timed : HasTime d.structure) (h : IsDataSet
   whole r i =
       ap (is_point (columns_of a)) (point_is r)
       ∙ joined_point_is a (others_of a) (in_order a r) (behind a (there r)) (columns_split a) (are_others a) (key_is a h.well_formed timed r i)
-          (behind_fits a h.well_formed (there r) (λ q f. found_point (λ z. same_row (values_in a (identifiers_of a) z) (in_order a r)) (λ z. is_point (columns_of a) z ≡ true) d.points q h.typed f))
+      (behind_fits a h.well_formed (there r) (λ q f. found_point (λ z. same_row (values_in a (identifiers_of a) z) (in_order a r)) (λ z. is_point (columns_of a) z ≡ true) d.points q h.typed f))
 
   key_of : (r : Row) → IsRow r → take (key_width a) (point r) ≡ in_order a r
   key_of r i = ap (take (key_width a)) (point_is r) ∙ key_of_joined a (in_order a r) (behind a (there r)) (key_is a h.well_formed timed r i)

@@ -129,9 +129,9 @@ module _ (n : ℤ) where
       let s = time_cell y w i t in
       q.1
       ∙ ap c.Period
-          (go q.0 s.0 (subst IsDated q.1 dv) (subst IsDated s.1 dw) (shift_of q.0 n) (shift_of s.0 n) refl refl
-          (ap (λ x. fault_in (later x)) (sym q.1) ∙ a) (ap (λ x. fault_in (later x)) (sym s.1) ∙ b)
-          (ap (λ x. cell_or_null (later x)) (sym q.1) ∙ same ∙ ap (λ x. cell_or_null (later x)) s.1))
+      (go q.0 s.0 (subst IsDated q.1 dv) (subst IsDated s.1 dw) (shift_of q.0 n) (shift_of s.0 n) refl refl
+      (ap (λ x. fault_in (later x)) (sym q.1) ∙ a) (ap (λ x. fault_in (later x)) (sym s.1) ∙ b)
+      (ap (λ x. cell_or_null (later x)) (sym q.1) ∙ same ∙ ap (λ x. cell_or_null (later x)) s.1))
       ∙ sym s.1
     where
       go : (q s : YearPart) → IsPart q → IsPart s → (o u : Option YearPart) → shift_of q n ≡ o → shift_of s n ≡ u → fault_in (period o) ≡ None → fault_in (period u) ≡ None → cell_or_null (period o) ≡ cell_or_null (period u) → q ≡ s

@@ -29,7 +29,7 @@ loop-run-preserved c =
     let old = c.loop-run.values.items in
     let new = c.put_along.new.values.items in
     let split : lists_of (take (k + 1) series) ≡ lists_of (take k series) ++ run ∷ []
-            = map_more (λ (v : Vec ℕ). v.items) series k c.run-item.result c.loop-run-test.true ∙ ap (λ l. lists_of (take k series) ++ l ∷ []) (ap (λ (v : Vec ℕ). v.items) (sym c.run-item.is) ∙ sym c.deref.ensures.value) in
+    = map_more (λ (v : Vec ℕ). v.items) series k c.run-item.result c.loop-run-test.true ∙ ap (λ l. lists_of (take k series) ++ l ∷ []) (ap (λ (v : Vec ℕ). v.items) (sym c.run-item.is) ∙ sym c.deref.ensures.value) in
     record {
       many = ap length c.in_ok-put_along.ensures ∙ length-put f run old ∙ c.loop-run.invariant.many;
       stands = subst (λ ss. StandsAt f ss new) (sym split) (one_series f (lists_of (take k series)) run old new c.in_ok-put_along.ensures c.loop-run.invariant.stands);

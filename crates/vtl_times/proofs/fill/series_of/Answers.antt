@@ -18,8 +18,8 @@ returns-clause-columns c =
     let s = c.args.a.now.structure in
     let on = c.in_ok-time.ensures ∙ ap time_place c.structure-structure.ensures.structure in
     let by = c.deref-3.ensures.value ∙ c.in_ok-by.ensures
-            ∙ (λ i. places_in ((ap shown c.deref.ensures.value ∙ c.in_ok-columns.ensures) i) ((ap shown c.deref-2.ensures.value ∙ c.in_ok-others.ensures) i))
-            ∙ ap (λ (t : Structure). places_in (columns_of t) (other_identifiers t)) c.structure-structure.ensures.structure in
+    ∙ (λ i. places_in ((ap shown c.deref.ensures.value ∙ c.in_ok-columns.ensures) i) ((ap shown c.deref-2.ensures.value ∙ c.in_ok-others.ensures) i))
+    ∙ ap (λ (t : Structure). places_in (columns_of t) (other_identifiers t)) c.structure-structure.ensures.structure in
     subst (λ (l : List Column). IfOk c.rows_of_series.result (λ t. t.columns ≡ l))
     (ap (λ (cs : List Column). map (column_at cs) (c.deref-3.result.now ++ c.in_ok-time.time ∷ [])) c.table.ensures.table.columns
     ∙ (λ i. map (column_at (table_columns s)) (by i ++ on i ∷ []))
@@ -30,6 +30,6 @@ pub returns-clause-rows : goal.returns-clause-rows
 returns-clause-rows c =
     let on = c.in_ok-time.ensures ∙ ap time_place c.structure-structure.ensures.structure in
     let by = c.deref-3.ensures.value ∙ c.in_ok-by.ensures
-            ∙ (λ i. places_in ((ap shown c.deref.ensures.value ∙ c.in_ok-columns.ensures) i) ((ap shown c.deref-2.ensures.value ∙ c.in_ok-others.ensures) i))
-            ∙ ap (λ (t : Structure). places_in (columns_of t) (other_identifiers t)) c.structure-structure.ensures.structure in
+    ∙ (λ i. places_in ((ap shown c.deref.ensures.value ∙ c.in_ok-columns.ensures) i) ((ap shown c.deref-2.ensures.value ∙ c.in_ok-others.ensures) i))
+    ∙ ap (λ (t : Structure). places_in (columns_of t) (other_identifiers t)) c.structure-structure.ensures.structure in
     subst (λ (l : List Row). IfOk c.rows_of_series.result (λ t. t.rows ≡ l)) (λ i. series_rows c.args.extent (on i) (by i) (c.table.ensures.points i)) c.rows_of_series.ensures.rows

@@ -23,6 +23,6 @@ returns c i h =
     let place = c.place_of-place.result in
     let at = c.place_of-place.ensures.place ∙ ap (place_of y.name) c.requires.columns in
     let one : outcome_at c.in_ok-values.values.items i ≡ value_at p w place d r
-            = ap (λ l. outcome_at l i) c.in_ok-values.ensures ∙ get_or-map (value_at p w place d) d.points i [] (Ok cells.Null) h in
+    = ap (λ l. outcome_at l i) c.in_ok-values.ensures ∙ get_or-map (value_at p w place d) d.points i [] (Ok cells.Null) h in
     let measure : is_measure y ≡ true = search rules in
     c.column_along.ensures p r i ∙ ap (made_by w p y.kind (column_of place r)) one ∙ flow_is p d y place at r w measure

@@ -34,9 +34,9 @@ each_row-requires-clause-fits c i h =
     let made : Made = shifted_value c.args.n xs in
     let values : ℕ → List (Outcome Cell) = row_values p c.deref.result.now a.points in
     let same : (j : ℕ) → j < length a.points → values j ≡ map (λ y. made y (row_at a.points j)) xs
-            = λ j l. ap (map (column_value p (row_at a.points j) j)) c.deref.ensures.value ∙ c.in_ok-columns.ensures p (row_at a.points j) j
-            ∙ ap (λ (t : Structure). map (λ y. shifted_value m (columns_of t) y (row_at a.points j)) (columns_of t)) c.structure-structure.ensures.structure
-            ∙ ap (λ k. map (λ y. shifted_value k xs y (row_at a.points j)) xs) e in
+    = λ j l. ap (map (column_value p (row_at a.points j) j)) c.deref.ensures.value ∙ c.in_ok-columns.ensures p (row_at a.points j) j
+    ∙ ap (λ (t : Structure). map (λ y. shifted_value m (columns_of t) y (row_at a.points j)) (columns_of t)) c.structure-structure.ensures.structure
+    ∙ ap (λ k. map (λ y. shifted_value k xs y (row_at a.points j)) xs) e in
     let typed = all_get (λ r. is_point xs r ≡ true) a.points i [] h c.structure-structure.ensures.points.typed in
     ap (λ (t : Structure). fits (table_columns t) (cells_of (values i))) c.structure-structure.ensures.structure
     ∙ ap (fits (table_columns s)) (row_is made xs a.points values same i h)
@@ -52,9 +52,9 @@ returns-clause-rows c =
     let made : Made = shifted_value c.args.n xs in
     let values : ℕ → List (Outcome Cell) = row_values p c.deref.result.now a.points in
     let same : (j : ℕ) → j < length a.points → values j ≡ map (λ y. made y (row_at a.points j)) xs
-            = λ j l. ap (map (column_value p (row_at a.points j) j)) c.deref.ensures.value ∙ c.in_ok-columns.ensures p (row_at a.points j) j
-            ∙ ap (λ (t : Structure). map (λ y. shifted_value m (columns_of t) y (row_at a.points j)) (columns_of t)) c.structure-structure.ensures.structure
-            ∙ ap (λ k. map (λ y. shifted_value k xs y (row_at a.points j)) xs) e in
+    = λ j l. ap (map (column_value p (row_at a.points j) j)) c.deref.ensures.value ∙ c.in_ok-columns.ensures p (row_at a.points j) j
+    ∙ ap (λ (t : Structure). map (λ y. shifted_value m (columns_of t) y (row_at a.points j)) (columns_of t)) c.structure-structure.ensures.structure
+    ∙ ap (λ k. map (λ y. shifted_value k xs y (row_at a.points j)) xs) e in
     subst (AnswersBy (λ (t : Tabled). t.rows) c.each_row.result) (rows_made made xs a.points values same) c.each_row.ensures.rows
 
 pub returns-clause-table : goal.returns-clause-table
