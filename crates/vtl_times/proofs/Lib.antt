@@ -1,5 +1,7 @@
+mod AlongLemmas
 mod FillLemmas
 mod FilledRows
+mod FlowLemmas
 mod OrderLemmas
 mod PutLemmas
 mod RowLemmas

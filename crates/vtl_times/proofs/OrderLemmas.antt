@@ -1,6 +1,18 @@
 -- Points by series, in the order of their times.
-use Rattle.std.proofs.Common.{ℕ, zero, suc, List, [], ◌∷◌, take, drop}
+use Rattle.std.proofs.Common.{◌≡◌, ℕ, zero, suc, ◌+◌, ◌<◌, List, [], ◌∷◌, ◌++◌, length, map, take, drop, ap, arith}
 use Rattle.std.specs.List.{AllByRecursion}
+use Rattle.std.proofs.lemmas.List.{length-append}
+use Rattle.vtl_rows.specs.declared.column.SortKey.{SortKey}
+use Rattle.vtl_tree.specs.Columns.{identifiers_of, others_of, place_of}
+use Rattle.vtl_tree.specs.Structure.{IsStructure, columns_of}
+use Rattle.vtl_tree.specs.declared.structure.Component.{Component}
+use Rattle.vtl_tree.specs.declared.structure.Structure.{Structure}
+use Rattle.vtl_meaning.specs.Made.{AreAmong}
+use Rattle.vtl_meaning.proofs.Kept.{column_within}
+use Rattle.vtl_meaning.proofs.Places.{all_append, columns_split}
+use Rattle.vtl_timing.specs.Times.{HasTime, other_identifiers, time_place}
+use Rattle.vtl_timing.proofs.SeriesColumns.{others_among, time_only}
+use Rattle.vtl_times.specs.InOrder.{group_keys, rising_key, time_keys}
 
 pub all_drop : {X : Type 0} (P : X → Type 0) (n : ℕ) (xs : List X) → AllByRecursion P xs → AllByRecursion P (drop n xs)
 all_drop P zero xs all = all
@@ -11,3 +23,17 @@ pub all_take : {X : Type 0} (P : X → Type 0) (n : ℕ) (xs : List X) → AllBy
 all_take P zero xs all = tt
 all_take P (suc n) [] all = tt
 all_take P (suc n) (x ∷ xs) all = (all.0, all_take P n xs all.1)
+
+-- ---- the keys of the sort are columns
+keys_within : (xs ys : List Component) → AreAmong ys xs → AllByRecursion (λ (k : SortKey). k.column < length xs) (map (λ y. rising_key (place_of y.name xs)) ys)
+keys_within xs [] all = tt
+keys_within xs (y ∷ ys) all = (column_within (place_of y.name xs) y.name y.kind xs all.0, keys_within xs ys all.1)
+
+pub time_keys_within : (a : Structure) → IsStructure a → HasTime a → AllByRecursion (λ (k : SortKey). k.column < length (columns_of a)) (time_keys a)
+time_keys_within a well h =
+    let xs = columns_of a in
+    let one = time_only a h in
+    let wide : length xs ≡ length (identifiers_of a ++ others_of a) = ap length (columns_split a) in
+    let many = length-append (identifiers_of a) (others_of a) in
+    let last : time_place a < length xs = omega (arith, wide, many, one.within) in
+    all_append (λ (k : SortKey). k.column < length xs) (group_keys a) (rising_key (time_place a) ∷ []) (keys_within xs (other_identifiers a) (others_among a well)) (last, tt)

@@ -1,5 +1,5 @@
 -- The points of each series, in the order of their times.
-use Rattle.std.specs.Prelude.{◌≡◌, ℕ, ◌+◌, ◌-◌, ◌<◌, ◌==◌, false, true, Bool, List, [], ◌∷◌, ◌++◌, filter, length, map, take, Option, Some, None, slice_index_or, if◌then◌else◌}
+use Rattle.std.specs.Prelude.{◌≡◌, ℕ, ◌+◌, ◌-◌, ◌<◌, ◌==◌, nat_le, false, true, Bool, List, [], ◌∷◌, ◌++◌, filter, length, map, take, Option, Some, None, slice_index_or, if◌then◌else◌}
 use Rattle.std.specs.List.{AllByRecursion, flat_map, list_any}
 use Rattle.std.specs.Option.{option_map_or}
 use Rattle.vtl_cell.specs.Row.{Row, column_of}
@@ -50,7 +50,7 @@ point_at d s i = row_at d.points (slice_index_or s i 0)
 
 -- the point before one at a place, where there is one
 abbrev pub point_before : DataSet → List ℕ → ℕ → Option Row
-point_before d s i = if i == 0 then None else Some (point_at d s (i - 1))
+point_before d s i = if nat_le 1 i then Some (point_at d s (i - 1)) else None
 
 -- points by their numbers are a series in order: those up to a place are those up to the time of the point there
 pub record IsSeries (d : DataSet) (s : List ℕ) : Type 0 where
