@@ -1,11 +1,11 @@
 // Named structures, in order.
-ghost use Rattle.std.specs.Prelude.{◌≡◌, ◌<◌, ◌++◌, ◌∷◌, [], true, false, length, slice_get, Some, IfOk, IfSome, OnErr, OnOk};
+ghost use Rattle.std.specs.Prelude.{◌≡◌, ◌<◌, ◌++◌, ◌∷◌, [], true, false, length, slice_get, take, Some, IfOk, IfSome, OnErr, OnOk};
 ghost use Rattle.std.specs.Map.{lookup};
 ghost use Rattle.std.specs.List.{list_any};
 ghost use Rattle.std.specs.Option.{option_copied};
-ghost use Rattle.vtl_tree.specs.Structure.{names_of, same_name};
+ghost use Rattle.vtl_tree.specs.Structure.{names_of, same_name, same_role};
 ghost use Rattle.vtl_tree.specs.Structures.{AreStructures, components_of, has_name, is_declarable, structure_of, with_component, Fits};
-ghost use Rattle.vtl_tree.specs.NotNull.{are_not_null, no_sets, not_null_of, with_list};
+ghost use Rattle.vtl_tree.specs.NotNull.{are_not_null, no_sets, not_null_of, with_list, with_name};
 
 use crate::structure::{Component, Role, Structure};
 use std::alloc::{AllocError, Global};
@@ -132,6 +132,30 @@ impl Structures {
         }
     }
 
+    /// Adds a component that fits its data set and is no identifier, as `add` does, and its name as the last of the
+    /// not-null list of the data set. It fails only if memory runs out.
+    pub fn add_not_null(&mut self, name: Txt, component: Component) -> Result<(), AllocError>
+        requires fits { Fits component (components_of name self.old.sets) }
+        requires value { same_role component.role Role.Identifier ≡ false }
+        ensures added { OnOk result (self.new.sets ≡ with_component name component self.old.sets) }
+        ensures lists { OnOk result (self.new.not_null ≡ with_name name component.name self.new.sets self.old.not_null) }
+        ensures failed { OnErr result (self.new ≡ self.old) }
+    {
+        let listed = component.name.share()?;
+        match self.by_name.replace(&name, no_components(self.alloc)) {
+            Some(mut declaration) => {
+                let pushed = push_not_null(self.alloc, &mut declaration, component, listed);
+                self.by_name.replace(&name, declaration);
+                pushed
+            }
+            None => {
+                let structure = one_component(self.alloc, component)?;
+                let list = one_name(self.alloc, listed)?;
+                self.put_with(name, structure, list)
+            }
+        }
+    }
+
     /// The structure of a name, if there is one.
     pub fn get(&self, name: &Txt) -> Option<&Structure>
         ensures found { option_copied result ≡ lookup (same_name name.now) self.now.sets }
@@ -202,4 +226,61 @@ fn one_component(alloc: Global, component: Component) -> Result<Structure, Alloc
     Ok(Structure {
         components: List::of(components),
     })
+}
+
+// Adds a component after the others, and its name to the not-null list.
+fn push_not_null(
+    alloc: Global,
+    declaration: &mut Declaration,
+    component: Component,
+    name: Txt,
+) -> Result<(), AllocError>
+    ensures added { OnOk result (declaration.new.structure ≡ structure_of (declaration.old.structure.components ++ component ∷ [])) }
+    ensures list { OnOk result (declaration.new.not_null ≡ declaration.old.not_null ++ name ∷ []) }
+    ensures failed_structure { OnErr result (declaration.new.structure ≡ declaration.old.structure) }
+    ensures failed_list { OnErr result (declaration.new.not_null ≡ declaration.old.not_null) }
+{
+    let count = declaration.not_null.as_slice().len();
+    push_name(alloc, declaration, name)?;
+    let pushed = push_component(alloc, declaration, component);
+    if pushed.is_err() {
+        shorten_list(alloc, declaration, count);
+    }
+    pushed
+}
+
+// Adds a name to the not-null list.
+fn push_name(alloc: Global, declaration: &mut Declaration, name: Txt) -> Result<(), AllocError>
+    ensures list { OnOk result (declaration.new.not_null ≡ declaration.old.not_null ++ name ∷ []) }
+    ensures failed { OnErr result (declaration.new.not_null ≡ declaration.old.not_null) }
+    ensures structure { declaration.new.structure ≡ declaration.old.structure }
+{
+    let nothing = List::of(Vec::new(alloc));
+    let names = mem::replace(&mut declaration.not_null, nothing);
+    let mut names = names.into_vec();
+    let pushed = names.push(name);
+    declaration.not_null = List::of(names);
+    pushed?;
+    Ok(())
+}
+
+// Leaves as many names of the not-null list.
+fn shorten_list(alloc: Global, declaration: &mut Declaration, count: usize)
+    ensures list { declaration.new.not_null ≡ take count declaration.old.not_null }
+    ensures structure { declaration.new.structure ≡ declaration.old.structure }
+{
+    let nothing = List::of(Vec::new(alloc));
+    let names = mem::replace(&mut declaration.not_null, nothing);
+    let mut names = names.into_vec();
+    names.truncate(count);
+    declaration.not_null = List::of(names);
+}
+
+// The list of one name.
+fn one_name(alloc: Global, name: Txt) -> Result<Vec<Txt>, AllocError>
+    ensures { IfOk result (λ v. v.items ≡ name ∷ []) }
+{
+    let mut names = Vec::new(alloc);
+    names.push(name)?;
+    Ok(names)
 }
