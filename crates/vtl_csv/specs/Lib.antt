@@ -6,6 +6,7 @@ pub mod FaultFields
 pub mod InputFields
 pub mod InputFile
 pub mod InputSteps
+pub mod Opening
 pub mod Plain
 pub mod PlainLines
 pub mod ReadAgain
