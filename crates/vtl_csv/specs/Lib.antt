@@ -15,4 +15,5 @@ pub mod RestOfText
 pub mod RowsWritten
 pub mod SortedCodes
 pub mod StructuresFile
+pub mod StructuresText
 pub mod TableText

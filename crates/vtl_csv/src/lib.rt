@@ -30,6 +30,7 @@ mod records;
 mod repeats;
 mod row_text;
 mod structures;
+mod structures_text;
 mod table_text;
 mod text_pool;
 mod version;
@@ -48,4 +49,5 @@ pub use laws::{
 pub use reading::column;
 pub use records::RecordReader;
 pub use structures::{Declared, StructErr, read_structures};
+pub use structures_text::write_structures;
 pub use table_text::{write_dataset, write_rows, write_table};

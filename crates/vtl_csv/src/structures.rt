@@ -69,7 +69,7 @@ impl Drop for Declared {
     }
 }
 
-fn is_identifier(component: &Component) -> bool
+pub fn is_identifier(component: &Component) -> bool
     ensures { result ≡ is_identifier component.now }
 {
     match component.role {
