@@ -67,6 +67,54 @@ module _ {A : Type 0} (f : A → A → A) where
   one_left zero xs few = few
   one_left (suc n) xs few = one_left n (paired f xs) (paired_fewer n xs few)
 
+-- ---- a round more changes nothing
+module _ {A : Type 0} (f : A → A → A) where
+  paired_shorter : (xs : List A) → length (paired f xs) ≤ length xs
+  paired_shorter [] = omega arith
+  paired_shorter (x ∷ []) = omega arith
+  paired_shorter (x ∷ y ∷ xs) = let less = paired_shorter xs in omega (arith, less)
+
+  -- where two and more are joined, fewer are left
+  pub paired_less : (xs : List A) → 2 ≤ length xs → suc (length (paired f xs)) ≤ length xs
+  paired_less [] two = absurd (omega (arith, two))
+  paired_less (x ∷ []) two = absurd (omega (arith, two))
+  paired_less (x ∷ y ∷ xs) two = let less = paired_shorter xs in omega (arith, less)
+
+  enough : (n m : ℕ) (xs : List A) → length xs ≤ suc n → length xs ≤ suc m → rounds f n xs ≡ rounds f m xs
+  enough zero m xs few other = sym (one_stays f m xs few)
+  enough (suc n) zero xs few other = one_stays f (suc n) xs other
+  enough (suc n) (suc m) xs few other = enough n m (paired f xs) (paired_fewer f n xs few) (paired_fewer f m xs other)
+
+  pub balanced_paired : (d : A) (xs : List A) → balanced f d (paired f xs) ≡ balanced f d xs
+  balanced_paired d [] = refl
+  balanced_paired d (x ∷ xs) =
+      let short = paired_shorter (x ∷ xs) in
+      ap (first_or d) (enough (length (paired f (x ∷ xs))) (length xs) (paired f (x ∷ xs)) (omega arith) (omega (arith, short)))
+
+  pub balanced_one : (d : A) (xs : List A) → length xs ≤ 1 → balanced f d xs ≡ first_or d xs
+  balanced_one d xs few = ap (first_or d) (one_stays f (length xs) xs few)
+
+-- the same of a form of the items
+module _ {A B : Type 0} (f : B → B → B) (h : A → B) (before after : List A) (joined : map h after ≡ paired f (map h before)) where
+  sizes_kept : (xs : List A) → length (map h xs) ≡ length xs
+  sizes_kept [] = refl
+  sizes_kept (x ∷ xs) = ap suc (sizes_kept xs)
+
+  pub form_less : 2 ≤ length before → suc (length after) ≤ length before
+  form_less two =
+      let size = sizes_kept before in
+      let left = sym (sizes_kept after) ∙ ap length joined in
+      let less = paired_less f (map h before) (omega (arith, two, size)) in
+      omega (arith, size, left, less)
+
+  pub form_stays : (d : B) (whole : B) → balanced f d (map h before) ≡ whole → balanced f d (map h after) ≡ whole
+  form_stays d whole e = ap (balanced f d) joined ∙ balanced_paired f d (map h before) ∙ e
+
+pub form_one : {A B : Type 0} (f : B → B → B) (h : A → B) (d : B) (xs : List A) (whole : B) → length xs ≤ 1 → balanced f d (map h xs) ≡ whole → first_or d (map h xs) ≡ whole
+form_one f h d [] whole few e = e
+form_one f h d (x ∷ []) whole few e = e
+form_one f h d (x ∷ y ∷ xs) whole few e = absurd (omega (arith, few))
+
 -- ---- where it does not matter how items are grouped, they give what they give one behind the other
 module _ {A : Type 0} (f : A → A → A) (u : A) (grouped : (x y z : A) → f (f x y) z ≡ f x (f y z)) (unit : (x : A) → f x u ≡ x) where
   paired_gathered : (xs : List A) → gathered f u (paired f xs) ≡ gathered f u xs
@@ -86,19 +134,16 @@ module _ {A : Type 0} (f : A → A → A) (u : A) (grouped : (x y z : A) → f (
   pub balanced_gathered : (xs : List A) → balanced f u xs ≡ gathered f u xs
   balanced_gathered xs = first_gathered (rounds f (length xs) xs) (one_left f (length xs) xs (omega arith)) ∙ rounds_gathered (length xs) xs
 
--- ---- how deep it becomes: one more for each doubling of their number
-module _ {A : Type 0} (f : A → A → A) (depth : A → ℕ) (deeper : (m : ℕ) (x y : A) → depth x ≤ m → depth y ≤ m → depth (f x y) ≤ suc m) where
-  abbrev AreWithin : ℕ → List A → Type 0
-  AreWithin m xs = AllByRecursion (λ x. depth x ≤ m) xs
-
-  within_more : (m n : ℕ) (xs : List A) → m ≤ n → AreWithin m xs → AreWithin n xs
+-- ---- what joining makes one more at most becomes one more for each doubling of the number of items
+module _ {A : Type 0} (f : A → A → A) (Q : ℕ → A → Type 0) (more : (m n : ℕ) (x : A) → m ≤ n → Q m x → Q n x) (joined : (m : ℕ) (x y : A) → Q m x → Q m y → Q (suc m) (f x y)) where
+  within_more : (m n : ℕ) (xs : List A) → m ≤ n → AllByRecursion (Q m) xs → AllByRecursion (Q n) xs
   within_more m n [] le all = tt
-  within_more m n (x ∷ xs) le all = let own = all.0 in (omega (arith, le, own), within_more m n xs le all.1)
+  within_more m n (x ∷ xs) le all = (more m n x le all.0, within_more m n xs le all.1)
 
-  paired_within : (m : ℕ) (xs : List A) → AreWithin m xs → AreWithin (suc m) (paired f xs)
+  paired_within : (m : ℕ) (xs : List A) → AllByRecursion (Q m) xs → AllByRecursion (Q (suc m)) (paired f xs)
   paired_within m [] all = tt
   paired_within m (x ∷ []) all = within_more m (suc m) (x ∷ []) (omega arith) all
-  paired_within m (x ∷ y ∷ rest) all = (deeper m x y all.0 all.1.0, paired_within m rest all.1.1)
+  paired_within m (x ∷ y ∷ rest) all = (joined m x y all.0 all.1.0, paired_within m rest all.1.1)
 
   halved : (k : ℕ) (xs : List A) → length xs ≤ k + k → length (paired f xs) ≤ k
   halved k [] few = omega arith
@@ -109,16 +154,32 @@ module _ {A : Type 0} (f : A → A → A) (depth : A → ℕ) (deeper : (m : ℕ
   doubled : (k : ℕ) → 2 ^ suc k ≡ 2 ^ k + 2 ^ k
   doubled k = omega arith
 
-  rounds_within : (k n m : ℕ) (xs : List A) → length xs ≤ 2 ^ k → AreWithin m xs → AreWithin (m + k) (rounds f n xs)
+  rounds_within : (k n m : ℕ) (xs : List A) → length xs ≤ 2 ^ k → AllByRecursion (Q m) xs → AllByRecursion (Q (m + k)) (rounds f n xs)
   rounds_within zero n m xs few all = rw (one_stays f n xs few) (within_more m (m + zero) xs (omega arith) all)
   rounds_within (suc k) zero m xs few all = within_more m (m + suc k) xs (omega arith) all
   rounds_within (suc k) (suc n) m xs few all =
       within_more (suc m + k) (m + suc k) (rounds f n (paired f xs)) (omega arith)
       (rounds_within k n (suc m) (paired f xs) (halved (2 ^ k) xs (let d = doubled k in omega (arith, few, d))) (paired_within m xs all))
 
-  first_within : (m : ℕ) (d : A) (xs : List A) → depth d ≤ m → AreWithin m xs → depth (first_or d xs) ≤ m
+  first_within : (m : ℕ) (d : A) (xs : List A) → Q m d → AllByRecursion (Q m) xs → Q m (first_or d xs)
   first_within m d [] own all = own
   first_within m d (x ∷ xs) own all = all.0
 
-  pub balanced_within : (k m : ℕ) (d : A) (xs : List A) → length xs ≤ 2 ^ k → depth d ≤ m → AreWithin m xs → depth (balanced f d xs) ≤ m + k
-  balanced_within k m d xs few own all = first_within (m + k) d (rounds f (length xs) xs) (omega (arith, own)) (rounds_within k (length xs) m xs few all)
+  pub balanced_within : (k m : ℕ) (d : A) (xs : List A) → length xs ≤ 2 ^ k → Q m d → AllByRecursion (Q m) xs → Q (m + k) (balanced f d xs)
+  balanced_within k m d xs few own all = first_within (m + k) d (rounds f (length xs) xs) (more m (m + k) d (omega arith) own) (rounds_within k (length xs) m xs few all)
+
+-- a number is at most the power of two of itself
+pub below_power : (n : ℕ) → n ≤ 2 ^ n
+below_power zero = omega arith
+below_power (suc n) =
+    let less = below_power n in
+    let twice : 2 ^ suc n ≡ 2 ^ n + 2 ^ n = omega arith in
+    let some = positive n in
+    omega (arith, less, twice, some)
+  where
+    positive : (k : ℕ) → 1 ≤ 2 ^ k
+    positive zero = omega arith
+    positive (suc k) =
+        let less = positive k in
+        let twice : 2 ^ suc k ≡ 2 ^ k + 2 ^ k = omega arith in
+        omega (arith, less, twice)

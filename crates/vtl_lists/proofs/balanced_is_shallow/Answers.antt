@@ -1,4 +1,4 @@
-use Rattle.std.proofs.Common.{◌≡◌, true}
+use Rattle.std.proofs.Common.{◌≡◌, ◌≤◌, true, arith}
 use Rattle.vtl_lists.proofs.Balances.{balanced_gathered, balanced_kept, balanced_mapped, balanced_within}
 use Rattle.vtl_lists.proofs.balanced_is_shallow.Goals as goal
 
@@ -12,4 +12,4 @@ pub returns-clause-gathered : goal.returns-clause-gathered
 returns-clause-gathered g c = λ f u xs grouped unit. balanced_gathered f u grouped unit xs
 
 pub returns-clause-depth : goal.returns-clause-depth
-returns-clause-depth g c = λ f depth k m d xs deeper few own all. balanced_within f depth deeper k m d xs few own all
+returns-clause-depth g c = λ f depth k m d xs deeper few own all. balanced_within f (λ n x. depth x ≤ n) (λ m n x less low. omega (arith, less, low)) deeper k m d xs few own all
