@@ -1,11 +1,12 @@
 -- What one more component that is never null changes.
-use Rattle.std.proofs.Common.{◌≡◌, ℕ, Bool, true, false, cond, not, ◌&&◌, ◌||◌, List, [], ◌∷◌, ◌++◌, Option, Some, unwrap_or, Result, Ok, Err, refl, sym, ap, ◌∙◌, append_assoc, true≢false}
+use Rattle.std.proofs.Common.{◌≡◌, ℕ, Bool, true, false, cond, not, ◌&&◌, ◌||◌, List, [], ◌∷◌, ◌++◌, Option, Some, unwrap_or, Result, Ok, Err, refl, sym, ap, ◌∙◌, append_assoc, true≢false, ◌+◌, zero, suc, take, slice_get, arith}
 use Rattle.std.specs.Cmp.Lexicographic.{nat_list_eq_equiv}
 use Rattle.std.specs.Prelude.{OnErr, OnOk}
 use Rattle.std.specs.List.{AllByRecursion, list_all, list_any}
 use Rattle.std.specs.Map.{keys_of, lookup, set_value}
 use Rattle.std.specs.Option.{option_map_or}
 use Rattle.std.proofs.lemmas.Bool.{and_from, and_parts}
+use Rattle.std.proofs.lemmas.List.{append-nil}
 use Rattle.vtl_lists.specs.Apart.{all_apart}
 use Rattle.vtl_text.proofs.Apart.{apart_push}
 use Rattle.vtl_tree.specs.declared.structure.Component.{Component}
@@ -161,3 +162,44 @@ module _ (xs between new : Held) (name : List ℕ) (x : Component) (s t other : 
   pub listed_kept : {A E : Type 0} (r : Result A E) → OnErr r (t.structure ≡ s.structure) → OnErr r (t.not_null ≡ s.not_null) → OnErr r (declared new ≡ declared xs)
   listed_kept (Ok a) k m = tt
   listed_kept (Err a) k m = seen_kept xs between new name x s t other h f found taken put k m
+
+-- ---- the lists, one after another
+
+no_key : (ys : Held) (n : List ℕ) → list_any (same_name n) (keys_of ys) ≡ false → list_any (same_name n) (keys_of (lists_of ys)) ≡ false
+no_key [] n e = refl
+no_key (y ∷ ys) n e =
+    let parts = or_none (same_name n y.0) (list_any (same_name n) (keys_of ys)) e in
+    go y.1.not_null parts.0 (no_key ys n parts.1)
+  where
+    go : (ms : List (List ℕ)) → same_name n y.0 ≡ false → list_any (same_name n) (keys_of (lists_of ys)) ≡ false → list_any (same_name n) (keys_of (with_list y.0 ms ++ lists_of ys)) ≡ false
+    go [] f ih = ih
+    go (m ∷ ms) f ih = ap (λ b. b || list_any (same_name n) (keys_of (lists_of ys))) f ∙ ih
+
+differs : (ys : Held) (j : ℕ) (name : List ℕ) (d : Declaration) (k : List ℕ) → slice_get ys j ≡ Some (name, d) → list_any (same_name k) (keys_of ys) ≡ false → same_name name k ≡ false
+differs [] j name d k e h = cc
+differs (y ∷ ys) zero name d k e h =
+    let same : y ≡ (name, d) = cc in
+    nat_list_eq_equiv.symm name k ∙ ap (λ (q : List ℕ × Declaration). same_name k q.0) (sym same) ∙ (or_none (same_name k y.0) (list_any (same_name k) (keys_of ys)) h).0
+differs (y ∷ ys) (suc j) name d k e h = differs ys j name d k e (or_none (same_name k y.0) (list_any (same_name k) (keys_of ys)) h).1
+
+pub list_is_new : (xs : Held) (i : ℕ) (name : List ℕ) (d : Declaration) → all_apart same_name (keys_of xs) ≡ true → slice_get xs i ≡ Some (name, d) → list_any (same_name name) (keys_of (lists_of (take i xs))) ≡ false
+list_is_new xs i name d h e = no_key (take i xs) name (before xs i h e)
+  where
+    before : (ys : Held) (j : ℕ) → all_apart same_name (keys_of ys) ≡ true → slice_get ys j ≡ Some (name, d) → list_any (same_name name) (keys_of (take j ys)) ≡ false
+    before [] j p q = cc
+    before (y ∷ ys) zero p q = refl
+    before (y ∷ ys) (suc j) p q =
+        let parts = and_parts (not (list_any (same_name y.0) (keys_of ys))) (all_apart same_name (keys_of ys)) p in
+        ap (λ b. b || list_any (same_name name) (keys_of (take j ys))) (differs ys j name d y.0 q (not_false (list_any (same_name y.0) (keys_of ys)) parts.0)) ∙ before ys j parts.1 q
+
+more_lists : (xs : Held) (i : ℕ) (name : List ℕ) (d : Declaration) → slice_get xs i ≡ Some (name, d) → lists_of (take (suc i) xs) ≡ lists_of (take i xs) ++ with_list name d.not_null
+more_lists [] i name d e = cc
+more_lists (x ∷ xs) zero name d e = let same : x ≡ (name, d) = cc in append-nil (with_list x.0 x.1.not_null) ∙ ap (λ (q : List ℕ × Declaration). with_list q.0 q.1.not_null) same
+more_lists (x ∷ xs) (suc i) name d e = ap (λ l. with_list x.0 x.1.not_null ++ l) (more_lists xs i name d e) ∙ sym (append_assoc (with_list x.0 x.1.not_null) (lists_of (take i xs)) (with_list name d.not_null))
+
+one_on : (i : ℕ) → i + 1 ≡ suc i
+one_on i = omega arith
+
+pub list_put : (xs : Held) (i : ℕ) (name : List ℕ) (d : Declaration) (list : List (List ℕ)) (old new : NotNull) → slice_get xs i ≡ Some (name, d) → list ≡ d.not_null → old ≡ lists_of (take i xs) → new ≡ old ++ with_list name list → new ≡ lists_of (take (i + 1) xs)
+list_put xs i name d list old new e l o n =
+    n ∙ ap (λ k. k ++ with_list name list) o ∙ ap (λ k. lists_of (take i xs) ++ with_list name k) l ∙ sym (ap (λ k. lists_of (take k xs)) (one_on i) ∙ more_lists xs i name d e)

@@ -1,6 +1,8 @@
 // Named structures, in order.
 ghost use Rattle.std.specs.Prelude.{◌≡◌, ◌<◌, ◌++◌, ◌∷◌, [], true, false, length, slice_get, take, Some, IfOk, IfSome, OnErr, OnOk};
-ghost use Rattle.std.specs.Map.{lookup};
+ghost use Rattle.std.specs.Map.{keys_of, lookup};
+ghost use Rattle.vtl_lists.specs.Apart.{all_apart};
+ghost use Rattle.vtl_tree.specs.Declarations.{lists_of};
 ghost use Rattle.std.specs.List.{list_any};
 ghost use Rattle.std.specs.Option.{option_copied};
 ghost use Rattle.vtl_tree.specs.Structure.{names_of, same_name, same_role};
@@ -178,6 +180,13 @@ impl Structures {
         }
     }
 
+    /// The not-null lists that are not empty, each with its name. The names are shared. It fails only if memory runs out.
+    pub fn share_lists(&self) -> Result<ByName<List<Txt>>, AllocError>
+        ensures { IfOk result (λ lists. lists ≡ self.now.not_null) }
+    {
+        all_lists(self.alloc, &self.by_name)
+    }
+
     /// The name and the structure at a place.
     pub fn at(&self, i: usize) -> (&Txt, &Structure)
         requires { i < length self.now.sets }
@@ -283,4 +292,45 @@ fn one_name(alloc: Global, name: Txt) -> Result<Vec<Txt>, AllocError>
     let mut names = Vec::new(alloc);
     names.push(name)?;
     Ok(names)
+}
+
+// The same names, which are shared.
+fn share_names(alloc: Global, names: &[Txt]) -> Result<Vec<Txt>, AllocError>
+    ensures { IfOk result (λ v. v.items ≡ names.now) }
+{
+    let mut same = Vec::new(alloc);
+    for name in names {
+        same.push(name.share()?)?;
+    }
+    Ok(same)
+}
+
+// Puts a list under a name that none has yet; an empty one is not kept.
+fn put_list(
+    alloc: Global,
+    lists: &mut ByName<List<Txt>>,
+    name: &Txt,
+    list: &[Txt],
+) -> Result<(), AllocError>
+    requires { list_any (same_name name.now) (keys_of lists.old) ≡ false }
+    ensures { OnOk result (lists.new ≡ lists.old ++ with_list name.now list.now) }
+{
+    if list.is_empty() {
+        return Ok(());
+    }
+    let list = List::of(share_names(alloc, list)?);
+    lists.put(name.share()?, list)
+}
+
+// The lists that are held.
+fn all_lists(alloc: Global, held: &ByName<Declaration>) -> Result<ByName<List<Txt>>, AllocError>
+    requires { all_apart same_name (keys_of held.now) ≡ true }
+    ensures { IfOk result (λ lists. lists ≡ lists_of held.now) }
+{
+    let mut lists = ByName::new(alloc);
+    for i in 0..held.len() {
+        let (name, declaration) = held.at(i);
+        put_list(alloc, &mut lists, name, declaration.not_null.as_slice())?;
+    }
+    Ok(lists)
 }
