@@ -1,5 +1,5 @@
 -- Equalities, and conditions that hold together. What holds of a condition is carried on to those that are joined behind it.
-use Rattle.std.proofs.Common.{◌≡◌, ◌≤◌, ◌+◌, ℕ, Bool, true, false, ◌&&◌, List, [], ◌∷◌, length, map, suc, Some, Ok, refl, ap, ◌∙◌, arith, subst}
+use Rattle.std.proofs.Common.{◌≡◌, ◌≤◌, ◌+◌, ℕ, Bool, true, false, ◌&&◌, List, [], ◌∷◌, length, map, suc, Some, Ok, refl, ap, sym, ◌∙◌, arith, subst}
 use Rattle.std.specs.List.{AllByRecursion, list_all}
 use Rattle.vtl_cell.specs.Kinds.{is_null, is_of, kind_of}
 use Rattle.vtl_cell.specs.Order.{same_cell}
