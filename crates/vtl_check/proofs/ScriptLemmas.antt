@@ -18,7 +18,7 @@ use Rattle.check_faults.specs.declared.rules.Rule.{Rule}
 use Rattle.check_rules.specs.Definitions.{datapoint_defined, hierarchical_defined}
 use Rattle.vtl_check.specs.Checked.{AreUses, IsTyped, TypedScript, env_over}
 use Rattle.vtl_check.specs.Count.{count}
-use Rattle.vtl_check.specs.Script.{Standing, assigned, at, defined, statements_typed, with_result, with_ruleset}
+use Rattle.vtl_check.specs.Script.{Standing, assigned, at, defined, script_typed, statements_typed, with_result, with_ruleset}
 use Rattle.vtl_check.specs.Transformations.{transformations, transformations_from}
 use Rattle.vtl_check.specs.Uses.{outputs_in, reads, results_behind}
 use Rattle.vtl_check.specs.declared.uses.Uses.{Uses}
@@ -54,9 +54,9 @@ nodes-typed s i before done (tree.hierarchical name item rules last ∷ ss) ns e
 abbrev with_parts : List Statement → Named → NotNull → Settings → List Node → TypedScript
 with_parts script declared lists settings nodes = record { script = script; declared = declared; not_null = lists; settings = settings; nodes = nodes }
 
-pub as_many_nodes : (script : List Statement) (declared : Named) (lists : NotNull) (settings : Settings) (nodes : List Node)
-    → IsTyped (with_parts script declared lists settings nodes) → length nodes ≡ length (transformations (map statement_tree script))
-as_many_nodes script declared lists settings nodes typed =
+pub as_many_nodes : (script : List Statement) (declared : Named) (settings : Settings) (nodes : List Node)
+    → script_typed (env_over settings declared) (map statement_tree script) ≡ Ok (map node_tree nodes) → length nodes ≡ length (transformations (map statement_tree script))
+as_many_nodes script declared settings nodes typed =
     sym (length-map nodes node_tree)
     ∙ nodes-typed (env_over settings declared) 1 0 [] (map statement_tree script) (map node_tree nodes) typed
     ∙ omega arith
@@ -66,14 +66,14 @@ pub written_shared : (script shared : List Statement) → shared ≡ script → 
 written_shared script shared same h = subst (λ (l : List Statement). AreWritten (map statement_tree l)) (sym same) h
 
 -- the same script, and the uses that were found of it
-pub typed_parts : (script shared : List Statement) (structures declared : Named) (lists held : NotNull) (settings : Settings) (nodes : List Node) (u : Uses)
-    → shared ≡ script → declared ≡ structures → held ≡ lists
-    → IsTyped (with_parts script structures lists settings nodes)
+pub typed_parts : (script shared : List Statement) (structures declared : Named) (lists : NotNull) (settings : Settings) (nodes : List Node) (u : Uses)
+    → shared ≡ script → declared ≡ structures
+    → script_typed (env_over settings structures) (map statement_tree script) ≡ Ok (map node_tree nodes)
     → u.known ≡ results_behind (reads structures (map node_tree nodes)) (transformations (map statement_tree script)) (map node_tree nodes)
     → u.inputs.items ≡ keys_of (reads structures (map node_tree nodes))
     → u.outputs.items ≡ outputs_in (transformations (map statement_tree script))
-    → IsTyped (with_parts shared declared held settings nodes) × AreUses (with_parts shared declared held settings nodes) u
-typed_parts script shared structures declared lists held settings nodes u same_script same_structures same_lists typed known inputs outputs =
-    let P : List Statement → Named → NotNull → Type 0 = λ s d l. IsTyped (with_parts s d l settings nodes) × AreUses (with_parts s d l settings nodes) u in
-    let here : P script structures lists = (typed, record { known_data = known; read_names = inputs; written_names = outputs }) in
-    subst (λ s. P s declared held) (sym same_script) (subst (λ d. P script d held) (sym same_structures) (subst (P script structures) (sym same_lists) here))
+    → IsTyped (with_parts shared declared lists settings nodes) × AreUses (with_parts shared declared lists settings nodes) u
+typed_parts script shared structures declared lists settings nodes u same_script same_structures typed known inputs outputs =
+    let P : List Statement → Named → Type 0 = λ s d. IsTyped (with_parts s d lists settings nodes) × AreUses (with_parts s d lists settings nodes) u in
+    let here : P script structures = (typed, record { known_data = known; read_names = inputs; written_names = outputs }) in
+    subst (λ s. P s declared) (sym same_script) (subst (P script) (sym same_structures) here)
