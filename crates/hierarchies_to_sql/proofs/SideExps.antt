@@ -1,6 +1,6 @@
 -- The expressions of the sides of a rule have the values of the sides.
 use Rattle.std.proofs.Common.{◌≡◌, ℕ, ℤ, pos, Bool, true, false, not, cond, fold, ◌&&◌, ◌||◌, List, [], ◌∷◌, map, Option, Some, None, Ok, Err, refl, sym, ap, ◌∙◌, subst}
-use Rattle.std.specs.List.{list_all, list_any}
+use Rattle.std.specs.List.{AllByRecursion, list_all, list_any, zip}
 use Rattle.std.specs.Option.{option_map_or}
 use Rattle.vtl_decimal.specs.Settings.{Settings}
 use Rattle.vtl_decimal.specs.Range.{fit_number}
@@ -33,7 +33,8 @@ use Rattle.vtl_tree.specs.Value.{called, value}
 use Rattle.vtl_rulings.specs.HierarchyShapes.{IsNumeric}
 use Rattle.vtl_rulings.specs.Modes.{Found, Items, appears, counted, is_counted, is_filled, is_zero, missing_as, zero_of}
 use Rattle.vtl_rulings.specs.Sides.{comparison_op, difference, first_value, holds, left_side, next_values, right_side, sign_op, sum_of}
-use Rattle.selects_to_sql.specs.Queries.{both, conjunction}
+use Rattle.selects_to_sql.specs.Queries.{both, conjunction, holds_always}
+use Rattle.selects_to_sql.proofs.Conjunctions.{conjunction_says}
 use Rattle.rules_to_sql.specs.CheckQueries.{as_number}
 use Rattle.hierarchies_to_sql.specs.SideExps.{Leaf, appears_exp, between, counted_exp, counts_exp, difference_exp, disjunction, either, filled_exp, first_exp, holds_exp, left_exp, next_exps, or_zero, right_exp, rights_of, sum_exp}
 
@@ -169,17 +170,30 @@ module _ (p : Settings) (kind : Kind) (numeric : IsNumeric kind) (r : Row) where
     any_sure (l ∷ ls) [] all = absurd all
     any_sure (l ∷ ls) (x ∷ xs) all = any_from (f l) (t x) ls xs (one l x all.0) all.1
 
-    all_from : (e : CompExp) (a : Bool) (ls : List Leaf) (xs : List Found) → IsSure e a → AllShow ls xs → IsSure (fold both e (map f ls)) (a && list_all t xs)
-    all_from e a [] [] s all = subst (IsSure e) (sym (and_last a)) s
-    all_from e a [] (x ∷ xs) s all = absurd all
-    all_from e a (l ∷ ls) [] s all = absurd all
-    all_from e a (l ∷ ls) (x ∷ xs) s all = subst (IsSure (fold both (both e (f l)) (map f ls))) (and_grouped a (t x) (list_all t xs)) (all_from (both e (f l)) (a && t x) ls xs (and_sure e (f l) a (t x) s (one l x all.0)) all.1)
+    firsts : (ls : List Leaf) (xs : List Found) → AllShow ls xs → map (λ (z : Leaf × Found). f z.0) (zip ls xs) ≡ map f ls
+    firsts [] [] all = refl
+    firsts [] (x ∷ xs) all = absurd all
+    firsts (l ∷ ls) [] all = absurd all
+    firsts (l ∷ ls) (x ∷ xs) all = ap (λ es. f l ∷ es) (firsts ls xs all.1)
+
+    seconds : (ls : List Leaf) (xs : List Found) → AllShow ls xs → list_all (λ (z : Leaf × Found). t z.1) (zip ls xs) ≡ list_all t xs
+    seconds [] [] all = refl
+    seconds [] (x ∷ xs) all = absurd all
+    seconds (l ∷ ls) [] all = absurd all
+    seconds (l ∷ ls) (x ∷ xs) all = ap (λ b. t x && b) (seconds ls xs all.1)
+
+    each_sure : (ls : List Leaf) (xs : List Found) → AllShow ls xs → AllByRecursion (λ (z : Leaf × Found). IsSure (f z.0) (t z.1)) (zip ls xs)
+    each_sure [] [] all = tt
+    each_sure [] (x ∷ xs) all = absurd all
+    each_sure (l ∷ ls) [] all = absurd all
+    each_sure (l ∷ ls) (x ∷ xs) all = (one l x all.0, each_sure ls xs all.1)
 
     all_sure : (ls : List Leaf) (xs : List Found) → AllShow ls xs → IsSure (conjunction (map f ls)) (list_all t xs)
-    all_sure [] [] all = record { cell = c.Bool true; is = refl; truth = refl; told = refl }
-    all_sure [] (x ∷ xs) all = absurd all
-    all_sure (l ∷ ls) [] all = absurd all
-    all_sure (l ∷ ls) (x ∷ xs) all = all_from (f l) (t x) ls xs (one l x all.0) all.1
+    all_sure ls xs all =
+        let none : IsSure holds_always true = record { cell = c.Bool true; is = refl; truth = refl; told = refl } in
+        let sure = conjunction_says IsSure and_sure none (λ (z : Leaf × Found). f z.0) (λ (z : Leaf × Found). t z.1) (zip ls xs) (each_sure ls xs all) in
+        subst (λ es. IsSure (conjunction es) (list_all t xs)) (firsts ls xs all)
+        (subst (λ b. IsSure (conjunction (map (λ (z : Leaf × Found). f z.0) (zip ls xs))) b) (seconds ls xs all) sure)
 
   filled_cell : (v : Cell) → called p k.Bool (called p k.Bool (Ok v ∷ []) op.IsNull ∷ []) op.Not ≡ Ok (c.Bool (not (is_null v)))
   filled_cell c.Null = refl

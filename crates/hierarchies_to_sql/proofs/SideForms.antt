@@ -24,6 +24,7 @@ use Rattle.sql_tree.specs.declared.parts.Constant.TheVariants as constant
 use Rattle.expressions_to_sql.specs.ToSql.{Naming, to_sql}
 use Rattle.selects_to_sql.specs.Items.{all_of, both_of}
 use Rattle.selects_to_sql.specs.Queries.{both, condition_for, conjunction}
+use Rattle.selects_to_sql.proofs.Conjunctions.{conjunction_to_sql}
 use Rattle.rules_to_sql.specs.CheckQueries.{as_number}
 use Rattle.rules_to_sql.specs.Items.{choice, number_as, rule_errors_as}
 use Rattle.rules_to_sql.proofs.Forms.{errors_at_written, errors_written}
@@ -66,13 +67,8 @@ module _ (p : Settings) (at : Naming) where
       each_written (l ∷ ls) [] all = absurd all
       each_written (l ∷ ls) (w ∷ ws) all = ap (λ e. e ∷ map (to_sql p at) (map f ls)) (one l w all.0) ∙ ap (λ es. g w ∷ es) (each_written ls ws all.1)
 
-    both_from : (e : CompExp) (fs : List CompExp) → to_sql p at (fold both e fs) ≡ fold both_of (to_sql p at e) (map (to_sql p at) fs)
-    both_from e [] = refl
-    both_from e (f ∷ fs) = both_from (both e f) fs
-
     pub all_written : (es : List CompExp) → to_sql p at (conjunction es) ≡ all_of (map (to_sql p at) es)
-    all_written [] = refl
-    all_written (e ∷ es) = both_from e es
+    all_written es = conjunction_to_sql p at es
 
     either_from : (e : CompExp) (fs : List CompExp) → to_sql p at (fold either e fs) ≡ fold either_of (to_sql p at e) (map (to_sql p at) fs)
     either_from e [] = refl

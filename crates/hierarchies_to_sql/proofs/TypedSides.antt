@@ -37,6 +37,7 @@ use Rattle.vtl_rulings.specs.Sides.{comparison_op, sign_op}
 use Rattle.vtl_rulings.proofs.Checked.{parts_hold}
 use Rattle.expressions_to_sql.specs.Held.{HoldsValues}
 use Rattle.selects_to_sql.specs.Queries.{both, conjunction, equal, holds_always}
+use Rattle.vtl_lists.proofs.Balances.{balanced_within, below_power}
 use Rattle.selects_to_sql.specs.Writable.{AllCanBeWritten, CanBeWritten, most_depth}
 use Rattle.selects_to_sql.proofs.Selects.{IsTest}
 use Rattle.rules_to_sql.specs.CheckQueries.{as_number}
@@ -251,10 +252,10 @@ module _ (p : Settings) (xs : List Component) where
       mapped (l ∷ ls) = ap suc (mapped ls)
 
       all_sound : (ls : List Leaf) → AreLeaves ls → IsTruth (3 + length ls) (conjunction (map f ls))
-      all_sound [] all = always_sound 2
-      all_sound (l ∷ ls) all =
+      all_sound ls all =
           let same = mapped ls in
-          deeper k.Bool (3 + length (map f ls)) (3 + suc (length ls)) (conjunction (map f (l ∷ ls))) (omega (arith, same)) (folded both both_sound 3 3 (f l) (map f ls) (omega arith) (one l all.0) (each_sound ls all.1))
+          deeper k.Bool (3 + length (map f ls)) (3 + length ls) (conjunction (map f ls)) (omega (arith, same))
+          (balanced_within both IsTruth (deeper k.Bool) both_sound (length (map f ls)) 3 holds_always (map f ls) (below_power (length (map f ls))) (always_sound 2) (each_sound ls all))
 
       any_sound : (ls : List Leaf) → AreLeaves ls → IsTruth (3 + length ls) (disjunction (map f ls))
       any_sound [] all = never_sound 2

@@ -1,5 +1,5 @@
 -- Equalities, and conditions that hold together. What holds of a condition is carried on to those that are joined behind it.
-use Rattle.std.proofs.Common.{◌≡◌, ◌≤◌, ◌+◌, ℕ, Bool, true, false, ◌&&◌, List, [], ◌∷◌, length, map, fold, Some, Ok, refl, ap, sym, ◌∙◌, arith}
+use Rattle.std.proofs.Common.{◌≡◌, ◌≤◌, ◌+◌, ℕ, Bool, true, false, ◌&&◌, List, [], ◌∷◌, length, map, suc, Some, Ok, refl, ap, sym, ◌∙◌, arith, subst}
 use Rattle.std.specs.List.{AllByRecursion, list_all}
 use Rattle.vtl_cell.specs.Kinds.{is_null, is_of, kind_of}
 use Rattle.vtl_cell.specs.Order.{same_cell}
@@ -19,9 +19,11 @@ use Rattle.vtl_meaning.specs.Made.{IsTyped}
 use Rattle.vtl_tree.specs.Depths.{comp_depth}
 use Rattle.expressions_to_sql.specs.Held.{HoldsValues}
 use Rattle.expressions_to_sql.specs.ToSql.{Naming, to_sql}
-use Rattle.selects_to_sql.specs.Writable.{CanBeWritten, most_depth}
+use Rattle.selects_to_sql.specs.Writable.{CanBeWritten, most_joined}
 use Rattle.selects_to_sql.specs.Items.{all_of, both_of}
-use Rattle.selects_to_sql.specs.Queries.{both, conjunction}
+use Rattle.selects_to_sql.specs.Queries.{both, conjunction, holds_always}
+use Rattle.vtl_lists.specs.Balanced.{balanced, gathered}
+use Rattle.vtl_lists.proofs.Balances.{balanced_gathered, balanced_kept, balanced_mapped, balanced_within}
 use Rattle.selects_to_sql.proofs.Identifiers.{kind_is}
 
 -- ---- equality of values that are there
@@ -76,73 +78,92 @@ pub record IsPart (p : Settings) (xs : List Component) (e : CompExp) : Type 0 wh
   pub held : HoldsValues e
   pub flat : comp_depth e ≤ 2
 
-joined_kind : (e : CompExp) (es : List CompExp) → exp_kind e ≡ k.Bool → exp_kind (fold both e es) ≡ k.Bool
-joined_kind e [] boolean = boolean
-joined_kind e (f ∷ es) boolean = joined_kind (both e f) es refl
-
-joined_typed : (p : Settings) (xs : List Component) (e : CompExp) (es : List CompExp) → IsTyped p xs e → exp_kind e ≡ k.Bool → AllByRecursion (IsPart p xs) es → IsTyped p xs (fold both e es)
-joined_typed p xs e [] typed boolean all = typed
-joined_typed p xs e (f ∷ es) typed boolean all = joined_typed p xs (both e f) es (both_typed p xs e f typed boolean all.0.typed all.0.boolean) refl all.1
-
-joined_held : (p : Settings) (xs : List Component) (e : CompExp) (es : List CompExp) → HoldsValues e → AllByRecursion (IsPart p xs) es → HoldsValues (fold both e es)
-joined_held p xs e [] held all = held
-joined_held p xs e (f ∷ es) held all = joined_held p xs (both e f) es (held, (all.0.held, tt)) all.1
-
--- each one makes it one deeper
-joined_depth : (p : Settings) (xs : List Component) (e : CompExp) (es : List CompExp) (d : ℕ) → comp_depth e ≤ d → 2 ≤ d → AllByRecursion (IsPart p xs) es → comp_depth (fold both e es) ≤ length es + d
-joined_depth p xs e [] d shallow deep all = omega (arith, shallow)
-joined_depth p xs e (f ∷ es) d shallow deep all =
-    let flat = all.0.flat in
-    let more : comp_depth (both e f) ≤ d + 1 = omega (arith, shallow, deep, flat) in
-    let rest = joined_depth p xs (both e f) es (d + 1) more (omega (arith, deep)) all.1 in
-    omega (arith, rest)
-
-joined_value : {Z : Type 0} (p : Settings) (r : Row) (first : CompExp) (b : Bool) (e : Z → CompExp) (t : Z → Bool) (zs : List Z) → value p first r ≡ Ok (c.Bool b) → AllByRecursion (λ z. value p (e z) r ≡ Ok (c.Bool (t z))) zs
-    → value p (fold both first (map e zs)) r ≡ Ok (c.Bool (b && list_all t zs))
-joined_value p r first b e t [] one all = one ∙ ap (λ a. Ok (c.Bool a)) (last b)
-  where
-    last : (b : Bool) → b ≡ (b && true)
-    last true = refl
-    last false = refl
-joined_value p r first b e t (z ∷ zs) one all =
-    joined_value p r (both first (e z)) (b && t z) e t zs (both_value p r first (e z) b (t z) one all.0) all.1
-    ∙ ap (λ a. Ok (c.Bool a)) (grouped b (t z) (list_all t zs))
-  where
-    grouped : (a b d : Bool) → ((a && b) && d) ≡ (a && (b && d))
-    grouped true b d = refl
-    grouped false b d = refl
-
-joined_to_sql : (p : Settings) (at : Naming) (e : CompExp) (es : List CompExp) → to_sql p at (fold both e es) ≡ fold both_of (to_sql p at e) (map (to_sql p at) es)
-joined_to_sql p at e [] = refl
-joined_to_sql p at e (f ∷ es) = joined_to_sql p at (both e f) es
+-- each passes, in a list of all
+each_part : (P Q : CompExp → Type 0) (es : List CompExp) → ((e : CompExp) → P e → Q e) → AllByRecursion P es → AllByRecursion Q es
+each_part P Q [] f all = tt
+each_part P Q (e ∷ es) f all = (f e all.0, each_part P Q es f all.1)
 
 -- ---- conjunctions
 
-pub conjunction_kind : (p : Settings) (xs : List Component) (es : List CompExp) → AllByRecursion (IsPart p xs) es → exp_kind (conjunction es) ≡ k.Bool
-conjunction_kind p xs [] all = refl
-conjunction_kind p xs (e ∷ es) all = joined_kind e es all.0.boolean
+module _ (p : Settings) (xs : List Component) where
+  abbrev IsBoolean : CompExp → Type 0
+  IsBoolean e = IsTyped p xs e × (exp_kind e ≡ k.Bool)
 
-pub conjunction_typed : (p : Settings) (xs : List Component) (es : List CompExp) → AllByRecursion (IsPart p xs) es → IsTyped p xs (conjunction es)
-conjunction_typed p xs [] all = tt
-conjunction_typed p xs (e ∷ es) all = joined_typed p xs e es all.0.typed all.0.boolean all.1
+  conjunction_boolean : (es : List CompExp) → AllByRecursion (IsPart p xs) es → IsBoolean (conjunction es)
+  conjunction_boolean es all =
+      balanced_kept both IsBoolean (λ e f a b. (both_typed p xs e f a.0 a.1 b.0 b.1, refl)) holds_always es (tt, refl)
+      (each_part (IsPart p xs) IsBoolean es (λ e part. (part.typed, part.boolean)) all)
 
-conjunction_held : (p : Settings) (xs : List Component) (es : List CompExp) → AllByRecursion (IsPart p xs) es → HoldsValues (conjunction es)
-conjunction_held p xs [] all = tt
-conjunction_held p xs (e ∷ es) all = joined_held p xs e es all.0.held all.1
+  pub conjunction_kind : (es : List CompExp) → AllByRecursion (IsPart p xs) es → exp_kind (conjunction es) ≡ k.Bool
+  conjunction_kind es all = (conjunction_boolean es all).1
 
-conjunction_depth : (p : Settings) (xs : List Component) (es : List CompExp) → AllByRecursion (IsPart p xs) es → comp_depth (conjunction es) ≤ length es + 2
-conjunction_depth p xs [] all = omega arith
-conjunction_depth p xs (e ∷ es) all = let joined = joined_depth p xs e es 2 all.0.flat (omega arith) all.1 in omega (arith, joined)
+  pub conjunction_typed : (es : List CompExp) → AllByRecursion (IsPart p xs) es → IsTyped p xs (conjunction es)
+  conjunction_typed es all = (conjunction_boolean es all).0
 
-pub conjunction_written : (p : Settings) (xs : List Component) (es : List CompExp) → AllByRecursion (IsPart p xs) es → length es + 2 ≤ most_depth → CanBeWritten (conjunction es)
-conjunction_written p xs es all few = record { constants = conjunction_held p xs es all; shallow = omega (arith, conjunction_depth p xs es all, few) }
+  conjunction_held : (es : List CompExp) → AllByRecursion (IsPart p xs) es → HoldsValues (conjunction es)
+  conjunction_held es all = balanced_kept both HoldsValues (λ e f a b. (a, (b, tt))) holds_always es tt (each_part (IsPart p xs) HoldsValues es (λ e part. part.held) all)
+
+  deeper : (m : ℕ) (e f : CompExp) → comp_depth e ≤ m → comp_depth f ≤ m → comp_depth (both e f) ≤ suc m
+  deeper m e f one other = omega (arith, one, other)
+
+  conjunction_depth : (es : List CompExp) → AllByRecursion (IsPart p xs) es → length es ≤ most_joined → comp_depth (conjunction es) ≤ 10
+  conjunction_depth es all few = balanced_within both (λ m e. comp_depth e ≤ m) (λ m n e less low. omega (arith, less, low)) deeper 8 2 holds_always es few (omega arith) (each_part (IsPart p xs) (λ e. comp_depth e ≤ 2) es (λ e part. part.flat) all)
+
+  pub conjunction_written : (es : List CompExp) → AllByRecursion (IsPart p xs) es → length es ≤ most_joined → CanBeWritten (conjunction es)
+  conjunction_written es all few = record { constants = conjunction_held es all; shallow = omega (arith, conjunction_depth es all few) }
+
+-- what a condition for each item says together, where joining two keeps what they say
+module _ {Z : Type 0} (Says : CompExp → Bool → Type 0) (kept : (e f : CompExp) (a b : Bool) → Says e a → Says f b → Says (both e f) (a && b)) (always : Says holds_always true) (e : Z → CompExp) (t : Z → Bool) where
+  abbrev Said : Type 0
+  Said = CompExp × Bool
+
+  abbrev both_said : Said → Said → Said
+  both_said a b = (both a.0 b.0, a.1 && b.1)
+
+  abbrev IsSaid : Said → Type 0
+  IsSaid a = Says a.0 a.1
+
+  abbrev said : Z → Said
+  said z = (e z, t z)
+
+  each_said : (zs : List Z) → AllByRecursion (λ z. Says (e z) (t z)) zs → AllByRecursion IsSaid (map said zs)
+  each_said [] all = tt
+  each_said (z ∷ zs) all = (all.0, each_said zs all.1)
+
+  firsts : (zs : List Z) → map (λ (a : Said). a.0) (map said zs) ≡ map e zs
+  firsts [] = refl
+  firsts (z ∷ zs) = ap (λ l. e z ∷ l) (firsts zs)
+
+  seconds : (zs : List Z) → map (λ (a : Said). a.1) (map said zs) ≡ map t zs
+  seconds [] = refl
+  seconds (z ∷ zs) = ap (λ l. t z ∷ l) (seconds zs)
+
+  all_hold : (zs : List Z) → gathered ◌&&◌ true (map t zs) ≡ list_all t zs
+  all_hold [] = refl
+  all_hold (z ∷ zs) = ap (λ b. t z && b) (all_hold zs)
+
+  grouped : (a b d : Bool) → ((a && b) && d) ≡ (a && (b && d))
+  grouped true b d = refl
+  grouped false b d = refl
+
+  last : (b : Bool) → (b && true) ≡ b
+  last true = refl
+  last false = refl
+
+  pub conjunction_says : (zs : List Z) → AllByRecursion (λ z. Says (e z) (t z)) zs → Says (conjunction (map e zs)) (list_all t zs)
+  conjunction_says zs all =
+      let whole : Said = balanced both_said (holds_always, true) (map said zs) in
+      let says : IsSaid whole = balanced_kept both_said IsSaid (λ a b one other. kept a.0 b.0 a.1 b.1 one other) (holds_always, true) (map said zs) always (each_said zs all) in
+      let left : whole.0 ≡ conjunction (map e zs) = balanced_mapped both_said both (λ (a : Said). a.0) (λ a b. refl) (holds_always, true) (map said zs) ∙ ap (balanced both holds_always) (firsts zs) in
+      let right : whole.1 ≡ list_all t zs =
+      balanced_mapped both_said ◌&&◌ (λ (a : Said). a.1) (λ a b. refl) (holds_always, true) (map said zs) ∙ ap (balanced ◌&&◌ true) (seconds zs)
+      ∙ balanced_gathered ◌&&◌ true grouped last (map t zs) ∙ all_hold zs in
+      subst (λ x. Says x (list_all t zs)) left (subst (λ b. Says whole.0 b) right says)
 
 -- what a condition for each item gives together
 pub conjunction_value : {Z : Type 0} (p : Settings) (r : Row) (e : Z → CompExp) (t : Z → Bool) (zs : List Z) → AllByRecursion (λ z. value p (e z) r ≡ Ok (c.Bool (t z))) zs → value p (conjunction (map e zs)) r ≡ Ok (c.Bool (list_all t zs))
-conjunction_value p r e t [] all = refl
-conjunction_value p r e t (z ∷ zs) all = joined_value p r (e z) (t z) e t zs all.0 all.1
+conjunction_value p r e t zs all = conjunction_says (λ x b. value p x r ≡ Ok (c.Bool b)) (both_value p r) refl e t zs all
 
 -- it is written as all of what its conditions are written as
 pub conjunction_to_sql : (p : Settings) (at : Naming) (es : List CompExp) → to_sql p at (conjunction es) ≡ all_of (map (to_sql p at) es)
-conjunction_to_sql p at [] = refl
-conjunction_to_sql p at (e ∷ es) = joined_to_sql p at e es
+conjunction_to_sql p at es = balanced_mapped both both_of (to_sql p at) (λ e f. refl) holds_always es

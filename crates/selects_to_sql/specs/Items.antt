@@ -1,7 +1,8 @@
 -- Items of selects and conditions, as they are written.
-use Rattle.std.specs.Prelude.{List, [], ◌∷◌, fold, Option, map}
+use Rattle.std.specs.Prelude.{List, [], ◌∷◌, Option, map}
 use Rattle.std.specs.Option.{option_map_or}
 use Rattle.vtl_decimal.specs.Settings.{Settings}
+use Rattle.vtl_lists.specs.Balanced.{balanced}
 use Rattle.vtl_cell.specs.declared.operator.ScalarOp.TheVariants as op
 use Rattle.vtl_tree.specs.declared.structure.Component.{Component}
 use Rattle.vtl_meaning.specs.Operators.{target_named, value_exp, with_measure}
@@ -55,8 +56,7 @@ both_of e f = tree.binary e op.And f
 
 -- all of them, joined from the left
 abbrev pub all_of : List Exp → Exp
-all_of [] = tree.constant constant.True
-all_of (e ∷ es) = fold both_of e es
+all_of es = balanced both_of (tree.constant constant.True) es
 
 -- an identifier has a value
 abbrev pub value_equality : Settings → SubItem → Exp

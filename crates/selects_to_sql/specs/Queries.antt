@@ -1,6 +1,7 @@
 -- Selects over one table and over two, and the queries of forms that are such selects.
-use Rattle.std.specs.Prelude.{ℕ, Bool, nat_lt, map, true, false, List, [], ◌∷◌, ◌++◌, length, codes, fold, Option, Some, None, if◌then◌else◌, ◌+◌}
+use Rattle.std.specs.Prelude.{ℕ, Bool, nat_lt, map, true, false, List, [], ◌∷◌, ◌++◌, length, codes, Option, Some, None, if◌then◌else◌, ◌+◌}
 use Rattle.vtl_decimal.specs.Settings.{Settings}
+use Rattle.vtl_lists.specs.Balanced.{balanced}
 use Rattle.vtl_cell.specs.declared.cell.Cell.TheVariants as c
 use Rattle.vtl_cell.specs.declared.kind.Kind.TheVariants as k
 use Rattle.vtl_cell.specs.declared.operator.ScalarOp.{ScalarOp}
@@ -113,8 +114,7 @@ holds_always = const (c.Bool true)
 
 -- all of them, joined from the left
 abbrev pub conjunction : List CompExp → CompExp
-conjunction [] = holds_always
-conjunction (e ∷ es) = fold both e es
+conjunction es = balanced both holds_always es
 
 -- ---- `sub`: the identifiers have these values
 

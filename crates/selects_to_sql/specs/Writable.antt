@@ -16,6 +16,10 @@ use Rattle.expressions_to_sql.specs.Held.{HoldsValues}
 abbrev pub most_depth : ℕ
 most_depth = 200
 
+-- the most conditions that are joined to one
+abbrev pub most_joined : ℕ
+most_joined = 256
+
 pub record CanBeWritten (e : CompExp) : Type 0 where
   pub constants : HoldsValues e
   pub shallow : comp_depth e ≤ most_depth

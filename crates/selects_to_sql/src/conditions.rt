@@ -1,13 +1,14 @@
 // Conditions of selects.
 //
-// Conditions that hold together are chained from the left, as they are read without brackets.
-ghost use Rattle.std.specs.Prelude.{◌≡◌, length, map, IfOk};
+// Conditions that hold together are joined two by two, so that what holds for many is not deep.
+ghost use Rattle.std.specs.Prelude.{◌≡◌, ◌≤◌, length, map, IfOk};
 ghost use Rattle.sql_tree.specs.Trees.{binary, branch, case_when, constant, no_branches};
 ghost use Rattle.sql_tree.specs.View.{expr_tree};
 ghost use Rattle.vtl_tree.specs.Shown.{shown};
 ghost use Rattle.vtl_tree.specs.Structure.{columns_of, key_width};
 ghost use Rattle.vtl_tree.specs.Columns.{measures_of};
-ghost use Rattle.selects_to_sql.specs.Items.{all_of, value_equality};
+ghost use Rattle.selects_to_sql.specs.Items.{all_of, both_of, value_equality};
+ghost use Rattle.vtl_lists.specs.Balanced.{first_or, paired};
 ghost use Rattle.selects_to_sql.specs.PairItems.{agreement_on, chosen, not_chosen};
 ghost use Rattle.selects_to_sql.specs.Queries.{name_of_first};
 
@@ -34,18 +35,42 @@ pub fn between(
     })
 }
 
-/// All conditions, joined from the left: with none it is always true. It fails only if memory runs out.
+// Joins neighbours.
+fn paired(alloc: Global, conditions: Vec<SqlExpr>) -> Result<Vec<SqlExpr>, AllocError>
+    ensures { IfOk result (λ v. map expr_tree v.items ≡ paired both_of (map expr_tree conditions.items)) }
+{
+    let mut joined = Vec::new(alloc);
+    let mut rest = conditions.into_iter();
+    while let Some(first) = rest.next() {
+        match rest.next() {
+            Some(second) => joined.push(between(alloc, first, ScalarOp::And, second)?)?,
+            None => joined.push(first)?,
+        }
+    }
+    Ok(joined)
+}
+
+// The condition of a list of one at most: with none it is always true.
+fn last_of(conditions: Vec<SqlExpr>) -> SqlExpr
+    requires { length conditions.items ≤ 1 }
+    ensures { expr_tree result ≡ first_or (constant Constant.True) (map expr_tree conditions.items) }
+{
+    let mut conditions = conditions;
+    match conditions.pop() {
+        Some(condition) => condition,
+        None => SqlExpr::Constant(Constant::True),
+    }
+}
+
+/// All conditions, joined two by two: with none it is always true. It fails only if memory runs out.
 pub fn all_of(alloc: Global, conditions: Vec<SqlExpr>) -> Result<SqlExpr, AllocError>
     ensures { IfOk result (λ e. expr_tree e ≡ all_of (map expr_tree conditions.items)) }
 {
-    let mut rest = conditions.into_iter();
-    let Some(mut all) = rest.next() else {
-        return Ok(SqlExpr::Constant(Constant::True));
-    };
-    for condition in rest {
-        all = between(alloc, all, ScalarOp::And, condition)?;
+    let mut rest = conditions;
+    while rest.len() > 1 {
+        rest = paired(alloc, rest)?;
     }
-    Ok(all)
+    Ok(last_of(rest))
 }
 
 // An identifier has a value.

@@ -1,7 +1,7 @@
 // How many columns there may be.
 
 /// The most columns of an INPUT.
-pub const MOST_INPUT_COLUMNS: usize = 64;
+pub const MOST_INPUT_COLUMNS: usize = 256;
 
 /// The most columns of a query, and so of a table that it makes.
-pub const MOST_COLUMNS: usize = 1_024;
+pub const MOST_COLUMNS: usize = 4_096;

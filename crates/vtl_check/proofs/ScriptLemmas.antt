@@ -8,6 +8,7 @@ use Rattle.vtl_syntax.specs.Trees.{ScriptTree}
 use Rattle.vtl_syntax.specs.View.{statement_tree}
 use Rattle.vtl_syntax.specs.Written.{AreWritten}
 use Rattle.vtl_syntax.specs.declared.statements.Statement.{Statement}
+use Rattle.vtl_tree.specs.NotNull.{NotNull}
 use Rattle.vtl_tree.specs.Structures.{Named}
 use Rattle.vtl_tree.specs.Trees.{NodeTree}
 use Rattle.vtl_tree.specs.NodeView.{node_tree}
@@ -17,7 +18,7 @@ use Rattle.check_faults.specs.declared.rules.Rule.{Rule}
 use Rattle.check_rules.specs.Definitions.{datapoint_defined, hierarchical_defined}
 use Rattle.vtl_check.specs.Checked.{AreUses, IsTyped, TypedScript, env_over}
 use Rattle.vtl_check.specs.Count.{count}
-use Rattle.vtl_check.specs.Script.{Standing, assigned, at, defined, statements_typed, with_result, with_ruleset}
+use Rattle.vtl_check.specs.Script.{Standing, assigned, at, defined, script_typed, statements_typed, with_result, with_ruleset}
 use Rattle.vtl_check.specs.Transformations.{transformations, transformations_from}
 use Rattle.vtl_check.specs.Uses.{outputs_in, reads, results_behind}
 use Rattle.vtl_check.specs.declared.uses.Uses.{Uses}
@@ -50,11 +51,11 @@ nodes-typed s i before done (tree.hierarchical name item rules last ∷ ss) ns e
     (λ u rest. nodes-typed (with_ruleset s name (tree.hierarchical name item rules last)) (suc i) (before + length rules) done ss ns rest)
     e
 
-abbrev with_parts : List Statement → Named → Settings → List Node → TypedScript
-with_parts script declared settings nodes = record { script = script; declared = declared; settings = settings; nodes = nodes }
+abbrev with_parts : List Statement → Named → NotNull → Settings → List Node → TypedScript
+with_parts script declared lists settings nodes = record { script = script; declared = declared; not_null = lists; settings = settings; nodes = nodes }
 
 pub as_many_nodes : (script : List Statement) (declared : Named) (settings : Settings) (nodes : List Node)
-    → IsTyped (with_parts script declared settings nodes) → length nodes ≡ length (transformations (map statement_tree script))
+    → script_typed (env_over settings declared) (map statement_tree script) ≡ Ok (map node_tree nodes) → length nodes ≡ length (transformations (map statement_tree script))
 as_many_nodes script declared settings nodes typed =
     sym (length-map nodes node_tree)
     ∙ nodes-typed (env_over settings declared) 1 0 [] (map statement_tree script) (map node_tree nodes) typed
@@ -65,14 +66,14 @@ pub written_shared : (script shared : List Statement) → shared ≡ script → 
 written_shared script shared same h = subst (λ (l : List Statement). AreWritten (map statement_tree l)) (sym same) h
 
 -- the same script, and the uses that were found of it
-pub typed_parts : (script shared : List Statement) (structures declared : Named) (settings : Settings) (nodes : List Node) (u : Uses)
+pub typed_parts : (script shared : List Statement) (structures declared : Named) (lists : NotNull) (settings : Settings) (nodes : List Node) (u : Uses)
     → shared ≡ script → declared ≡ structures
-    → IsTyped (with_parts script structures settings nodes)
+    → script_typed (env_over settings structures) (map statement_tree script) ≡ Ok (map node_tree nodes)
     → u.known ≡ results_behind (reads structures (map node_tree nodes)) (transformations (map statement_tree script)) (map node_tree nodes)
     → u.inputs.items ≡ keys_of (reads structures (map node_tree nodes))
     → u.outputs.items ≡ outputs_in (transformations (map statement_tree script))
-    → IsTyped (with_parts shared declared settings nodes) × AreUses (with_parts shared declared settings nodes) u
-typed_parts script shared structures declared settings nodes u same_script same_structures typed known inputs outputs =
-    let P : List Statement → Named → Type 0 = λ s d. IsTyped (with_parts s d settings nodes) × AreUses (with_parts s d settings nodes) u in
+    → IsTyped (with_parts shared declared lists settings nodes) × AreUses (with_parts shared declared lists settings nodes) u
+typed_parts script shared structures declared lists settings nodes u same_script same_structures typed known inputs outputs =
+    let P : List Statement → Named → Type 0 = λ s d. IsTyped (with_parts s d lists settings nodes) × AreUses (with_parts s d lists settings nodes) u in
     let here : P script structures = (typed, record { known_data = known; read_names = inputs; written_names = outputs }) in
     subst (λ s. P s declared) (sym same_script) (subst (P script) (sym same_structures) here)

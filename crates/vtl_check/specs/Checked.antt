@@ -6,6 +6,7 @@ use Rattle.vtl_syntax.specs.Trees.{ScriptTree}
 use Rattle.vtl_syntax.specs.View.{statement_tree}
 use Rattle.vtl_syntax.specs.declared.statements.Script.{Script}
 use Rattle.vtl_syntax.specs.declared.statements.Statement.{Statement}
+use Rattle.vtl_tree.specs.NotNull.{Declared, NotNull}
 use Rattle.vtl_tree.specs.Structures.{Named}
 use Rattle.vtl_tree.specs.Trees.{NodeTree}
 use Rattle.vtl_tree.specs.NodeView.{node_tree}
@@ -15,16 +16,18 @@ use Rattle.vtl_check.specs.Transformations.{transformations}
 use Rattle.vtl_check.specs.Uses.{outputs_in, reads, results_behind}
 use Rattle.vtl_check.specs.declared.uses.Uses.{Uses}
 
--- a script with the structures and the settings that it is typed over, and its nodes, one for each assignment
+-- a script with the structures, their not-null lists and the settings that it is typed over, and its nodes, one for each
+-- assignment
 pub record TypedScript : Type 0 where
   pub script : List Statement
   pub declared : Named
+  pub not_null : NotNull
   pub settings : Settings
   pub nodes : List Node
 
--- a script with structures, settings and nodes
-abbrev pub typed_script : Script → Named → Settings → List Node → TypedScript
-typed_script script declared settings nodes = record { script = script.statements; declared = declared; settings = settings; nodes = nodes }
+-- a script with what is declared, settings and nodes
+abbrev pub typed_script : Script → Declared → Settings → List Node → TypedScript
+typed_script script d settings nodes = record { script = script.statements; declared = d.sets; not_null = d.not_null; settings = settings; nodes = nodes }
 
 -- where a script begins: its declared data sets are known, and no ruleset
 abbrev pub env_over : Settings → Named → Standing

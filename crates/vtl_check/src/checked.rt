@@ -8,6 +8,7 @@ ghost use Rattle.std.specs.Prelude.{◌≡◌, IfOk, length, map};
 ghost use Rattle.vtl_syntax.specs.View.{script_tree, statement_tree};
 ghost use Rattle.vtl_syntax.specs.Written.{AreWritten};
 ghost use Rattle.vtl_tree.specs.NodeView.{node_tree};
+ghost use Rattle.vtl_tree.specs.NotNull.{not_null_of};
 ghost use Rattle.vtl_tree.specs.Structure.{same_name};
 ghost use Rattle.vtl_tree.specs.Structures.{AreStructures};
 ghost use Rattle.vtl_check.specs.Checked.{AreUses, IsTyped, TypedScript, env_over, inputs_of, known_of, nodes_of, outputs_of, tree_of, typed_script};
@@ -16,7 +17,7 @@ ghost use Rattle.vtl_check.specs.Uses.{outputs_in, reads, results_behind};
 ghost use Rattle.vtl_check.specs.Script.{Checks, script_typed};
 
 use crate::CheckErr;
-use crate::known::share_structures;
+use crate::known::{share_lists, share_structures};
 use crate::script::typed_statements;
 use crate::uses::{Uses, uses_of};
 use check_operators::Scope;
@@ -24,7 +25,7 @@ use std::alloc::{AllocError, Global};
 use std::marker::Model;
 use vtl_decimal::Profile;
 use vtl_syntax::{Script, Statement};
-use vtl_text::{ByName, Txt};
+use vtl_text::{ByName, List, Txt};
 use vtl_tree::{Node, Structure, Structures};
 
 /// A script that is written and typed over declared structures, with its nodes. The script is shared.
@@ -32,6 +33,7 @@ use vtl_tree::{Node, Structure, Structures};
 pub struct Checked {
     script: Script,
     declared: ByName<Structure>,
+    lists: ByName<List<Txt>>,
     profile: Profile,
     nodes: Vec<Node>,
     uses: Uses,
@@ -52,11 +54,11 @@ impl Model for Checked {
 
     ghost coded = { Prim.hlevel (codes, s.the_row.coded, n.the_row.coded) };
 
-    ghost view = { λ c. record { script = c.script.statements; declared = c.declared; settings = c.profile; nodes = c.nodes.items } };
+    ghost view = { λ c. record { script = c.script.statements; declared = c.declared; not_null = c.lists; settings = c.profile; nodes = c.nodes.items } };
 
     ghost invariant = { λ c.
-        IsTyped (record { script = c.script.statements; declared = c.declared; settings = c.profile; nodes = c.nodes.items })
-        × AreUses (record { script = c.script.statements; declared = c.declared; settings = c.profile; nodes = c.nodes.items }) c.uses
+        IsTyped (record { script = c.script.statements; declared = c.declared; not_null = c.lists; settings = c.profile; nodes = c.nodes.items })
+        × AreUses (record { script = c.script.statements; declared = c.declared; not_null = c.lists; settings = c.profile; nodes = c.nodes.items }) c.uses
         × AreStructures c.declared
         × AreWritten (map statement_tree c.script.statements)
         × (length c.nodes.items ≡ length (transformations (map statement_tree c.script.statements))) };
@@ -74,19 +76,21 @@ impl Checked {
         profile: &Profile,
     ) -> Result<Checked, AllocError>
         requires written { AreWritten (script_tree script.now) }
-        requires typed { IsTyped (typed_script script.now structures.now.sets profile.now nodes.items) }
-        ensures { IfOk result (λ c. c ≡ typed_script script.now structures.now.sets profile.now nodes.items) }
+        requires typed { IsTyped (typed_script script.now structures.now profile.now nodes.items) }
+        ensures { IfOk result (λ c. c ≡ typed_script script.now structures.now profile.now nodes.items) }
     {
         match parts_of(alloc, script, structures, &nodes) {
             Ok(
                 Parts {
                     script,
                     declared,
+                    lists,
                     uses,
                 },
             ) => Ok(Checked {
                 script,
                 declared,
+                lists,
                 profile: *profile,
                 nodes,
                 uses,
@@ -147,6 +151,17 @@ impl Checked {
     {
         self.uses.known.get(name)
     }
+
+    /// The names of the components of a declared data set that are never null, besides its identifiers; none for another
+    /// name.
+    pub fn not_null(&self, name: &Txt) -> &[Txt]
+        ensures { result.now ≡ not_null_of name.now self.now.not_null }
+    {
+        match self.lists.get(name) {
+            Some(list) => list.as_slice(),
+            None => &[],
+        }
+    }
 }
 
 // What a typed script holds besides its nodes.
@@ -154,6 +169,7 @@ impl Checked {
 struct Parts {
     script: Script,
     declared: ByName<Structure>,
+    lists: ByName<List<Txt>>,
     uses: Uses,
 }
 
@@ -168,16 +184,19 @@ fn parts_of(
     ensures script { IfOk result (λ p. p.script.statements ≡ script.now.statements) }
     ensures declared { IfOk result (λ p. p.declared ≡ structures.now.sets) }
     ensures structures { IfOk result (λ p. AreStructures p.declared) }
+    ensures lists { IfOk result (λ p. p.lists ≡ structures.now.not_null) }
     ensures known { IfOk result (λ p. p.uses.known ≡ results_behind (reads structures.now.sets (map node_tree nodes.now)) (transformations (map statement_tree script.now.statements)) (map node_tree nodes.now)) }
     ensures inputs { IfOk result (λ p. p.uses.inputs.items ≡ keys_of (reads structures.now.sets (map node_tree nodes.now))) }
     ensures outputs { IfOk result (λ p. p.uses.outputs.items ≡ outputs_in (transformations (map statement_tree script.now.statements))) }
 {
     let declared = share_structures(alloc, structures)?;
+    let lists = share_lists(structures)?;
     let uses = uses_of(alloc, &declared, script.statements.as_slice(), nodes)?;
     let script = script.share()?;
     Ok(Parts {
         script,
         declared,
+        lists,
         uses,
     })
 }
@@ -195,6 +214,7 @@ pub fn check(
     ensures typing { Checks nodes_of result (script_typed (env_over profile.now structures.now.sets) (script_tree script.now)) }
     ensures script { IfOk result (λ c. c.script ≡ script.now.statements) }
     ensures declared { IfOk result (λ c. c.declared ≡ structures.now.sets) }
+    ensures lists { IfOk result (λ c. c.not_null ≡ structures.now.not_null) }
     ensures settings { IfOk result (λ c. c.settings ≡ profile.now) }
 {
     let known = share_structures(alloc, structures)?;

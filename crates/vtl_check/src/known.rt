@@ -3,7 +3,7 @@ ghost use Rattle.std.specs.Prelude.{◌≡◌, ◌<◌, ◌+◌, ◌++◌, [], �
 ghost use Rattle.vtl_tree.specs.Structures.{AreStructures, has_name};
 
 use std::alloc::{AllocError, Global};
-use vtl_text::{ByName, Txt};
+use vtl_text::{ByName, List, Txt};
 use vtl_tree::{Structure, Structures, share_structure};
 
 /// Whether a name is known.
@@ -55,4 +55,11 @@ pub fn share_structures(
         put_at(alloc, &mut known, structures, i)?;
     }
     Ok(known)
+}
+
+/// The not-null lists of the declared structures. It fails only if memory runs out.
+pub fn share_lists(structures: &Structures) -> Result<ByName<List<Txt>>, AllocError>
+    ensures { IfOk result (λ lists. lists ≡ structures.now.not_null) }
+{
+    structures.share_lists()
 }

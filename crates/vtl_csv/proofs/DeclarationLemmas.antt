@@ -8,7 +8,7 @@ use Rattle.std.proofs.lemmas.Bool.{and_from}
 use Rattle.std.proofs.lemmas.Bool.Decides.{nat_tests}
 use Rattle.std.proofs.lemmas.Str.{IsUtf8-from_is_utf8, is_utf8-from_IsUtf8}
 use Rattle.std.specs.Bool.{OnTrue}
-use Rattle.std.specs.Prelude.{ok_or}
+use Rattle.std.specs.Prelude.{IfOk, ok_or}
 use Rattle.csv.specs.Machine.{Read, next_record}
 use Rattle.csv.specs.Reading.{default_config, is_bom, records, records_from, records_next, strip_bom}
 use Rattle.csv.specs.declared.parser.Config.{Config}
@@ -25,18 +25,41 @@ use Rattle.vtl_tree.specs.declared.structure.Role.{Role}
 use Rattle.vtl_tree.specs.declared.structure.Component.{Component}
 use Rattle.vtl_tree.specs.Structure.{most_components, same_name}
 use Rattle.vtl_tree.specs.Structures.{Fits, Named, are_codes, codes_fit, components_of, is_declarable_component, is_filled, is_null_kind, is_string_identifier}
-use Rattle.vtl_csv.specs.Declarations.{Declaration, code_in, codes_in, codes_of, component_in, dataset_in, declaration_of, declared_by, distinct, has_component, is_bar, is_full, kind_in, onto_first, parts, record_of, role_in, text_in, text_that}
+use Rattle.vtl_csv.specs.declared.declarations.NewComponent.{NewComponent}
+use Rattle.vtl_csv.specs.declared.version.Version.{Version}
+use Rattle.vtl_csv.specs.declared.version.Version.TheVariants as ve
+use Rattle.vtl_csv.specs.Declarations.{Declaration, code_in, codes_in, codes_of, component_in, dataset_in, declaration_of, declared_by, distinct, has_component, is_bar, is_full, is_identifier_role, kind_in, listed_by, most_in, of_five, of_six, onto_first, parts, record_of, role_in, says_not_null, says_null, text_in, text_that}
+use Rattle.vtl_csv.specs.Opening.{headers_of, profile_in, settings_in}
 
-pub declaration_there : (fs : List (List ℕ)) (v w x y z : List ℕ) → length fs ≡ 5
+pub five_there : (fs : List (List ℕ)) (v w x y z : List ℕ) → length fs ≡ 5
     → v ≡ get_or fs 0 v → w ≡ get_or fs 1 w → x ≡ get_or fs 2 x → y ≡ get_or fs 3 y → z ≡ get_or fs 4 z
-    → Some (record { dataset = v; component = w; role = x; kind = y; code_list = z }) ≡ declaration_of fs
-declaration_there [] v w x y z n e0 e1 e2 e3 e4 = absurd (omega (arith, n))
-declaration_there (a ∷ []) v w x y z n e0 e1 e2 e3 e4 = absurd (omega (arith, n))
-declaration_there (a ∷ b ∷ []) v w x y z n e0 e1 e2 e3 e4 = absurd (omega (arith, n))
-declaration_there (a ∷ b ∷ c ∷ []) v w x y z n e0 e1 e2 e3 e4 = absurd (omega (arith, n))
-declaration_there (a ∷ b ∷ c ∷ d ∷ []) v w x y z n e0 e1 e2 e3 e4 = absurd (omega (arith, n))
-declaration_there (a ∷ b ∷ c ∷ d ∷ e ∷ []) v w x y z n e0 e1 e2 e3 e4 = cc
-declaration_there (a ∷ b ∷ c ∷ d ∷ e ∷ f ∷ fs) v w x y z n e0 e1 e2 e3 e4 = absurd (omega (arith, n))
+    → Some (record { dataset = v; component = w; role = x; kind = y; code_list = z; nullable = None }) ≡ of_five fs
+five_there [] v w x y z n e0 e1 e2 e3 e4 = absurd (omega (arith, n))
+five_there (a ∷ []) v w x y z n e0 e1 e2 e3 e4 = absurd (omega (arith, n))
+five_there (a ∷ b ∷ []) v w x y z n e0 e1 e2 e3 e4 = absurd (omega (arith, n))
+five_there (a ∷ b ∷ c ∷ []) v w x y z n e0 e1 e2 e3 e4 = absurd (omega (arith, n))
+five_there (a ∷ b ∷ c ∷ d ∷ []) v w x y z n e0 e1 e2 e3 e4 = absurd (omega (arith, n))
+five_there (a ∷ b ∷ c ∷ d ∷ e ∷ []) v w x y z n e0 e1 e2 e3 e4 = cc
+five_there (a ∷ b ∷ c ∷ d ∷ e ∷ f ∷ fs) v w x y z n e0 e1 e2 e3 e4 = absurd (omega (arith, n))
+
+-- a list of six
+six : (P : List (List ℕ) → Type 0) → ((a b c d e f : List ℕ) → P (a ∷ b ∷ c ∷ d ∷ e ∷ f ∷ [])) → (fs : List (List ℕ)) → length fs ≡ 6 → P fs
+six P p [] n = absurd (omega (arith, n))
+six P p (a ∷ []) n = absurd (omega (arith, n))
+six P p (a ∷ b ∷ []) n = absurd (omega (arith, n))
+six P p (a ∷ b ∷ c ∷ []) n = absurd (omega (arith, n))
+six P p (a ∷ b ∷ c ∷ d ∷ []) n = absurd (omega (arith, n))
+six P p (a ∷ b ∷ c ∷ d ∷ e ∷ []) n = absurd (omega (arith, n))
+six P p (a ∷ b ∷ c ∷ d ∷ e ∷ f ∷ []) n = p a b c d e f
+six P p (a ∷ b ∷ c ∷ d ∷ e ∷ f ∷ g ∷ fs) n = absurd (omega (arith, n))
+
+pub six_there : (fs : List (List ℕ)) (u v w x y z : List ℕ) → length fs ≡ 6
+    → u ≡ get_or fs 0 u → v ≡ get_or fs 1 v → w ≡ get_or fs 2 w → x ≡ get_or fs 3 x → y ≡ get_or fs 4 y → z ≡ get_or fs 5 z
+    → Some (record { dataset = u; component = v; role = w; kind = x; code_list = y; nullable = Some z }) ≡ of_six fs
+six_there fs u v w x y z n =
+    six (λ l. u ≡ get_or l 0 u → v ≡ get_or l 1 v → w ≡ get_or l 2 w → x ≡ get_or l 3 x → y ≡ get_or l 4 y → z ≡ get_or l 5 z
+    → Some (record { dataset = u; component = v; role = w; kind = x; code_list = y; nullable = Some z }) ≡ of_six l)
+    (λ a b c d e f e0 e1 e2 e3 e4 e5. cc) fs n
 
 -- the parts after the first
 abbrev pub other_parts : List ℕ → List (List ℕ)
@@ -190,34 +213,51 @@ codes_of-fit role kind (b ∷ bs) texts e = go (is_string_identifier role kind) 
 ok_same : {X : Type 0} (x y : X) → ◌≡◌ {A = Result X ℕ} (Ok x) (Ok y) → x ≡ y
 ok_same x y e = cc
 
-not_full : (n : ℕ) → nat_le most_components n ≡ false → n < most_components
-not_full n e = grind (arith, nat_tests)
+not_full : (v : Version) (n : ℕ) → nat_le (most_in v) n ≡ false → n < most_components
+not_full ve.First n e = grind (arith, nat_tests)
+not_full ve.Second n e = grind (arith, nat_tests)
 
 negated : (b : Bool) → b ≡ false → not b ≡ true
 negated b e = ap not e
 
--- what a record declares fits what the records before it declare
-pub declared_fits : (so_far : Named) (d : Declaration) (p : List ℕ × Component) → declared_by so_far d ≡ Ok p → Fits p.1 (components_of p.0 so_far)
-declared_fits so_far d p e =
-    let s3 = or_rule-kept 3 (dataset_in d.dataset) _ p e in
-    let s4 = or_rule-kept 4 (component_in d.component) _ p s3.2 in
-    let s5 = or_rule-kept 5 (role_in d.role) _ p s4.2 in
-    let s6 = or_rule-kept 6 (kind_in d.kind) _ p s5.2 in
-    let s7 = unless_rule-kept 7 (has_component so_far s3.0 s4.0) _ p s6.2 in
-    let s8 = or_rule-kept 8 (codes_of s5.0 s6.0 d.code_list) _ p s7.1 in
-    let s9 = unless_rule-kept 9 (is_full so_far s3.0) _ p s8.2 in
+-- only a component that is no identifier stands on the list
+listed_is : (role : Role) (nullable : Option (List ℕ)) (listed : Bool) → listed_by role nullable ≡ Some listed → OnTrue listed (is_identifier_role role ≡ false)
+listed_is role None listed e = let same : false ≡ listed = cc in subst (λ b. OnTrue b (is_identifier_role role ≡ false)) same tt
+listed_is role (Some f) listed e = go (says_not_null f) (says_null f && not (is_identifier_role role)) (is_identifier_role role) refl e
+  where
+    go : (a b i : Bool) → is_identifier_role role ≡ i → cond a (Some (not i)) (cond b (Some false) None) ≡ Some listed → OnTrue listed (is_identifier_role role ≡ false)
+    go true b true p q = let same : false ≡ listed = cc in subst (λ k. OnTrue k (is_identifier_role role ≡ false)) same tt
+    go true b false p q = let same : true ≡ listed = cc in subst (λ k. OnTrue k (is_identifier_role role ≡ false)) same p
+    go false true i p q = let same : false ≡ listed = cc in subst (λ k. OnTrue k (is_identifier_role role ≡ false)) same tt
+    go false false i p q = cc
+
+-- what a record declares fits what the records before it declare, and is listed lawfully
+pub declared_fits : (version : Version) (so_far : Named) (d : Declaration) (n : NewComponent) → declared_by version so_far d ≡ Ok n
+    → Fits n.component (components_of n.dataset so_far) × OnTrue n.is_listed (is_identifier_role n.component.role ≡ false)
+declared_fits version so_far d n e =
+    let s3 = or_rule-kept 3 (dataset_in d.dataset) _ n e in
+    let s4 = or_rule-kept 4 (component_in d.component) _ n s3.2 in
+    let s5 = or_rule-kept 5 (role_in d.role) _ n s4.2 in
+    let s6 = or_rule-kept 6 (kind_in d.kind) _ n s5.2 in
+    let s7 = unless_rule-kept 7 (has_component so_far s3.0 s4.0) _ n s6.2 in
+    let s8 = or_rule-kept 8 (codes_of s5.0 s6.0 d.code_list) _ n s7.1 in
+    let s9 = unless_rule-kept 9 (is_full version so_far s3.0) _ n s8.2 in
+    let s11 = or_rule-kept 11 (listed_by s5.0 d.nullable) _ n s9.1 in
     let x : Component = record { name = s4.0; role = s5.0; kind = s6.0; codes = s8.0 } in
-    let same : ◌≡◌ {A = List ℕ × Component} (s3.0, x) p = ok_same (s3.0, x) p s9.1 in
+    let m : NewComponent = record { dataset = s3.0; component = x; is_listed = s11.0 } in
+    let same : m ≡ n = ok_same m n s11.2 in
     let good : is_declarable_component x ≡ true =
     and_from (is_component_name s4.0 && not (is_null_kind s6.0)) (codes_fit x)
     (and_from (is_component_name s4.0) (not (is_null_kind s6.0)) (text_passes is_component_name d.component s4.0 s4.1) (negated (is_null_kind s6.0) (kind_in-is d.kind s6.0 s6.1)))
     (codes_of-fit s5.0 s6.0 d.code_list s8.0 s8.1) in
-    subst (λ (q : List ℕ × Component). Fits q.1 (components_of q.0 so_far)) same (good, s7.0, not_full (length (components_of s3.0 so_far)) s9.0)
+    subst (λ (k : NewComponent). Fits k.component (components_of k.dataset so_far) × OnTrue k.is_listed (is_identifier_role k.component.role ≡ false)) same
+    ((good, s7.0, not_full version (length (components_of s3.0 so_far)) s9.0), listed_is s5.0 d.nullable s11.0 s11.1)
 
-pub record_fits : (so_far : Named) (fields : List (List ℕ)) (p : List ℕ × Component) → record_of so_far fields ≡ Ok p → Fits p.1 (components_of p.0 so_far)
-record_fits so_far fields p e =
-    let s = or_rule-kept 2 (declaration_of fields) (declared_by so_far) p e in
-    declared_fits so_far s.0 p s.2
+pub record_fits : (version : Version) (so_far : Named) (fields : List (List ℕ)) (n : NewComponent) → record_of version so_far fields ≡ Ok n
+    → Fits n.component (components_of n.dataset so_far) × OnTrue n.is_listed (is_identifier_role n.component.role ≡ false)
+record_fits version so_far fields n e =
+    let s = or_rule-kept 2 (declaration_of version fields) (declared_by version so_far) n e in
+    declared_fits version so_far s.0 n s.2
 
 -- a text has no more records than bytes behind the first
 records_few : (cfg : Config) (n : ℕ) (s : State) (xs : List ℕ) → length (records_from cfg n s xs) ≤ n
@@ -243,14 +283,32 @@ stripped (a ∷ b ∷ c ∷ rest) = go (is_bom a b c)
     go true = omega arith
     go false = omega arith
 
-on_true : (b : Bool) (P : Type 0) → b ≡ true → OnTrue b P → P
-on_true true P e h = h
-on_true false P e h = cc
-
-pub few_behind : (text : List ℕ) (found : Bool) (all rest : List (List (List ℕ))) (first : List (List ℕ)) → all ≡ records default_config (strip_bom text)
-    → found ≡ true → OnTrue found (all ≡ first ∷ rest) → length rest ≤ length text
-few_behind text found all rest first a e h =
+-- no more records declare components than the text has bytes
+pub few_declaring : (text : List ℕ) (old new : List (List (List ℕ))) (version : Version) → old ≡ records default_config (strip_bom text) → new ≡ drop (headers_of version) old → length new ≤ length text
+few_declaring text old new version a e =
     let few = records_few default_config (length (strip_bom text) + 1) st.StartRecord (strip_bom text) in
     let short = stripped text in
-    let same : length (records default_config (strip_bom text)) ≡ suc (length rest) = ap length (sym a) ∙ ap length (on_true found (all ≡ first ∷ rest) e h) in
-    omega (arith, few, short, same)
+    let size : length old ≡ length (records default_config (strip_bom text)) = ap length a in
+    let left : length new ≡ length (drop (headers_of version) old) = ap length e in
+    let fewer = less version old in
+    omega (arith, few, short, size, left, fewer)
+  where
+    less : (v : Version) (rows : List (List (List ℕ))) → length (drop (headers_of v) rows) ≤ length rows - 1
+    less ve.First [] = omega arith
+    less ve.First (r ∷ rows) = omega arith
+    less ve.Second [] = omega arith
+    less ve.Second (r ∷ []) = omega arith
+    less ve.Second (r ∷ q ∷ rows) = omega arith
+
+-- what holds of a value holds of the one that is there
+pub of_ok : {A E : Type 0} (P : A → Type 0) (r : Result A E) (x : A) → r ≡ Ok x → IfOk r P → P x
+of_ok P (Ok y) x e p = let same : y ≡ x = cc in subst P same p
+of_ok P (Err y) x e p = cc
+
+pub profile_there : (fs : List (List ℕ)) (a b s m e f : List ℕ) → length fs ≡ 6
+    → a ≡ get_or fs 0 a → b ≡ get_or fs 1 b → e ≡ get_or fs 4 e → f ≡ get_or fs 5 f → s ≡ get_or fs 2 s → m ≡ get_or fs 3 m
+    → cond (same_name a (codes "structures") && same_name b (codes "2") && same_name e [] && same_name f []) (settings_in s m) None ≡ profile_in fs
+profile_there fs a b s m e f n =
+    six (λ l. a ≡ get_or l 0 a → b ≡ get_or l 1 b → e ≡ get_or l 4 e → f ≡ get_or l 5 f → s ≡ get_or l 2 s → m ≡ get_or l 3 m
+    → cond (same_name a (codes "structures") && same_name b (codes "2") && same_name e [] && same_name f []) (settings_in s m) None ≡ profile_in l)
+    (λ u v w x y z e0 e1 e2 e3 e4 e5. cc) fs n

@@ -18,6 +18,7 @@ pub mod RecordTextLemmas
 pub mod RecordsLeftLemmas
 pub mod RepeatLemmas
 pub mod SortedCodeLemmas
+pub mod StructuresTextLemmas
 pub mod RowTextLemmas
 pub mod TableTextLemmas
 pub mod TakenLemmas

@@ -1,7 +1,7 @@
 -- What a record of a structures file says, and the rules that it keeps.
-use Rattle.std.specs.Prelude.{ℕ, Bool, ◌&&◌, ◌==◌, List, [], ◌∷◌, length, nat_le, Option, Some, None, ok_or, Result, Ok, Err, option_map, chars, codes, if◌then◌else◌}
+use Rattle.std.specs.Prelude.{ℕ, Bool, true, false, not, ◌&&◌, ◌==◌, List, [], ◌∷◌, length, nat_le, Option, Some, None, ok_or, Result, Ok, Err, option_map, chars, codes, if◌then◌else◌}
 use Rattle.std.specs.List.{list_any}
-use Rattle.std.specs.Option.{option_and_then}
+use Rattle.std.specs.Option.{option_and_then, option_map_or}
 use Rattle.std.specs.Str.{is_utf8}
 use Rattle.vtl_lists.specs.Aliases.{Field, Name, Record, Text}
 use Rattle.vtl_lists.specs.Results.{◌>>=◌}
@@ -12,26 +12,40 @@ use Rattle.vtl_cell.specs.declared.kind.Kind.{Kind}
 use Rattle.vtl_cell.specs.declared.kind.Kind.TheVariants as k
 use Rattle.vtl_tree.specs.declared.structure.Role.{Role}
 use Rattle.vtl_tree.specs.declared.structure.Role.TheVariants as r
-use Rattle.vtl_tree.specs.declared.structure.Component.{Component}
-use Rattle.vtl_tree.specs.Structure.{most_components, names_of, same_name}
-use Rattle.vtl_tree.specs.Structures.{Named, components_of, is_filled, is_string_identifier}
+use Rattle.vtl_tree.specs.Structure.{most_components, names_of, same_name, same_role}
+use Rattle.vtl_tree.specs.Structures.{Named, components_of, is_filled, is_string_identifier, with_component}
+use Rattle.vtl_tree.specs.NotNull.{Declared, with_name}
+use Rattle.vtl_csv.specs.declared.declarations.TheConstants.{MOST_IN_FIRST}
+use Rattle.vtl_csv.specs.declared.declarations.NewComponent.{NewComponent}
+use Rattle.vtl_csv.specs.declared.version.Version.{Version}
+use Rattle.vtl_csv.specs.declared.version.Version.TheVariants as v
 
--- the fields of a record that has five
+-- the fields of a record; the last is there in version 2
 pub record Declaration : Type 0 where
   pub dataset : Field
   pub component : Field
   pub role : Field
   pub kind : Field
   pub code_list : Field
+  pub nullable : Option Field
 
-abbrev pub declaration_of : Record → Option Declaration
-declaration_of (a ∷ b ∷ c ∷ d ∷ e ∷ []) = Some (record { dataset = a; component = b; role = c; kind = d; code_list = e })
-declaration_of _ = None
+abbrev pub of_five : Record → Option Declaration
+of_five (a ∷ b ∷ c ∷ d ∷ e ∷ []) = Some (record { dataset = a; component = b; role = c; kind = d; code_list = e; nullable = None })
+of_five _ = None
+
+abbrev pub of_six : Record → Option Declaration
+of_six (a ∷ b ∷ c ∷ d ∷ e ∷ f ∷ []) = Some (record { dataset = a; component = b; role = c; kind = d; code_list = e; nullable = Some f })
+of_six _ = None
+
+-- the fields of a record that has as many as its version asks for
+abbrev pub declaration_of : Version → Record → Option Declaration
+declaration_of v.First fields = of_five fields
+declaration_of v.Second fields = of_six fields
 
 abbrev pub is_heading : Declaration → Bool
 is_heading d =
     same_name d.dataset (codes "dataset") && same_name d.component (codes "component") && same_name d.role (codes "role")
-    && same_name d.kind (codes "type") && same_name d.code_list (codes "codes")
+    && same_name d.kind (codes "type") && same_name d.code_list (codes "codes") && option_map_or (λ f. same_name f (codes "nullable")) d.nullable true
 
 -- the characters of a field that is a text
 abbrev pub text_in : Field → Option Text
@@ -94,22 +108,53 @@ codes_of role kind (b ∷ bs) = if is_string_identifier role kind then option_ma
 abbrev pub has_component : Named → Name → Name → Bool
 has_component so_far dataset name = list_any (same_name name) (names_of (components_of dataset so_far))
 
--- the data set has as many components as it may have
-abbrev pub is_full : Named → Name → Bool
-is_full so_far dataset = nat_le most_components (length (components_of dataset so_far))
+-- the most components that a data set may have
+abbrev pub most_in : Version → ℕ
+most_in v.First = MOST_IN_FIRST
+most_in v.Second = most_components
 
--- the component that a record declares and its data set, or the first rule that the record breaks; `so_far` is what the
--- records before it declare
-abbrev pub declared_by : Named → Declaration → Result (Name × Component) ℕ
-declared_by so_far d =
+-- the data set has as many components as it may have
+abbrev pub is_full : Version → Named → Name → Bool
+is_full version so_far dataset = nat_le (most_in version) (length (components_of dataset so_far))
+
+abbrev pub is_identifier_role : Role → Bool
+is_identifier_role role = same_role role r.Identifier
+
+-- whether the field says that the value may not be null
+abbrev pub says_not_null : Field → Bool
+says_not_null f = same_name f (codes "false")
+
+-- whether the field says that the value may be null
+abbrev pub says_null : Field → Bool
+says_null f = same_name f (codes "true")
+
+-- Whether a component of this role stands on the not-null list, by the field `nullable` where there is one. No identifier
+-- is null, so it is never said to be nullable, and never listed.
+abbrev pub listed_by : Role → Option Field → Option Bool
+listed_by role None = Some false
+listed_by role (Some f) =
+    if says_not_null f then Some (not (is_identifier_role role))
+    else (if says_null f && not (is_identifier_role role) then Some false else None)
+
+-- the component that a record declares, or the first rule that the record breaks; `so_far` is what the records before it
+-- declare
+abbrev pub declared_by : Version → Named → Declaration → Result NewComponent ℕ
+declared_by version so_far d =
     ok_or (dataset_in d.dataset) 3 >>= λ dataset.
     ok_or (component_in d.component) 4 >>= λ name.
     ok_or (role_in d.role) 5 >>= λ role.
     ok_or (kind_in d.kind) 6 >>= λ kind.
     if has_component so_far dataset name then Err 7
     else (ok_or (codes_of role kind d.code_list) 8 >>= λ texts.
-    if is_full so_far dataset then Err 9
-    else Ok (dataset, record { name = name; role = role; kind = kind; codes = texts }))
+    if is_full version so_far dataset then Err 9
+    else (ok_or (listed_by role d.nullable) 11 >>= λ listed.
+    Ok (record { dataset = dataset; component = record { name = name; role = role; kind = kind; codes = texts }; is_listed = listed })))
 
-abbrev pub record_of : Named → Record → Result (Name × Component) ℕ
-record_of so_far fields = ok_or (declaration_of fields) 2 >>= declared_by so_far
+abbrev pub record_of : Version → Named → Record → Result NewComponent ℕ
+record_of version so_far fields = ok_or (declaration_of version fields) 2 >>= declared_by version so_far
+
+-- with one more component, whose name is on the list of its data set or not
+abbrev pub with_new : NewComponent → Declared → Declared
+with_new n d =
+    let sets = with_component n.dataset n.component d.sets in
+    record { sets = sets; not_null = if n.is_listed then with_name n.dataset n.component.name sets d.not_null else d.not_null }

@@ -6,6 +6,7 @@ pub mod FaultFields
 pub mod InputFields
 pub mod InputFile
 pub mod InputSteps
+pub mod Opening
 pub mod Plain
 pub mod PlainLines
 pub mod ReadAgain
@@ -14,4 +15,5 @@ pub mod RestOfText
 pub mod RowsWritten
 pub mod SortedCodes
 pub mod StructuresFile
+pub mod StructuresText
 pub mod TableText

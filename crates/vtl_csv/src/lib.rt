@@ -21,6 +21,7 @@ mod input;
 mod input_fields;
 mod input_laws;
 mod laws;
+mod opening;
 mod plain_integers;
 mod plain_lines;
 mod reading;
@@ -29,8 +30,10 @@ mod records;
 mod repeats;
 mod row_text;
 mod structures;
+mod structures_text;
 mod table_text;
 mod text_pool;
+mod version;
 
 pub use dataset::read_dataset;
 pub use fields::Fields;
@@ -45,5 +48,6 @@ pub use laws::{
 };
 pub use reading::column;
 pub use records::RecordReader;
-pub use structures::{StructErr, read_structures};
+pub use structures::{Declared, StructErr, read_structures};
+pub use structures_text::write_structures;
 pub use table_text::{write_dataset, write_rows, write_table};

@@ -8,7 +8,9 @@
 //! Begin with specs/Perm.antt and specs/Sorting.antt.
 #![tactic(auto)]
 
-ghost use Rattle.std.specs.Prelude.{◌≡◌, List, IsPermutation, Bool};
+ghost use Rattle.std.specs.Prelude.{◌≡◌, ◌≤◌, ◌+◌, ◌^◌, ℕ, suc, List, length, map, IsPermutation, Bool, true};
+ghost use Rattle.std.specs.List.{AllByRecursion};
+ghost use Rattle.vtl_lists.specs.Balanced.{balanced, gathered};
 ghost use Rattle.vtl_lists.specs.Perm.{Perm};
 ghost use Rattle.vtl_lists.specs.Sorting.{IsOrder, Rises, sorted_by};
 
@@ -24,4 +26,14 @@ pub fn sorted_is_one<T>()
     ensures same { (le : T → T → Bool) (xs ys : List T) → IsOrder le → Perm xs ys → sorted_by le xs ≡ sorted_by le ys }
     ensures items { (le : T → T → Bool) (xs : List T) → IsOrder le → Perm (sorted_by le xs) xs }
     ensures rises { (le : T → T → Bool) (xs : List T) → IsOrder le → Rises le (sorted_by le xs) }
+{}
+
+/// Items that are joined two by two are joined: what joining keeps holds of the whole, another form of the items is
+/// joined likewise, and where it does not matter how items are grouped the whole is what they are one behind the other.
+/// It is one deeper than the deepest item for each doubling of their number, at most.
+pub fn balanced_is_shallow<T>()
+    ensures kept { (f : T → T → T) (p : T → Bool) (d : T) (xs : List T) → ((x y : T) → p x ≡ true → p y ≡ true → p (f x y) ≡ true) → p d ≡ true → AllByRecursion (λ x. p x ≡ true) xs → p (balanced f d xs) ≡ true }
+    ensures mapped { (f : T → T → T) (g : ℕ → ℕ → ℕ) (h : T → ℕ) (d : T) (xs : List T) → ((x y : T) → h (f x y) ≡ g (h x) (h y)) → h (balanced f d xs) ≡ balanced g (h d) (map h xs) }
+    ensures gathered { (f : T → T → T) (u : T) (xs : List T) → ((x y z : T) → f (f x y) z ≡ f x (f y z)) → ((x : T) → f x u ≡ x) → balanced f u xs ≡ gathered f u xs }
+    ensures depth { (f : T → T → T) (depth : T → ℕ) (k m : ℕ) (d : T) (xs : List T) → ((n : ℕ) (x y : T) → depth x ≤ n → depth y ≤ n → depth (f x y) ≤ suc n) → length xs ≤ 2 ^ k → depth d ≤ m → AllByRecursion (λ x. depth x ≤ m) xs → depth (balanced f d xs) ≤ m + k }
 {}

@@ -16,7 +16,7 @@ use vtl_tree::{Structure, Structures};
 pub(crate) fn rewritten(alloc: Global, row: &Row) -> Result<String, CaseErr> {
     let profile = profile(row.field(0), row.field(1))?;
     match read_structures(alloc, row.field(2).as_bytes()) {
-        Ok(structures) => one_read(alloc, &structures, row.field(3), &profile),
+        Ok(declared) => one_read(alloc, &declared.structures, row.field(3), &profile),
         Err(StructErr::Structure { .. }) => Err(CaseErr::Structures),
         Err(StructErr::OutOfMemory) => Err(CaseErr::OutOfMemory),
     }

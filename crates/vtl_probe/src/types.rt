@@ -38,7 +38,7 @@ fn over_structures(
     requires { AreWritten (script_tree script.now) }
 {
     match read_structures(alloc, structures.as_bytes()) {
-        Ok(structures) => with_structures(alloc, script, &structures, profile),
+        Ok(declared) => with_structures(alloc, script, &declared.structures, profile),
         Err(error) => refusals::of_structures(alloc, error),
     }
 }

@@ -36,7 +36,7 @@ abbrev pub script_limit : ℕ
 script_limit = 65536
 
 abbrev pub structures_limit : ℕ
-structures_limit = 1048576
+structures_limit = 4194304
 
 abbrev pub csv_limit : ℕ
 csv_limit = 67108864

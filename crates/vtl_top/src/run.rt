@@ -32,7 +32,7 @@ use vtl_tree::Structures;
 
 pub(crate) const SCRIPT_LIMIT: usize = 65_536;
 
-const STRUCTURES_LIMIT: usize = 1_048_576;
+const STRUCTURES_LIMIT: usize = 4_194_304;
 
 // The status of a script file whose text is no script.
 pub(crate) fn unparsed(error: ParseErr) -> Status

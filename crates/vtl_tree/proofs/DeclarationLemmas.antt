@@ -65,20 +65,20 @@ declaration_found test (x ∷ xs) d h e = go (test x.0) (declaration_found test 
         subst (λ y. (is_declarable y.structure ≡ true) × (are_not_null y.structure y.not_null ≡ true)) same (and_parts (is_declarable x.1.structure) (are_not_null x.1.structure x.1.not_null) parts.0)
     go false ih q = ih q
 
-same_any : (p q : List ℕ) (ks : List (List ℕ)) → same_name p q ≡ true → list_any (same_name p) ks ≡ list_any (same_name q) ks
+pub same_any : (p q : List ℕ) (ks : List (List ℕ)) → same_name p q ≡ true → list_any (same_name p) ks ≡ list_any (same_name q) ks
 same_any p q [] s = refl
 same_any p q (k ∷ ks) s = ap (λ b. b || list_any (same_name p) ks) (nat_list_eq_equiv.congr p q k s) ∙ ap (λ b. same_name q k || b) (same_any p q ks s)
 
-or_none : (a b : Bool) → (a || b) ≡ false → (a ≡ false) × (b ≡ false)
+pub or_none : (a b : Bool) → (a || b) ≡ false → (a ≡ false) × (b ≡ false)
 or_none false false e = (refl, refl)
 or_none false true e = cc
 or_none true b e = cc
 
-not_false : (b : Bool) → not b ≡ true → b ≡ false
+pub not_false : (b : Bool) → not b ≡ true → b ≡ false
 not_false false e = refl
 not_false true e = cc
 
-not_listed : (xs : Held) (name : List ℕ) → list_any (same_name name) (keys_of xs) ≡ false → lookup (same_name name) (lists_of xs) ≡ None
+pub not_listed : (xs : Held) (name : List ℕ) → list_any (same_name name) (keys_of xs) ≡ false → lookup (same_name name) (lists_of xs) ≡ None
 not_listed [] name e = refl
 not_listed (x ∷ xs) name e =
     let parts = or_none (same_name name x.0) (list_any (same_name name) (keys_of xs)) e in
@@ -125,7 +125,7 @@ put_leaves xs new name d (Err a) h e s l put kept = subst AreDeclarations (sym k
 
 -- ---- one more component of a name that is there
 
-any_more : (p : Component → Bool) (xs : List Component) (x : Component) → list_any p xs ≡ true → list_any p (xs ++ x ∷ []) ≡ true
+pub any_more : (p : Component → Bool) (xs : List Component) (x : Component) → list_any p xs ≡ true → list_any p (xs ++ x ∷ []) ≡ true
 any_more p [] x e = cc
 any_more p (y ∷ ys) x e = go (p y) (any_more p ys x) e
   where
@@ -133,7 +133,7 @@ any_more p (y ∷ ys) x e = go (p y) (any_more p ys x) e
     go true ih q = refl
     go false ih q = ih q
 
-names_more : (xs : List Component) (x : Component) (ns : List (List ℕ)) → list_all (λ n. list_any (is_no_identifier n) xs) ns ≡ true → list_all (λ n. list_any (is_no_identifier n) (xs ++ x ∷ [])) ns ≡ true
+pub names_more : (xs : List Component) (x : Component) (ns : List (List ℕ)) → list_all (λ n. list_any (is_no_identifier n) xs) ns ≡ true → list_all (λ n. list_any (is_no_identifier n) (xs ++ x ∷ [])) ns ≡ true
 names_more xs x [] h = refl
 names_more xs x (n ∷ ns) h =
     let parts = and_parts (list_any (is_no_identifier n) xs) (list_all (λ m. list_any (is_no_identifier m) xs) ns) h in
@@ -144,7 +144,7 @@ list_fits_more xs x ns h =
     let parts = and_parts (list_all (λ n. list_any (is_no_identifier n) xs) ns) (all_apart same_name ns) h in
     and_from (list_all (λ n. list_any (is_no_identifier n) (xs ++ x ∷ [])) ns) (all_apart same_name ns) (names_more xs x ns parts.0) parts.1
 
-keys_set : (test : List ℕ → Bool) (xs : Held) (d : Declaration) → keys_of (set_value test xs d) ≡ keys_of xs
+pub keys_set : (test : List ℕ → Bool) (xs : Held) (d : Declaration) → keys_of (set_value test xs d) ≡ keys_of xs
 keys_set test [] d = refl
 keys_set test (x ∷ xs) d = go (test x.0) (keys_set test xs d)
   where
@@ -184,46 +184,55 @@ lists_set test (x ∷ xs) s d e q = go (test x.0) (lists_set test xs s d) e
 -- what a component that is added to a data set leaves, whether there was memory or not; another declaration stood in its
 -- place meanwhile
 module _ (xs between new : Held) (name : List ℕ) (x : Component) (s t other : Declaration) (h : AreDeclarations xs) (f : Fits x (components_of name (sets_of xs)))
-    (found : lookup (same_name name) xs ≡ Some s) (taken : between ≡ set_value (same_name name) xs other) (put : new ≡ set_value (same_name name) between t)
-    (list : t.not_null ≡ s.not_null) where
-  written : new ≡ set_value (same_name name) xs t
+    (found : lookup (same_name name) xs ≡ Some s) (taken : between ≡ set_value (same_name name) xs other) (put : new ≡ set_value (same_name name) between t) where
+  pub written : new ≡ set_value (same_name name) xs t
   written = put ∙ ap (λ l. set_value (same_name name) l t) taken ∙ set_twice (same_name name) xs other t
 
   seen : lookup (same_name name) (sets_of xs) ≡ Some s.structure
   seen = lookup_seen (same_name name) xs ∙ ap (option_map (λ d. d.structure)) found
 
-  was : (is_declarable s.structure ≡ true) × (are_not_null s.structure s.not_null ≡ true)
+  pub was : (is_declarable s.structure ≡ true) × (are_not_null s.structure s.not_null ≡ true)
   was = declaration_found (same_name name) xs s h.all found
 
-  set_are : is_declarable t.structure ≡ true → are_not_null t.structure s.not_null ≡ true → AreDeclarations new
+  pub set_are : is_declarable t.structure ≡ true → are_not_null t.structure t.not_null ≡ true → AreDeclarations new
   set_are e l = subst AreDeclarations (sym written) (record {
-    all = all_set (same_name name) xs t h.all (λ n. and_from (is_declarable t.structure) (are_not_null t.structure t.not_null) e (ap (are_not_null t.structure) list ∙ l));
+    all = all_set (same_name name) xs t h.all (λ n. and_from (is_declarable t.structure) (are_not_null t.structure t.not_null) e l);
     distinct = ap (all_apart same_name) (keys_set (same_name name) xs t) ∙ h.distinct;
   })
 
-  fits : Fits x s.structure.components
+  pub fits : Fits x s.structure.components
   fits = subst (λ (o : Option Structure). Fits x (option_map_or (λ d. d.components) o [])) seen f
 
-  pub pushed_are : {A E : Type 0} (r : Result A E) → OnOk r (t.structure ≡ structure_of (s.structure.components ++ x ∷ [])) → OnErr r (t.structure ≡ s.structure) → AreDeclarations new
-  pushed_are (Ok a) e k = set_are (ap is_declarable e ∙ more_is_declarable s.structure.components x was.0 fits) (ap (λ d. are_not_null d s.not_null) e ∙ list_fits_more s.structure.components x s.not_null was.1)
-  pushed_are (Err a) e k = set_are (ap is_declarable k ∙ was.0) (ap (λ d. are_not_null d s.not_null) k ∙ was.1)
+  -- the structure and the list as they were
+  pub same_are : t.structure ≡ s.structure → t.not_null ≡ s.not_null → AreDeclarations new
+  same_are e l = set_are (ap is_declarable e ∙ was.0) (ap (are_not_null t.structure) l ∙ ap (λ d. are_not_null d s.not_null) e ∙ was.1)
+
+  pub pushed_are : {A E : Type 0} → t.not_null ≡ s.not_null → (r : Result A E) → OnOk r (t.structure ≡ structure_of (s.structure.components ++ x ∷ [])) → OnErr r (t.structure ≡ s.structure) → AreDeclarations new
+  pushed_are list (Ok a) e k =
+      set_are (ap is_declarable e ∙ more_is_declarable s.structure.components x was.0 fits)
+      (ap (are_not_null t.structure) list ∙ ap (λ d. are_not_null d s.not_null) e ∙ list_fits_more s.structure.components x s.not_null was.1)
+  pushed_are list (Err a) e k = same_are k list
 
   sets_written : sets_of new ≡ set_value (same_name name) (sets_of xs) t.structure
   sets_written = ap sets_of written ∙ sets_set (same_name name) xs t
 
-  lists_written : lists_of new ≡ lists_of xs
-  lists_written = ap lists_of written ∙ lists_set (same_name name) xs s t found list
+  lists_written : t.not_null ≡ s.not_null → lists_of new ≡ lists_of xs
+  lists_written list = ap lists_of written ∙ lists_set (same_name name) xs s t found list
 
   pub pushed_added : {A E : Type 0} (r : Result A E) → OnOk r (t.structure ≡ structure_of (s.structure.components ++ x ∷ [])) → OnOk r (sets_of new ≡ with_component name x (sets_of xs))
   pushed_added (Ok a) e = sets_written ∙ ap (set_value (same_name name) (sets_of xs)) e ∙ goes_on (sets_of xs) name x s.structure seen
   pushed_added (Err a) e = tt
 
-  pub pushed_lists : {A E : Type 0} (r : Result A E) → OnOk r (lists_of new ≡ lists_of xs)
-  pushed_lists (Ok a) = lists_written
-  pushed_lists (Err a) = tt
+  pub pushed_lists : {A E : Type 0} → t.not_null ≡ s.not_null → (r : Result A E) → OnOk r (lists_of new ≡ lists_of xs)
+  pushed_lists list (Ok a) = lists_written list
+  pushed_lists list (Err a) = tt
 
-  pub pushed_kept : {A E : Type 0} (r : Result A E) → OnErr r (t.structure ≡ s.structure) → OnErr r (declared new ≡ declared xs)
-  pushed_kept (Ok a) k = tt
-  pushed_kept (Err a) k =
+  -- what is seen is as it was
+  pub seen_kept : t.structure ≡ s.structure → t.not_null ≡ s.not_null → declared new ≡ declared xs
+  seen_kept k list =
       ap (λ l. record { sets = l; not_null = lists_of new }) (sets_written ∙ ap (set_value (same_name name) (sets_of xs)) k ∙ set_value_same (same_name name) (sets_of xs) s.structure seen)
-      ∙ ap (λ l. record { sets = sets_of xs; not_null = l }) lists_written
+      ∙ ap (λ l. record { sets = sets_of xs; not_null = l }) (lists_written list)
+
+  pub pushed_kept : {A E : Type 0} → t.not_null ≡ s.not_null → (r : Result A E) → OnErr r (t.structure ≡ s.structure) → OnErr r (declared new ≡ declared xs)
+  pushed_kept list (Ok a) k = tt
+  pushed_kept list (Err a) k = seen_kept k list

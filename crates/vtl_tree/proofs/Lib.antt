@@ -4,5 +4,6 @@ pub mod CountLemmas
 pub mod DeclarationLemmas
 pub mod Faults
 pub mod LookUps
+pub mod NotNullLemmas
 pub mod StructuresLemmas
 pub mod Twins

@@ -1,6 +1,6 @@
 -- Structures by name, and which of their components are never null.
-use Rattle.std.specs.Prelude.{ℕ, Bool, not, ◌&&◌, List, [], ◌∷◌, unwrap_or}
-use Rattle.std.specs.List.{list_all, list_any}
+use Rattle.std.specs.Prelude.{ℕ, Bool, not, ◌&&◌, List, [], ◌∷◌, ◌++◌, unwrap_or, if◌then◌else◌}
+use Rattle.std.specs.List.{flat_map, list_all, list_any}
 use Rattle.std.specs.Map.{lookup}
 use Rattle.vtl_lists.specs.Apart.{all_apart}
 use Rattle.vtl_tree.specs.declared.structure.Component.{Component}
@@ -37,3 +37,11 @@ not_null_of name ls = unwrap_or (lookup (same_name name) ls) []
 abbrev pub with_list : List ℕ → List (List ℕ) → NotNull
 with_list name [] = []
 with_list name (n ∷ ns) = (name, n ∷ ns) ∷ []
+
+-- the list of a data set, once one more name stands last on the list of the data set of this name
+abbrev pub longer_list : List ℕ → List ℕ → NotNull → List ℕ → List (List ℕ)
+longer_list dataset name ls other = if same_name dataset other then not_null_of other ls ++ name ∷ [] else not_null_of other ls
+
+-- the lists of these data sets, in their order, once one more name stands last on the list of one of them
+abbrev pub with_name : List ℕ → List ℕ → Named → NotNull → NotNull
+with_name dataset name sets ls = flat_map (λ e. with_list e.0 (longer_list dataset name ls e.0)) sets

@@ -1,8 +1,10 @@
-use Rattle.std.proofs.Common.{arith}
-use Rattle.vtl_csv.proofs.DeclarationLemmas.{few_behind}
+use Rattle.std.proofs.Common.{◌≡◌, drop, arith}
+use Rattle.vtl_csv.specs.Opening.{headers_of}
+use Rattle.vtl_csv.proofs.DeclarationLemmas.{few_declaring, of_ok}
 use Rattle.vtl_csv.proofs.structures.add_lines.Goals as goal
 
 pub add_records-requires : goal.add_records-requires
 add_records-requires c =
-    let few = few_behind c.args.text.now c.in_ok-next.field-0 c.new-reader.result c.next.new.self c.next.new.fields c.new-reader.ensures c.if-not-branch.false c.in_ok-next.ensures.found in
+    let rest = of_ok (λ o. c.read_opening.new.reader ≡ drop (headers_of o.version) c.new-reader.result) c.in_ok-opening.field-0 c.in-Ok.opening c.in-Ok.is c.in_ok-opening.ensures.rest in
+    let few = few_declaring c.args.text.now c.new-reader.result c.read_opening.new.reader c.in-Ok.opening.version c.new-reader.ensures rest in
     omega (arith, few)

@@ -1,8 +1,8 @@
 use Rattle.std.proofs.Common.{arith}
-use Rattle.vtl_csv.proofs.DeclarationLemmas.{few_behind}
+use Rattle.vtl_csv.proofs.DeclarationLemmas.{few_declaring}
 use Rattle.vtl_csv.proofs.structures.missing_identifier.Goals as goal
 
 pub without_identifier-requires : goal.without_identifier-requires
 without_identifier-requires c =
-    let few = few_behind c.args.text.now c.in_ok-next.field-0 c.new-reader.result c.next.new.self c.next.new.fields c.new-reader.ensures c.if-not-branch.false c.in_ok-next.ensures.found in
+    let few = few_declaring c.args.text.now c.new-reader.result c.skip_opening.new.reader c.args.version c.new-reader.ensures c.in_ok-skip_opening.ensures in
     omega (arith, few)

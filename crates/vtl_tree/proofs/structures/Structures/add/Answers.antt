@@ -22,8 +22,7 @@ returns-in-Some-clause-added c =
     let xs = c.self.inside.by_name in
     let fits = rw (← c.self.view_is) at c.requires in
     rw (← c.self.view_is) (pushed_added xs c.replace.new.self c.replace-in-Some.new.self c.args.name c.args.component c.in-Some.declaration c.push_component-pushed.new.declaration c.no_components.result
-    c.self.invariant fits (sym c.in-Some.ensures.before) c.replace.ensures.replaced c.replace-in-Some.ensures.replaced c.push_component-pushed.ensures.list c.push_component-pushed.result
-    c.push_component-pushed.ensures.added)
+    c.self.invariant fits (sym c.in-Some.ensures.before) c.replace.ensures.replaced c.replace-in-Some.ensures.replaced c.push_component-pushed.result c.push_component-pushed.ensures.added)
 
 pub returns-in-Some-clause-lists : goal.returns-in-Some-clause-lists
 returns-in-Some-clause-lists c =
