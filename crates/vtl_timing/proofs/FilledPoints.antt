@@ -100,7 +100,7 @@ all_any : {X : Type 0} (P : X → Type 0) → ((x : X) → P x) → (xs : List X
 all_any P f [] = tt
 all_any P f (x ∷ xs) = (f x, all_any P f xs)
 
-series_each : (e : Extent) (on : ℕ) (by : List ℕ) (G P : Row → Type 0) → ((q : Row) → G q → (f : Frequency) (i : ℕ) → P (dated f (cells_at by q) i)) → (rows : List Row) → AllByRecursion G rows → AllByRecursion P (series_rows e on by rows)
+pub series_each : (e : Extent) (on : ℕ) (by : List ℕ) (G P : Row → Type 0) → ((q : Row) → G q → (f : Frequency) (i : ℕ) → P (dated f (cells_at by q) i)) → (rows : List Row) → AllByRecursion G rows → AllByRecursion P (series_rows e on by rows)
 series_each e on by G P h rows all =
     let K : Row → Type 0 = λ key. (f : Frequency) (i : ℕ) → P (dated f key i) in
     all_flat K P (tuple_rows e on by rows)
