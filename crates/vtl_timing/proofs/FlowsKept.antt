@@ -15,7 +15,7 @@ use Rattle.vtl_decimal.specs.Settings.{Settings}
 use Rattle.vtl_cell.specs.AggregateKinds.{is_number}
 use Rattle.vtl_cell.specs.Conversion.{as_kind}
 use Rattle.vtl_cell.specs.Groups.{group_value}
-use Rattle.vtl_cell.specs.Kinds.{is_null, is_of, kind_of}
+use Rattle.vtl_cell.specs.Kinds.{is_null, kind_of}
 use Rattle.vtl_cell.specs.Outcome.{Outcome, after, faults_by, unless}
 use Rattle.vtl_cell.specs.Row.{Row, column_of, same_key, same_row}
 use Rattle.vtl_cell.specs.ScalarArithmetic.{number, units}
