@@ -110,7 +110,7 @@ time_at f (y ∷ ys) e = go (is_time y) refl e (time_at f ys)
         let less : position_or_len is_time ys < length ys = i.1 in
         (((λ u. absurd (true≢false (sym u ∙ t))), later_at f (position_or_len is_time ys) y ys ys i.0), omega (arith, less))
 
-front_cell : (i n : ℕ) (r : Row) → i < n → column_of i (take n r) ≡ column_of i r
+pub front_cell : (i n : ℕ) (r : Row) → i < n → column_of i (take n r) ≡ column_of i r
 front_cell i zero r h = absurd (omega (arith, h))
 front_cell zero (suc n) [] h = refl
 front_cell (suc i) (suc n) [] h = refl
