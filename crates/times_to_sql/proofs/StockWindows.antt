@@ -259,9 +259,10 @@ module _ (p : Settings) (d : DataSet) (s : Structure) (i : IsFlowed d.structure 
 
       columns : (r : Row) → list_any (same_row r) us ≡ true → is_point (columns_of a) r ≡ true → (zs : List Component) → AllByRecursion (λ x. AllByRecursion (λ y. fault_in (stocks y x) ≡ None) zs) us → AllByRecursion (λ y. fault_in (totals y r) ≡ None) zs
       columns r m t [] all = tt
-      columns r m t (z ∷ zs) all =
-          (one r m t z (all_more (λ x. AllByRecursion (λ y. fault_in (stocks y x) ≡ None) (z ∷ zs)) (λ x. fault_in (stocks z x) ≡ None) (λ x f. f.0) us all),
-          columns r m t zs (all_more (λ x. AllByRecursion (λ y. fault_in (stocks y x) ≡ None) (z ∷ zs)) (λ x. AllByRecursion (λ y. fault_in (stocks y x) ≡ None) zs) (λ x f. f.1) us all))
+      columns r m t (z ∷ zs) all = (
+        one r m t z (all_more (λ x. AllByRecursion (λ y. fault_in (stocks y x) ≡ None) (z ∷ zs)) (λ x. fault_in (stocks z x) ≡ None) (λ x f. f.0) us all),
+        columns r m t zs (all_more (λ x. AllByRecursion (λ y. fault_in (stocks y x) ≡ None) (z ∷ zs)) (λ x. AllByRecursion (λ y. fault_in (stocks y x) ≡ None) zs) (λ x f. f.1) us all),
+      )
 
       rows : (rs : List Row) → AllByRecursion (λ r. list_any (same_row r) us ≡ true) rs → AllByRecursion (λ r. is_point (columns_of a) r ≡ true) rs → AllByRecursion (AllShown totals) rs
       rows [] m t = tt
