@@ -2,3 +2,9 @@ pub mod Shifts
 pub mod FillKeys
 pub mod Fills
 pub mod TimeTables
+pub mod Frequencies
+pub mod Parts
+pub mod FlowColumns
+pub mod Stocks
+pub mod PartRows
+pub mod FlowTables
