@@ -1,7 +1,6 @@
 -- The tables of `flow_to_stock` and `stock_to_flow` mean them.
 use Rattle.std.proofs.Common.{◌≡◌, ◌<◌, ◌+◌, ◌^◌, ℕ, Bool, true, false, List, [], ◌∷◌, ◌++◌, length, Ok, Err, refl, ap, sym, ◌∙◌, subst, arith, append-nil, length-append}
 use Rattle.vtl_cell.specs.Outcome.{Outcome, after}
-use Rattle.vtl_cell.specs.Outcomes.{Same}
 use Rattle.vtl_cell.specs.Row.{Row}
 use Rattle.vtl_cell.specs.declared.operator.ScalarOp.TheVariants as op
 use Rattle.vtl_decimal.specs.Settings.{Settings}
@@ -22,7 +21,7 @@ use Rattle.selects_to_sql.specs.Means.{AreEarlier, AreThere, Means, NodeGives, S
 use Rattle.selects_to_sql.specs.Tables.{Made, Sources, and_then, by_names, over, stored, table_of, with_one, with_two}
 use Rattle.selects_to_sql.specs.Writable.{HaveNames}
 use Rattle.selects_to_sql.proofs.Composition.{alone, no_tables, one_gives, stored_gives, together, two_gives}
-use Rattle.selects_to_sql.proofs.Exact.{means_by, means_turned, set_turned}
+use Rattle.selects_to_sql.proofs.Exact.{means_by, set_turned}
 use Rattle.selects_to_sql.proofs.Expressions.{Translates}
 use Rattle.selects_to_sql.proofs.Givens.{AreGiven}
 use Rattle.selects_to_sql.proofs.Running.{run_stops}
@@ -34,13 +33,6 @@ use Rattle.times_to_sql.proofs.PartRows.{parts_kept, within_respects}
 use Rattle.times_to_sql.proofs.Parts.{IsAlong, parts_mean, previous_along, total_along}
 use Rattle.times_to_sql.proofs.StockWindows.{stock_by_windows}
 use Rattle.times_to_sql.proofs.Stocks.{flow_means, stock_means}
-
--- what is the same up to order
-node_turned : (p : Settings) (before : Data) (r : Text) (n : ℕ) (m : Made) (s : Structure) (u v : Outcome (List Row)) → Same u v → NodeGives p before r n m s u → NodeGives p before r n m s v
-node_turned p before r n m s (Ok d) (Ok e) h g = (g.0, means_turned p _ m.query s d e h g.1)
-node_turned p before r n m s (Err f) (Err g) h i = subst (λ z. NodeGives p before r n m s (Err z)) h i
-node_turned p before r n m s (Ok d) (Err g) h i = absurd h
-node_turned p before r n m s (Err f) (Ok e) h i = absurd h
 
 module _ (p : Settings) (law : Translates p) (r : Text) (word : is_word r ≡ true) (o : AnalyticOp) (along : IsAlong p o) (a s : Structure) (na : HaveNames (columns_of a)) (given : AreGiven (columns_of s)) (i : IsFlowed a s) where
   abbrev made_along : List Row → Outcome (List Row)
@@ -91,36 +83,37 @@ module _ (p : Settings) (law : Translates p) (r : Text) (word : is_word r ≡ tr
 module _ (p : Settings) (law : Translates p) (r : Text) (word : is_word r ≡ true) (before : Data) (n : ℕ) (os : Sources) (a s : Structure) (v : Outcome (List Row)) (na : HaveNames (columns_of a)) (given : AreGiven (columns_of s)) (sets : (d : List Row) → v ≡ Ok d → IsDataSet a d) (i : IsFlowed a s) (apart : AreEarlier r n before) where
   pub stock_gives : n + length (stock_made p r a s os).tables < 2 ^ 64 → SourcesGive p before r n os (alone p r word a v) → NodeGives p before r n (stock_made p r a s os) s (after v (λ d. stock_of p (with_points a d) s))
   stock_gives few g =
-      let F : List Row → List Row → Outcome (List Row) = λ d e. each_point p (stock_exps a s) (paired (with_points a d) (with_points s e)) in
-      let W : List Row → Outcome (List Row) = λ d. within_frequencies p total (with_points a d) s in
-      let same : Same (after v (λ d. after (W d) (F d))) (after v (λ d. stock_of p (with_points a d) s)) = go v sets in
-      node_turned p before r n (stock_made p r a s os) s (after v (λ d. after (W d) (F d))) (after v (λ d. stock_of p (with_points a d) s)) same
-      (along_gives p law r word total (total_along p) a s na given i (stock_query p a s) F
+      subst (NodeGives p before r n (stock_made p r a s os) s) (go v sets)
+      (along_gives p law r word total (total_along p) a s na given i (stock_query p a s) with_totals
       (λ now x y d e set other st su.
       let own = set_turned a d st.rows st.same set in
       let theirs = set_turned s e su.rows su.same other in
-      means_by p now (stock_query p a s x y) s (F st.rows su.rows) (F d e) (each_respects p (stock_exps a s) _ _ (paired_respects a s st.rows d su.rows e st.same su.same theirs.distinct))
+      means_by p now (stock_query p a s x y) s (with_totals st.rows su.rows) (with_totals d e)
+      (each_respects p (stock_exps a s) (paired (with_points a st.rows) (with_points s su.rows)) (paired (with_points a d) (with_points s e)) (paired_respects a s st.rows d su.rows e st.same su.same theirs.distinct))
       (stock_means p a s i given law now x y st.rows su.rows st.table su.table (st.named, su.named) na own theirs))
       before n os v sets apart few g)
     where
-      go : (u : Outcome (List Row)) → ((d : List Row) → u ≡ Ok d → IsDataSet a d) → Same (after u (λ d. after (within_frequencies p total (with_points a d) s) (λ e. each_point p (stock_exps a s) (paired (with_points a d) (with_points s e))))) (after u (λ d. stock_of p (with_points a d) s))
+      with_totals : List Row → List Row → Outcome (List Row)
+      with_totals d e = each_point p (stock_exps a s) (paired (with_points a d) (with_points s e))
+
+      go : (u : Outcome (List Row)) → ((d : List Row) → u ≡ Ok d → IsDataSet a d) → after u (λ d. after (within_frequencies p total (with_points a d) s) (with_totals d)) ≡ after u (λ d. stock_of p (with_points a d) s)
       go (Ok d) h = stock_by_windows p (with_points a d) s i (h d refl)
       go (Err f) h = refl
 
   pub flow_gives : n + length (flow_made p r a s os).tables < 2 ^ 64 → SourcesGive p before r n os (alone p r word a v) → NodeGives p before r n (flow_made p r a s os) s (after v (λ d. flow_of p (with_points a d) s))
   flow_gives few g =
-      let F : List Row → List Row → Outcome (List Row) = λ d e. pair_of p op.Subtract (with_points a d) (with_points s e) s in
-      let W : List Row → Outcome (List Row) = λ d. within_frequencies p previous_value (with_points a d) s in
-      let same : Same (after v (λ d. after (W d) (F d))) (after v (λ d. flow_of p (with_points a d) s)) = go v sets in
-      node_turned p before r n (flow_made p r a s os) s (after v (λ d. after (W d) (F d))) (after v (λ d. flow_of p (with_points a d) s)) same
-      (along_gives p law r word previous_value (previous_along p law.low) a s na given i (flow_query p a s) F
+      subst (NodeGives p before r n (flow_made p r a s os) s) (go v sets)
+      (along_gives p law r word previous_value (previous_along p law.low) a s na given i (flow_query p a s) with_previous
       (λ now x y d e set other st su.
       let own = set_turned a d st.rows st.same set in
       let theirs = set_turned s e su.rows su.same other in
-      means_by p now (flow_query p a s x y) s (F st.rows su.rows) (F d e) (pair_respects p op.Subtract a s s st.rows d su.rows e st.same su.same own.distinct theirs.distinct)
+      means_by p now (flow_query p a s x y) s (with_previous st.rows su.rows) (with_previous d e) (pair_respects p op.Subtract a s s st.rows d su.rows e st.same su.same own.distinct theirs.distinct)
       (flow_means p a s i given law now x y st.rows su.rows st.table su.table (st.named, su.named) na own theirs))
       before n os v sets apart few g)
     where
-      go : (u : Outcome (List Row)) → ((d : List Row) → u ≡ Ok d → IsDataSet a d) → Same (after u (λ d. after (within_frequencies p previous_value (with_points a d) s) (λ e. pair_of p op.Subtract (with_points a d) (with_points s e) s))) (after u (λ d. flow_of p (with_points a d) s))
+      with_previous : List Row → List Row → Outcome (List Row)
+      with_previous d e = pair_of p op.Subtract (with_points a d) (with_points s e) s
+
+      go : (u : Outcome (List Row)) → ((d : List Row) → u ≡ Ok d → IsDataSet a d) → after u (λ d. after (within_frequencies p previous_value (with_points a d) s) (with_previous d)) ≡ after u (λ d. flow_of p (with_points a d) s)
       go (Ok d) h = flow_by_windows p (with_points a d) s i (h d refl)
       go (Err f) h = refl

@@ -8,3 +8,11 @@ pub mod FlowColumns
 pub mod Stocks
 pub mod PartRows
 pub mod FlowTables
+pub mod SeriesLists
+pub mod SeriesOrders
+pub mod FrequencyParts
+pub mod WindowValues
+pub mod OwnPairs
+pub mod Fine
+pub mod StockWindows
+pub mod FlowWindows
