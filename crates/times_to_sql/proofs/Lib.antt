@@ -16,3 +16,4 @@ pub mod OwnPairs
 pub mod Fine
 pub mod StockWindows
 pub mod FlowWindows
+pub mod FlowForms
