@@ -125,6 +125,14 @@ all_hold : {X : Type 0} (f : X → Bool) (xs : List X) → AllByRecursion (λ x.
 all_hold f [] all = refl
 all_hold f (x ∷ xs) all = λ i. all.0 i && all_hold f xs all.1 i
 
+-- a measure among the columns of the operand, and the one that it becomes among those of the result
+pub record IsBoth (a s : Structure) (x : Component) : Type 0 where
+  pub kind : IsKept x
+  pub ours : IsColumnAt (place_of x.name (columns_of a)) x.name x.kind (columns_of a)
+  pub our_kind : kind_named x.name (columns_of a) ≡ x.kind
+  pub made : IsColumnAt (place_of x.name (columns_of s)) x.name x.kind (columns_of s)
+  pub made_kind : kind_named x.name (columns_of s) ≡ x.kind
+
 module _ (a s : Structure) (i : IsFlowed a s) where
   abbrev front : List Component
   front = chosen choice.Except [] a.components
@@ -147,7 +155,7 @@ module _ (a s : Structure) (i : IsFlowed a s) where
   no_attributes = of role.Attribute ∙ ap (λ l. l ++ filter (λ x. same_role x.role role.Attribute) back) (role_of_none a.components role.Attribute no_attribute) ∙ made_attributes (measures a.components)
 
   pub columns_made : columns_of s ≡ identifiers_of s ++ map kept (measures_of a)
-  columns_made = ap (λ l. identifiers_of s ++ (measures_of s ++ l)) no_attributes ∙ ap (λ l. identifiers_of s ++ l) (append-nil (measures_of s) ∙ measures_made)
+  columns_made = ap (λ l. (identifiers_of s ++ measures_of s) ++ l) no_attributes ∙ append-nil (identifiers_of s ++ measures_of s) ∙ ap (λ l. identifiers_of s ++ l) measures_made
 
   -- the operand's identifiers are all of the result's
   pub contains_all : contains a s ≡ true
@@ -156,7 +164,7 @@ module _ (a s : Structure) (i : IsFlowed a s) where
       all_hold (is_there compared.Kinds a.components) (identifiers_of s)
       (subst (AllByRecursion P) (sym identifiers_same)
       (AllByRecursion-filter P (λ x. same_role x.role role.Identifier) a.components
-      (all_more (λ z. component_of z.name a.components ≡ Some z) P (λ z e. ap (λ o. option_map_or (is_alike compared.Kinds z) o false) e ∙ alike_itself z) a.components (own_found (λ (x : Component). x.name) a.components (IsStructure.distinct i.operand)))))
+      (all_more (λ z. component_of z.name a.components ≡ Some z) P (λ z e. ap (λ o. option_map_or (is_alike compared.Kinds z) o false) e ∙ alike_itself z) a.components (own_found (λ (x : Component). x.name) a.components i.operand.distinct))))
 
   module _ (given : AreGiven (columns_of s)) where
     -- no measure has the kind of null
@@ -165,14 +173,6 @@ module _ (a s : Structure) (i : IsFlowed a s) where
         let P : Component → Type 0 = λ y. is_null_kind y.kind ≡ false in
         let all : AllByRecursion P (flow_components a.components) = subst (AllByRecursion P) i.shape (AllByRecursion-Perm P (by_roles s.components) given.kinds) in
         both_all (λ x. is_number x.kind ≡ true) P IsKept (λ x n z. (n, z)) (measures a.components) i.numbers (some_kinds (measures a.components) (all_back P front back all))
-
-    -- a measure among the columns of the operand, and the one that it becomes among those of the result
-    pub record IsBoth (x : Component) : Type 0 where
-      pub kind : IsKept x
-      pub ours : IsColumnAt (place_of x.name (columns_of a)) x.name x.kind (columns_of a)
-      pub our_kind : kind_named x.name (columns_of a) ≡ x.kind
-      pub made : IsColumnAt (place_of x.name (columns_of s)) x.name x.kind (columns_of s)
-      pub made_kind : kind_named x.name (columns_of s) ≡ x.kind
 
     abbrev AreOurs : Component → Type 0
     AreOurs x = IsColumnAt (place_of x.name (columns_of a)) x.name x.kind (columns_of a)
@@ -184,11 +184,11 @@ module _ (a s : Structure) (i : IsFlowed a s) where
     made_there [] all = tt
     made_there (m ∷ ms) all = (all.0, made_there ms all.1)
 
-    pub measures_both : AllByRecursion IsBoth (measures_of a)
+    pub measures_both : AllByRecursion (IsBoth a s) (measures_of a)
     measures_both =
         let P : Component → Type 0 = λ y. IsColumnAt (place_of y.name (columns_of s)) y.name y.kind (columns_of s) in
         let made = made_there (measures_of a) (subst (AllByRecursion P) measures_made (own_measures s i.well_formed)) in
-        both_all (λ x. IsKept x × AreOurs x) IsMadeThere IsBoth
+        both_all (λ x. IsKept x × AreOurs x) IsMadeThere (IsBoth a s)
         (λ x h m.
         let there = subst (λ kind. IsColumnAt (place_of x.name (columns_of s)) x.name kind (columns_of s)) (same_kind_kept x) m in
         record {

@@ -74,9 +74,9 @@ module _ (p : Settings) (law : Translates p) (r : Text) (word : is_word r ≡ tr
         beside_there p r word before n os next (with_points a d ∷ []) (alone p r word s (made_along d)) apart g
         (λ more there earlier counted. parts_there d set (before ++ more) os.names os.next there earlier (omega (arith, few, counted, size, one))) in
         two_gives p r word before n (and_then os next) q a s s (Ok d) (made_along d) F both
-        (λ now x y c e is made st su.
+        (λ now x y c e is along_it st su.
         let same : d ≡ c = cc in
-        means now x y c e (subst (IsDataSet a) same set) (parts_kept p o along a s i given d set e made) st su)
+        means now x y c e (subst (IsDataSet a) same set) (parts_kept p o along a s i given d set e along_it) st su)
 
 -- ---- the operators
 

@@ -8,6 +8,7 @@ use Rattle.vtl_cell.specs.Outcome.{Outcome, unless}
 use Rattle.vtl_cell.specs.Row.{Row, column_of}
 use Rattle.vtl_cell.specs.ScalarPeriods.{frequency_of}
 use Rattle.vtl_cell.specs.Order.{same_cell}
+use Rattle.vtl_cell.specs.ScalarKinds.{meets}
 use Rattle.vtl_cell.specs.declared.cell.Cell.{Cell}
 use Rattle.vtl_cell.specs.declared.cell.Cell.TheVariants as c
 use Rattle.vtl_cell.specs.declared.kind.Kind.{Kind}
@@ -33,7 +34,7 @@ use Rattle.sql_tree.specs.Formed.{IsExp, IsName}
 use Rattle.sql_tree.specs.Trees.{Exp, ItemTree, Text}
 use Rattle.sql_check_laws.specs.Fits.{IsCondition}
 use Rattle.sql_check_parts.specs.Expressions.{site}
-use Rattle.sql_check_parts.specs.Kinds.{given_kind}
+use Rattle.sql_check_parts.specs.Kinds.{given_kind, operator_kind}
 use Rattle.sql_check_parts.specs.Scopes.{add_source, found, or_null}
 use Rattle.sql_meaning.specs.From.{condition_fault, kept, source_rows}
 use Rattle.sql_meaning.specs.Outcomes.{operated}
@@ -125,10 +126,13 @@ module _ (p : Settings) (law : Translates p) (before : Data) (name : Text) (a : 
       ∙ frequency_text p (time_of a r) f (cell_is_of (time_place a) (time_name a) k.Period xs r (time_at a time) h) (time_filled a time r h)
 
   frequency_fits : IsCondition (site p (tables_in before) (one_scope xs)) None condition
-  frequency_fits = ?
+  frequency_fits = (
+    (((((ap is_some (names.known (time_place a) (time_name a) k.Period (time_at a time)), refl), tt), ap (λ kind. is_some (operator_kind op.PeriodFrequency (kind ∷ []))) known, refl), refl, ap (λ kind. is_some (operator_kind op.Equal (given_kind op.PeriodFrequency (kind ∷ []) ∷ k.Text ∷ []))) known)),
+    ap (λ kind. meets k.Bool (kinds_with kind)) known,
+  )
 
   frequency_printed : IsExp printable_depth condition
-  frequency_printed = ?
+  frequency_printed = ((refl, (refl, tt, (one_formed xs na (time_place a) (time_name a) k.Period (time_at a time), tt)), tt), omega arith)
 
   pub frequency_from : (items : List ItemTree) → IsFrom p before (one_scope xs) (select_as items (source_as first_alias name) [] (Some condition))
   frequency_from items = one_from p law before name a d there named set.well_formed na items (Some condition) frequency_fits frequency_printed

@@ -1,7 +1,9 @@
 -- The table of the totals or of the previous values: an analytic operator along the series of each frequency.
-use Rattle.std.proofs.Common.{◌≡◌, ◌≤◌, ℕ, pos, Bool, true, false, not, cond, List, [], ◌∷◌, ◌++◌, length, map, filter, Option, Some, None, Ok, refl, ap, sym, ◌∙◌, subst, arith}
-use Rattle.std.specs.Prelude.{◌==◌, unwrap_or}
+use Rattle.std.proofs.Common.{◌≡◌, ◌≤◌, ℕ, ◌-◌, ◌^◌, ◌&&◌, pos, Bool, true, false, not, cond, List, [], ◌∷◌, ◌++◌, length, map, filter, Option, Some, None, Ok, Err, refl, ap, sym, ◌∙◌, subst, arith}
+use Rattle.std.specs.Prelude.{◌==◌, IsOk, unwrap_or}
 use Rattle.std.specs.List.{AllByRecursion}
+use Rattle.std.proofs.Math.Nat.{pow-le-pow_right}
+use Rattle.std.proofs.lemmas.Bool.{lt-ltb}
 use Rattle.std.proofs.lemmas.List.{length-map}
 use Rattle.vtl_lists.proofs.Aparts.{all_apart-filter}
 use Rattle.vtl_lists.proofs.Perms.{AllByRecursion-Perm}
@@ -17,6 +19,7 @@ use Rattle.vtl_cell.specs.declared.cell.Cell.TheVariants as c
 use Rattle.vtl_cell.specs.declared.kind.Kind.{Kind}
 use Rattle.vtl_cell.specs.declared.kind.Kind.TheVariants as k
 use Rattle.vtl_decimal.specs.Settings.{Settings}
+use Rattle.vtl_decimal.specs.declared.number.Fault.TheVariants.{Range}
 use Rattle.vtl_series.specs.Series.{frequencies}
 use Rattle.vtl_time.specs.declared.periods.Frequency.{Frequency}
 use Rattle.vtl_time.specs.declared.periods.Frequency.TheVariants as frequency
@@ -75,7 +78,7 @@ pub record IsAlong (p : Settings) (o : AnalyticOp) : Type 0 where
   pub held : IsHeld (default_in o)
 
 ordered : (a : Structure) → HasTime a → not (length (map time_key (filter is_time (identifiers_of a))) == 0) ≡ true
-ordered a time = rw (length-map (filter is_time (identifiers_of a)) time_key ∙ time) refl
+ordered a time = ap (λ n. not (n == 0)) (length-map (filter is_time (identifiers_of a)) time_key ∙ time)
 
 pub total_along : (p : Settings) → IsAlong p total
 total_along p = record {
@@ -95,9 +98,9 @@ total_along p = record {
 pub previous_along : (p : Settings) → p.scale ≤ 9 → IsAlong p previous_value
 previous_along p low = record {
   keeps = λ kind n some. go kind n some;
-  suited = λ a time. rw (ordered a time) refl;
+  suited = λ a time. ap (λ b. b && true) (ordered a time);
   near = λ a. record { offset = refl; frame = refl };
-  proper = ?;
+  proper = subst (λ b. IsOk (cond b (Ok (pos 0)) (Err Range))) (sym (lt-ltb 0 (10 ^ (18 - p.scale)) (omega (arith, pow-le-pow_right {n = 10} (omega arith) {i = 0} {j = 18 - p.scale} (omega arith))))) refl;
   held = omega arith;
 }
   where

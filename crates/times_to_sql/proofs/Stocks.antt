@@ -10,7 +10,7 @@ use Rattle.vtl_cell.specs.declared.kind.Kind.{Kind}
 use Rattle.vtl_cell.specs.declared.kind.Kind.TheVariants as k
 use Rattle.vtl_cell.specs.declared.operator.ScalarOp.TheVariants as op
 use Rattle.vtl_decimal.specs.Settings.{Settings}
-use Rattle.vtl_tree.specs.Columns.{column_behind, column_named, columns_named, identifiers_of, kind_named, measures_of, place_of}
+use Rattle.vtl_tree.specs.Columns.{column_behind, column_named, columns_named, identifiers_of, kind_named, measures_of, others_of, place_of}
 use Rattle.vtl_tree.specs.CompExp.{CompExp}
 use Rattle.vtl_tree.specs.DataSet.{IsDataSet}
 use Rattle.vtl_tree.specs.Kinds.{exp_kind}
@@ -88,12 +88,12 @@ module _ (p : Settings) (a s : Structure) (i : IsFlowed a s) (given : AreGiven (
   abbrev IsMade : CompExp → Component → Type 0
   IsMade e y = IsTyped p both e × (exp_kind e ≡ y.kind) × CanBeWritten e
 
-  module _ (f : Component → Component → CompExp) (makes : (x : Component) → IsBoth a s i given x → IsMade (f x (kept x)) (kept x)) where
-    measures_for : (ms : List Component) → AllByRecursion (IsBoth a s i given) ms → AreFor p both (for_measures f ms (map kept ms)) (map kept ms)
+  module _ (f : Component → Component → CompExp) (makes : (x : Component) → IsBoth a s x → IsMade (f x (kept x)) (kept x)) where
+    measures_for : (ms : List Component) → AllByRecursion (IsBoth a s) ms → AreFor p both (for_measures f ms (map kept ms)) (map kept ms)
     measures_for [] all = tt
     measures_for (m ∷ ms) all = let it = makes m all.0 in (it.0, it.1, measures_for ms all.1)
 
-    measures_written : (ms : List Component) → AllByRecursion (IsBoth a s i given) ms → AllCanBeWritten (for_measures f ms (map kept ms))
+    measures_written : (ms : List Component) → AllByRecursion (IsBoth a s) ms → AllCanBeWritten (for_measures f ms (map kept ms))
     measures_written [] all = tt
     measures_written (m ∷ ms) all = ((makes m all.0).2, measures_written ms all.1)
 
@@ -102,7 +102,7 @@ module _ (p : Settings) (a s : Structure) (i : IsFlowed a s) (given : AreGiven (
 
     pub made_for : AreFor p both made (columns_of s)
     made_for =
-        let own = subst (λ ys. AreAmong ys (columns_of a)) (sym (identifiers_same a s i)) (subst (AreAmong (identifiers_of a)) (sym (columns_split a)) (among_front (identifiers_of a) (identifiers_of a) _ (own_identifiers a i.operand))) in
+        let own = subst (λ ys. AreAmong ys (columns_of a)) (sym (identifiers_same a s i)) (subst (λ zs. AreAmong (identifiers_of a) zs) (sym (columns_split a)) (among_front (identifiers_of a) (identifiers_of a) (others_of a) (own_identifiers a i.operand))) in
         let first = for_front p (columns_of a) (columns_of s) (identifiers_of s) (identifiers_of s) (columns_for p (columns_of a) (identifiers_of s) (columns_apart a i.operand) own) in
         let second = measures_for (measures_of a) (measures_both a s i given) in
         subst (λ ms. AreFor p both (columns_named (columns_of a) (identifiers_of s) ++ for_measures f (measures_of a) ms) (columns_of s)) (sym (measures_made a s i))
@@ -116,13 +116,13 @@ module _ (p : Settings) (a s : Structure) (i : IsFlowed a s) (given : AreGiven (
 
   -- ---- totals
 
-  ours : (x : Component) → IsBoth a s i given x → IsColumnAt (place_of x.name (columns_of a)) x.name (kind_named x.name (columns_of a)) both
+  ours : (x : Component) → IsBoth a s x → IsColumnAt (place_of x.name (columns_of a)) x.name (kind_named x.name (columns_of a)) both
   ours x h = subst (λ kind. IsColumnAt (place_of x.name (columns_of a)) x.name kind both) (sym h.our_kind) (column_front (place_of x.name (columns_of a)) x.name x.kind (columns_of a) (columns_of s) h.ours)
 
-  theirs : (x : Component) → IsBoth a s i given x → IsColumnAt (length (columns_of a) + place_of x.name (columns_of s)) x.name (kind_named x.name (columns_of s)) both
+  theirs : (x : Component) → IsBoth a s x → IsColumnAt (length (columns_of a) + place_of x.name (columns_of s)) x.name (kind_named x.name (columns_of s)) both
   theirs x h = subst (λ kind. IsColumnAt (length (columns_of a) + place_of x.name (columns_of s)) x.name kind both) (sym h.made_kind) (column_later (place_of x.name (columns_of s)) x.name x.kind (columns_of a) (columns_of s) h.made)
 
-  stock_made : (x : Component) → IsBoth a s i given x → IsMade (stock_exp a s x (kept x)) (kept x)
+  stock_made : (x : Component) → IsBoth a s x → IsMade (stock_exp a s x (kept x)) (kept x)
   stock_made x h = (
     (ap (λ kind. common_kind (k.Null ∷ kind ∷ [])) (h.made_kind ∙ sym (same_kind_kept x)) ∙ null_beside (kept x).kind, ((refl, (ours x h, tt), refl), (tt, (theirs x h, tt))), refl),
     refl,
@@ -134,7 +134,7 @@ module _ (p : Settings) (a s : Structure) (i : IsFlowed a s) (given : AreGiven (
   abbrev flow_exp : Component → Component → CompExp
   flow_exp = with_namesake op.Subtract (column_named (columns_of a)) (column_behind (length (columns_of a)) (columns_of s))
 
-  flow_made : (x : Component) → IsBoth a s i given x → IsMade (flow_exp x (kept x)) (kept x)
+  flow_made : (x : Component) → IsBoth a s x → IsMade (flow_exp x (kept x)) (kept x)
   flow_made x h = (
     ((λ j. kinds_of op.Subtract (h.our_kind j ∷ h.made_kind j ∷ [])) ∙ difference_kind x.kind h.kind.0 h.kind.1 ∙ ap Some (sym (same_kind_kept x)), (ours x h, (theirs x h, tt)), refl),
     refl,
