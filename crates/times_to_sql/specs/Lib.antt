@@ -1,3 +1,4 @@
+pub mod Frequencies
 pub mod Shifts
 pub mod Fills
 pub mod Flows
