@@ -1,5 +1,4 @@
 use Rattle.std.proofs.Common.{rules, ◌≡◌, Err, ap, subst, sym, ◌∙◌}
-use Rattle.vtl_scalar.specs.Answers.{AnswersBy}
 use Rattle.vtl_sets.specs.DataSets.{with_structure}
 use Rattle.vtl_tree.specs.Clauses.{filter_of}
 use Rattle.vtl_tree.specs.Environment.{DataSet}

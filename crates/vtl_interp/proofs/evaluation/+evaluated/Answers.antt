@@ -17,8 +17,8 @@ use Rattle.vtl_scripts.specs.Meaning.{node_value, nodes_value, operands_value}
 use Rattle.vtl_meaning.specs.Shapes.{IsJoinedFrom}
 use Rattle.vtl_interp.specs.Evaluated.{Evaluates, Gives}
 use Rattle.vtl_interp.specs.Values.{maybe_view, under_aliases, value_view, values_view}
-use Rattle.vtl_interp.proofs.Evaluates.{operands_named, some_given, some_stops}
-use Rattle.vtl_interp.proofs.NodesEvaluated.{check_fits, check_gives, choice_gives, choose_fits, filter_after, filter_fits, filter_gives, filter_joined, filter_operands_stop, filter_stops, form_tree-Intersect, form_tree-Union, imbalance_stops, join_fits, join_named, joined_structure, name_gives, name_is_held, second_stops, several_fit}
+use Rattle.vtl_interp.proofs.Evaluates.{operands_named}
+use Rattle.vtl_interp.proofs.NodesEvaluated.{check_fits, check_gives, choice_gives, choose_fits, filter_after, filter_gives, filter_joined, filter_operands_stop, filter_stops, form_tree-Intersect, form_tree-Union, imbalance_stops, join_fits, join_named, joined_structure, name_gives, name_is_held, second_stops, several_fit}
 use Rattle.vtl_interp.proofs.evaluation.+evaluated.Goals as goal
 
 pub evaluate-unreachable-requires : goal.evaluate-unreachable-requires
