@@ -34,10 +34,6 @@ wanted_from folder w = (folder, as_wanted w)
 abbrev pub all_wanted_from : Path → List Wanted → List Placed
 all_wanted_from folder ws = map (wanted_from folder) ws
 
--- no component of it is not-null
-abbrev pub IsPlain : Wanted → Type 0
-IsPlain w = w.not_null.now ≡ []
-
 -- data sets that can be read: each has a structure, and their names are distinct
 pub record AreReadable (inputs : Named) : Type 0 where
   pub structures : AllByRecursion (λ e. IsStructure e.1) inputs

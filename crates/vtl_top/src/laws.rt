@@ -5,10 +5,11 @@
 ghost use Rattle.std.specs.Prelude.{◌≡◌, ◌≢◌, ◌≤◌, ◌⊎◌, ℕ, [], Err, List, Ok, Option, Result, Some};
 ghost use Rattle.std.specs.Map.{lookup};
 ghost use Rattle.vtl_tree.specs.Structure.{IsStructure, key_width, same_name};
-ghost use Rattle.vtl_tree.specs.Structures.{Named};
+ghost use Rattle.vtl_tree.specs.NotNull.{not_null_of as list_of};
 ghost use Rattle.vtl_tree.specs.declared.structure.Structure.{Structure};
 ghost use Rattle.vtl_csv.specs.InputFile.{dataset_rows};
 ghost use Rattle.vtl_csv.specs.StructuresFile.{structures_of_file};
+ghost use Rattle.vtl_csv.specs.declared.structures.Declared.{Declared as Whole};
 ghost use Rattle.vtl_check.specs.Uses.{reads};
 ghost use Rattle.vtl_decimal.specs.Settings.{Settings};
 ghost use Rattle.vtl_meaning.specs.Profiles.{AllAreOfProfile};
@@ -96,13 +97,13 @@ pub fn sql_breaches_are_refused()
 /// that stands for a data set which a structures file declares asks of its file what the structure asks, under any
 /// settings.
 pub fn inputs_take_alike()
-    ensures { (name : Name) (text : Text) (all : Named) (t : Structure) (p : Settings) (bytes : Text) → structures_of_file text ≡ Ok all → lookup (same_name name) all ≡ Some t → dataset_rows p (structure_of (input_of (name, t))) (not_null_of (input_of (name, t))) bytes ≡ dataset_rows p t [] bytes }
+    ensures { (name : Name) (text : Text) (all : Whole) (t : Structure) (p : Settings) (bytes : Text) → structures_of_file text ≡ Ok all → lookup (same_name name) all.structures.sets ≡ Some t → dataset_rows p (structure_of (input_of all.structures.not_null (name, t))) (not_null_of (input_of all.structures.not_null (name, t))) bytes ≡ dataset_rows p t (list_of name all.structures.not_null) bytes }
 {}
 
 /// What the text of a script exports, over all rows that its INPUTs take and whose integers are of the profile, is in names
 /// and bytes what the outputs of the script are, or the same fault.
 pub fn texts_write_alike()
-    ensures { (s : Source) (held : Held) (text : Text) (is : IsTextMeant s held text) (folder : Path) (inputs : Inputs) → AreTaken inputs (reads is.typed.structures is.typed.nodes) → AllAreOfProfile is.typed.settings (sets_read inputs (reads is.typed.structures is.typed.nodes)) → exports_of folder is.typed.settings (script_value is.text_of.script inputs) ≡ outputs_of folder is.typed.settings (meant is.typed (sets_read inputs (reads is.typed.structures is.typed.nodes))) }
+    ensures { (s : Source) (held : Held) (text : Text) (is : IsTextMeant s held text) (folder : Path) (inputs : Inputs) → AreTaken inputs is.typed.not_null (reads is.typed.structures is.typed.nodes) → AllAreOfProfile is.typed.settings (sets_read inputs (reads is.typed.structures is.typed.nodes)) → exports_of folder is.typed.settings (script_value is.text_of.script inputs) ≡ outputs_of folder is.typed.settings (meant is.typed (sets_read inputs (reads is.typed.structures is.typed.nodes))) }
 {}
 
 /// Two outcomes of a command over the same held bytes have the same status, and but for `sql`, whose text may be any text
@@ -147,6 +148,6 @@ pub fn demonstrations_are_said<F: Files, O: Sink>()
 
 /// What a structures file declares under a name is a structure with at least one identifier.
 pub fn structures_have_identifiers()
-    ensures structure { (name : Name) (text : Text) (all : Named) (t : Structure) → structures_of_file text ≡ Ok all → lookup (same_name name) all ≡ Some t → IsStructure t }
-    ensures identifier { (name : Name) (text : Text) (all : Named) (t : Structure) → structures_of_file text ≡ Ok all → lookup (same_name name) all ≡ Some t → 1 ≤ key_width t }
+    ensures structure { (name : Name) (text : Text) (all : Whole) (t : Structure) → structures_of_file text ≡ Ok all → lookup (same_name name) all.structures.sets ≡ Some t → IsStructure t }
+    ensures identifier { (name : Name) (text : Text) (all : Whole) (t : Structure) → structures_of_file text ≡ Ok all → lookup (same_name name) all.structures.sets ≡ Some t → 1 ≤ key_width t }
 {}

@@ -19,6 +19,7 @@ mod inputs;
 mod laws;
 mod lineage;
 mod made;
+mod migrate;
 mod output;
 mod points;
 mod reading;
