@@ -217,7 +217,7 @@ fn keyed_query(
 
 /// `full_join`: the operands beside a table of each tuple of their identifiers, and of this the points at which a condition
 /// is true, where there is one. It fails only if memory runs out.
-pub(crate) fn full_query(
+pub fn full_query(
     alloc: Global,
     writer: &Writer,
     keys: &Structure,

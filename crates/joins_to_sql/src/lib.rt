@@ -14,5 +14,5 @@ mod join_operands;
 mod join_queries;
 
 pub use all_joins::{filtered_join_query, join_query};
-pub use full_joins::{key_structure, keys_query, once_query};
+pub use full_joins::{full_query, key_structure, keys_query, once_query};
 pub use join_items::all_tied;

@@ -1,0 +1,1 @@
+-- The select over a SERIES gives the identifiers of the points of the filled series.

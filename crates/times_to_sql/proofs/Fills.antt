@@ -1,0 +1,1 @@
+-- `fill_time_series` is a left join of the operand with the identifiers of the points of the filled series.

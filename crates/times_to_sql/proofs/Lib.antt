@@ -1,0 +1,4 @@
+pub mod Shifts
+pub mod FillKeys
+pub mod Fills
+pub mod TimeTables

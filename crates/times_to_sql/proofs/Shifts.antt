@@ -1,0 +1,1 @@
+-- `timeshift` is a select over the operand's table.

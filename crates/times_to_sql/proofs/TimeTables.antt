@@ -1,0 +1,1 @@
+-- The tables of a time operator mean it.

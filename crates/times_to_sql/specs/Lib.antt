@@ -1,0 +1,4 @@
+pub mod Shifts
+pub mod Fills
+pub mod Flows
+pub mod TimeTables
