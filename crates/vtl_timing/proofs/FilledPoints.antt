@@ -100,7 +100,7 @@ all_any : {X : Type 0} (P : X → Type 0) → ((x : X) → P x) → (xs : List X
 all_any P f [] = tt
 all_any P f (x ∷ xs) = (f x, all_any P f xs)
 
-series_each : (e : Extent) (on : ℕ) (by : List ℕ) (G P : Row → Type 0) → ((q : Row) → G q → (f : Frequency) (i : ℕ) → P (dated f (cells_at by q) i)) → (rows : List Row) → AllByRecursion G rows → AllByRecursion P (series_rows e on by rows)
+pub series_each : (e : Extent) (on : ℕ) (by : List ℕ) (G P : Row → Type 0) → ((q : Row) → G q → (f : Frequency) (i : ℕ) → P (dated f (cells_at by q) i)) → (rows : List Row) → AllByRecursion G rows → AllByRecursion P (series_rows e on by rows)
 series_each e on by G P h rows all =
     let K : Row → Type 0 = λ key. (f : Frequency) (i : ℕ) → P (dated f key i) in
     all_flat K P (tuple_rows e on by rows)
@@ -126,12 +126,12 @@ module _ (a : Structure) (well : IsStructure a) (timed : HasTime a) where
   others_of_ids : AreAmong (other_identifiers a) ids
   others_of_ids = AllByRecursion-filter (λ y. IsColumnAt (place_of y.name ids) y.name y.kind ids) (λ x. not (is_time x)) ids (own_identifiers a well)
 
-  front_is : (q : Row) → is_point (columns_of a) q ≡ true → is_point (other_identifiers a) (cells_at by q) ≡ true
+  pub front_is : (q : Row) → is_point (columns_of a) q ≡ true → is_point (other_identifiers a) (cells_at by q) ≡ true
   front_is q h =
       subst (λ l. is_point (other_identifiers a) (cells_at (places_in l (other_identifiers a)) q) ≡ true) (sym (columns_split a))
       (some_identifiers (other_identifiers a) ids (others_of a) q others_identify (are_identifiers a) others_of_ids (ap (λ l. is_point l q) (sym (columns_split a)) ∙ h))
 
-  last_is : (f : Frequency) (i : ℕ) → is_point (filter is_time ids) (c.Period (period_at f i) ∷ []) ≡ true
+  pub last_is : (f : Frequency) (i : ℕ) → is_point (filter is_time ids) (c.Period (period_at f i) ∷ []) ≡ true
   last_is f i =
       let one = time_only a timed in
       let passes = subst (AllByRecursion (λ x. is_time x ≡ true)) one.only (passing is_time ids) in
@@ -144,13 +144,13 @@ module _ (a : Structure) (well : IsStructure a) (timed : HasTime a) where
       (λ q h f i. point_append (other_identifiers a) (filter is_time ids) (cells_at by q) (c.Period (period_at f i) ∷ []) (front_is q h) (last_is f i)) points all
 
   -- in the order of identifiers
-  key_is : (r : Row) → is_point sc r ≡ true → is_point ids (in_order a r) ≡ true
+  pub key_is : (r : Row) → is_point sc r ≡ true → is_point ids (in_order a r) ≡ true
   key_is r h =
       ap (is_point ids) (sym (named_cells sc ids r))
       ∙ subst (λ l. is_point ids (cells_at (places_in l ids) r) ≡ true) (append-nil sc)
       (some_identifiers ids sc [] r (are_identifiers a) (series_identifiers a) (identifiers_among a well) (ap (λ l. is_point l r) (append-nil sc) ∙ h))
 
-  maps_same : (f g : Component → Cell) (ys : List Component) → map f ys ≡ map g ys → AllByRecursion (λ y. f y ≡ g y) ys
+  pub maps_same : (f g : Component → Cell) (ys : List Component) → map f ys ≡ map g ys → AllByRecursion (λ y. f y ≡ g y) ys
   maps_same f g [] e = tt
   maps_same f g (y ∷ ys) e = let one : f y ≡ g y = cc in let more : map f ys ≡ map g ys = cc in (one, maps_same f g ys more)
 
@@ -158,12 +158,12 @@ module _ (a : Structure) (well : IsStructure a) (timed : HasTime a) where
   same_maps f g [] all = refl
   same_maps f g (y ∷ ys) all = λ j. all.0 j ∷ same_maps f g ys all.1 j
 
-  own_row : (r : Row) → is_point sc r ≡ true → values_named sc sc r ≡ r
+  pub own_row : (r : Row) → is_point sc r ≡ true → values_named sc sc r ≡ r
   own_row r h =
       let many = point_length sc r h in
       sym (named_cells sc sc r) ∙ ap (λ l. cells_at (places_in l sc) r) (sym (append-nil sc)) ∙ first_cells sc [] r (series_apart a well) (omega (arith, many)) ∙ take_all (length sc) r (omega (arith, many))
 
-  order_back : (r q : Row) → is_point sc r ≡ true → is_point sc q ≡ true → in_order a r ≡ in_order a q → r ≡ q
+  pub order_back : (r q : Row) → is_point sc r ≡ true → is_point sc q ≡ true → in_order a r ≡ in_order a q → r ≡ q
   order_back r q h i e =
       let f : Component → Cell = λ y. value_named sc r y.name in
       let g : Component → Cell = λ y. value_named sc q y.name in
@@ -192,7 +192,7 @@ module _ (e : Extent) (d : DataSet) (timed : HasTime d.structure) (h : IsDataSet
   abbrev there : Row → Option Row
   there r = find (λ q. same_row (values_in a (identifiers_of a) q) (in_order a r)) d.points
 
-  point_is : (r : Row) → point r ≡ in_order a r ++ behind a (there r)
+  pub point_is : (r : Row) → point r ≡ in_order a r ++ behind a (there r)
   point_is r =
       let ms = values_or_nulls a (measures_of a) (there r) in
       let ts = values_or_nulls a (of_role role.Attribute a) (there r) in
@@ -204,13 +204,13 @@ module _ (e : Extent) (d : DataSet) (timed : HasTime d.structure) (h : IsDataSet
   abbrev Drawn : Row → Row → Type 0
   Drawn r z = IsRow r × (z ≡ point r)
 
-  whole : (r : Row) → IsRow r → is_point (columns_of a) (point r) ≡ true
+  pub whole : (r : Row) → IsRow r → is_point (columns_of a) (point r) ≡ true
   whole r i =
       ap (is_point (columns_of a)) (point_is r)
       ∙ joined_point_is a (others_of a) (in_order a r) (behind a (there r)) (columns_split a) (are_others a) (key_is a h.well_formed timed r i)
       (behind_fits a h.well_formed (there r) (λ q f. found_point (λ z. same_row (values_in a (identifiers_of a) z) (in_order a r)) (λ z. is_point (columns_of a) z ≡ true) d.points q h.typed f))
 
-  key_of : (r : Row) → IsRow r → take (key_width a) (point r) ≡ in_order a r
+  pub key_of : (r : Row) → IsRow r → take (key_width a) (point r) ≡ in_order a r
   key_of r i = ap (take (key_width a)) (point_is r) ∙ key_of_joined a (in_order a r) (behind a (there r)) (key_is a h.well_formed timed r i)
 
   back : (r t q z : Row) → Drawn r q → Drawn t z → same_key (key_width a) q z ≡ true → same_row r t ≡ true

@@ -79,7 +79,7 @@ period_kind k.Day e = cc
 period_kind k.Period e = refl
 
 -- a time is a period
-time_cell : (y : Component) (v : Cell) → HasCell y v → is_time y ≡ true → (q : YearPart) × (v ≡ c.Period q)
+pub time_cell : (y : Component) (v : Cell) → HasCell y v → is_time y ≡ true → (q : YearPart) × (v ≡ c.Period q)
 time_cell y v h t =
     let both = split_and (same_role y.role role.Identifier) (same_kind y.kind k.Period) t in
     go v (subst (λ kind. IsOf kind v) (period_kind y.kind both.1) h.0) (subst (λ b. not (b && is_null v) ≡ true) both.0 h.1)
