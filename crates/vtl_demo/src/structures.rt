@@ -63,7 +63,8 @@ pub(crate) fn right_structure(alloc: Global) -> Result<Structure, AllocError>
 
 /// Both structures, by the names of the data sets. It fails only if memory runs out.
 pub(crate) fn structures(alloc: Global) -> Result<Structures, AllocError>
-    ensures { IfOk result (λ s. s.sets ≡ sets.declared) }
+    ensures sets { IfOk result (λ s. s.sets ≡ sets.declared) }
+    ensures lists { IfOk result (λ s. s.not_null ≡ []) }
 {
     let mut structures = Structures::new(alloc);
     structures.put(word(alloc, LEFT_NAME)?, left_structure(alloc)?)?;
