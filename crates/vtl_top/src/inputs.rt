@@ -15,8 +15,7 @@ ghost use Rattle.vtl_meaning.specs.Profiles.{AllAreOfProfile};
 ghost use Rattle.vtl_sets.specs.TableOf.{IsTableOf};
 ghost use Rattle.vtl_top.specs.Answered.{Takes};
 ghost use Rattle.vtl_top.specs.Expected.{dataset_step, folder_step, inputs_step};
-ghost use Rattle.vtl_top.specs.InputsRead.{Adds, AreReadable, all_wanted, all_wanted_from, as_wanted, rows_in, wanted_from};
-ghost use Rattle.vtl_top.specs.Wanted.{all_wanted_with};
+ghost use Rattle.vtl_top.specs.InputsRead.{Adds, AreReadable, IsListed, all_wanted, all_wanted_from, rows_in, wanted_from};
 ghost use Rattle.vtl_top.specs.Refusal.{IsTableRead};
 
 use crate::reading::{file_in, read_file};
@@ -149,7 +148,8 @@ fn input_at(checked: &Checked, i: usize) -> (&Txt, &Structure)
 
 // The data sets that a script reads.
 fn wanted_of(alloc: Global, checked: &Checked) -> Result<Vec<Wanted<'_>>, AllocError>
-    ensures { IfOk result (λ wanted. map as_wanted wanted.items ≡ all_wanted_with checked.now.not_null (inputs_of checked.now)) }
+    ensures entries { IfOk result (λ wanted. all_wanted wanted.items ≡ inputs_of checked.now) }
+    ensures listed { IfOk result (λ wanted. AllByRecursion (IsListed checked.now.not_null) wanted.items) }
 {
     let mut wanted = Vec::new(alloc);
     for i in 0..checked.inputs().len() {
