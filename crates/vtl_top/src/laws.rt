@@ -24,13 +24,14 @@ ghost use Rattle.vtl_top.specs.Complete.{IsCalm};
 ghost use Rattle.vtl_top.specs.Forms.{asked_step};
 ghost use Rattle.vtl_top.specs.Expected.{IsTextOf, Typed, fault_status, format_step, meant, outputs_of, run_step, text_step};
 ghost use Rattle.vtl_top.specs.Meant.{IsAccepted, IsFaulted, IsFormMeant, IsMeant, IsMistyped, IsTextMeant};
+ghost use Rattle.vtl_top.specs.Migrated.{IsMigrated, migrate_step};
 ghost use Rattle.vtl_top.specs.SqlMeant.{IsExported, IsSqlFaulted, IsSqlMistyped};
 ghost use Rattle.vtl_top.specs.SqlRun.{engine_step, exports_of};
 ghost use Rattle.sql_check_parts.specs.Rules.{number_of};
 ghost use Rattle.sql_check_parts.specs.Statements.{Fault as Breach};
 ghost use Rattle.vtl_top.specs.Said.{Hears};
 ghost use Rattle.vtl_top.specs.Steps.{File, Held, Made, Name, Path, Text, status_of};
-ghost use Rattle.vtl_top.specs.Words.{Command, Engine, Run, RunsScript, Source, demo, engine, format, sql};
+ghost use Rattle.vtl_top.specs.Words.{Command, Engine, Migration, Run, RunsScript, Source, demo, engine, format, migrate, sql};
 ghost use Rattle.vtl_status.specs.declared.status.Status.{Status};
 
 use vtl_files::{Files, Sink};
@@ -139,6 +140,17 @@ pub fn runs_are_quiet<F: Files, O: Sink>()
 /// A `format` that is done has handed the canonical text of the held script to the sink, and written nothing.
 pub fn forms_are_said<F: Files, O: Sink>()
     ensures { (a b : F) (u v : O) (path : Path) (held : Held) → F.held a ≡ Some held → Ends F.Files O.Sink a b u v (Some (format path)) Status.Done → (form : Text) × IsFormMeant path held form × Adds (F.written a) (F.written b) [] × Hears O.Sink u v form }
+{}
+
+/// What `migrate` gives over the held files is the text of version 2 of the structures file that they hold at the path.
+pub fn migrations_are_meant()
+    ensures only { (m : Migration) (held : Held) (text : Text) → (migrate_step m).gives held (Ok text) → IsMigrated m held text }
+    ensures always { (m : Migration) (held : Held) (text : Text) → IsMigrated m held text → (migrate_step m).gives held (Ok text) }
+{}
+
+/// A `migrate` that is done has handed the text of version 2 of the held structures file to the sink, and written nothing.
+pub fn migrations_are_said<F: Files, O: Sink>()
+    ensures { (a b : F) (u v : O) (m : Migration) (held : Held) → F.held a ≡ Some held → Ends F.Files O.Sink a b u v (Some (migrate m)) Status.Done → (text : Text) × IsMigrated m held text × Adds (F.written a) (F.written b) [] × Hears O.Sink u v text }
 {}
 
 /// A demonstration that is done has handed its two lines to the sink, and written nothing.
