@@ -1,18 +1,15 @@
 -- A filled data set is one: its points are of the operand's columns, and no two have the same identifiers.
-use Rattle.std.proofs.Common.{◌≡◌, ℕ, zero, suc, ◌+◌, ◌<◌, ◌≤◌, Bool, true, false, not, cond, ◌&&◌, List, [], ◌∷◌, ◌++◌, find, map, take, length, Option, Some, None, refl, sym, ap, ◌∙◌, subst, arith, append_assoc}
+use Rattle.std.proofs.Common.{◌≡◌, ℕ, Bool, true, false, not, cond, ◌&&◌, List, [], ◌∷◌, ◌++◌, find, map, take, length, Option, Some, None, refl, sym, ap, ◌∙◌, subst, arith, append_assoc}
 use Rattle.std.specs.Prelude.{unwrap_or}
 use Rattle.std.specs.List.{AllByRecursion, filter, flat_map}
-use Rattle.std.proofs.lemmas.List.{append-nil, map-append, take_all}
+use Rattle.std.proofs.lemmas.List.{append-nil, take_all}
 use Rattle.vtl_lists.specs.Apart.{all_apart}
 use Rattle.vtl_lists.proofs.Perms.{AllByRecursion-Perm, Perm-sym}
 use Rattle.vtl_lists.proofs.Sorts.{AllByRecursion-filter}
 use Rattle.vtl_index.specs.Groups.{each_once}
-use Rattle.vtl_cell.specs.Kinds.{is_of}
 use Rattle.vtl_cell.specs.Row.{Row, column_of, same_key, same_row}
 use Rattle.vtl_cell.specs.declared.cell.Cell.{Cell}
 use Rattle.vtl_cell.specs.declared.cell.Cell.TheVariants as c
-use Rattle.vtl_cell.specs.declared.kind.Kind.{Kind}
-use Rattle.vtl_cell.specs.declared.kind.Kind.TheVariants as k
 use Rattle.vtl_cell.proofs.Rows.{same_row-is, same_row-refl}
 use Rattle.vtl_rows.specs.Tables.{cells_at, fits_kinds}
 use Rattle.vtl_series.specs.Series.{dated, frequencies, keys_by, numbers_of, rows_by, seen_by, series_at, series_rows, tuple_rows}
@@ -39,7 +36,7 @@ use Rattle.vtl_meaning.proofs.Places.{IsIdentifier, all_append, all_back, are_id
 use Rattle.vtl_meaning.proofs.ValueKinds.{point_from}
 use Rattle.vtl_tuples.proofs.Lists.{map-map}
 use Rattle.vtl_timing.specs.Times.{HasTime, fill_of, in_order, is_time, other_identifiers, series_columns, time_place}
-use Rattle.vtl_timing.proofs.SeriesColumns.{identifiers_among, own_series, series_apart, series_identifiers, series_perm, time_only}
+use Rattle.vtl_timing.proofs.SeriesColumns.{identifiers_among, series_apart, series_identifiers, series_perm, time_only}
 use Rattle.vtl_timing.proofs.ShiftKept.{period_has}
 
 -- ---- cells by names

@@ -1,21 +1,19 @@
 -- Differences do not see the order of points: no two points of a series have one time, so one point alone is the previous one.
-use Rattle.std.proofs.Common.{◌≡◌, ◌⊎◌, ⊎_elim, ℕ, zero, suc, ◌+◌, ◌<◌, ◌≤◌, Bool, true, false, not, ◌&&◌, cond, List, [], ◌∷◌, map, take, length, Ok, Option, Some, None, refl, sym, ap, ◌∙◌, subst, true≢false, arith, pos}
+use Rattle.std.proofs.Common.{◌≡◌, ⊎_elim, ℕ, zero, suc, ◌+◌, ◌<◌, Bool, true, false, not, cond, List, [], ◌∷◌, map, take, length, Ok, refl, sym, ap, ◌∙◌, subst, true≢false, arith, pos}
 use Rattle.std.specs.Prelude.{if◌then◌else◌, find, option_to_list}
 use Rattle.std.specs.List.{AllByRecursion, filter, list_all, position_or_len}
 use Rattle.std.specs.Option.{option_map_or}
 use Rattle.std.specs.Ordering.{is_le, is_lt}
 use Rattle.std.specs.declared.cmp.Ordering.{Ordering}
 use Rattle.std.specs.declared.cmp.Ordering.TheVariants.{Less, Equal, Greater}
-use Rattle.std.proofs.lemmas.Bool.{false≢true}
 use Rattle.vtl_lists.specs.Apart.{all_apart}
 use Rattle.vtl_lists.specs.Perm.{Perm}
-use Rattle.vtl_lists.specs.Sorting.{le_by}
 use Rattle.vtl_lists.proofs.Aparts.{all_apart-filter}
 use Rattle.vtl_lists.proofs.Perms.{Perm-filter, Perm-map, list_all-Perm}
 use Rattle.vtl_lists.proofs.Sorts.{AllByRecursion-filter}
 use Rattle.vtl_decimal.specs.Settings.{Settings}
 use Rattle.vtl_cell.specs.Order.{cell_cmp}
-use Rattle.vtl_cell.specs.Outcome.{Outcome, faults_by}
+use Rattle.vtl_cell.specs.Outcome.{faults_by}
 use Rattle.vtl_cell.specs.Outcomes.{Same}
 use Rattle.vtl_cell.specs.Row.{Row, column_of, same_key, same_row}
 use Rattle.vtl_cell.specs.declared.cell.Cell.{Cell}
@@ -25,7 +23,7 @@ use Rattle.vtl_cell.proofs.Aggregates.{rising_order}
 use Rattle.vtl_cell.proofs.Orders.{cell_cmp-ties}
 use Rattle.vtl_cell.proofs.Rows.{same_row-is, same_row-refl, split_and}
 use Rattle.vtl_rows.specs.Tables.{cells_at}
-use Rattle.vtl_tree.specs.Columns.{identifiers_of, place_of, places_in}
+use Rattle.vtl_tree.specs.Columns.{identifiers_of, places_in}
 use Rattle.vtl_tree.specs.DataSet.{IsDataSet, is_point}
 use Rattle.vtl_tree.specs.Environment.{DataSet}
 use Rattle.vtl_tree.specs.Measures.{is_measure}
