@@ -159,6 +159,7 @@ module _ (p : Settings) (r : Text) where
     form_counted s (nodes.unpivot a id m) k = operand_counted a k
     form_counted s (nodes.aggregate a spec) k = operand_counted a k
     form_counted s (nodes.analytic_of a spec) k = operand_counted a k
+    form_counted s (nodes.time a o) k = time_counted p r o (structure_of a) s (sources_of p r a k) k (operand_counted a k)
     form_counted s (nodes.union (nodes.and_node a ns)) k = combined_counted (λ b c. union_query p b c s) s ns (structure_of a) (sources_of p r a k) k (operand_counted a k)
     form_counted s (nodes.intersect (nodes.and_node a ns)) k = combined_counted (λ b c. intersection_query p b c s) s ns (structure_of a) (sources_of p r a k) k (operand_counted a k)
     form_counted s (nodes.set_diff a b) k = let x = sources_of p r a k in behind_counted x (sources_of p r b x.next) k (operand_counted a k) (operand_counted b x.next)
