@@ -1,4 +1,7 @@
+pub mod Frequencies
 pub mod Shifts
 pub mod Fills
 pub mod Flows
 pub mod TimeTables
+pub mod Frequencies
+pub mod StockItems
