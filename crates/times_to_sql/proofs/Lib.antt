@@ -2,3 +2,11 @@ pub mod Shifts
 pub mod FillKeys
 pub mod Fills
 pub mod TimeTables
+pub mod SeriesLists
+pub mod SeriesOrders
+pub mod FrequencyParts
+pub mod WindowValues
+pub mod OwnPairs
+pub mod Fine
+pub mod StockWindows
+pub mod FlowWindows
