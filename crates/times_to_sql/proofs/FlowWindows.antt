@@ -1,15 +1,14 @@
 -- `stock_to_flow` by windows: each value less the one before it in its series, which is the previous point's, or less zero at the first point.
-use Rattle.std.proofs.Common.{◌≡◌, ◌⊎◌, inl, inr, ℤ, pos, length, Bool, true, false, not, ◌&&◌, cond, List, [], ◌∷◌, ◌++◌, map, take, Ok, Err, Option, Some, None, refl, sym, ap, ◌∙◌, subst, true≢false}
-use Rattle.std.specs.Prelude.{IfOk, IfSome, if◌then◌else◌}
-use Rattle.std.specs.List.{AllByRecursion, filter, find, flat_map, list_all, list_any}
+use Rattle.std.proofs.Common.{◌≡◌, ◌⊎◌, inl, inr, ◌*◌, ◌^◌, pos, arith, length, Bool, true, false, ◌&&◌, cond, List, [], ◌∷◌, ◌++◌, map, take, Ok, Option, Some, None, refl, sym, ap, ◌∙◌, subst}
+use Rattle.std.specs.Prelude.{IfSome, if◌then◌else◌}
+use Rattle.std.specs.List.{AllByRecursion, find, flat_map, list_all, list_any}
 use Rattle.std.specs.Option.{option_map_or}
-use Rattle.vtl_lists.specs.Perm.{Perm}
 use Rattle.vtl_lists.proofs.Sorts.{AllByRecursion-filter}
 use Rattle.vtl_cell.specs.AggregateKinds.{is_number}
 use Rattle.vtl_cell.specs.Conversion.{as_kind}
-use Rattle.vtl_cell.specs.Kinds.{is_of, same_kind}
-use Rattle.vtl_cell.specs.Outcome.{Outcome, after, fault_in, faults_by, join, unless}
-use Rattle.vtl_cell.specs.Row.{Row, column_of, same_row}
+use Rattle.vtl_cell.specs.Kinds.{same_kind}
+use Rattle.vtl_cell.specs.Outcome.{Outcome, after, fault_in, faults_by, unless}
+use Rattle.vtl_cell.specs.Row.{Row, same_row}
 use Rattle.vtl_cell.specs.ScalarArithmetic.{difference_of, number, numbers, units}
 use Rattle.vtl_cell.specs.declared.cell.Cell.{Cell}
 use Rattle.vtl_cell.specs.declared.cell.Cell.TheVariants as c
@@ -37,12 +36,12 @@ use Rattle.vtl_tree.specs.declared.structure.Role.TheVariants as role
 use Rattle.vtl_tree.specs.declared.structure.Structure.{Structure}
 use Rattle.vtl_tree.proofs.Faults.{faults_by-Perm}
 use Rattle.vtl_meaning.specs.Aggregates.{Made, group_fault as point_fault}
-use Rattle.vtl_meaning.specs.Analytics.{each_point as each_made, point_of}
+use Rattle.vtl_meaning.specs.Analytics.{point_of}
 use Rattle.vtl_meaning.specs.LookUps.{value_named}
-use Rattle.vtl_meaning.specs.Operators.{for_measures, pair_exps, pair_of, pairs_of, with_namesake}
+use Rattle.vtl_meaning.specs.Operators.{for_measures, pair_of, with_namesake}
 use Rattle.vtl_meaning.specs.Points.{cell_or_null, each_point, paired, with_points}
 use Rattle.vtl_meaning.proofs.AnalyticColumns.{own_found}
-use Rattle.vtl_meaning.proofs.GroupKinds.{GivesOf, IsOf, null_is_of}
+use Rattle.vtl_meaning.proofs.GroupKinds.{IsOf}
 use Rattle.vtl_timing.specs.TimeShapes.{IsFlowed}
 use Rattle.vtl_timing.specs.Times.{before, by_measure, flow_of, flow_value, in_one_series, previous, series_of}
 use Rattle.vtl_timing.proofs.FlowsKept.{IsOfMeasure, identify, own_cell}
@@ -68,7 +67,7 @@ record IsKept (p : Settings) (kind : Kind) (v : Cell) : Type 0 where
   pub same : (u : Cell) → IsOf kind u → less p kind u cell ≡ less p kind u v
 
 zero_units : (p : Settings) → fit_number (units p (pos 0)) ≡ Ok (pos 0)
-zero_units p = ?
+zero_units p = let none : 0 * (10 ^ p.scale) ≡ 0 = omega arith in ap (λ n. fit_number (pos n)) none
 
 zero_less : (p : Settings) (u : Cell) → IsOf k.Num u → less p k.Num u (c.Num (pos 0)) ≡ less p k.Num u (c.Int (pos 0))
 zero_less p c.Null h = refl

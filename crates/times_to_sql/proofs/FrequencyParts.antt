@@ -4,7 +4,7 @@ use Rattle.std.specs.List.{AllByRecursion, filter, flat_map}
 use Rattle.vtl_lists.specs.Perm.{Perm, chain, empty, keep}
 use Rattle.vtl_lists.proofs.Perms.{Perm-append_front, Perm-middle, Perm-same}
 use Rattle.vtl_lists.proofs.Sorts.{AllByRecursion-filter}
-use Rattle.vtl_cell.specs.Kinds.{is_null, is_of, same_kind}
+use Rattle.vtl_cell.specs.Kinds.{is_null, same_kind}
 use Rattle.vtl_cell.specs.Order.{same_cell}
 use Rattle.vtl_cell.specs.Row.{Row, column_of}
 use Rattle.vtl_cell.specs.ScalarPeriods.{frequency_of}
@@ -32,7 +32,7 @@ use Rattle.vtl_meaning.proofs.GroupKinds.{IsOf}
 use Rattle.vtl_meaning.proofs.GroupPoints.{found_cell}
 use Rattle.vtl_meaning.proofs.Places.{all_filtered}
 use Rattle.vtl_timing.specs.Times.{HasTime, is_time, time_of}
-use Rattle.vtl_timing.proofs.SeriesColumns.{IsOnly, time_only}
+use Rattle.vtl_timing.proofs.SeriesColumns.{time_only}
 use Rattle.times_to_sql.specs.Frequencies.{is_of_frequency, part_of}
 use Rattle.times_to_sql.proofs.SeriesOrders.{some_set, time_column}
 

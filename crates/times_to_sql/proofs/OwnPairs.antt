@@ -1,6 +1,6 @@
 -- A data set beside a table of the same identifiers that was made of its points: each point stands beside its own row.
-use Rattle.std.proofs.Common.{◌≡◌, ℕ, zero, suc, ◌+◌, ◌<◌, Bool, true, false, not, ◌&&◌, cond, List, [], ◌∷◌, ◌++◌, length, map, take, Ok, Option, Some, None, refl, sym, ap, ◌∙◌, subst, true≢false, arith}
-use Rattle.std.specs.Prelude.{option_map, unwrap_or}
+use Rattle.std.proofs.Common.{◌≡◌, ℕ, suc, ◌+◌, ◌<◌, Bool, true, false, ◌&&◌, ◌||◌, cond, List, [], ◌∷◌, ◌++◌, length, map, take, Ok, Some, None, refl, sym, ap, ◌∙◌, subst, true≢false, arith}
+use Rattle.std.specs.Prelude.{option_map}
 use Rattle.std.specs.List.{AllByRecursion, filter, flat_map, list_any}
 use Rattle.std.specs.Option.{option_to_list}
 use Rattle.std.proofs.lemmas.List.{append-nil, get_or-append-add, get_or_append_left, length-map, map-append}
@@ -10,13 +10,11 @@ use Rattle.vtl_lists.specs.Apart.{all_apart}
 use Rattle.vtl_lists.specs.Perm.{Perm}
 use Rattle.vtl_lists.proofs.Aparts.{all_apart-Perm, apart_parts, list_any-Perm}
 use Rattle.vtl_lists.proofs.Perms.{AllByRecursion-Perm, Perm-sym}
-use Rattle.vtl_lists.proofs.Sorts.{AllByRecursion-filter}
 use Rattle.vtl_cell.specs.AggregateKinds.{is_number}
 use Rattle.vtl_cell.specs.Outcome.{Outcome, fault_in, faults_by, join, unless}
 use Rattle.vtl_cell.specs.Row.{Row, column_of, same_key, same_row}
 use Rattle.vtl_cell.specs.declared.cell.Cell.{Cell}
 use Rattle.vtl_cell.specs.declared.cell.Cell.TheVariants as c
-use Rattle.vtl_cell.specs.declared.kind.Kind.{Kind}
 use Rattle.vtl_cell.proofs.Rows.{same_key-sym, same_row-is, same_row-refl}
 use Rattle.vtl_decimal.specs.Settings.{Settings}
 use Rattle.vtl_rows.specs.Tables.{cells_at}
@@ -24,7 +22,6 @@ use Rattle.vtl_tree.specs.Choices.{chosen, is_identifier}
 use Rattle.vtl_tree.specs.Columns.{columns_named, identifiers_of, measures_of, others_of, place_of, places_in}
 use Rattle.vtl_tree.specs.CompExp.{CompExp}
 use Rattle.vtl_tree.specs.DataSet.{IsDataSet, is_point, look}
-use Rattle.vtl_tree.specs.Environment.{DataSet}
 use Rattle.vtl_tree.specs.Measures.{given_measure, is_measure, measures}
 use Rattle.vtl_tree.specs.Names.{component_of}
 use Rattle.vtl_tree.specs.Structure.{IsStructure, columns_of, key_width, of_role, same_name, same_role}
@@ -57,13 +54,13 @@ look_own n m f r (q ∷ rows) all apart e =
   where
     other : (ls : List Row) → same_key m q r ≡ true → AllByRecursion (λ z. same_key m q z ≡ false) ls → list_any (same_row r) ls ≡ true → ⊥
     other [] s apart i = true≢false (sym i)
-    other (z ∷ ls) s apart i = at (same_row r z) refl i
+    other (z ∷ ls) s apart i = at (same_row r z) refl i (other ls s apart.1)
       where
-        at : (b : Bool) → same_row r z ≡ b → cond b true (list_any (same_row r) ls) ≡ true → ⊥
-        at true t j = true≢false (sym s ∙ ap (same_key m q) (same_row-is r z t) ∙ apart.0)
-        at false t j = other ls s apart.1 j
+        at : (b : Bool) → same_row r z ≡ b → (b || list_any (same_row r) ls) ≡ true → (list_any (same_row r) ls ≡ true → ⊥) → ⊥
+        at true t j later = true≢false (sym s ∙ ap (same_key m q) (same_row-is r z t) ∙ apart.0)
+        at false t j later = later j
 
-    go : (b : Bool) → same_key m q r ≡ b → (t : Bool) → same_row r q ≡ t → cond t true (list_any (same_row r) rows) ≡ true → AllByRecursion (λ z. same_key m q z ≡ false) rows → (list_any (same_row r) rows ≡ true → look n (map f rows) (take m r) ≡ Some (f r)) → cond b (Some (f q)) (look n (map f rows) (take m r)) ≡ Some (f r)
+    go : (b : Bool) → same_key m q r ≡ b → (t : Bool) → same_row r q ≡ t → (t || list_any (same_row r) rows) ≡ true → AllByRecursion (λ z. same_key m q z ≡ false) rows → (list_any (same_row r) rows ≡ true → look n (map f rows) (take m r) ≡ Some (f r)) → cond b (Some (f q)) (look n (map f rows) (take m r)) ≡ Some (f r)
     go true s true t i k later = ap (λ z. Some (f z)) (sym (same_row-is r q t))
     go true s false t i k later = absurd (other rows s k i)
     go false s true t i k later = absurd (true≢false (sym (same_row-refl (take m q)) ∙ ap (λ z. same_key m q z) (sym (same_row-is r q t)) ∙ s))
@@ -150,8 +147,8 @@ module _ (a s : Structure) (shape : s.components ≡ flow_components a.component
 
   pub columns_given : columns_of s ≡ identifiers_of s ++ map given (measures_of a)
   columns_given =
-      (λ i. identifiers_of s ++ (measures_given i ++ no_attributes i))
-      ∙ ap (λ l. identifiers_of s ++ l) (append-nil (map given (measures_of a)))
+      (λ i. (identifiers_of s ++ measures_given i) ++ no_attributes i)
+      ∙ append-nil (identifiers_of s ++ map given (measures_of a))
 
 -- ---- expressions at pairs, and values at points
 module _ (p : Settings) (made : Made) where
@@ -202,7 +199,8 @@ module _ (p : Settings) (a s : Structure) (well : IsStructure a) (formed : IsStr
   IsGiven x = IsOfMeasure xs (given x) × (component_of x.name xs ≡ Some x) × (component_of x.name (columns_of s) ≡ Some (given x))
 
   pub are_given : AllByRecursion IsGiven (measures_of a)
-  are_given = all_three (measures_of a) made own found
+  are_given =
+      all_three (λ x. IsOfMeasure xs (given x)) (λ x. component_of x.name xs ≡ Some x) (λ x. component_of x.name (columns_of s) ≡ Some (given x)) (measures_of a) made own found
     where
       made : AllByRecursion (λ x. IsOfMeasure (columns_of a) (given x)) (measures_of a)
       made =
@@ -227,9 +225,9 @@ module _ (p : Settings) (a s : Structure) (well : IsStructure a) (formed : IsStr
           named [] all = tt
           named (m ∷ ms) all = (all.0, named ms all.1)
 
-      all_three : {P Q R : Component → Type 0} (ms : List Component) → AllByRecursion P ms → AllByRecursion Q ms → AllByRecursion R ms → AllByRecursion (λ x. P x × Q x × R x) ms
-      all_three [] i j k = tt
-      all_three (m ∷ ms) i j k = ((i.0, j.0, k.0), all_three ms i.1 j.1 k.1)
+      all_three : (P Q R : Component → Type 0) (ms : List Component) → AllByRecursion P ms → AllByRecursion Q ms → AllByRecursion R ms → AllByRecursion (λ x. P x × Q x × R x) ms
+      all_three P Q R [] i j k = tt
+      all_three P Q R (m ∷ ms) i j k = ((i.0, j.0, k.0), all_three P Q R ms i.1 j.1 k.1)
 
   -- the identifiers stay
   pub keys_kept : (v : Component → Row → Outcome Cell) (r : Row) → IsRow r → take (key_width s) (made_point (by_measure v a) (columns_of s) r) ≡ take (key_width a) r

@@ -177,4 +177,3 @@ module _ (p : Settings) (law : Translates p) (before : Data) (name : Text) (a s 
       let rows : Frequency → Outcome (List Row) = λ f. analytic_of p spec (part_of f (with_points a d)) s in
       union_exactly p before s given (select frequency.Annual) (select frequency.Semester ∷ select frequency.Quarter ∷ select frequency.Month ∷ []) (rows frequency.Annual) (rows frequency.Semester ∷ rows frequency.Quarter ∷ rows frequency.Month ∷ [])
       (part_gives frequency.Annual, (part_gives frequency.Semester, (part_gives frequency.Quarter, (part_gives frequency.Month, tt))))
-

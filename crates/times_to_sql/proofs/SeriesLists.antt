@@ -1,13 +1,13 @@
 -- Lists in order: an item with those before and those behind it, the last of those before it, and filters.
-use Rattle.std.proofs.Common.{◌≡◌, ℕ, suc, ◌+◌, ◌-◌, Bool, true, false, not, ◌&&◌, cond, List, [], ◌∷◌, ◌++◌, drop, length, map, take, Option, Some, None, refl, sym, ap, ◌∙◌, subst, true≢false}
+use Rattle.std.proofs.Common.{◌≡◌, suc, ◌+◌, ◌-◌, Bool, true, false, ◌&&◌, ◌||◌, cond, List, [], ◌∷◌, ◌++◌, length, map, take, Option, Some, None, refl, sym, ap, ◌∙◌, subst, true≢false, arith}
 use Rattle.std.specs.Prelude.{find, if◌then◌else◌, nat_le, slice_index_or}
 use Rattle.std.specs.List.{AllByRecursion, filter, list_all, list_any}
 use Rattle.std.specs.Option.{option_map_or}
 use Rattle.std.proofs.lemmas.List.Elements.{filter-append}
 use Rattle.vtl_lists.specs.Sorting.{Rises}
-use Rattle.vtl_cell.specs.Row.{Row, column_of, same_row}
+use Rattle.vtl_cell.specs.Row.{Row, same_row}
 use Rattle.vtl_cell.specs.declared.cell.Cell.{Cell}
-use Rattle.vtl_cell.proofs.Rows.{same_row-is, same_row-refl, split_and}
+use Rattle.vtl_cell.proofs.Rows.{same_row-is, same_row-refl}
 use Rattle.vtl_meaning.proofs.Places.{all_back, all_front}
 use Rattle.vtl_timing.proofs.FlowsKept.{drop_all, keep_all}
 
@@ -21,7 +21,7 @@ pub cut_at : (r : Row) (rows : List Row) → list_any (same_row r) rows ≡ true
 cut_at r [] e = absurd (true≢false (sym e))
 cut_at r (q ∷ rows) e = go (same_row r q) refl e (cut_at r rows)
   where
-    go : (b : Bool) → same_row r q ≡ b → cond b true (list_any (same_row r) rows) ≡ true → (list_any (same_row r) rows ≡ true → Cut rows r) → Cut (q ∷ rows) r
+    go : (b : Bool) → same_row r q ≡ b → (b || list_any (same_row r) rows) ≡ true → (list_any (same_row r) rows ≡ true → Cut rows r) → Cut (q ∷ rows) r
     go true t f later = record { front = []; back = rows; is = ap (λ z. z ∷ rows) (sym (same_row-is r q t)) }
     go false t f later = let more = later f in record { front = q ∷ more.front; back = more.back; is = ap (λ l. q ∷ l) more.is }
 
@@ -31,9 +31,9 @@ item_has P rows r e all = let c = cut_at r rows e in (all_back P c.front (r ∷ 
 -- each item is one of the list
 pub own_items : (rows : List Row) → AllByRecursion (λ r. list_any (same_row r) rows ≡ true) rows
 own_items [] = tt
-own_items (q ∷ rows) = (ap (λ b. cond b true (list_any (same_row q) rows)) (same_row-refl q), later rows (own_items rows))
+own_items (q ∷ rows) = (ap (λ b. b || list_any (same_row q) rows) (same_row-refl q), later rows (own_items rows))
   where
-    further : (r : Row) (b : Bool) → list_any (same_row r) rows ≡ true → cond b true (list_any (same_row r) rows) ≡ true
+    further : (r : Row) (b : Bool) → list_any (same_row r) rows ≡ true → (b || list_any (same_row r) rows) ≡ true
     further r true e = refl
     further r false e = e
 
@@ -46,10 +46,10 @@ pub passes_too : (p : Row → Bool) (r : Row) (rows : List Row) → p r ≡ true
 passes_too p r [] h e = e
 passes_too p r (q ∷ rows) h e = go (same_row r q) refl (p q) refl e (passes_too p r rows h)
   where
-    go : (b : Bool) → same_row r q ≡ b → (t : Bool) → p q ≡ t → cond b true (list_any (same_row r) rows) ≡ true → (list_any (same_row r) rows ≡ true → list_any (same_row r) (filter p rows) ≡ true) → list_any (same_row r) (cond t (q ∷ filter p rows) (filter p rows)) ≡ true
-    go true s true u f later = ap (λ b. cond b true (list_any (same_row r) (filter p rows))) s
+    go : (b : Bool) → same_row r q ≡ b → (t : Bool) → p q ≡ t → (b || list_any (same_row r) rows) ≡ true → (list_any (same_row r) rows ≡ true → list_any (same_row r) (filter p rows) ≡ true) → list_any (same_row r) (cond t (q ∷ filter p rows) (filter p rows)) ≡ true
+    go true s true u f later = ap (λ b. b || list_any (same_row r) (filter p rows)) s
     go true s false u f later = absurd (true≢false (sym h ∙ ap p (same_row-is r q s) ∙ u))
-    go false s true u f later = ap (λ b. cond b true (list_any (same_row r) (filter p rows))) s ∙ later f
+    go false s true u f later = ap (λ b. b || list_any (same_row r) (filter p rows)) s ∙ later f
     go false s false u f later = later f
 
 -- ---- filters
@@ -86,20 +86,31 @@ filter_before p front r back early here late =
     nothing_behind (q ∷ l) = ap (λ z. q ∷ z) (nothing_behind l)
 
 -- ---- places
-pub take_front : {X : Type 0} (f : Row → X) (front : List Row) (r : Row) (back : List Row) → take (length front + 1) (map f (front ++ r ∷ back)) ≡ map f (front ++ r ∷ [])
-take_front f [] r back = refl
-take_front f (q ∷ front) r back = ap (λ l. f q ∷ l) (take_front f front r back)
+take_next : {X : Type 0} (f : Row → X) (front : List Row) (r : Row) (back : List Row) → take (suc (length front)) (map f (front ++ r ∷ back)) ≡ map f (front ++ r ∷ [])
+take_next f [] r back = refl
+take_next f (q ∷ front) r back = ap (λ l. f q ∷ l) (take_next f front r back)
 
-pub last_of : List Row → Option Row
+pub take_front : {X : Type 0} (f : Row → X) (front : List Row) (r : Row) (back : List Row) → take (length front + 1) (map f (front ++ r ∷ back)) ≡ map f (front ++ r ∷ [])
+take_front f front r back = let next : length front + 1 ≡ suc (length front) = omega arith in ap (λ n. take n (map f (front ++ r ∷ back))) next ∙ take_next f front r back
+
+abbrev pub last_of : List Row → Option Row
 last_of [] = None
 last_of (q ∷ []) = Some q
 last_of (q ∷ z ∷ front) = last_of (z ∷ front)
 
+at_last : (f : Row → Cell) (default : Cell) (q : Row) (front back : List Row) → slice_index_or (map f (q ∷ front ++ back)) (length front) default ≡ option_map_or f (last_of (q ∷ front)) default
+at_last f default q [] back = refl
+at_last f default q (z ∷ front) back = at_last f default z front back
+
 -- the item one place before, or the default
 pub one_before : (f : Row → Cell) (default : Cell) (front back : List Row) → (if nat_le 1 (length front) then slice_index_or (map f (front ++ back)) (length front - 1) default else default) ≡ option_map_or f (last_of front) default
 one_before f default [] back = refl
-one_before f default (q ∷ []) back = refl
-one_before f default (q ∷ z ∷ front) back = one_before f default (z ∷ front) back
+one_before f default (q ∷ front) back =
+    let some : nat_le 1 (suc (length front)) ≡ true = search arith in
+    let place : suc (length front) - 1 ≡ length front = omega arith in
+    ap (λ b. if b then slice_index_or (map f (q ∷ front ++ back)) (suc (length front) - 1) default else default) some
+    ∙ ap (λ n. slice_index_or (map f (q ∷ front ++ back)) n default) place
+    ∙ at_last f default q front back
 
 -- ---- the last one
 find_same : {X : Type 0} (p q : X → Bool) (xs : List X) → AllByRecursion (λ x. p x ≡ q x) xs → find p xs ≡ find q xs

@@ -1,6 +1,6 @@
 -- The points of a series in the order of a window: which of them a frame up to a point holds, and which one stands before it.
-use Rattle.std.proofs.Common.{◌≡◌, ℕ, ◌+◌, Bool, true, false, not, ◌&&◌, ◌⊎◌, inl, inr, List, [], ◌∷◌, ◌++◌, length, map, refl, sym, ap, ◌∙◌, subst, true≢false, Option}
-use Rattle.std.specs.Prelude.{count_by, find}
+use Rattle.std.proofs.Common.{◌≡◌, ℕ, Bool, true, false, not, ◌&&◌, ◌⊎◌, inl, inr, List, [], ◌∷◌, ◌++◌, length, map, refl, sym, ap, ◌∙◌, subst, true≢false, Option}
+use Rattle.std.specs.Prelude.{find}
 use Rattle.std.specs.List.{AllByRecursion, filter, list_all, list_any}
 use Rattle.std.specs.Ordering.{is_le, is_lt, ordering_reverse, ordering_then}
 use Rattle.std.specs.declared.cmp.Ordering.{Ordering}
@@ -10,7 +10,7 @@ use Rattle.vtl_lists.specs.Apart.{all_apart}
 use Rattle.vtl_lists.specs.Perm.{Perm, chain}
 use Rattle.vtl_lists.specs.Sorting.{IsOrder, Rises, le_by}
 use Rattle.vtl_lists.proofs.Aparts.{all_apart-Perm, all_apart-filter, apart_parts, list_any-Perm}
-use Rattle.vtl_lists.proofs.Perms.{AllByRecursion-Perm, Perm-filter, Perm-same, Perm-sym}
+use Rattle.vtl_lists.proofs.Perms.{AllByRecursion-Perm, Perm-filter, Perm-same}
 use Rattle.vtl_lists.proofs.Sorts.{AllByRecursion-filter, Rises-sorted_by}
 use Rattle.vtl_cell.specs.Order.{cell_cmp, same_cell}
 use Rattle.vtl_cell.specs.Row.{Row, column_of, row_cmp, same_key, same_row}

@@ -1,21 +1,19 @@
 -- `flow_to_stock` by windows: totals in each series up to each point, and null at the points that have no value. A total at such a point is that of
 -- the points before it, so it has no fault that no total has which is shown.
-use Rattle.std.proofs.Common.{◌≡◌, ◌⊎◌, inl, inr, Bool, true, false, not, ◌&&◌, cond, List, [], ◌∷◌, ◌++◌, map, take, Ok, Err, Option, Some, None, refl, sym, ap, ◌∙◌, subst, true≢false, append_assoc, ℕ, ℤ}
-use Rattle.std.specs.Prelude.{IfOk, if◌then◌else◌}
-use Rattle.std.specs.List.{AllByRecursion, filter, flat_map, list_all, list_any}
+use Rattle.std.proofs.Common.{◌≡◌, inl, inr, Bool, true, false, not, cond, List, [], ◌∷◌, ◌++◌, map, take, Ok, Err, Option, Some, None, refl, sym, ap, ◌∙◌, subst, append_assoc, ℕ, ℤ}
+use Rattle.std.specs.Prelude.{if◌then◌else◌}
+use Rattle.std.specs.List.{AllByRecursion, flat_map, list_all, list_any}
 use Rattle.std.proofs.lemmas.List.{append-nil, map-append}
 use Rattle.std.proofs.lemmas.List.Elements.{filter-append}
-use Rattle.vtl_lists.specs.Perm.{Perm}
-use Rattle.vtl_lists.specs.Sorting.{Rises}
-use Rattle.vtl_lists.proofs.Perms.{AllByRecursion-Perm, Perm-map, Perm-sym}
+use Rattle.vtl_lists.proofs.Perms.{AllByRecursion-Perm, Perm-map}
 use Rattle.vtl_lists.proofs.Sorts.{AllByRecursion-filter}
 use Rattle.vtl_cell.specs.AggregateKinds.{is_number}
 use Rattle.vtl_cell.specs.Conversion.{as_kind}
-use Rattle.vtl_cell.specs.Groups.{aggregate, group_value, is_integer, numbers_of, total_of, values_of, wholes_of}
-use Rattle.vtl_cell.specs.Kinds.{is_null, is_of}
-use Rattle.vtl_cell.specs.Outcome.{Outcome, after, fault_in, faults_by, join, unless}
+use Rattle.vtl_cell.specs.Groups.{aggregate, group_value, is_integer, numbers_of, values_of, wholes_of}
+use Rattle.vtl_cell.specs.Kinds.{is_null}
+use Rattle.vtl_cell.specs.Outcome.{Outcome, after, fault_in, faults_by, unless}
 use Rattle.vtl_cell.specs.Outcomes.{branch}
-use Rattle.vtl_cell.specs.Row.{Row, column_of, same_row}
+use Rattle.vtl_cell.specs.Row.{Row, same_row}
 use Rattle.vtl_cell.specs.ScalarArithmetic.{integer, number}
 use Rattle.vtl_cell.specs.declared.cell.Cell.{Cell}
 use Rattle.vtl_cell.specs.declared.cell.Cell.TheVariants as c
@@ -28,10 +26,8 @@ use Rattle.vtl_decimal.specs.Range.{fit_integer, fit_number}
 use Rattle.vtl_decimal.specs.Settings.{Settings}
 use Rattle.vtl_decimal.specs.Tally.{tally_of}
 use Rattle.vtl_decimal.specs.declared.number.Fault.{Fault}
-use Rattle.vtl_decimal.specs.declared.number.Fault.TheVariants.{DivZero, Range}
+use Rattle.vtl_decimal.specs.declared.number.Fault.TheVariants.{Range}
 use Rattle.vtl_series.specs.Series.{frequencies}
-use Rattle.vtl_time.specs.declared.periods.Frequency.{Frequency}
-use Rattle.vtl_tree.specs.Columns.{identifiers_of, measures_of, others_of, place_of}
 use Rattle.vtl_tree.specs.DataSet.{IsDataSet, is_point}
 use Rattle.vtl_tree.specs.Environment.{DataSet}
 use Rattle.vtl_tree.specs.Measures.{is_measure}
@@ -47,9 +43,8 @@ use Rattle.vtl_meaning.specs.Analytics.{each_point as each_made, point_of}
 use Rattle.vtl_meaning.specs.LookUps.{value_named}
 use Rattle.vtl_meaning.specs.Points.{cell_or_null, each_point, paired, with_points}
 use Rattle.vtl_meaning.specs.Windows.{Stand, stand_of}
-use Rattle.vtl_meaning.proofs.AnalyticColumns.{columns_split}
 use Rattle.vtl_meaning.proofs.GroupKinds.{GivesOf, IsOf, group_is, null_is_of}
-use Rattle.vtl_meaning.proofs.Places.{all_append, all_back, all_more}
+use Rattle.vtl_meaning.proofs.Places.{all_back, all_more}
 use Rattle.vtl_timing.specs.TimeShapes.{IsFlowed}
 use Rattle.vtl_timing.specs.Times.{by_measure, in_one_series, series_of, stock_of, stock_value, up_to}
 use Rattle.vtl_timing.proofs.FlowsKept.{IsOfMeasure, own_cells}
@@ -58,7 +53,7 @@ use Rattle.times_to_sql.proofs.Fine.{IsRange, faults_none, faults_range, kind_st
 use Rattle.times_to_sql.proofs.FrequencyParts.{frequency_is, parts_are}
 use Rattle.times_to_sql.proofs.OwnPairs.{IsFine, IsGiven, fine, back_cell, front_cell, given, keys_kept, made_cell, paired_is, values_are}
 use Rattle.times_to_sql.proofs.SeriesLists.{item_has, own_items}
-use Rattle.times_to_sql.proofs.SeriesOrders.{InSeries, Standing, earlier, stands, up_to_at}
+use Rattle.times_to_sql.proofs.SeriesOrders.{InSeries, Standing, stands, up_to_at}
 use Rattle.times_to_sql.proofs.WindowValues.{made_same, sums_within}
 
 -- ---- totals
@@ -259,9 +254,10 @@ module _ (p : Settings) (d : DataSet) (s : Structure) (i : IsFlowed d.structure 
 
       columns : (r : Row) → list_any (same_row r) us ≡ true → is_point (columns_of a) r ≡ true → (zs : List Component) → AllByRecursion (λ x. AllByRecursion (λ y. fault_in (stocks y x) ≡ None) zs) us → AllByRecursion (λ y. fault_in (totals y r) ≡ None) zs
       columns r m t [] all = tt
-      columns r m t (z ∷ zs) all =
-          (one r m t z (all_more (λ x. AllByRecursion (λ y. fault_in (stocks y x) ≡ None) (z ∷ zs)) (λ x. fault_in (stocks z x) ≡ None) (λ x f. f.0) us all),
-          columns r m t zs (all_more (λ x. AllByRecursion (λ y. fault_in (stocks y x) ≡ None) (z ∷ zs)) (λ x. AllByRecursion (λ y. fault_in (stocks y x) ≡ None) zs) (λ x f. f.1) us all))
+      columns r m t (z ∷ zs) all = (
+        one r m t z (all_more (λ x. AllByRecursion (λ y. fault_in (stocks y x) ≡ None) (z ∷ zs)) (λ x. fault_in (stocks z x) ≡ None) (λ x f. f.0) us all),
+        columns r m t zs (all_more (λ x. AllByRecursion (λ y. fault_in (stocks y x) ≡ None) (z ∷ zs)) (λ x. AllByRecursion (λ y. fault_in (stocks y x) ≡ None) zs) (λ x f. f.1) us all),
+      )
 
       rows : (rs : List Row) → AllByRecursion (λ r. list_any (same_row r) us ≡ true) rs → AllByRecursion (λ r. is_point (columns_of a) r ≡ true) rs → AllByRecursion (AllShown totals) rs
       rows [] m t = tt

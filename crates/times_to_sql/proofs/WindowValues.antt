@@ -1,10 +1,9 @@
 -- A window in the points of one frequency gives at each of them the total up to it, or the value before it; and the results for all frequencies.
-use Rattle.std.proofs.Common.{◌≡◌, ℕ, ◌+◌, Bool, true, false, List, [], ◌∷◌, ◌++◌, length, map, take, Ok, Option, Some, None, refl, sym, ap, ◌∙◌, subst}
+use Rattle.std.proofs.Common.{◌≡◌, ℕ, ◌+◌, Bool, true, false, List, [], ◌∷◌, ◌++◌, map, take, Ok, Option, Some, None, refl, sym, ap, ◌∙◌}
 use Rattle.std.specs.Prelude.{if◌then◌else◌}
-use Rattle.std.specs.List.{AllByRecursion, filter, flat_map, list_any}
+use Rattle.std.specs.List.{AllByRecursion, flat_map, list_any}
 use Rattle.std.specs.Option.{option_map_or}
 use Rattle.std.proofs.lemmas.List.{map-append}
-use Rattle.vtl_lists.specs.Perm.{Perm}
 use Rattle.vtl_lists.proofs.Perms.{Perm-map, Perm-sym}
 use Rattle.vtl_cell.specs.Conversion.{as_kind}
 use Rattle.vtl_cell.specs.Frames.{frame_of, lag_of}
@@ -41,7 +40,7 @@ use Rattle.vtl_timing.specs.Times.{HasTime, by_measure, previous, up_to}
 use Rattle.vtl_timing.proofs.FlowOrders.{kept_too}
 use Rattle.sql_meaning.specs.Selects.{appended, rows_in}
 use Rattle.times_to_sql.specs.Frequencies.{is_of_frequency, part_of, series_window, within_frequencies}
-use Rattle.times_to_sql.proofs.SeriesLists.{last_of, one_before, own_items, take_front}
+use Rattle.times_to_sql.proofs.SeriesLists.{one_before, own_items, take_front}
 use Rattle.times_to_sql.proofs.SeriesOrders.{Standing, order_is, previous_is, stands, up_to_is}
 
 -- ---- the same values at all points

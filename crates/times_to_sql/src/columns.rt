@@ -26,10 +26,7 @@ pub(crate) fn times(alloc: Global, a: &Structure) -> Result<Vec<&Component>, All
 }
 
 /// The identifiers that are no time. It fails only if memory runs out.
-pub(crate) fn other_identifiers(
-    alloc: Global,
-    a: &Structure,
-) -> Result<Vec<&Component>, AllocError>
+pub(crate) fn other_identifiers(alloc: Global, a: &Structure) -> Result<Vec<&Component>, AllocError>
     ensures { IfOk result (λ v. shown v.items ≡ other_identifiers a.now) }
 {
     let identifiers = a.identifiers(alloc)?;

@@ -258,11 +258,19 @@ total_is p kind v vs n h all = go (is_null v) refl
     go true e = null_is_of kind
     go false e = of_kind kind n (λ same. true≢false (sym (null_alone v (subst (λ z. IsOf z v) same h)) ∙ e)) all
 
+stock_is : (p : Settings) (d : DataSet) (y : Component) (r : Row) → AllByRecursion (λ q. is_point (columns_of d.structure) q ≡ true) d.points → IsOfMeasure (columns_of d.structure) y → is_point (columns_of d.structure) r ≡ true → GivesOf y.kind (stock_value p d y r)
+stock_is p d y r all i t =
+    total_is p y.kind (value_named (columns_of d.structure) r y.name) (map (λ q. value_named (columns_of d.structure) q y.name) (up_to d r)) i.number (own_cell (columns_of d.structure) y r i t)
+    (own_cells (columns_of d.structure) y (up_to d r) i (AllByRecursion-filter (λ q. is_point (columns_of d.structure) q ≡ true) _ (series_of d r) (AllByRecursion-filter (λ q. is_point (columns_of d.structure) q ≡ true) (in_one_series d.structure r) d.points all)))
+
 pub stocks_kept : (p : Settings) (d : DataSet) (s : Structure) → IsStructure s → AllByRecursion (λ x. is_number x.kind ≡ true) (measures d.structure.components) → s.components ≡ flow_components d.structure.components → IsDataSet d.structure d.points → IfOk (stock_of p d s) (IsDataSet s)
 stocks_kept p d s v numbers shape h =
-    measures_kept d.structure s h.well_formed numbers shape v (stock_value p d) d.points h
-    (λ y r i t. total_is p y.kind (value_named (columns_of d.structure) r y.name) (map (λ q. value_named (columns_of d.structure) q y.name) (up_to d r)) i.number (own_cell (columns_of d.structure) y r i t)
-    (own_cells (columns_of d.structure) y (up_to d r) i (AllByRecursion-filter (λ q. is_point (columns_of d.structure) q ≡ true) _ (series_of d r) (AllByRecursion-filter (λ q. is_point (columns_of d.structure) q ≡ true) (in_one_series d.structure r) d.points h.typed))))
+    measures_kept d.structure s h.well_formed numbers shape v (stock_value p d) d.points h (λ y r i t. stock_is p d y r h.typed i t)
+
+-- each value of a point fits its column, also where another one has a fault
+pub stock_cells : (p : Settings) (d : DataSet) (s : Structure) → IsStructure s → AllByRecursion (λ x. is_number x.kind ≡ true) (measures d.structure.components) → s.components ≡ flow_components d.structure.components → IsDataSet d.structure d.points
+    → (r : Row) → is_point (columns_of d.structure) r ≡ true → AllByRecursion (λ y. HasCell y (cell_or_null (by_measure (stock_value p d) d.structure y r))) (columns_of s)
+stock_cells p d s v numbers shape h = cells_have d.structure s h.well_formed numbers shape v (stock_value p d) d.points h (λ y r i t. stock_is p d y r h.typed i t)
 
 -- an integer zero stands beside numbers
 abbrev IsBeside : Kind → Cell → Type 0
@@ -338,3 +346,7 @@ flow_is p d y r all i t =
 pub flows_kept : (p : Settings) (d : DataSet) (s : Structure) → IsStructure s → AllByRecursion (λ x. is_number x.kind ≡ true) (measures d.structure.components) → s.components ≡ flow_components d.structure.components → IsDataSet d.structure d.points → IfOk (flow_of p d s) (IsDataSet s)
 flows_kept p d s v numbers shape h =
     measures_kept d.structure s h.well_formed numbers shape v (flow_value p d) d.points h (λ y r i t. flow_is p d y r h.typed i t)
+
+pub flow_cells : (p : Settings) (d : DataSet) (s : Structure) → IsStructure s → AllByRecursion (λ x. is_number x.kind ≡ true) (measures d.structure.components) → s.components ≡ flow_components d.structure.components → IsDataSet d.structure d.points
+    → (r : Row) → is_point (columns_of d.structure) r ≡ true → AllByRecursion (λ y. HasCell y (cell_or_null (by_measure (flow_value p d) d.structure y r))) (columns_of s)
+flow_cells p d s v numbers shape h = cells_have d.structure s h.well_formed numbers shape v (flow_value p d) d.points h (λ y r i t. flow_is p d y r h.typed i t)
