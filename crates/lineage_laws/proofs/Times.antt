@@ -5,9 +5,9 @@ use Rattle.lineage_laws.proofs.Joins.{AreTwins, Twin, first_of, second_of}
 use Rattle.lineage_laws.proofs.Rows.{agree_map, agree_map_all, same_identifier, same_key, same_named}
 use Rattle.lineage_laws.proofs.Togethers.{both_value, same_map, together_all, together_any, together_filter, together_find, together_map, together_more, together_self}
 use Rattle.lineage_laws.specs.Agree.{Agree, Agreeing, Both, IsKnown, Known, Together}
-use Rattle.std.proofs.Common.{◌≡◌, ℕ, ◌<◌, Bool, true, false, not, ◌&&◌, ◌||◌, ◌*◌, List, [], ◌∷◌, ◌++◌, length, map, filter, pos, ℤ, Ok, Some, refl, sym, ap, ◌∙◌, subst}
+use Rattle.std.proofs.Common.{◌≡◌, ℕ, ◌<◌, Bool, true, false, not, ◌&&◌, ◌*◌, List, [], ◌∷◌, ◌++◌, map, filter, nat_le, pos, ℤ, Ok, Some, refl, sym, ap, ◌∙◌, subst}
 use Rattle.std.proofs.lemmas.List.{append-nil, length-map, map-append}
-use Rattle.std.specs.List.{AllByRecursion, flat_map, list_all, range_with_len}
+use Rattle.std.specs.List.{AllByRecursion, flat_map, range_with_len}
 use Rattle.std.specs.Option.{option_map_or}
 use Rattle.std.specs.Ordering.{is_le, is_lt}
 use Rattle.std.specs.Prelude.{if◌then◌else◌}
@@ -30,7 +30,7 @@ use Rattle.vtl_series.specs.declared.extent.Extent.{Extent}
 use Rattle.vtl_series.specs.declared.extent.Extent.TheVariants as extent
 use Rattle.vtl_time.specs.Periods.{parts_in_year}
 use Rattle.vtl_time.specs.declared.periods.Frequency.{Frequency}
-use Rattle.vtl_tree.specs.Columns.{identifiers_of, measures_of, others_of, place_of, places_in}
+use Rattle.vtl_tree.specs.Columns.{identifiers_of, measures_of, others_of, places_in}
 use Rattle.vtl_tree.specs.Environment.{DataSet}
 use Rattle.vtl_tree.specs.Measures.{is_measure}
 use Rattle.vtl_tree.specs.Structure.{columns_of, key_width, of_role}
@@ -53,8 +53,7 @@ use Rattle.vtl_timing.proofs.FlowOrders.{front_cell, time_at}
 use Rattle.vtl_timing.proofs.FlowsKept.{free, identify}
 use Rattle.vtl_timing.specs.TimeShapes.{IsFlowed}
 use Rattle.vtl_timing.specs.Timed.{IsTimed, extent_of, timed_of}
-use Rattle.vtl_timing.specs.Times.{HasTime, before, by_measure, fill_of, filled_keys, flow_of, flow_value, in_one_series, in_order, is_time, other_identifiers, previous, series_columns, series_of, shifted_value, stock_of, stock_value, time_of, time_place, timeshift_of, up_to}
-use Rattle.vtl_sources.specs.Links.{Pairs}
+use Rattle.vtl_timing.specs.Times.{HasTime, before, by_measure, fill_of, filled_keys, flow_value, in_one_series, in_order, is_time, other_identifiers, previous, series_columns, series_of, shifted_value, stock_value, time_of, time_place, timeshift_of, up_to}
 use Rattle.lineage_laws.specs.Over.{Operand, attribute_sources, columns_from, measure_sources, no_pairs, of_join, of_left, source_named}
 
 -- ---- rows of series, which are made of the times and of the other identifiers alone
@@ -66,7 +65,7 @@ module _ (on : ℕ) (by : List ℕ) where
   some_same test f us vs t = together_any Alike _ _ (λ r q h i. option_map_or test (number_of f (period_in (h.1 i))) false) us vs t
 
   spanned_same : (f : Frequency) (us vs seen other : List Row) → Together Alike us vs → Together Alike seen other → is_spanned f on us seen ≡ is_spanned f on vs other
-  spanned_same f us vs seen other t u = λ i j. some_same (λ z. true) f us vs t i && (some_same _ f seen other u i && some_same _ f seen other u i)
+  spanned_same f us vs seen other t u = λ i n. some_same (λ m. true) f us vs t i && (some_same (λ m. nat_le m n) f seen other u i && some_same (λ m. nat_le n m) f seen other u i)
 
   own_rows : (us vs : List Row) → Together Alike us vs → (key : Row) → Together Alike (rows_by by us key) (rows_by by vs key)
   own_rows us vs t key = together_filter Alike (λ r. same_row (cells_at by r) key) (λ r. same_row (cells_at by r) key) (λ r q h i. same_row (h.0 i) key) us vs t

@@ -2,6 +2,12 @@ pub mod Shifts
 pub mod FillKeys
 pub mod Fills
 pub mod TimeTables
+pub mod Frequencies
+pub mod Parts
+pub mod FlowColumns
+pub mod Stocks
+pub mod PartRows
+pub mod FlowTables
 pub mod SeriesLists
 pub mod SeriesOrders
 pub mod FrequencyParts
@@ -10,3 +16,4 @@ pub mod OwnPairs
 pub mod Fine
 pub mod StockWindows
 pub mod FlowWindows
+pub mod FlowForms

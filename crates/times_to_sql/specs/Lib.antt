@@ -3,5 +3,4 @@ pub mod Shifts
 pub mod Fills
 pub mod Flows
 pub mod TimeTables
-pub mod Frequencies
 pub mod StockItems
