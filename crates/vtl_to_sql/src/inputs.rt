@@ -80,12 +80,7 @@ pub(crate) fn names(alloc: Global, components: &[&Component]) -> Result<List<Txt
     Ok(List::of(names))
 }
 
-fn input(
-    alloc: Global,
-    not_null: &[Txt],
-    name: &Txt,
-    s: &Structure,
-) -> Result<SqlInput, AllocError>
+fn input(alloc: Global, not_null: &[Txt], name: &Txt, s: &Structure) -> Result<SqlInput, AllocError>
     ensures { IfOk result (λ x. (ls : NotNull) → not_null.now ≡ not_null_of name.now ls → x ≡ input_of ls (name.now, s.now)) }
 {
     let columns = s.columns(alloc)?;
