@@ -1,5 +1,5 @@
 -- The fields of a component are read again.
-use Rattle.std.proofs.Common.{◌≡◌, ℕ, Bool, true, false, cond, not, ◌&&◌, ◌||◌, ◌==◌, List, [], ◌∷◌, ◌++◌, length, map, flat_map, Option, Some, None, refl, sym, ap, subst, ◌∙◌, append-nil, true≢false}
+use Rattle.std.proofs.Common.{◌≡◌, Bool, true, false, cond, not, ◌&&◌, ◌||◌, ◌==◌, List, [], ◌∷◌, ◌++◌, length, map, flat_map, Option, Some, None, refl, sym, ap, ◌∙◌, append-nil, true≢false}
 use Rattle.std.specs.List.{AllByRecursion, list_all, list_any}
 use Rattle.std.specs.Option.{option_and_then}
 use Rattle.std.specs.Prelude.{chars, codes, encode_utf8_all, option_map}
@@ -9,7 +9,6 @@ use Rattle.std.proofs.lemmas.Str.{chars-nil}
 use Rattle.vtl_lists.specs.Aliases.{Field, Name, Text}
 use Rattle.vtl_lists.specs.Apart.{all_apart}
 use Rattle.vtl_lists.specs.Each.{cons_if, each_some}
-use Rattle.vtl_text.specs.Words.{is_component_name}
 use Rattle.vtl_cell.specs.declared.kind.Kind.{Kind}
 use Rattle.vtl_cell.specs.declared.kind.Kind.TheVariants as k
 use Rattle.vtl_tree.specs.declared.structure.Component.{Component}
@@ -17,11 +16,11 @@ use Rattle.vtl_tree.specs.declared.structure.Role.{Role}
 use Rattle.vtl_tree.specs.declared.structure.Role.TheVariants as r
 use Rattle.vtl_tree.specs.Names.{is_among}
 use Rattle.vtl_tree.specs.Structure.{same_name}
-use Rattle.vtl_tree.specs.Structures.{are_codes, codes_fit, is_declarable_component, is_filled, is_null_kind, is_string_identifier}
+use Rattle.vtl_tree.specs.Structures.{are_codes, codes_fit, is_filled, is_null_kind, is_string_identifier}
 use Rattle.vtl_tree.proofs.DeclarationLemmas.{or_none}
-use Rattle.vtl_csv.specs.Declarations.{code_in, codes_in, codes_of, distinct, is_bar, is_identifier_role, kind_in, listed_by, onto_first, parts, role_in, says_not_null, says_null}
+use Rattle.vtl_csv.specs.Declarations.{code_in, codes_in, codes_of, distinct, is_bar, kind_in, listed_by, onto_first, parts, role_in, says_not_null, says_null}
 use Rattle.vtl_csv.specs.StructuresFile.{is_identifier}
-use Rattle.vtl_csv.specs.StructuresText.{barred, codes_field, joined, kind_word, nullable_word, role_word}
+use Rattle.vtl_csv.specs.StructuresText.{barred, codes_field, kind_word, nullable_word, role_word}
 use Rattle.structures_laws.specs.Writable.{AreCodes, IsCode, is_listed}
 
 -- ---- words

@@ -1,7 +1,7 @@
 -- The record of a component declares it, and its place on the list of its data set.
-use Rattle.std.proofs.Common.{◌≡◌, ℕ, ◌<◌, Bool, true, false, cond, not, ◌&&◌, List, [], ◌∷◌, length, Option, Some, None, Result, Ok, Err, refl, ap, ◌∙◌}
+use Rattle.std.proofs.Common.{◌≡◌, ℕ, ◌<◌, Bool, true, false, cond, not, ◌&&◌, List, length, Option, Some, Result, Ok, Err, ap, ◌∙◌}
 use Rattle.std.specs.List.{list_any}
-use Rattle.std.specs.Prelude.{encode_utf8_all, nat_le, ok_or}
+use Rattle.std.specs.Prelude.{encode_utf8_all, ok_or}
 use Rattle.std.proofs.lemmas.Bool.{and_parts, lt-leb}
 use Rattle.vtl_lists.specs.Aliases.{Name, Text}
 use Rattle.vtl_lists.specs.Results.{◌>>=◌}

@@ -1,9 +1,8 @@
 -- Lists that stand in the order of components, and how they grow by one more component.
-use Rattle.std.proofs.Common.{◌≡◌, Bool, true, false, cond, not, ◌&&◌, ◌||◌, List, [], ◌∷◌, ◌++◌, flat_map, Option, Some, None, refl, sym, ap, ◌∙◌, append-nil}
+use Rattle.std.proofs.Common.{◌≡◌, Bool, true, false, cond, not, List, [], ◌∷◌, ◌++◌, Some, None, refl, sym, ap, ◌∙◌, append-nil}
 use Rattle.std.specs.Cmp.Lexicographic.{nat_list_eq_equiv}
-use Rattle.std.specs.List.{AllByRecursion, filter, list_any}
+use Rattle.std.specs.List.{AllByRecursion, filter}
 use Rattle.std.specs.Map.{keys_of, lookup}
-use Rattle.std.specs.Option.{option_map_or}
 use Rattle.std.specs.Prelude.{unwrap_or}
 use Rattle.std.proofs.lemmas.Bool.{and_parts}
 use Rattle.std.proofs.lemmas.Grind.{flat_map-append}
@@ -15,7 +14,7 @@ use Rattle.vtl_tree.specs.declared.structure.Component.{Component}
 use Rattle.vtl_tree.specs.declared.structure.Structure.{Structure}
 use Rattle.vtl_tree.specs.NotNull.{Declared, NotNull, longer_list, not_null_of, with_list, with_name}
 use Rattle.vtl_tree.specs.Structure.{names_of, same_name}
-use Rattle.vtl_tree.specs.Structures.{Named, components_of, has_name, structure_of, with_component}
+use Rattle.vtl_tree.specs.Structures.{Named, has_name, structure_of, with_component}
 use Rattle.vtl_tree.proofs.DeclarationLemmas.{not_false, or_none}
 use Rattle.vtl_tree.proofs.StructuresLemmas.{begins_data_set, keys_push}
 use Rattle.vtl_csv.specs.declared.declarations.NewComponent.{NewComponent}

@@ -1,5 +1,5 @@
 -- A text of version 2 declares what it was written for.
-use Rattle.std.proofs.Common.{◌≡◌, ℕ, ◌+◌, ◌-◌, ◌<◌, ◌≤◌, Bool, true, false, cond, not, ◌&&◌, ◌||◌, List, [], ◌∷◌, ◌++◌, length, length-append, map, flat_map, Option, Some, None, Result, Ok, Err, arith, refl, sym, ap, subst, ◌∙◌, append-nil, append_assoc}
+use Rattle.std.proofs.Common.{◌≡◌, ℕ, ◌+◌, ◌-◌, ◌≤◌, Bool, true, false, cond, not, ◌&&◌, ◌||◌, List, [], ◌∷◌, ◌++◌, length, length-append, map, flat_map, Option, Some, None, Result, Ok, Err, arith, refl, sym, ap, subst, ◌∙◌, append-nil, append_assoc}
 use Rattle.std.specs.Cmp.Lexicographic.{nat_list_eq_equiv}
 use Rattle.std.specs.List.{AllByRecursion, list_all, list_any}
 use Rattle.std.specs.Map.{keys_of, lookup}
@@ -8,7 +8,7 @@ use Rattle.std.specs.Prelude.{encode_utf8_all, nat_le, option_map}
 use Rattle.std.proofs.lemmas.Bool.{and_parts}
 use Rattle.std.proofs.lemmas.Bool.Decides.{nat_tests}
 use Rattle.std.proofs.lemmas.List.{map-append}
-use Rattle.vtl_lists.specs.Aliases.{Field, Name, Record}
+use Rattle.vtl_lists.specs.Aliases.{Name, Record}
 use Rattle.vtl_lists.specs.Apart.{all_apart}
 use Rattle.vtl_lists.specs.Results.{◌>>=◌}
 use Rattle.vtl_decimal.specs.Settings.{Settings}
@@ -16,20 +16,20 @@ use Rattle.vtl_decimal.specs.declared.settings.Rounding.{Rounding}
 use Rattle.vtl_decimal.specs.declared.settings.Rounding.TheVariants as round
 use Rattle.vtl_tree.specs.declared.structure.Component.{Component}
 use Rattle.vtl_tree.specs.declared.structure.Structure.{Structure}
-use Rattle.vtl_tree.specs.NotNull.{Declared, NotNull, no_sets, not_null_of}
+use Rattle.vtl_tree.specs.NotNull.{Declared, NotNull, not_null_of}
 use Rattle.vtl_tree.specs.Structure.{most_components, names_of, same_name}
 use Rattle.vtl_tree.specs.Structures.{Named, are_declarable, components_of, has_name, is_declarable_component, is_declarable_entry, structure_of}
 use Rattle.vtl_tree.proofs.DeclarationLemmas.{not_false, or_none}
-use Rattle.vtl_tree.proofs.StructuresLemmas.{keys_push, not_found}
+use Rattle.vtl_tree.proofs.StructuresLemmas.{not_found}
 use Rattle.vtl_csv.specs.declared.declarations.NewComponent.{NewComponent}
 use Rattle.vtl_csv.specs.declared.structures.Declared.{Declared as Whole}
 use Rattle.vtl_csv.specs.declared.version.Opening.{Opening}
 use Rattle.vtl_csv.specs.declared.version.Version.TheVariants as v
 use Rattle.vtl_csv.specs.Declarations.{dataset_in, record_of, with_new}
-use Rattle.vtl_csv.specs.Opening.{Fault, is_digit, opening_of, profile_in, rounding_in, scale_in, second_of, settings_in}
+use Rattle.vtl_csv.specs.Opening.{Fault, opening_of, profile_in, rounding_in, scale_in, second_of}
 use Rattle.vtl_csv.specs.StructuresFile.{◌at_line◌, is_identifier, lacks_identifier, lines_behind, lines_declare, lines_in, missing_in, structures_of_file, with_identifiers, without_identifier}
 use Rattle.vtl_csv.specs.StructuresText.{component_record, declaring_records, heading_record, profile_record, records_written, rounding_word, second_text, set_records}
-use Rattle.structures_laws.specs.Writable.{IsWritable, IsWritableComponent, IsWritableSet, lists_in_order}
+use Rattle.structures_laws.specs.Writable.{IsWritable, IsWritableComponent, IsWritableSet}
 use Rattle.structures_laws.proofs.OneMore.{record_again}
 use Rattle.structures_laws.proofs.Orders.{last_found, new_of, same_itself, state, state_begins, state_grows}
 use Rattle.structures_laws.proofs.RecordsAgain.{second_again}
