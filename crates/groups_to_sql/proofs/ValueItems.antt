@@ -1,5 +1,5 @@
--- A select over all rows of its sources whose items, windows among them, have known values at each row and its number.
-use Rattle.std.proofs.Common.{◌≡◌, ◌≤◌, ℕ, false, not, ◌||◌, cond, List, [], ◌∷◌, length, map, Some, None, Ok, refl, ap, sym, ◌∙◌, subst, arith}
+-- A select over the rows of its source whose items, windows among them, have known values at each row and its number.
+use Rattle.std.proofs.Common.{◌≡◌, ◌≤◌, ℕ, false, not, ◌||◌, cond, List, [], ◌∷◌, length, map, Option, Some, None, Ok, refl, ap, sym, ◌∙◌, subst, arith}
 use Rattle.std.specs.Prelude.{zip}
 use Rattle.std.specs.List.{AllByRecursion, list_any}
 use Rattle.grammar_forms.specs.Written.{Each}
@@ -20,11 +20,12 @@ use Rattle.sql_check_parts.specs.Scopes.{Scope, grouping_of, repeats}
 use Rattle.sql_meaning.specs.Scripts.{Data, base_of}
 use Rattle.sql_meaning.specs.Selects.{Wanted, grouped_rows, item_value, plain_rows, second_phase}
 use Rattle.sql_meaning.specs.Tables.{Base}
+use Rattle.sql_check_laws.specs.Fits.{IsMaybeCondition}
 use Rattle.sql_check_laws.specs.Selects.{IsItemTyped}
 use Rattle.sql_meaning.specs.Values.{at_rows}
 use Rattle.sql_meaning.specs.Windows.{told_apart}
 use Rattle.sql_tree.specs.Formed.{IsItem as IsItemFormed}
-use Rattle.sql_tree.specs.Trees.{ItemTree, SelectTree}
+use Rattle.sql_tree.specs.Trees.{Exp, ItemTree, SelectTree}
 use Rattle.sql_tree.specs.declared.parts.Source.{Source}
 use Rattle.selects_to_sql.specs.Queries.{select_as}
 use Rattle.selects_to_sql.specs.Runs.{printable_depth}
@@ -91,8 +92,8 @@ module _ (b : Base) (s : Scope) (whole : List Row) (P : Row × ℕ → Type 0) (
     plain_is : AllByRecursion P (told_apart whole) → plain_rows (at_rows b s) (wanted ys) whole ≡ each_point made ys whole
     plain_is h = λ j. unless (rows_fault whole h j) (rows_cells whole h j)
 
--- a select of such items gives a point of their values for each row
-module _ (p : Settings) (before : Data) (s : Scope) (d : List Row) (P : Row × ℕ → Type 0) (made : Made) (item : Component → ItemTree) (t : Structure) (i : AreValueItems (base_of p before) s d P made item (columns_of t)) (given : AreGiven (columns_of t)) (source : Source) where
+-- a select of such items gives a point of their values for each row of FROM that its condition keeps
+module _ (p : Settings) (before : Data) (s : Scope) (d : List Row) (P : Row × ℕ → Type 0) (made : Made) (item : Component → ItemTree) (t : Structure) (i : AreValueItems (base_of p before) s d P made item (columns_of t)) (given : AreGiven (columns_of t)) (source : Source) (condition : Option Exp) where
   abbrev b : Base
   b = base_of p before
 
@@ -100,7 +101,7 @@ module _ (p : Settings) (before : Data) (s : Scope) (d : List Row) (P : Row × �
   ys = columns_of t
 
   abbrev it : SelectTree
-  it = select_as (map item ys) source [] None
+  it = select_as (map item ys) source [] condition
 
   pub values_give : IsFrom p before s it → source_rows b it ≡ Ok d → AllByRecursion P (told_apart d) → GivesRows p before t it (each_point made ys d)
   values_give from rows all =
@@ -114,7 +115,7 @@ module _ (p : Settings) (before : Data) (s : Scope) (d : List Row) (P : Row × �
         typed = record {
           source = from.source.0;
           joins = from.joins.0;
-          condition = tt;
+          condition = subst (λ z. IsMaybeCondition (site p b.tables z) None condition) (sym from.scope) from.condition.0;
           group = tt;
           having = tt;
           items = subst (λ z. AllByRecursion (IsItemTyped (site p b.tables z) (groups_of it)) (map item ys)) (sym from.scope) (subst (λ g. AllByRecursion (IsItemTyped (site p b.tables s) g) (map item ys)) (sym not_grouped) fits);
@@ -125,7 +126,7 @@ module _ (p : Settings) (before : Data) (s : Scope) (d : List Row) (P : Row × �
           items = items_printed b s d P made item ys i;
           source = from.source.1;
           joins = tt;
-          condition = tt;
+          condition = from.condition.1;
           group = tt;
           having = tt;
         };

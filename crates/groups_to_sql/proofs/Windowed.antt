@@ -53,18 +53,21 @@ use Rattle.vtl_meaning.proofs.OwnColumns.{columns_apart}
 use Rattle.vtl_meaning.proofs.Places.{all_append, all_front, all_more, columns_split, each}
 use Rattle.vtl_meaning.proofs.ValueKinds.{cell_is_of, value_is_of}
 use Rattle.sql_tree.specs.Formed.{IsName}
-use Rattle.sql_tree.specs.Trees.{ItemTree as Item, Text, column, expression}
+use Rattle.sql_tree.specs.Trees.{Exp, ItemTree as Item, Text, column, expression}
+use Rattle.sql_tree.specs.declared.parts.Source.{Source}
+use Rattle.sql_meaning.specs.From.{source_rows}
 use Rattle.groups_to_sql.specs.Writable.{CallsCanBeWritten, ValueCanBeWritten}
 use Rattle.selects_to_sql.specs.Writable.{CanBeWritten, HaveNames}
 use Rattle.selects_to_sql.specs.Queries.{first_alias, of_one, select_as, source_as}
 use Rattle.selects_to_sql.specs.Runs.{IsTable}
+use Rattle.groups_to_sql.specs.WindowItems.{analytic_items}
 use Rattle.groups_to_sql.specs.Windowed.{analytic_item, analytic_query, argument_of, made_to_sql, over_to_sql}
 use Rattle.selects_to_sql.proofs.Aggregates.{no_aggregate}
 use Rattle.selects_to_sql.proofs.Exact.{IsExactly}
 use Rattle.selects_to_sql.proofs.Expressions.{Translates}
 use Rattle.selects_to_sql.proofs.Givens.{AreGiven}
 use Rattle.selects_to_sql.proofs.OneOperand.{one_from, rows_there}
-use Rattle.selects_to_sql.proofs.SelectItems.{stays_after}
+use Rattle.selects_to_sql.proofs.SelectItems.{GivesRows, IsFrom, stays_after}
 use Rattle.selects_to_sql.proofs.Selects.{expression_printed}
 use Rattle.selects_to_sql.proofs.Sources.{one_formed, one_names, one_scope}
 use Rattle.groups_to_sql.proofs.TargetKinds.{IsOfTarget, of_targets}
@@ -147,7 +150,7 @@ kinded (nodes.of_items items) a s formed shape = all_more (IsOfTarget a.componen
 
 -- ---- the operator
 
-module _ (p : Settings) (law : Translates p) (before : Data) (name : Text) (a s : Structure) (d : List Row) (there : IsTable before name a d) (named : IsName name) (na : HaveNames (columns_of a)) (set : IsDataSet a d) (spec : AnalyticTree) (i : IsWindowed p spec a s) (near : AreNear spec) (written : CallsCanBeWritten spec) (given : AreGiven (columns_of s)) where
+module _ (p : Settings) (law : Translates p) (before : Data) (a s : Structure) (d : List Row) (na : HaveNames (columns_of a)) (set : IsDataSet a d) (spec : AnalyticTree) (i : IsWindowed p spec a s) (near : AreNear spec) (written : CallsCanBeWritten spec) (given : AreGiven (columns_of s)) where
   abbrev xs : List Component
   xs = columns_of a
 
@@ -262,8 +265,14 @@ module _ (p : Settings) (law : Translates p) (before : Data) (name : Text) (a s 
   told : AllByRecursion IsRow (told_apart d)
   told = lists.both (λ x. is_point xs x.0 ≡ true) (IsAlone d) (told_apart d) (told_all (λ r. is_point xs r ≡ true) d set.typed) (told_alone d (rows_apart (key_width a) d set.distinct))
 
-  pub analytic_means : IsExactly p before (analytic_query p spec a s name) s (analytic_of p spec operand s)
+  -- over a table of which a condition keeps these points
+  pub analytic_gives : (source : Source) (condition : Option Exp) → IsFrom p before scope (select_as (analytic_items p spec a (columns_of s)) source [] condition)
+      → source_rows b (select_as (analytic_items p spec a (columns_of s)) source [] condition) ≡ Ok d → GivesRows p before s (select_as (analytic_items p spec a (columns_of s)) source [] condition) (analytic_of p spec operand s)
+  analytic_gives source condition from rows = values_give p before scope d IsRow (made_of p spec operand) (analytic_item p spec a) s items given source condition from rows told
+
+module _ (p : Settings) (law : Translates p) (before : Data) (name : Text) (a s : Structure) (d : List Row) (there : IsTable before name a d) (named : IsName name) (na : HaveNames (columns_of a)) (set : IsDataSet a d) (spec : AnalyticTree) (i : IsWindowed p spec a s) (near : AreNear spec) (written : CallsCanBeWritten spec) (given : AreGiven (columns_of s)) where
+  pub analytic_means : IsExactly p before (analytic_query p spec a s name) s (analytic_of p spec (with_points a d) s)
   analytic_means =
-      let from = one_from p law before name a d there named set.well_formed na (map (analytic_item p spec a) (columns_of s)) None tt tt in
-      one_exactly p before s given (select_as (map (analytic_item p spec a) (columns_of s)) (source_as first_alias name) [] None) (analytic_of p spec operand s)
-      (values_give p before scope d IsRow (made_of p spec operand) (analytic_item p spec a) s items given (source_as first_alias name) from (ap Ok (rows_there p law before name a d there named set.well_formed na)) told)
+      let from = one_from p law before name a d there named set.well_formed na (analytic_items p spec a (columns_of s)) None tt tt in
+      one_exactly p before s given (select_as (analytic_items p spec a (columns_of s)) (source_as first_alias name) [] None) (analytic_of p spec (with_points a d) s)
+      (analytic_gives p law before a s d na set spec i near written given (source_as first_alias name) None from (ap Ok (rows_there p law before name a d there named set.well_formed na)))

@@ -19,4 +19,4 @@ mod windows;
 pub use grouped_queries::aggregate_query;
 pub use pivot_queries::pivot_query;
 pub use unpivot_queries::unpivot_query;
-pub use windowed_queries::analytic_query;
+pub use windowed_queries::{analytic_items, analytic_query};

@@ -81,8 +81,8 @@ fn analytic_value(
     }
 }
 
-// The columns of the result.
-fn analytic_items(
+/// The columns of the result. It fails only if memory runs out.
+pub fn analytic_items(
     alloc: Global,
     writer: &Writer,
     spec: &AnalyticSpec,

@@ -30,10 +30,11 @@ structure_in x = x.operand.structure
 
 module _ (known : Known) (s : Structure) where
   -- ---- `full_join`
-  module _ (ids : List Component) (width : length ids ≡ length (identifiers_of s)) where
-    abbrev Keys : Row → Row → Type 0
-    Keys k j = (k ≡ j) × (length k ≡ length (identifiers_of s))
+  -- one key of as many cells
+  abbrev pub Keys : Row → Row → Type 0
+  Keys k j = (k ≡ j) × (length k ≡ length (identifiers_of s))
 
+  module _ (ids : List Component) (width : length ids ≡ length (identifiers_of s)) where
     -- an operand has these identifiers
     abbrev pub HasIds : Twin → Type 0
     HasIds x = AreTwins known x × AllByRecursion (λ y. IsIdentifierOf x.operand.structure y.name) ids
@@ -48,17 +49,20 @@ module _ (known : Known) (s : Structure) where
     keys_together [] all = none
     keys_together (x ∷ l) all = together_append Keys (keys_in ids (first_of x)) (keys_in ids (second_of x)) (flat_map (keys_in ids) (map first_of l)) (flat_map (keys_in ids) (map second_of l)) (own_keys x all.0) (keys_together l all.1)
 
-    pub full_agrees : (l : List Twin) → AllByRecursion HasIds l → Agreeing known (columns_from s (of_join (map operand_in l))) (map tuple_point (map (tuple_at ids (map first_of l)) (all_keys ids (map first_of l)))) (map tuple_point (map (tuple_at ids (map second_of l)) (all_keys ids (map second_of l))))
-    full_agrees l all =
-        let Q = Agree known (columns_from s (of_join (map operand_in l))) in
-        let tuple : (k j : Row) → Keys k j → Q (tuple_point (tuple_at ids (map first_of l) k)) (tuple_point (tuple_at ids (map second_of l) j)) = λ k j g.
+    -- the points of a tuple at one key
+    pub key_tuple_agrees : (l : List Twin) → AllByRecursion HasIds l → (k j : Row) → Keys k j → Agree known (columns_from s (of_join (map operand_in l))) (tuple_point (tuple_at ids (map first_of l) k)) (tuple_point (tuple_at ids (map second_of l) j))
+    key_tuple_agrees l all k j g =
         let one : DataSet → Option Row = λ d. item_at same_row (values_in d.structure ids) d.points k in
         let two : DataSet → Option Row = λ d. item_at same_row (values_in d.structure ids) d.points j in
         tuple_agrees known one two s k j l
         (all_more HasIds (Found known one two) (λ x h. (h.0.points, together_find (Agree known (columns_from x.operand.structure x.operand.sources)) (λ r. same_row (values_in x.operand.structure ids r) k) (λ r. same_row (values_in x.operand.structure ids r) j) (λ r q w i. same_row (same_values known x.operand r q w ids h.1 i) (g.0 i)) x.first x.second h.0.agree)) l all)
-        (subst (λ z. Agree known (map (λ y. no_pairs) (identifiers_of s)) k z) g.0 (agree_self known (map (λ y. no_pairs) (identifiers_of s)) k (length-map (identifiers_of s) (λ y. no_pairs) ∙ sym g.1))) in
+        (subst (λ z. Agree known (map (λ y. no_pairs) (identifiers_of s)) k z) g.0 (agree_self known (map (λ y. no_pairs) (identifiers_of s)) k (length-map (identifiers_of s) (λ y. no_pairs) ∙ sym g.1)))
+
+    pub full_agrees : (l : List Twin) → AllByRecursion HasIds l → Agreeing known (columns_from s (of_join (map operand_in l))) (map tuple_point (map (tuple_at ids (map first_of l)) (all_keys ids (map first_of l)))) (map tuple_point (map (tuple_at ids (map second_of l)) (all_keys ids (map second_of l))))
+    full_agrees l all =
+        let Q = Agree known (columns_from s (of_join (map operand_in l))) in
         together_map (λ t u. Q (tuple_point t) (tuple_point u)) Q tuple_point tuple_point (λ t u g. g) (map (tuple_at ids (map first_of l)) (all_keys ids (map first_of l))) (map (tuple_at ids (map second_of l)) (all_keys ids (map second_of l)))
-        (together_map Keys (λ t u. Q (tuple_point t) (tuple_point u)) (tuple_at ids (map first_of l)) (tuple_at ids (map second_of l)) tuple (all_keys ids (map first_of l)) (all_keys ids (map second_of l))
+        (together_map Keys (λ t u. Q (tuple_point t) (tuple_point u)) (tuple_at ids (map first_of l)) (tuple_at ids (map second_of l)) (key_tuple_agrees l all) (all_keys ids (map first_of l)) (all_keys ids (map second_of l))
         (together_once Keys same_row same_row (λ k j m n g h i. same_row (g.0 i) (h.0 i)) (flat_map (keys_in ids) (map first_of l)) (flat_map (keys_in ids) (map second_of l)) (keys_together l all)))
 
   -- ---- `cross_join`

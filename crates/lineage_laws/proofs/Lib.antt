@@ -10,6 +10,7 @@ pub mod Fulls
 pub mod Groups
 pub mod Sorts
 pub mod Windows
+pub mod Times
 pub mod Turned
 pub mod Rulings
 pub mod Nodes

@@ -9,6 +9,7 @@ use Rattle.lineage_laws.proofs.Pairs.{choice_agrees, pair_agrees}
 use Rattle.lineage_laws.proofs.Rows.{known_all, known_parts, namesakes_known, points_known}
 use Rattle.lineage_laws.proofs.Rulings.{AreTwinsIf, check_agrees, check_hierarchy_same, datapoint_agrees, equal_agrees, hierarchy_same, measures_stay, others_are, rules_known}
 use Rattle.lineage_laws.proofs.Values.{condition_known, expression_known}
+use Rattle.lineage_laws.proofs.Times.{timed_agrees}
 use Rattle.lineage_laws.proofs.Turned.{exists_agrees, pivot_agrees, unpivot_agrees}
 use Rattle.lineage_laws.proofs.Windows.{analytic_agrees}
 use Rattle.lineage_laws.specs.Agree.{Agreeing, IsKnown, Known}
@@ -35,6 +36,7 @@ use Rattle.vtl_meaning.specs.Made.{AreAmong, GoTogether, AreCombined, HasIdentif
 use Rattle.vtl_meaning.specs.Operators.{calculated_of, choice_of, left_of, measured_of, pair_of, sub_of}
 use Rattle.vtl_meaning.specs.Points.{with_points}
 use Rattle.vtl_meaning.specs.Sets.{difference_of, existence_of, intersection_of, symmetric_difference_of, union_of}
+use Rattle.vtl_timing.specs.Timed.{timed_of}
 use Rattle.vtl_meaning.specs.Turned.{pivot_of, unpivot_of}
 use Rattle.vtl_scripts.proofs.ScriptsKept.{first_ok, node_kept}
 use Rattle.vtl_scripts.specs.Made.{AreMade, AreMadeOperands, IsMade, IsMadeForm, IsMadeMaybe, node_structures, operands_in}
@@ -253,6 +255,10 @@ module _ (p : Settings) (known : Known) (past : Past) (env other : Environment) 
         let x = operand_ok a (node_value p env a) (λ z. analytic_of p spec z s) d e in
         let y = operand_ok a (node_value p other a) (λ z. analytic_of p spec z s) t f in
         analytic_agrees known p (operand a) spec s i.1.analyzed x.0 y.0 (node_agrees a i.0 x.0 y.0 h x.1 y.1) (one_kept a x.0 i.0 x.1) (two_kept a y.0 i.0 y.1) d t x.2 y.2
+    form_agrees s (nodes.time a o) made i d t h e f =
+        let x = operand_ok a (node_value p env a) (λ z. timed_of p o z s) d e in
+        let y = operand_ok a (node_value p other a) (λ z. timed_of p o z s) t f in
+        timed_agrees known (twin_of a x.0 y.0) (twin_told a x.0 y.0 i.0 h (λ k l m n z. node_agrees a i.0 k l m n z) x.1 y.1) p o s i.1 d t x.2 y.2
     form_agrees s (nodes.join os spec) made i d t h e f =
         let x = after_ok (operands_value p env os) (λ ds. Ok (join_of spec.kind ds)) d e in
         let y = after_ok (operands_value p other os) (λ ds. Ok (join_of spec.kind ds)) t f in

@@ -1,8 +1,8 @@
 -- What functions on lists make of related lists is related.
 use Rattle.lineage_laws.specs.Agree.{Both, Together, and, both, neither, none}
-use Rattle.std.proofs.Common.{◌≡◌, suc, Bool, true, false, not, cond, ◌&&◌, List, [], ◌∷◌, ◌++◌, length, map, Option, Some, refl, sym, ap, ◌∙◌}
+use Rattle.std.proofs.Common.{◌≡◌, suc, Bool, true, false, not, cond, ◌&&◌, ◌||◌, List, [], ◌∷◌, ◌++◌, length, map, Option, Some, refl, sym, ap, ◌∙◌}
 use Rattle.std.proofs.lemmas.List.Sums.{length-filter}
-use Rattle.std.specs.List.{AllByRecursion, filter, find, flat_map, list_all}
+use Rattle.std.specs.List.{AllByRecursion, filter, find, flat_map, list_all, list_any}
 use Rattle.std.specs.Option.{option_map_or, option_to_list}
 use Rattle.std.specs.Prelude.{count_by, is_some, option_map}
 use Rattle.vtl_tuples.specs.Keys.{each_once}
@@ -43,6 +43,10 @@ module _ {X Y : Type 0} (R : X → Y → Type 0) where
   pub together_all : (p : X → Bool) (q : Y → Bool) → ((x : X) (y : Y) → R x y → p x ≡ q y) → (xs : List X) (ys : List Y) → Together R xs ys → list_all p xs ≡ list_all q ys
   together_all p q e _ _ none = refl
   together_all p q e _ _ (and {x = x} {y = y} {xs = xs} {ys = ys} h t) = λ i. e x y h i && together_all p q e xs ys t i
+
+  pub together_any : (p : X → Bool) (q : Y → Bool) → ((x : X) (y : Y) → R x y → p x ≡ q y) → (xs : List X) (ys : List Y) → Together R xs ys → list_any p xs ≡ list_any q ys
+  together_any p q e _ _ none = refl
+  together_any p q e _ _ (and {x = x} {y = y} {xs = xs} {ys = ys} h t) = λ i. e x y h i || together_any p q e xs ys t i
 
   pub both_some : (o : Option X) (u : Option Y) → Both R o u → is_some o ≡ is_some u
   both_some _ _ neither = refl

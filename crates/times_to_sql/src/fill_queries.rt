@@ -1,18 +1,16 @@
 // The queries of `fill_time_series`.
 ghost use Rattle.std.specs.Prelude.{◌≡◌, map, IfOk};
-ghost use Rattle.vtl_tree.specs.Shown.{shown};
-ghost use Rattle.vtl_tree.specs.Structure.{names_of};
 ghost use Rattle.sql_tree.specs.View.{query_tree};
 ghost use Rattle.times_to_sql.specs.Fills.{fill_keys_query, fill_query, series_as, series_of, span_of};
 
-use crate::columns::{other_identifiers, times};
+use crate::columns::{names_of, other_identifiers, times};
 use joins_to_sql::{full_query, key_structure};
 use selects_to_sql::{Writer, name_of_first, one_select, own_items};
 use sql_tree::{Query, Select, Series, Source, Span};
 use std::alloc::{AllocError, Global};
 use vtl_syntax::Filling;
 use vtl_text::{List, Txt};
-use vtl_tree::{Component, Structure};
+use vtl_tree::Structure;
 
 fn span_of(filling: Filling) -> Span
     ensures { result ≡ span_of filling }
@@ -21,16 +19,6 @@ fn span_of(filling: Filling) -> Span
         Filling::Single => Span::Single,
         Filling::All => Span::All,
     }
-}
-
-fn names_of(alloc: Global, components: &[&Component]) -> Result<Vec<Txt>, AllocError>
-    ensures { IfOk result (λ v. v.items ≡ names_of (shown components.now)) }
-{
-    let mut names = Vec::with_capacity(alloc, components.len())?;
-    for component in components {
-        names.push(component.name.share()?)?;
-    }
-    Ok(names)
 }
 
 // On the time, by the other identifiers.

@@ -11,7 +11,10 @@
 
 mod columns;
 mod fill_queries;
+mod flow_queries;
+mod parts_queries;
 mod shift_queries;
+mod stock_queries;
 mod time_queries;
 
 pub use time_queries::time_query;

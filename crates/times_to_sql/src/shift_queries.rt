@@ -12,12 +12,7 @@ use vtl_text::Txt;
 use vtl_tree::{Component, Structure, is_time};
 
 // A column so many periods later.
-fn later(
-    alloc: Global,
-    writer: &Writer,
-    periods: &Cell,
-    name: &Txt,
-) -> Result<SqlExpr, AllocError>
+fn later(alloc: Global, writer: &Writer, periods: &Cell, name: &Txt) -> Result<SqlExpr, AllocError>
     ensures { IfOk result (λ e. expr_tree e ≡ later writer.now periods.now name.now) }
 {
     let mut operands = Vec::with_capacity(alloc, 2)?;

@@ -5,8 +5,9 @@ ghost use Rattle.selects_to_sql.specs.Tables.{by_names, create_for};
 ghost use Rattle.times_to_sql.specs.TimeTables.{fill_made, time_made};
 
 use crate::fill_queries::{fill_keys_query, fill_query};
+use crate::flow_queries::{flowed, stocked};
 use crate::shift_queries::shift_query;
-use selects_to_sql::{Draft, Operand, Writer, no_query};
+use selects_to_sql::{Draft, Operand, Writer};
 use sql_tree::Query;
 use std::alloc::{AllocError, Global};
 use vtl_syntax::Filling;
@@ -50,7 +51,7 @@ pub fn time_query(
     match op {
         TimeOp::Shift(n) => shift_query(alloc, writer, *n, a.structure, a.table),
         TimeOp::Fill(filling) => filled(alloc, writer, *filling, a, s, target, draft),
-        TimeOp::FlowToStock => Ok(no_query(alloc)),
-        TimeOp::StockToFlow => Ok(no_query(alloc)),
+        TimeOp::FlowToStock => stocked(alloc, writer, a, s, target, draft),
+        TimeOp::StockToFlow => flowed(alloc, writer, a, s, target, draft),
     }
 }

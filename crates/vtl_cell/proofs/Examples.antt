@@ -4,7 +4,7 @@ use Rattle.std.specs.declared.cmp.Ordering.TheVariants.{Equal}
 use Rattle.vtl_decimal.specs.Settings.{Settings}
 use Rattle.vtl_decimal.specs.declared.settings.Rounding.TheVariants.{HalfUp}
 use Rattle.vtl_cell.specs.declared.cell.Cell.{Cell}
-use Rattle.vtl_time.specs.Periods.{YearPart, shift_of}
+use Rattle.vtl_time.specs.Periods.{YearPart, is_year_part, shift_of}
 use Rattle.vtl_time.specs.declared.periods.Frequency.TheVariants.{Annual, Quarter, Month}
 use Rattle.vtl_cell.specs.declared.cell.Cell.TheVariants.{Null, Int, Num, Text, Period}
 use Rattle.vtl_cell.specs.declared.operator.AggKind.TheVariants.{Sum, Avg, Count, Min, Max, Median}
@@ -169,27 +169,27 @@ abbrev shift_by : Cell → ℤ → Outcome Cell
 shift_by q n = scalar_of scale_six PeriodShift (q ∷ Int n ∷ [])
 
 two_quarters_later : shift_by (Period third_quarter) (pos 2) ≡ Ok (Period (record { frequency = Quarter; year = 2021; part = 1 }))
-unfolding shift_of
+unfolding is_year_part shift_of
 two_quarters_later = refl
 
 three_quarters_earlier : shift_by (Period third_quarter) (negsuc 2) ≡ Ok (Period (record { frequency = Quarter; year = 2019; part = 4 }))
-unfolding shift_of
+unfolding is_year_part shift_of
 three_quarters_earlier = refl
 
 shifted_by_none : shift_by (Period last_month) (pos 0) ≡ Ok (Period last_month)
-unfolding shift_of
+unfolding is_year_part shift_of
 shifted_by_none = refl
 
 past_the_last_year : shift_by (Period last_month) (pos 1) ≡ Err Range
-unfolding shift_of
+unfolding is_year_part shift_of
 past_the_last_year = refl
 
 before_the_first_year : shift_by (Period first_year) (negsuc 0) ≡ Err Range
-unfolding shift_of
+unfolding is_year_part shift_of
 before_the_first_year = refl
 
 farthest_back : shift_by (Period last_month) (negsuc 999999) ≡ Err Range
-unfolding shift_of
+unfolding is_year_part shift_of
 farthest_back = refl
 
 too_far : shift_by (Period third_quarter) (pos 1000001) ≡ Ok Null

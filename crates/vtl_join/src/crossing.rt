@@ -48,16 +48,26 @@ fn push_combined(
     Ok(())
 }
 
+// How many numbers all combinations take, or the largest number where they are more: a request that memory refuses.
+fn room(counts: &[usize]) -> usize {
+    let mut room = counts.len().saturating_add(1);
+    for count in counts {
+        room = room.saturating_mul(*count);
+    }
+    room
+}
+
 // Every combination of a row of each operand, behind a number of the lead, which nothing asks for. Where an operand has
-// no rows there is none, and no step is taken.
+// no rows there is none, and no step is taken. All room is asked for at once, so a product that memory does not hold is
+// refused before a step is taken.
 pub(crate) fn combinations(alloc: Global, operands: &[Operand]) -> Result<Vec<usize>, AllocError>
     ensures { IfOk result (λ v. v.items ≡ all_combinations (sets_of operands.now)) }
 {
     let counts = counts(alloc, operands)?;
-    let mut tuples = Vec::new(alloc);
     if counts.contains(&0) {
-        return Ok(tuples);
+        return Ok(Vec::new(alloc));
     }
+    let mut tuples = Vec::with_capacity(alloc, room(&counts))?;
     let mut front = Vec::with_capacity(alloc, operands.len().saturating_add(1))?;
     front.push(0)?;
     push_combined(&mut tuples, &mut front, &counts)?;

@@ -292,6 +292,7 @@ module _ (pairs : Pairs) where
         ∙ (λ i. of_points merged [] (points_of_all merged [] (node_same past a i ∷ node_same past b i ∷ [])) s)
     form_same past s (nodes.aggregate a spec) = aggregate_line (L past a) spec s ∙ ap (λ d. of_aggregate merged [] d spec s) (node_same past a)
     form_same past s (nodes.analytic_of a spec) = made_line (L past a) spec s ∙ ap (λ d. of_made merged [] d spec s) (node_same past a)
+    form_same past s (nodes.time a o) = left_line (L past a) s ∙ ap (λ d. of_left merged [] d s) (node_same past a)
     form_same past s (nodes.check a i spec) =
         check_line (L past a) (maybe_lineage either none past i) (maybe_lineage merged [] (numbered_past pairs past) i) (maybe_same past i) ∙ ap (λ d. of_check merged [] d (maybe_lineage merged [] (numbered_past pairs past) i)) (node_same past a)
     form_same past s (nodes.check_datapoint a rules out) = datapoint_line (L past a) rules.rules out ∙ ap (λ d. of_datapoint merged [] d rules.rules out) (node_same past a)

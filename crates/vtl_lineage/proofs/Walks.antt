@@ -49,6 +49,7 @@ form_by_operands past s (nodes.sym_diff a b) = refl
 form_by_operands past s (nodes.exists_in a b r) = refl
 form_by_operands past s (nodes.aggregate a spec) = refl
 form_by_operands past s (nodes.analytic_of a spec) = refl
+form_by_operands past s (nodes.time a o) = refl
 form_by_operands past s (nodes.check a i spec) = ap (of_check merged [] (traced_node past a)) (imbalance past a i)
 form_by_operands past s (nodes.check_datapoint a rules out) = refl
 form_by_operands past s (nodes.check_hierarchy a rules m out) = refl

@@ -41,6 +41,7 @@ form_line past s (nodes.sym_diff a b) ds = of_set merged [] ds s
 form_line past s (nodes.exists_in a b r) ds = of_points merged [] (points_of_all merged [] ds) s
 form_line past s (nodes.aggregate a spec) ds = of_aggregate merged [] (operand ds 0) spec s
 form_line past s (nodes.analytic_of a spec) ds = of_made merged [] (operand ds 0) spec s
+form_line past s (nodes.time a o) ds = of_left merged [] (operand ds 0) s
 form_line past s (nodes.check a i spec) ds = of_check merged [] (operand ds 0) (slice_get ds 1)
 form_line past s (nodes.check_datapoint a rules out) ds = of_datapoint merged [] (operand ds 0) rules.rules out
 form_line past s (nodes.check_hierarchy a rules m out) ds = of_measured merged [] (operand ds 0) s

@@ -85,6 +85,7 @@ fn line(alloc: Global, known: &Known, node: &Node, given: &[Operand]) -> Result<
         NodeForm::ExistsIn { .. } => existence(alloc, given, made),
         NodeForm::Aggregate { spec, .. } => aggregate(alloc, nth(given, 0), spec, made),
         NodeForm::Analytic { spec, .. } => analytic(alloc, nth(given, 0), spec, made),
+        NodeForm::Time { .. } => left(alloc, nth(given, 0), made),
         NodeForm::Check { .. } => check(alloc, nth(given, 0), second(given)),
         NodeForm::CheckDatapoint { rules, out, .. } => {
             datapoint(alloc, nth(given, 0), rules.rules.as_slice(), *out)

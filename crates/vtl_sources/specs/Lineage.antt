@@ -55,6 +55,7 @@ module _ {S : Type 0} (joined : S → S → S) (nothing : S) where
     form_lineage past s (nodes.exists_in a b r) = of_points joined nothing (points_of_all joined nothing (operand_of a (lineage past a) ∷ operand_of b (lineage past b) ∷ [])) s
     form_lineage past s (nodes.aggregate a spec) = of_aggregate joined nothing (operand_of a (lineage past a)) spec s
     form_lineage past s (nodes.analytic_of a spec) = of_made joined nothing (operand_of a (lineage past a)) spec s
+    form_lineage past s (nodes.time a o) = of_left joined nothing (operand_of a (lineage past a)) s
     form_lineage past s (nodes.check a i spec) = of_check joined nothing (operand_of a (lineage past a)) (maybe_lineage past i)
     form_lineage past s (nodes.check_datapoint a rules out) = of_datapoint joined nothing (operand_of a (lineage past a)) rules.rules out
     form_lineage past s (nodes.check_hierarchy a rules m out) = of_measured joined nothing (operand_of a (lineage past a)) s

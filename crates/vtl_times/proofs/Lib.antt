@@ -4,4 +4,6 @@ mod FilledRows
 mod FlowLemmas
 mod OrderLemmas
 mod PutLemmas
+mod RisingTimes
 mod RowLemmas
+mod SeriesInOrder

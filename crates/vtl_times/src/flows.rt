@@ -11,7 +11,7 @@ ghost use Rattle.vtl_sets.specs.TableOf.{IsTableOf};
 ghost use Rattle.vtl_tree.specs.Shown.{shown};
 ghost use Rattle.vtl_tree.specs.Structure.{columns_of};
 ghost use Rattle.vtl_timing.specs.TimeShapes.{IsFlowed};
-ghost use Rattle.vtl_timing.specs.Times.{HasTime, flow_of, stock_of};
+ghost use Rattle.vtl_timing.specs.Times.{flow_of, stock_of};
 ghost use Rattle.vtl_meaning.specs.Analytics.{each_point as each_made};
 ghost use Rattle.vtl_times.specs.Columns.{column_value, outcome_at, row_values};
 ghost use Rattle.vtl_times.specs.Flows.{flow_by, made_by};
@@ -66,23 +66,25 @@ fn made_column(
 fn made_columns(
     alloc: Global,
     a: &DataSet,
+    columns: &[&Component],
+    series: &[Vec<usize>],
     made: &Structure,
     along: Along,
     p: &Profile,
 ) -> Result<Vec<Column>, AllocError>
-    requires { HasTime a.now.structure }
+    requires columns { shown columns.now ≡ columns_of a.now.structure }
+    requires series { AreSeries a.now (lists_of series.now) }
     ensures { IfOk result (λ v. (i : ℕ) → i < length a.now.points → row_values p.now v.items a.now.points i ≡ map (λ y. flow_by along p.now a.now y (row_at a.now.points i)) (columns_of made.now)) }
 {
-    let columns = a.structure().columns(alloc)?;
     let wanted = made.columns(alloc)?;
-    let series = series_in_order(alloc, a)?;
     let mut out = Vec::with_capacity(alloc, wanted.len())?;
     for component in &wanted {
-        out.push(made_column(alloc, a, &columns, &series, component, along, p)?)?;
+        out.push(made_column(alloc, a, columns, series, component, along, p)?)?;
     }
     Ok(out)
 }
 
+// The table of the result.
 fn flow_table(
     alloc: Global,
     a: &DataSet,
@@ -94,7 +96,9 @@ fn flow_table(
     ensures table { IfOk result (λ t. IsTableOf made.now (listed t)) }
     ensures rows { AnswersBy (λ t. t.rows) result (each_made (flow_by along p.now a.now) (columns_of made.now) a.now.points) }
 {
-    let columns = made_columns(alloc, a, made, along, p)?;
+    let own = a.structure().columns(alloc)?;
+    let series = series_in_order(alloc, a)?;
+    let columns = made_columns(alloc, a, &own, &series, made, along, p)?;
     each_row(alloc, &columns, a, made, p)
 }
 

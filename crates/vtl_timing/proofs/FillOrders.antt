@@ -1,7 +1,7 @@
 -- Filled series do not see the order of points: a key has one point at most.
-use Rattle.std.proofs.Common.{◌≡◌, List, [], ◌∷◌, map, take, Option, true, refl, sym, ap, ◌∙◌, subst}
+use Rattle.std.proofs.Common.{◌≡◌, List, [], ◌∷◌, map, take, true, refl, sym, ap, ◌∙◌, subst}
 use Rattle.std.specs.Prelude.{find, option_to_list}
-use Rattle.std.specs.List.{AllByRecursion, filter}
+use Rattle.std.specs.List.{filter}
 use Rattle.vtl_lists.specs.Perm.{Perm}
 use Rattle.vtl_lists.proofs.Perms.{Perm-map}
 use Rattle.vtl_cell.specs.Row.{Row, same_key, same_row}
@@ -9,14 +9,14 @@ use Rattle.vtl_cell.proofs.Rows.{same_row-is, same_row-refl}
 use Rattle.vtl_rows.specs.Tables.{cells_at}
 use Rattle.vtl_series.proofs.OrderLemmas.{in_no_order}
 use Rattle.vtl_series.specs.declared.extent.Extent.{Extent}
-use Rattle.vtl_tree.specs.Columns.{identifiers_of, place_of, places_in}
+use Rattle.vtl_tree.specs.Columns.{identifiers_of, places_in}
 use Rattle.vtl_tree.specs.DataSet.{IsDataSet, is_point}
 use Rattle.vtl_tree.specs.Environment.{DataSet}
 use Rattle.vtl_tree.specs.Structure.{columns_of, key_width}
 use Rattle.vtl_tree.specs.declared.structure.Component.{Component}
 use Rattle.vtl_tree.specs.declared.structure.Structure.{Structure}
 use Rattle.vtl_meaning.specs.Agreement.{values_in}
-use Rattle.vtl_meaning.specs.Joined.{Part, tuple_at, tuple_point}
+use Rattle.vtl_meaning.specs.Joined.{tuple_at, tuple_point}
 use Rattle.vtl_meaning.specs.LookUps.{value_named}
 use Rattle.vtl_meaning.proofs.AnalyticColumns.{identifier_cells}
 use Rattle.vtl_meaning.proofs.JoinAgreements.{only_one}

@@ -1,18 +1,15 @@
 -- A filled data set is one: its points are of the operand's columns, and no two have the same identifiers.
-use Rattle.std.proofs.Common.{◌≡◌, ℕ, zero, suc, ◌+◌, ◌<◌, ◌≤◌, Bool, true, false, not, cond, ◌&&◌, List, [], ◌∷◌, ◌++◌, find, map, take, length, Option, Some, None, refl, sym, ap, ◌∙◌, subst, arith, append_assoc}
+use Rattle.std.proofs.Common.{◌≡◌, ℕ, Bool, true, false, not, cond, ◌&&◌, List, [], ◌∷◌, ◌++◌, find, map, take, length, Option, Some, None, refl, sym, ap, ◌∙◌, subst, arith, append_assoc}
 use Rattle.std.specs.Prelude.{unwrap_or}
 use Rattle.std.specs.List.{AllByRecursion, filter, flat_map}
-use Rattle.std.proofs.lemmas.List.{append-nil, map-append, take_all}
+use Rattle.std.proofs.lemmas.List.{append-nil, take_all}
 use Rattle.vtl_lists.specs.Apart.{all_apart}
 use Rattle.vtl_lists.proofs.Perms.{AllByRecursion-Perm, Perm-sym}
 use Rattle.vtl_lists.proofs.Sorts.{AllByRecursion-filter}
 use Rattle.vtl_index.specs.Groups.{each_once}
-use Rattle.vtl_cell.specs.Kinds.{is_of}
 use Rattle.vtl_cell.specs.Row.{Row, column_of, same_key, same_row}
 use Rattle.vtl_cell.specs.declared.cell.Cell.{Cell}
 use Rattle.vtl_cell.specs.declared.cell.Cell.TheVariants as c
-use Rattle.vtl_cell.specs.declared.kind.Kind.{Kind}
-use Rattle.vtl_cell.specs.declared.kind.Kind.TheVariants as k
 use Rattle.vtl_cell.proofs.Rows.{same_row-is, same_row-refl}
 use Rattle.vtl_rows.specs.Tables.{cells_at, fits_kinds}
 use Rattle.vtl_series.specs.Series.{dated, frequencies, keys_by, numbers_of, rows_by, seen_by, series_at, series_rows, tuple_rows}
@@ -39,7 +36,7 @@ use Rattle.vtl_meaning.proofs.Places.{IsIdentifier, all_append, all_back, are_id
 use Rattle.vtl_meaning.proofs.ValueKinds.{point_from}
 use Rattle.vtl_tuples.proofs.Lists.{map-map}
 use Rattle.vtl_timing.specs.Times.{HasTime, fill_of, in_order, is_time, other_identifiers, series_columns, time_place}
-use Rattle.vtl_timing.proofs.SeriesColumns.{identifiers_among, own_series, series_apart, series_identifiers, series_perm, time_only}
+use Rattle.vtl_timing.proofs.SeriesColumns.{identifiers_among, series_apart, series_identifiers, series_perm, time_only}
 use Rattle.vtl_timing.proofs.ShiftKept.{period_has}
 
 -- ---- cells by names
@@ -100,7 +97,7 @@ all_any : {X : Type 0} (P : X → Type 0) → ((x : X) → P x) → (xs : List X
 all_any P f [] = tt
 all_any P f (x ∷ xs) = (f x, all_any P f xs)
 
-series_each : (e : Extent) (on : ℕ) (by : List ℕ) (G P : Row → Type 0) → ((q : Row) → G q → (f : Frequency) (i : ℕ) → P (dated f (cells_at by q) i)) → (rows : List Row) → AllByRecursion G rows → AllByRecursion P (series_rows e on by rows)
+pub series_each : (e : Extent) (on : ℕ) (by : List ℕ) (G P : Row → Type 0) → ((q : Row) → G q → (f : Frequency) (i : ℕ) → P (dated f (cells_at by q) i)) → (rows : List Row) → AllByRecursion G rows → AllByRecursion P (series_rows e on by rows)
 series_each e on by G P h rows all =
     let K : Row → Type 0 = λ key. (f : Frequency) (i : ℕ) → P (dated f key i) in
     all_flat K P (tuple_rows e on by rows)
@@ -126,12 +123,12 @@ module _ (a : Structure) (well : IsStructure a) (timed : HasTime a) where
   others_of_ids : AreAmong (other_identifiers a) ids
   others_of_ids = AllByRecursion-filter (λ y. IsColumnAt (place_of y.name ids) y.name y.kind ids) (λ x. not (is_time x)) ids (own_identifiers a well)
 
-  front_is : (q : Row) → is_point (columns_of a) q ≡ true → is_point (other_identifiers a) (cells_at by q) ≡ true
+  pub front_is : (q : Row) → is_point (columns_of a) q ≡ true → is_point (other_identifiers a) (cells_at by q) ≡ true
   front_is q h =
       subst (λ l. is_point (other_identifiers a) (cells_at (places_in l (other_identifiers a)) q) ≡ true) (sym (columns_split a))
       (some_identifiers (other_identifiers a) ids (others_of a) q others_identify (are_identifiers a) others_of_ids (ap (λ l. is_point l q) (sym (columns_split a)) ∙ h))
 
-  last_is : (f : Frequency) (i : ℕ) → is_point (filter is_time ids) (c.Period (period_at f i) ∷ []) ≡ true
+  pub last_is : (f : Frequency) (i : ℕ) → is_point (filter is_time ids) (c.Period (period_at f i) ∷ []) ≡ true
   last_is f i =
       let one = time_only a timed in
       let passes = subst (AllByRecursion (λ x. is_time x ≡ true)) one.only (passing is_time ids) in
@@ -144,13 +141,13 @@ module _ (a : Structure) (well : IsStructure a) (timed : HasTime a) where
       (λ q h f i. point_append (other_identifiers a) (filter is_time ids) (cells_at by q) (c.Period (period_at f i) ∷ []) (front_is q h) (last_is f i)) points all
 
   -- in the order of identifiers
-  key_is : (r : Row) → is_point sc r ≡ true → is_point ids (in_order a r) ≡ true
+  pub key_is : (r : Row) → is_point sc r ≡ true → is_point ids (in_order a r) ≡ true
   key_is r h =
       ap (is_point ids) (sym (named_cells sc ids r))
       ∙ subst (λ l. is_point ids (cells_at (places_in l ids) r) ≡ true) (append-nil sc)
       (some_identifiers ids sc [] r (are_identifiers a) (series_identifiers a) (identifiers_among a well) (ap (λ l. is_point l r) (append-nil sc) ∙ h))
 
-  maps_same : (f g : Component → Cell) (ys : List Component) → map f ys ≡ map g ys → AllByRecursion (λ y. f y ≡ g y) ys
+  pub maps_same : (f g : Component → Cell) (ys : List Component) → map f ys ≡ map g ys → AllByRecursion (λ y. f y ≡ g y) ys
   maps_same f g [] e = tt
   maps_same f g (y ∷ ys) e = let one : f y ≡ g y = cc in let more : map f ys ≡ map g ys = cc in (one, maps_same f g ys more)
 
@@ -158,12 +155,12 @@ module _ (a : Structure) (well : IsStructure a) (timed : HasTime a) where
   same_maps f g [] all = refl
   same_maps f g (y ∷ ys) all = λ j. all.0 j ∷ same_maps f g ys all.1 j
 
-  own_row : (r : Row) → is_point sc r ≡ true → values_named sc sc r ≡ r
+  pub own_row : (r : Row) → is_point sc r ≡ true → values_named sc sc r ≡ r
   own_row r h =
       let many = point_length sc r h in
       sym (named_cells sc sc r) ∙ ap (λ l. cells_at (places_in l sc) r) (sym (append-nil sc)) ∙ first_cells sc [] r (series_apart a well) (omega (arith, many)) ∙ take_all (length sc) r (omega (arith, many))
 
-  order_back : (r q : Row) → is_point sc r ≡ true → is_point sc q ≡ true → in_order a r ≡ in_order a q → r ≡ q
+  pub order_back : (r q : Row) → is_point sc r ≡ true → is_point sc q ≡ true → in_order a r ≡ in_order a q → r ≡ q
   order_back r q h i e =
       let f : Component → Cell = λ y. value_named sc r y.name in
       let g : Component → Cell = λ y. value_named sc q y.name in
@@ -192,7 +189,7 @@ module _ (e : Extent) (d : DataSet) (timed : HasTime d.structure) (h : IsDataSet
   abbrev there : Row → Option Row
   there r = find (λ q. same_row (values_in a (identifiers_of a) q) (in_order a r)) d.points
 
-  point_is : (r : Row) → point r ≡ in_order a r ++ behind a (there r)
+  pub point_is : (r : Row) → point r ≡ in_order a r ++ behind a (there r)
   point_is r =
       let ms = values_or_nulls a (measures_of a) (there r) in
       let ts = values_or_nulls a (of_role role.Attribute a) (there r) in
@@ -204,13 +201,13 @@ module _ (e : Extent) (d : DataSet) (timed : HasTime d.structure) (h : IsDataSet
   abbrev Drawn : Row → Row → Type 0
   Drawn r z = IsRow r × (z ≡ point r)
 
-  whole : (r : Row) → IsRow r → is_point (columns_of a) (point r) ≡ true
+  pub whole : (r : Row) → IsRow r → is_point (columns_of a) (point r) ≡ true
   whole r i =
       ap (is_point (columns_of a)) (point_is r)
       ∙ joined_point_is a (others_of a) (in_order a r) (behind a (there r)) (columns_split a) (are_others a) (key_is a h.well_formed timed r i)
       (behind_fits a h.well_formed (there r) (λ q f. found_point (λ z. same_row (values_in a (identifiers_of a) z) (in_order a r)) (λ z. is_point (columns_of a) z ≡ true) d.points q h.typed f))
 
-  key_of : (r : Row) → IsRow r → take (key_width a) (point r) ≡ in_order a r
+  pub key_of : (r : Row) → IsRow r → take (key_width a) (point r) ≡ in_order a r
   key_of r i = ap (take (key_width a)) (point_is r) ∙ key_of_joined a (in_order a r) (behind a (there r)) (key_is a h.well_formed timed r i)
 
   back : (r t q z : Row) → Drawn r q → Drawn t z → same_key (key_width a) q z ≡ true → same_row r t ≡ true

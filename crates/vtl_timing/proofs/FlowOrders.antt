@@ -1,21 +1,19 @@
 -- Differences do not see the order of points: no two points of a series have one time, so one point alone is the previous one.
-use Rattle.std.proofs.Common.{◌≡◌, ◌⊎◌, ⊎_elim, ℕ, zero, suc, ◌+◌, ◌<◌, ◌≤◌, Bool, true, false, not, ◌&&◌, cond, List, [], ◌∷◌, map, take, length, Ok, Option, Some, None, refl, sym, ap, ◌∙◌, subst, true≢false, arith, pos}
+use Rattle.std.proofs.Common.{◌≡◌, ⊎_elim, ℕ, zero, suc, ◌+◌, ◌<◌, Bool, true, false, not, cond, List, [], ◌∷◌, map, take, length, Ok, refl, sym, ap, ◌∙◌, subst, true≢false, arith, pos}
 use Rattle.std.specs.Prelude.{if◌then◌else◌, find, option_to_list}
 use Rattle.std.specs.List.{AllByRecursion, filter, list_all, position_or_len}
 use Rattle.std.specs.Option.{option_map_or}
 use Rattle.std.specs.Ordering.{is_le, is_lt}
 use Rattle.std.specs.declared.cmp.Ordering.{Ordering}
 use Rattle.std.specs.declared.cmp.Ordering.TheVariants.{Less, Equal, Greater}
-use Rattle.std.proofs.lemmas.Bool.{false≢true}
 use Rattle.vtl_lists.specs.Apart.{all_apart}
 use Rattle.vtl_lists.specs.Perm.{Perm}
-use Rattle.vtl_lists.specs.Sorting.{le_by}
 use Rattle.vtl_lists.proofs.Aparts.{all_apart-filter}
 use Rattle.vtl_lists.proofs.Perms.{Perm-filter, Perm-map, list_all-Perm}
 use Rattle.vtl_lists.proofs.Sorts.{AllByRecursion-filter}
 use Rattle.vtl_decimal.specs.Settings.{Settings}
 use Rattle.vtl_cell.specs.Order.{cell_cmp}
-use Rattle.vtl_cell.specs.Outcome.{Outcome, faults_by}
+use Rattle.vtl_cell.specs.Outcome.{faults_by}
 use Rattle.vtl_cell.specs.Outcomes.{Same}
 use Rattle.vtl_cell.specs.Row.{Row, column_of, same_key, same_row}
 use Rattle.vtl_cell.specs.declared.cell.Cell.{Cell}
@@ -25,7 +23,7 @@ use Rattle.vtl_cell.proofs.Aggregates.{rising_order}
 use Rattle.vtl_cell.proofs.Orders.{cell_cmp-ties}
 use Rattle.vtl_cell.proofs.Rows.{same_row-is, same_row-refl, split_and}
 use Rattle.vtl_rows.specs.Tables.{cells_at}
-use Rattle.vtl_tree.specs.Columns.{identifiers_of, place_of, places_in}
+use Rattle.vtl_tree.specs.Columns.{identifiers_of, places_in}
 use Rattle.vtl_tree.specs.DataSet.{IsDataSet, is_point}
 use Rattle.vtl_tree.specs.Environment.{DataSet}
 use Rattle.vtl_tree.specs.Measures.{is_measure}
@@ -50,7 +48,7 @@ each_of g [] ys f = tt
 each_of g (x ∷ xs) ys f =
     ((λ z e. (split_and (g x z) (list_all (λ w. g w z) xs) (f z e)).0), each_of g xs ys (λ z e. (split_and (g x z) (list_all (λ w. g w z) xs) (f z e)).1))
 
-kept_too : {X : Type 0} (P : X → Type 0) (p : X → Bool) (xs : List X) → AllByRecursion P xs → AllByRecursion (λ x. P x × (p x ≡ true)) (filter p xs)
+pub kept_too : {X : Type 0} (P : X → Type 0) (p : X → Bool) (xs : List X) → AllByRecursion P xs → AllByRecursion (λ x. P x × (p x ≡ true)) (filter p xs)
 kept_too P p [] h = tt
 kept_too P p (x ∷ xs) h = go (p x) refl (kept_too P p xs h.1)
   where
@@ -58,12 +56,12 @@ kept_too P p (x ∷ xs) h = go (p x) refl (kept_too P p xs h.1)
     go true e ih = ((h.0, e), ih)
     go false e ih = ih
 
-all_both : {X : Type 0} (P Q R : X → Type 0) → ((x : X) → P x → Q x → R x) → (xs : List X) → AllByRecursion P xs → AllByRecursion Q xs → AllByRecursion R xs
+pub all_both : {X : Type 0} (P Q R : X → Type 0) → ((x : X) → P x → Q x → R x) → (xs : List X) → AllByRecursion P xs → AllByRecursion Q xs → AllByRecursion R xs
 all_both P Q R f [] h i = tt
 all_both P Q R f (x ∷ xs) h i = (f x h.0 i.0, all_both P Q R f xs h.1 i.1)
 
 -- neither later than the other
-one_time : (u v : Cell) → is_le (cell_cmp u v) ≡ true → is_le (cell_cmp v u) ≡ true → u ≡ v
+pub one_time : (u v : Cell) → is_le (cell_cmp u v) ≡ true → is_le (cell_cmp v u) ≡ true → u ≡ v
 one_time u v h i = go (cell_cmp u v) (cell_cmp v u) refl refl h i
   where
     go : (o w : Ordering) → cell_cmp u v ≡ o → cell_cmp v u ≡ w → is_le o ≡ true → is_le w ≡ true → u ≡ v
@@ -97,7 +95,7 @@ later_at f place x row [] h = tt
 later_at f place x row (y ∷ ys) h = ((λ t. h.0 t ∙ behind_first place (f x) (map f row)), later_at f place x row ys h.1)
 
 -- the value of the time is the one at its place
-time_at : (f : Component → Cell) (ys : List Component) → length (filter is_time ys) ≡ 1 → AllByRecursion (At f (position_or_len is_time ys) ys) ys × (position_or_len is_time ys < length ys)
+pub time_at : (f : Component → Cell) (ys : List Component) → length (filter is_time ys) ≡ 1 → AllByRecursion (At f (position_or_len is_time ys) ys) ys × (position_or_len is_time ys < length ys)
 time_at f [] e = absurd (omega (arith, e))
 time_at f (y ∷ ys) e = go (is_time y) refl e (time_at f ys)
   where
@@ -110,7 +108,7 @@ time_at f (y ∷ ys) e = go (is_time y) refl e (time_at f ys)
         let less : position_or_len is_time ys < length ys = i.1 in
         (((λ u. absurd (true≢false (sym u ∙ t))), later_at f (position_or_len is_time ys) y ys ys i.0), omega (arith, less))
 
-front_cell : (i n : ℕ) (r : Row) → i < n → column_of i (take n r) ≡ column_of i r
+pub front_cell : (i n : ℕ) (r : Row) → i < n → column_of i (take n r) ≡ column_of i r
 front_cell i zero r h = absurd (omega (arith, h))
 front_cell zero (suc n) [] h = refl
 front_cell (suc i) (suc n) [] h = refl
@@ -130,7 +128,7 @@ both_same f g (y ∷ ys) e h = go (is_time y) refl e (both_same f g ys)
         let rest : map f (filter (λ z. not (is_time z)) ys) ≡ map g (filter (λ z. not (is_time z)) ys) = cc in
         let more = ih rest h.1 in λ i. one i ∷ more i
 
-cells_are_values : (xs ys : List Component) (r : Row) → cells_at (places_in xs ys) r ≡ map (λ y. value_named xs r y.name) ys
+pub cells_are_values : (xs ys : List Component) (r : Row) → cells_at (places_in xs ys) r ≡ map (λ y. value_named xs r y.name) ys
 cells_are_values xs [] r = refl
 cells_are_values xs (y ∷ ys) r = ap (λ l. value_named xs r y.name ∷ l) (cells_are_values xs ys r)
 
@@ -145,10 +143,10 @@ module _ (a : Structure) (well : IsStructure a) (time : HasTime a) where
   whole_key : (r : Row) → is_point xs r ≡ true → map (at r) (identifiers_of a) ≡ take (key_width a) r
   whole_key r h = sym (cells_are_values xs (identifiers_of a) r) ∙ identifier_cells a r well h
 
-  own_time : (r : Row) → is_point xs r ≡ true → column_of (time_place a) (map (at r) (identifiers_of a)) ≡ time_of a r
+  pub own_time : (r : Row) → is_point xs r ≡ true → column_of (time_place a) (map (at r) (identifiers_of a)) ≡ time_of a r
   own_time r h = ap (column_of (time_place a)) (whole_key r h) ∙ front_cell (time_place a) (key_width a) r (time_at (at r) (identifiers_of a) time).1
 
-  keys_same : (r q t : Row) → is_point xs q ≡ true → is_point xs t ≡ true → in_one_series a r q ≡ true → in_one_series a r t ≡ true → time_of a q ≡ time_of a t → same_key (key_width a) q t ≡ true
+  pub keys_same : (r q t : Row) → is_point xs q ≡ true → is_point xs t ≡ true → in_one_series a r q ≡ true → in_one_series a r t ≡ true → time_of a q ≡ time_of a t → same_key (key_width a) q t ≡ true
   keys_same r q t hq ht sq st e =
       let ids = identifiers_of a in
       let others = other_identifiers a in
@@ -192,7 +190,7 @@ module _ (a : Structure) (well : IsStructure a) (time : HasTime a) where
         only_one (IsBefore r) (same_key (key_width a)) (is_last (before first r)) (before first r) (befores r) (before_apart r)
         (λ x z i j e f. keys_same r x z i.0.0 j.0.0 i.0.1 j.0.1 (one_time (time_of a x) (time_of a z) (i.1 z f) (j.1 x e)))
 
-    previous_same : (r : Row) → previous first r ≡ previous second r
+    pub previous_same : (r : Row) → previous first r ≡ previous second r
     previous_same r =
         find_respects (is_last (before first r)) (before first r) (before second r) (before_same r) (last_alone r)
         ∙ ap (λ test. find test (before second r)) (λ i x. list_all-Perm (λ z. no_later z x) (before_same r) i)

@@ -15,7 +15,7 @@ use Rattle.vtl_decimal.specs.Settings.{Settings}
 use Rattle.vtl_cell.specs.AggregateKinds.{is_number}
 use Rattle.vtl_cell.specs.Conversion.{as_kind}
 use Rattle.vtl_cell.specs.Groups.{group_value}
-use Rattle.vtl_cell.specs.Kinds.{is_null, is_of, kind_of}
+use Rattle.vtl_cell.specs.Kinds.{is_null, kind_of}
 use Rattle.vtl_cell.specs.Outcome.{Outcome, after, faults_by, unless}
 use Rattle.vtl_cell.specs.Row.{Row, column_of, same_key, same_row}
 use Rattle.vtl_cell.specs.ScalarArithmetic.{number, units}
@@ -58,11 +58,11 @@ all_both : {X : Type 0} (P Q R : X → Type 0) → ((x : X) → P x → Q x → 
 all_both P Q R f [] h i = tt
 all_both P Q R f (x ∷ xs) h i = (f x h.0 i.0, all_both P Q R f xs h.1 i.1)
 
-keep_all : {X : Type 0} (p : X → Bool) (xs : List X) → AllByRecursion (λ x. p x ≡ true) xs → filter p xs ≡ xs
+pub keep_all : {X : Type 0} (p : X → Bool) (xs : List X) → AllByRecursion (λ x. p x ≡ true) xs → filter p xs ≡ xs
 keep_all p [] all = refl
 keep_all p (x ∷ xs) all = ap (λ b. cond b (x ∷ filter p xs) (filter p xs)) all.0 ∙ ap (λ l. x ∷ l) (keep_all p xs all.1)
 
-drop_all : {X : Type 0} (p : X → Bool) (xs : List X) → AllByRecursion (λ x. p x ≡ false) xs → filter p xs ≡ []
+pub drop_all : {X : Type 0} (p : X → Bool) (xs : List X) → AllByRecursion (λ x. p x ≡ false) xs → filter p xs ≡ []
 drop_all p [] all = refl
 drop_all p (x ∷ xs) all = ap (λ b. cond b (x ∷ filter p xs) (filter p xs)) all.0 ∙ drop_all p xs all.1
 
@@ -88,7 +88,7 @@ no_measure role.Measure h = cc
 no_measure role.Attribute h = cc
 
 -- a measure of the result is made of one among these columns
-record IsOfMeasure (xs : List Component) (y : Component) : Type 0 where
+pub record IsOfMeasure (xs : List Component) (y : Component) : Type 0 where
   pub measure : is_measure y ≡ true
   pub own : Component
   pub found : component_of y.name xs ≡ Some own
@@ -118,7 +118,7 @@ module _ (a s : Structure) (w : IsStructure a) (numbers : AllByRecursion (λ x. 
   abbrev given : List Component
   given = map (given_measure flow_gives None) (measures a.components)
 
-  identify : identifiers_of s ≡ identifiers_of a
+  pub identify : identifiers_of s ≡ identifiers_of a
   identify =
       ap (filter is_identifier) shape
       ∙ filter-append is_identifier ids given
@@ -155,10 +155,10 @@ module _ (a s : Structure) (w : IsStructure a) (numbers : AllByRecursion (λ x. 
       all_both Good (λ x. same_role x.role r ≡ true) (IsOfMeasure (columns_of a)) (λ x g e. g (other x e)) (of_role r s)
       (AllByRecursion-filter Good (λ x. same_role x.role r) s.components all_good) (all_filtered (λ x. same_role x.role r) s.components)
 
-  others_are : AllByRecursion (IsOfMeasure (columns_of a)) (others_of s)
+  pub others_are : AllByRecursion (IsOfMeasure (columns_of a)) (others_of s)
   others_are = all_append (IsOfMeasure (columns_of a)) (of_role role.Measure s) (of_role role.Attribute s) (of_other role.Measure (λ x. measure_role x.role)) (of_other role.Attribute (λ x. attribute_role x.role))
 
-  free : AllByRecursion (λ y. is_measure y ≡ false) (identifiers_of s)
+  pub free : AllByRecursion (λ y. is_measure y ≡ false) (identifiers_of s)
   free = all_more (λ y. is_identifier y ≡ true) (λ y. is_measure y ≡ false) (λ y e. no_measure y.role e) (identifiers_of s) (all_filtered is_identifier s.components)
 
   -- ---- the points
@@ -182,7 +182,7 @@ module _ (a s : Structure) (w : IsStructure a) (numbers : AllByRecursion (λ x. 
     kept_cells r [] all = refl
     kept_cells r (y ∷ ys) all = λ j. cell_or_null (kept_cell y r all.0 j) ∷ kept_cells r ys all.1 j
 
-    key_of_point : (r : Row) → IsRow r → take (key_width s) (point_of made (columns_of s) r) ≡ take (key_width a) r
+    pub key_of_point : (r : Row) → IsRow r → take (key_width s) (point_of made (columns_of s) r) ≡ take (key_width a) r
     key_of_point r t =
         let f : Component → Cell = λ y. cell_or_null (made y r) in
         let keys = identifiers_of s in
@@ -234,10 +234,10 @@ module _ (a s : Structure) (w : IsStructure a) (numbers : AllByRecursion (λ x. 
     measures_kept = unless_has (IsDataSet s) (faults_by (point_fault made (columns_of s)) points) (map (point_of made (columns_of s)) points) points_are
 
 -- ---- values
-own_cell : (xs : List Component) (y : Component) (r : Row) → IsOfMeasure xs y → is_point xs r ≡ true → IsOf y.kind (value_named xs r y.name)
+pub own_cell : (xs : List Component) (y : Component) (r : Row) → IsOfMeasure xs y → is_point xs r ≡ true → IsOf y.kind (value_named xs r y.name)
 own_cell xs y r i t = subst (λ kind. IsOf kind (value_named xs r y.name)) i.kind (found_cell y.name i.own xs r i.found t).0
 
-own_cells : (columns : List Component) (y : Component) (points : List Row) → IsOfMeasure columns y → AllByRecursion (λ r. is_point columns r ≡ true) points → AllByRecursion (IsOf y.kind) (map (λ r. value_named columns r y.name) points)
+pub own_cells : (columns : List Component) (y : Component) (points : List Row) → IsOfMeasure columns y → AllByRecursion (λ r. is_point columns r ≡ true) points → AllByRecursion (IsOf y.kind) (map (λ r. value_named columns r y.name) points)
 own_cells columns y [] i h = tt
 own_cells columns y (r ∷ points) i h = (own_cell columns y r i h.0, own_cells columns y points i h.1)
 
@@ -258,11 +258,19 @@ total_is p kind v vs n h all = go (is_null v) refl
     go true e = null_is_of kind
     go false e = of_kind kind n (λ same. true≢false (sym (null_alone v (subst (λ z. IsOf z v) same h)) ∙ e)) all
 
+stock_is : (p : Settings) (d : DataSet) (y : Component) (r : Row) → AllByRecursion (λ q. is_point (columns_of d.structure) q ≡ true) d.points → IsOfMeasure (columns_of d.structure) y → is_point (columns_of d.structure) r ≡ true → GivesOf y.kind (stock_value p d y r)
+stock_is p d y r all i t =
+    total_is p y.kind (value_named (columns_of d.structure) r y.name) (map (λ q. value_named (columns_of d.structure) q y.name) (up_to d r)) i.number (own_cell (columns_of d.structure) y r i t)
+    (own_cells (columns_of d.structure) y (up_to d r) i (AllByRecursion-filter (λ q. is_point (columns_of d.structure) q ≡ true) _ (series_of d r) (AllByRecursion-filter (λ q. is_point (columns_of d.structure) q ≡ true) (in_one_series d.structure r) d.points all)))
+
 pub stocks_kept : (p : Settings) (d : DataSet) (s : Structure) → IsStructure s → AllByRecursion (λ x. is_number x.kind ≡ true) (measures d.structure.components) → s.components ≡ flow_components d.structure.components → IsDataSet d.structure d.points → IfOk (stock_of p d s) (IsDataSet s)
 stocks_kept p d s v numbers shape h =
-    measures_kept d.structure s h.well_formed numbers shape v (stock_value p d) d.points h
-    (λ y r i t. total_is p y.kind (value_named (columns_of d.structure) r y.name) (map (λ q. value_named (columns_of d.structure) q y.name) (up_to d r)) i.number (own_cell (columns_of d.structure) y r i t)
-    (own_cells (columns_of d.structure) y (up_to d r) i (AllByRecursion-filter (λ q. is_point (columns_of d.structure) q ≡ true) _ (series_of d r) (AllByRecursion-filter (λ q. is_point (columns_of d.structure) q ≡ true) (in_one_series d.structure r) d.points h.typed))))
+    measures_kept d.structure s h.well_formed numbers shape v (stock_value p d) d.points h (λ y r i t. stock_is p d y r h.typed i t)
+
+-- each value of a point fits its column, also where another one has a fault
+pub stock_cells : (p : Settings) (d : DataSet) (s : Structure) → IsStructure s → AllByRecursion (λ x. is_number x.kind ≡ true) (measures d.structure.components) → s.components ≡ flow_components d.structure.components → IsDataSet d.structure d.points
+    → (r : Row) → is_point (columns_of d.structure) r ≡ true → AllByRecursion (λ y. HasCell y (cell_or_null (by_measure (stock_value p d) d.structure y r))) (columns_of s)
+stock_cells p d s v numbers shape h = cells_have d.structure s h.well_formed numbers shape v (stock_value p d) d.points h (λ y r i t. stock_is p d y r h.typed i t)
 
 -- an integer zero stands beside numbers
 abbrev IsBeside : Kind → Cell → Type 0
@@ -338,3 +346,7 @@ flow_is p d y r all i t =
 pub flows_kept : (p : Settings) (d : DataSet) (s : Structure) → IsStructure s → AllByRecursion (λ x. is_number x.kind ≡ true) (measures d.structure.components) → s.components ≡ flow_components d.structure.components → IsDataSet d.structure d.points → IfOk (flow_of p d s) (IsDataSet s)
 flows_kept p d s v numbers shape h =
     measures_kept d.structure s h.well_formed numbers shape v (flow_value p d) d.points h (λ y r i t. flow_is p d y r h.typed i t)
+
+pub flow_cells : (p : Settings) (d : DataSet) (s : Structure) → IsStructure s → AllByRecursion (λ x. is_number x.kind ≡ true) (measures d.structure.components) → s.components ≡ flow_components d.structure.components → IsDataSet d.structure d.points
+    → (r : Row) → is_point (columns_of d.structure) r ≡ true → AllByRecursion (λ y. HasCell y (cell_or_null (by_measure (flow_value p d) d.structure y r))) (columns_of s)
+flow_cells p d s v numbers shape h = cells_have d.structure s h.well_formed numbers shape v (flow_value p d) d.points h (λ y r i t. flow_is p d y r h.typed i t)

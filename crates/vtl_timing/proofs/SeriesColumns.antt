@@ -1,8 +1,8 @@
 -- The columns of the rows of series are the identifiers, of which the time stands last.
-use Rattle.std.proofs.Common.{◌≡◌, ℕ, zero, suc, ◌+◌, ◌<◌, Bool, true, false, not, cond, List, [], ◌∷◌, ◌++◌, map, length, get_or, refl, sym, ap, ◌∙◌, subst, arith}
+use Rattle.std.proofs.Common.{◌≡◌, suc, ◌+◌, ◌<◌, Bool, true, false, not, cond, List, [], ◌∷◌, ◌++◌, length, get_or, refl, ap, ◌∙◌, subst, arith}
 use Rattle.std.specs.List.{AllByRecursion, filter, position_or_len}
 use Rattle.vtl_lists.specs.Apart.{all_apart}
-use Rattle.vtl_lists.specs.Perm.{Perm, empty, keep, cross, chain}
+use Rattle.vtl_lists.specs.Perm.{Perm, empty, keep, chain}
 use Rattle.vtl_lists.proofs.Aparts.{all_apart-Perm}
 use Rattle.vtl_lists.proofs.Perms.{AllByRecursion-Perm, Perm-map, Perm-middle, Perm-sym}
 use Rattle.vtl_lists.proofs.Sorts.{AllByRecursion-filter}
@@ -13,7 +13,7 @@ use Rattle.vtl_tree.specs.declared.structure.Structure.{Structure}
 use Rattle.vtl_meaning.specs.Made.{AreAmong, IsColumnAt}
 use Rattle.vtl_meaning.proofs.OwnColumns.{own_among, own_columns}
 use Rattle.vtl_meaning.proofs.Places.{IsIdentifier, all_front, are_identifiers, columns_split, identifiers_apart, same_name-sym}
-use Rattle.vtl_timing.specs.Times.{HasTime, is_time, other_identifiers, series_columns, time_place}
+use Rattle.vtl_timing.specs.Times.{HasTime, is_time, other_identifiers, series_columns}
 
 -- ---- a list in two parts
 parts_perm : {X : Type 0} (p : X → Bool) (xs : List X) → Perm (filter (λ x. not (p x)) xs ++ filter p xs) xs

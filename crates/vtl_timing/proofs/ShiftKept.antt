@@ -1,13 +1,12 @@
 -- `timeshift` gives a data set: each point keeps its kinds, and no two points become one.
-use Rattle.std.proofs.Common.{◌≡◌, ℕ, zero, suc, ◌<◌, ◌*◌, ◌&&◌, true, false, not, cond, Bool, List, [], ◌∷◌, ◌++◌, map, take, length, Option, Some, None, Ok, nat_lt, ℤ, pos, negsuc, ◌+ℤ◌, refl, sym, ap, ◌∙◌, subst, arith}
-use Rattle.std.specs.Prelude.{IfSome, IsTrue, if◌then◌else◌}
+use Rattle.std.proofs.Common.{◌≡◌, ℕ, ◌*◌, ◌&&◌, true, false, not, cond, Bool, List, [], ◌∷◌, ◌++◌, map, take, length, Option, Some, None, Ok, nat_lt, ℤ, pos, negsuc, ◌+ℤ◌, refl, sym, ap, ◌∙◌, subst, arith}
+use Rattle.std.specs.Prelude.{if◌then◌else◌}
 use Rattle.std.specs.List.{AllByRecursion}
 use Rattle.std.proofs.Math.Seq.{take-append_seam}
 use Rattle.std.proofs.lemmas.Int.{ints}
 use Rattle.std.proofs.lemmas.List.{length-map, map-append}
-use Rattle.vtl_lists.specs.Apart.{all_apart}
 use Rattle.vtl_cell.specs.Kinds.{is_null, same_kind}
-use Rattle.vtl_cell.specs.Outcome.{Outcome, fault_in, faults_by, join, unless}
+use Rattle.vtl_cell.specs.Outcome.{Outcome, fault_in, faults_by, join}
 use Rattle.vtl_cell.specs.Row.{Row, column_of, same_key, same_row}
 use Rattle.vtl_cell.specs.ScalarPeriods.{period, shifted_of}
 use Rattle.vtl_cell.specs.declared.cell.Cell.{Cell}
@@ -19,7 +18,6 @@ use Rattle.vtl_decimal.specs.declared.number.Fault.{Fault}
 use Rattle.vtl_decimal.specs.declared.number.Fault.TheVariants.{DivZero, Range}
 use Rattle.vtl_rows.specs.Tables.{cells_at}
 use Rattle.vtl_time.specs.Periods.{YearPart, index_of, parts_in_year, period_at, period_within, shift_of}
-use Rattle.vtl_time.specs.declared.periods.Frequency.{Frequency}
 use Rattle.vtl_time.proofs.PeriodLaws.{shift_whole}
 use Rattle.vtl_time.proofs.PeriodLemmas.{IsPart, index-period_at, period_at-index, shift_is}
 use Rattle.vtl_tree.specs.Columns.{identifiers_of, others_of, place_of, places_in}
@@ -31,10 +29,10 @@ use Rattle.vtl_tree.specs.declared.structure.Component.{Component}
 use Rattle.vtl_tree.specs.declared.structure.Role.TheVariants as role
 use Rattle.vtl_tree.specs.declared.structure.Structure.{Structure}
 use Rattle.vtl_meaning.specs.Aggregates.{Made, group_fault as point_fault}
-use Rattle.vtl_meaning.specs.Analytics.{each_point as each_made, point_of}
+use Rattle.vtl_meaning.specs.Analytics.{point_of}
 use Rattle.vtl_meaning.specs.Points.{cell_or_null}
 use Rattle.vtl_meaning.proofs.AnalyticColumns.{all_front, cells_are, columns_found, columns_split, identifier_cells}
-use Rattle.vtl_meaning.proofs.Drawn.{AreDrawn, drawn_all, drawn_apart, map_drawn}
+use Rattle.vtl_meaning.proofs.Drawn.{drawn_all, drawn_apart, map_drawn}
 use Rattle.vtl_meaning.proofs.GroupKinds.{IsOf, null_is_of}
 use Rattle.vtl_meaning.proofs.GroupPoints.{HasCell, all_more, found_cell}
 use Rattle.vtl_meaning.proofs.Kept.{unless_ok}
@@ -79,7 +77,7 @@ period_kind k.Day e = cc
 period_kind k.Period e = refl
 
 -- a time is a period
-time_cell : (y : Component) (v : Cell) → HasCell y v → is_time y ≡ true → (q : YearPart) × (v ≡ c.Period q)
+pub time_cell : (y : Component) (v : Cell) → HasCell y v → is_time y ≡ true → (q : YearPart) × (v ≡ c.Period q)
 time_cell y v h t =
     let both = split_and (same_role y.role role.Identifier) (same_kind y.kind k.Period) t in
     go v (subst (λ kind. IsOf kind v) (period_kind y.kind both.1) h.0) (subst (λ b. not (b && is_null v) ≡ true) both.0 h.1)

@@ -1,11 +1,11 @@
 -- Series by the spans of their rows, which needs no list of all periods.
-use Rattle.std.proofs.Common.{◌≡◌, ◌<◌, ◌*◌, ℕ, List, [], ◌∷◌, None, Some, Option, map, ap, sym}
+use Rattle.std.proofs.Common.{◌≡◌, ℕ, List, [], ◌∷◌, None, Some, Option, map, ap, sym}
 use Rattle.std.specs.Prelude.{IfSome}
 use Rattle.std.specs.List.{AllByRecursion, flat_map, fold}
 use Rattle.vtl_lists.proofs.Sorts.{AllByRecursion-filter}
 use Rattle.vtl_cell.specs.Row.{Row, column_of, same_row}
 use Rattle.vtl_rows.specs.Tables.{cells_at}
-use Rattle.vtl_time.specs.Periods.{YearPart, index_of, parts_in_year}
+use Rattle.vtl_time.specs.Periods.{YearPart, index_of}
 use Rattle.vtl_time.proofs.PeriodLemmas.{IsPart, index_below}
 use Rattle.vtl_time.specs.declared.periods.Frequency.{Frequency}
 use Rattle.vtl_time.specs.declared.periods.Frequency.TheVariants.{Annual, Semester, Quarter, Month}

@@ -9,7 +9,7 @@ use Rattle.vtl_cell.specs.Row.{Row}
 use Rattle.vtl_cell.specs.declared.cell.Cell.{Cell}
 use Rattle.vtl_cell.specs.declared.cell.Cell.TheVariants.{Int, Null, Period, Text}
 use Rattle.vtl_cell.specs.declared.kind.Kind.TheVariants as k
-use Rattle.vtl_time.specs.Periods.{shift_of}
+use Rattle.vtl_time.specs.Periods.{is_year_part, shift_of}
 use Rattle.vtl_time.proofs.PeriodLemmas.{part_holds}
 use Rattle.vtl_series.specs.declared.extent.Extent.TheVariants as extent
 use Rattle.vtl_timing.proofs.SpanSeries.{HasPart, series_by_spans}
@@ -59,11 +59,11 @@ int n = Int (pos n)
 -- ---- a shift stays in its frequency, and leaves no year
 a_period_before : timeshift_of (negsuc 0) (of (at (quarter 2020 1) (int 1) ∷ at (in_month 2020 12) (int 2) ∷ []))
     ≡ Ok (at (quarter 2019 4) (int 1) ∷ at (in_month 2020 11) (int 2) ∷ [])
-unfolding shift_of
+unfolding is_year_part shift_of
 a_period_before = refl
 
 no_year_behind : timeshift_of (pos 1) (of (at (year 9999) (int 1) ∷ [])) ≡ Err Range
-unfolding shift_of
+unfolding is_year_part shift_of
 no_year_behind = refl
 
 -- ---- flows and stocks; the points stand in no order

@@ -1,5 +1,5 @@
 -- Shifts and totals do not see the order of points.
-use Rattle.std.proofs.Common.{◌≡◌, ℤ, List, map, Ok, Err, Option, Some, None, ap, subst}
+use Rattle.std.proofs.Common.{◌≡◌, ℤ, List, map, Ok, ap, subst}
 use Rattle.std.specs.Prelude.{if◌then◌else◌}
 use Rattle.std.specs.Ordering.{is_le}
 use Rattle.vtl_lists.specs.Perm.{Perm}

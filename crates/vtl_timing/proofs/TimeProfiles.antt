@@ -1,7 +1,7 @@
 -- What a shift, totals and differences give is of the profile where their operand is.
 use Rattle.std.proofs.Common.{◌≡◌, ◌-◌, ◌^◌, ◌≤◌, ℕ, ℤ, pos, Bool, true, false, List, [], ◌∷◌, map, Ok, Err, Option, Some, None, nat_lt, refl, arith}
 use Rattle.std.specs.Prelude.{IfOk, IfSome, find, if◌then◌else◌}
-use Rattle.std.specs.List.{AllByRecursion, filter}
+use Rattle.std.specs.List.{AllByRecursion}
 use Rattle.std.specs.Option.{option_map_or}
 use Rattle.vtl_lists.proofs.Sorts.{AllByRecursion-filter}
 use Rattle.vtl_decimal.specs.Settings.{Settings}
