@@ -39,7 +39,8 @@ use Rattle.vtl_timing.specs.Times.{is_time, shifted_value, timeshift_of}
 use Rattle.sql_tree.specs.Trees as tree
 use Rattle.sql_tree.specs.Trees.{Exp, ItemTree, Text}
 use Rattle.sql_check_parts.specs.Expressions.{site}
-use Rattle.sql_check_parts.specs.Literals.{integer_in, is_shift}
+use Rattle.sql_check_parts.specs.Kinds.{given_kind, kind_in, operator_kind}
+use Rattle.sql_check_parts.specs.Literals.{is_shift}
 use Rattle.sql_check_parts.specs.Scopes.{Scope, or_null}
 use Rattle.sql_meaning.specs.Outcomes.{operated}
 use Rattle.sql_meaning.specs.Scripts.{Data, base_of}
@@ -161,14 +162,21 @@ module _ (p : Settings) (law : Translates p) (before : Data) (name : Text) (a : 
       let place = place_of y.name xs in
       let known = names.known place y.name y.kind at in
       let kind = time_kind y t in
-      let own : or_null (Some y.kind) ≡ k.Period = kind in
-      let counts = law.kind of_one scope xs names (const v) is_ranged in
-      let first = ap or_null known ∙ kind in
+      let size : Kind = kind_in scope (const_to_sql p v) in
+      let given_by : Kind → Kind = λ q. given_kind op.PeriodShift (q ∷ size ∷ []) in
+      let whole : kind_in scope (later p v y.name) ≡ k.Period = ap (λ o. given_by (or_null o)) known ∙ ap given_by kind in
+      let met : Kind → Bool = λ q. is_some (operator_kind op.PeriodShift (q ∷ size ∷ [])) in
       record {
-        kind = ?;
-        fits = (((ap is_some known, refl), law.fits b.tables of_one scope xs names (const v) is_ranged is_held, tt), ?, is_written p n near is_ranged);
-        printed = ((refl, tt, one_formed xs na place y.name y.kind at, law.formed of_one xs (one_formed xs na) (const v) is_ranged is_held, tt), omega (arith, law.depth of_one (const v)));
-        value_is = λ r h. ?;
+        kind = whole ∙ sym kind;
+        fits = (((ap is_some known, refl), (law.fits b.tables of_one scope xs names (const v) is_ranged is_held, tt)), ap (λ o. met (or_null o)) known ∙ ap met kind, is_written p n near is_ranged);
+        printed = ((refl, tt, (one_formed xs na place y.name y.kind at, (law.formed of_one xs (one_formed xs na) (const v) is_ranged is_held, tt))), omega (arith, law.depth of_one (const v)));
+        value_is = λ r h.
+            let u = column_of place r in
+            ap (λ i. operated p (kind_in scope (later p v y.name)) (Ok (column_of i r) ∷ sql_value (at_rows b scope) (const_to_sql p v) r [] ∷ []) op.PeriodShift) (names.placed place y.name y.kind at)
+            ∙ ap (λ m. operated p (kind_in scope (later p v y.name)) (Ok u ∷ m ∷ []) op.PeriodShift) (law.value_at b of_one scope xs r [] refl names (const v) is_ranged is_held)
+            ∙ ap (λ o. after (shifted_of u o) (as_kind p (kind_in scope (later p v y.name)))) (reached p law.low n near)
+            ∙ ap (λ q. after (shifted_of u (Some n)) (as_kind p q)) whole
+            ∙ shifted_stays p (shifted_of u (Some n)) (shifted_period u (Some n));
         of_kind = λ r h. subst (λ q. IfOk (shifted_of (column_of place r) (Some n)) (λ w. is_of q w ≡ true)) (sym kind) (shifted_period (column_of place r) (Some n));
       }
 
