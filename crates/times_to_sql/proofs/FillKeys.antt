@@ -1,8 +1,8 @@
 -- The select over a SERIES gives the identifiers of the points of the filled series.
-use Rattle.std.proofs.Common.{◌≡◌, ℕ, suc, zero, ◌+◌, Bool, true, false, not, cond, ◌&&◌, List, [], ◌∷◌, ◌++◌, length, map, Option, Some, None, Ok, refl, ap, sym, ◌∙◌, subst, arith, append-nil, append_assoc}
+use Rattle.std.proofs.Common.{◌≡◌, ℕ, ◌+◌, Bool, true, false, not, cond, ◌&&◌, List, [], ◌∷◌, ◌++◌, map, Some, None, Ok, refl, ap, sym, ◌∙◌, subst, append-nil, append_assoc}
 use Rattle.std.proofs.lemmas.List.{map-append}
 use Rattle.std.specs.Prelude.{is_some, if◌then◌else◌}
-use Rattle.std.specs.List.{AllByRecursion, filter, fold, list_all, list_any, position_or_len}
+use Rattle.std.specs.List.{AllByRecursion, filter, fold, list_all, position_or_len}
 use Rattle.std.specs.Map.{keys_of, lookup}
 use Rattle.vtl_lists.proofs.Aparts.{apart_parts}
 use Rattle.vtl_lists.proofs.Perms.{AllByRecursion-Perm, Perm-sym}
@@ -10,19 +10,15 @@ use Rattle.vtl_lists.proofs.Sorts.{AllByRecursion-filter}
 use Rattle.grammar_forms.specs.Written.{Each}
 use Rattle.vtl_text.specs.Texts.{same_text}
 use Rattle.vtl_cell.specs.Kinds.{same_kind}
-use Rattle.vtl_cell.specs.Outcome.{Outcome, after}
 use Rattle.vtl_cell.specs.Row.{Row}
-use Rattle.vtl_cell.specs.declared.kind.Kind.{Kind}
 use Rattle.vtl_cell.specs.declared.kind.Kind.TheVariants as k
 use Rattle.vtl_decimal.specs.Settings.{Settings}
-use Rattle.vtl_rows.specs.Tables.{cells_at}
 use Rattle.vtl_series.specs.Series.{series_rows}
-use Rattle.vtl_series.specs.declared.extent.Extent.{Extent}
 use Rattle.vtl_syntax.specs.declared.word_groups.Filling.{Filling}
 use Rattle.vtl_syntax.specs.declared.word_groups.Filling.TheVariants as filling
 use Rattle.vtl_tree.specs.Columns.{columns_named, identifiers_of, others_of, place_of, places_in}
 use Rattle.vtl_tree.specs.CompExp.{CompExp}
-use Rattle.vtl_tree.specs.DataSet.{IsDataSet, is_point}
+use Rattle.vtl_tree.specs.DataSet.{IsDataSet}
 use Rattle.vtl_tree.specs.Structure.{IsStructure, columns_of, names_of, same_name}
 use Rattle.vtl_tree.specs.declared.structure.Component.{Component}
 use Rattle.vtl_tree.specs.declared.structure.Structure.{Structure}
@@ -32,21 +28,21 @@ use Rattle.vtl_meaning.proofs.Lists.{passing}
 use Rattle.vtl_meaning.proofs.OwnColumns.{columns_apart, own_columns, own_identifiers}
 use Rattle.vtl_meaning.proofs.Places.{all_front, all_back, all_of_map, columns_split, identifiers_apart, same_name-refl, same_name-sym}
 use Rattle.vtl_timing.specs.Timed.{extent_of}
-use Rattle.vtl_timing.specs.Times.{HasTime, filled_keys, in_order, is_time, other_identifiers, series_columns, time_place}
+use Rattle.vtl_timing.specs.Times.{HasTime, filled_keys, is_time, other_identifiers, series_columns, time_place}
 use Rattle.vtl_timing.proofs.FilledPoints.{named_cells, series_points}
 use Rattle.vtl_timing.proofs.SeriesColumns.{IsOnly, identifiers_among, series_apart, series_perm, time_only}
 use Rattle.sql_tree.specs.Formed.{IsName}
-use Rattle.sql_tree.specs.Trees.{Exp, ItemTree, Text}
+use Rattle.sql_tree.specs.Trees.{ItemTree, Text}
 use Rattle.sql_tree.specs.declared.parts.Series.{Series}
 use Rattle.sql_tree.specs.declared.parts.Source.{Source}
-use Rattle.sql_check_parts.specs.Scopes.{Columns, Scope, Tables, add_column, add_source, columns_chosen, columns_of as table_columns, is_among, or_null, repeats, or_nothing, series_fits, series_names, maybe_within}
+use Rattle.sql_check_parts.specs.Scopes.{Columns, add_column, add_source, columns_chosen, columns_of as table_columns, is_among, or_null, repeats, or_nothing, series_fits, series_names, maybe_within}
 use Rattle.sql_meaning.specs.From.{source_rows}
 use Rattle.sql_meaning.specs.Scripts.{Data, base_of, tables_in}
 use Rattle.sql_meaning.specs.Tables as sources
 use Rattle.sql_meaning.specs.Tables.{Base, place_among, series_over}
 use Rattle.expressions_to_sql.specs.Names.{Names}
 use Rattle.selects_to_sql.specs.Items.{first_column, own_items}
-use Rattle.selects_to_sql.specs.Queries.{all_to_sql, first_alias, items_as, name_of_first, of_one, select_as, select_of}
+use Rattle.selects_to_sql.specs.Queries.{all_to_sql, first_alias, items_as, name_of_first, of_one, select_as}
 use Rattle.selects_to_sql.specs.Runs.{IsTable, entries}
 use Rattle.selects_to_sql.specs.Writable.{HaveNames}
 use Rattle.selects_to_sql.proofs.Exact.{IsExactly, exactly_same}
@@ -55,7 +51,7 @@ use Rattle.selects_to_sql.proofs.Givens.{AreGiven}
 use Rattle.selects_to_sql.proofs.Identifiers.{identifier_there}
 use Rattle.selects_to_sql.proofs.OneOperand.{columns_each, columns_for, columns_written, known_there, rows_there}
 use Rattle.selects_to_sql.proofs.SelectItems.{IsFrom}
-use Rattle.selects_to_sql.proofs.Selects.{IsPointOf, expressions_give}
+use Rattle.selects_to_sql.proofs.Selects.{expressions_give}
 use Rattle.selects_to_sql.proofs.Sources.{AreApart, first_is_name, kind_found, one_formed, one_names, one_scope}
 use Rattle.selects_to_sql.proofs.Unions.{one_exactly}
 use Rattle.times_to_sql.specs.Fills.{fill_keys_query, series_as, series_of, span_of, times_of}

@@ -27,7 +27,7 @@ use Rattle.vtl_timing.specs.Timed.{extent_of}
 use Rattle.vtl_timing.specs.Times.{HasTime, fill_of, filled_keys, in_order, other_identifiers, series_columns, time_place}
 use Rattle.vtl_timing.proofs.FillOrders.{fill_respects}
 use Rattle.vtl_timing.proofs.FilledPoints.{key_is, series_points}
-use Rattle.vtl_timing.proofs.SeriesColumns.{IsOnly, time_only}
+use Rattle.vtl_timing.proofs.SeriesColumns.{time_only}
 use Rattle.sql_tree.specs.Trees.{Text}
 use Rattle.sql_meaning.specs.Scripts.{Data}
 use Rattle.selects_to_sql.specs.Means.{AreEarlier, AreThere, Means, NodeGives, SourcesGive, StandsAs}
@@ -35,7 +35,7 @@ use Rattle.selects_to_sql.specs.Runs.{held}
 use Rattle.selects_to_sql.specs.Tables.{Sources, and_then, by_names, over, table_of, with_one}
 use Rattle.selects_to_sql.specs.Writable.{HaveNames}
 use Rattle.selects_to_sql.proofs.Composition.{alone, no_tables, one_gives, stored_gives, two_gives}
-use Rattle.selects_to_sql.proofs.Exact.{IsExactly, means_by, set_turned}
+use Rattle.selects_to_sql.proofs.Exact.{means_by, set_turned}
 use Rattle.selects_to_sql.proofs.Expressions.{Translates}
 use Rattle.selects_to_sql.proofs.Givens.{AreGiven}
 use Rattle.selects_to_sql.proofs.Running.{columns_there, run_stops}
@@ -43,8 +43,8 @@ use Rattle.joins_to_sql.specs.FullJoins.{key_structure, or_spare}
 use Rattle.joins_to_sql.proofs.FullJoins.{full_exactly, full_turned}
 use Rattle.joins_to_sql.proofs.FullMeans.{beside_there}
 use Rattle.joins_to_sql.proofs.HeldOperands.{IsHeld}
-use Rattle.joins_to_sql.proofs.KeyColumns.{key_columns, key_given, key_is_structure, keyed}
-use Rattle.times_to_sql.specs.Fills.{fill_keys_query, fill_query, times_of}
+use Rattle.joins_to_sql.proofs.KeyColumns.{key_columns, key_given, keyed}
+use Rattle.times_to_sql.specs.Fills.{fill_keys_query, fill_query}
 use Rattle.times_to_sql.specs.TimeTables.{fill_keys_of, fill_made}
 use Rattle.times_to_sql.proofs.FillKeys.{keys_exactly}
 

@@ -1,9 +1,8 @@
 -- `timeshift` is a select over the operand's table.
-use Rattle.std.proofs.Common.{◌≡◌, ◌≤◌, ◌<◌, ◌^◌, ◌-◌, ℕ, ℤ, pos, negsuc, suc, zero, Bool, true, false, cond, List, [], ◌∷◌, map, Option, Some, None, Ok, Err, refl, ap, sym, ◌∙◌, subst, arith}
+use Rattle.std.proofs.Common.{◌≡◌, ◌≤◌, ◌^◌, ◌-◌, ℤ, pos, negsuc, suc, Bool, true, false, cond, List, [], ◌∷◌, map, Option, Some, None, Ok, Err, refl, ap, sym, ◌∙◌, subst, arith}
 use Rattle.std.proofs.lemmas.Bool.{lt-ltb}
 use Rattle.std.proofs.Math.Nat.{pow-le-pow_right}
-use Rattle.std.specs.Prelude.{IfOk, IsOk, is_some, nat_lt, unsigned_abs, if◌then◌else◌}
-use Rattle.std.specs.List.{AllByRecursion}
+use Rattle.std.specs.Prelude.{IfOk, IsOk, is_some, unsigned_abs, if◌then◌else◌}
 use Rattle.vtl_decimal.specs.Settings.{Settings}
 use Rattle.vtl_decimal.specs.declared.number.Fault.TheVariants.{Range}
 use Rattle.vtl_cell.specs.Conversion.{as_kind}
@@ -11,7 +10,6 @@ use Rattle.vtl_cell.specs.Held.{IsHeld}
 use Rattle.vtl_cell.specs.Kinds.{is_of, same_kind}
 use Rattle.vtl_cell.specs.Literals.{lies_between, longest_reach}
 use Rattle.vtl_cell.specs.Outcome.{Outcome, after, fault_in, faults_by, join, unless}
-use Rattle.vtl_cell.specs.Outcomes.{all_of, result_of}
 use Rattle.vtl_cell.specs.Profile.{IsOfProfile}
 use Rattle.vtl_cell.specs.Row.{Row, column_of}
 use Rattle.vtl_cell.specs.ScalarPeriods.{period, places_in, shifted_of}
@@ -22,10 +20,9 @@ use Rattle.vtl_cell.specs.declared.kind.Kind.TheVariants as k
 use Rattle.vtl_cell.specs.declared.operator.ScalarOp.TheVariants as op
 use Rattle.vtl_cell.proofs.Rows.{split_and}
 use Rattle.vtl_time.specs.Periods.{YearPart, shift_of}
-use Rattle.vtl_tuples.proofs.Lists.{map-map}
 use Rattle.vtl_tree.specs.Columns.{place_of}
 use Rattle.vtl_tree.specs.CompExp.{const}
-use Rattle.vtl_tree.specs.DataSet.{IsDataSet, is_point}
+use Rattle.vtl_tree.specs.DataSet.{IsDataSet}
 use Rattle.vtl_tree.specs.Structure.{columns_of, same_role}
 use Rattle.vtl_tree.specs.declared.structure.Component.{Component}
 use Rattle.vtl_tree.specs.declared.structure.Role.TheVariants as role
@@ -36,9 +33,7 @@ use Rattle.vtl_meaning.specs.Reaches.{is_near}
 use Rattle.vtl_meaning.proofs.OwnColumns.{columns_apart, own_columns}
 use Rattle.vtl_meaning.proofs.ValueKinds.{cell_is_of}
 use Rattle.vtl_timing.specs.Times.{is_time, shifted_value, timeshift_of}
-use Rattle.sql_tree.specs.Trees as tree
 use Rattle.sql_tree.specs.Trees.{Exp, ItemTree, Text}
-use Rattle.sql_check_parts.specs.Expressions.{site}
 use Rattle.sql_check_parts.specs.Kinds.{given_kind, kind_in, operator_kind}
 use Rattle.sql_check_parts.specs.Literals.{is_shift}
 use Rattle.sql_check_parts.specs.Scopes.{Scope, or_null}
@@ -62,7 +57,7 @@ use Rattle.selects_to_sql.proofs.SelectItems.{AreItems, IsItem, Valued, each_by,
 use Rattle.selects_to_sql.proofs.Selects.{IsPointOf}
 use Rattle.selects_to_sql.proofs.Sources.{one_formed, one_names, one_scope}
 use Rattle.selects_to_sql.proofs.Unions.{one_exactly}
-use Rattle.times_to_sql.specs.Shifts.{later, shift_query, shifted_column, shifted_item}
+use Rattle.times_to_sql.specs.Shifts.{later, shift_query, shifted_column}
 
 -- ---- the number of periods
 
