@@ -46,7 +46,7 @@ use Rattle.vtl_timing.specs.TimeShapes.{IsFlowed}
 use Rattle.vtl_timing.specs.Times.{before, by_measure, flow_of, flow_value, in_one_series, previous, series_of}
 use Rattle.vtl_timing.proofs.FlowsKept.{IsOfMeasure, identify, own_cell}
 use Rattle.times_to_sql.specs.Frequencies.{part_of, within_frequencies}
-use Rattle.times_to_sql.proofs.Fine.{kind_stays, none_faults}
+use Rattle.times_to_sql.proofs.RangeFaults.{kind_stays, none_faults}
 use Rattle.times_to_sql.proofs.FrequencyParts.{parts_are}
 use Rattle.times_to_sql.proofs.OwnPairs.{IsFine, IsGiven, fine, back_cell, front_cell, given, keys_kept, made_cell, paired_is, values_are}
 use Rattle.times_to_sql.proofs.WindowValues.{lags_within}

@@ -13,7 +13,7 @@ pub mod SeriesOrders
 pub mod FrequencyParts
 pub mod WindowValues
 pub mod OwnPairs
-pub mod Fine
+pub mod RangeFaults
 pub mod StockWindows
 pub mod FlowWindows
 pub mod FlowForms

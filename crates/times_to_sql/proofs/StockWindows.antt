@@ -49,7 +49,7 @@ use Rattle.vtl_timing.specs.TimeShapes.{IsFlowed}
 use Rattle.vtl_timing.specs.Times.{by_measure, in_one_series, series_of, stock_of, stock_value, up_to}
 use Rattle.vtl_timing.proofs.FlowsKept.{IsOfMeasure, own_cells}
 use Rattle.times_to_sql.specs.Frequencies.{part_of, series_window, stock_exp, stock_exps, within_frequencies}
-use Rattle.times_to_sql.proofs.Fine.{IsRange, faults_none, faults_range, kind_stays, none_faults, one_fault, outcome_stays, there_is, value_is}
+use Rattle.times_to_sql.proofs.RangeFaults.{IsRange, faults_none, faults_range, kind_stays, none_faults, one_fault, outcome_stays, there_is, value_is}
 use Rattle.times_to_sql.proofs.FrequencyParts.{frequency_is, parts_are}
 use Rattle.times_to_sql.proofs.OwnPairs.{IsFine, IsGiven, fine, back_cell, front_cell, given, keys_kept, made_cell, paired_is, values_are}
 use Rattle.times_to_sql.proofs.SeriesLists.{item_has, own_items}

@@ -15,7 +15,6 @@ use Rattle.vtl_cell.specs.declared.operator.AggKind.TheVariants as agg
 use Rattle.vtl_cell.proofs.Aggregates.{group-Perm}
 use Rattle.vtl_decimal.specs.Settings.{Settings}
 use Rattle.vtl_decimal.specs.declared.number.Fault.{Fault}
-use Rattle.vtl_decimal.specs.declared.number.Fault.TheVariants.{DivZero, Range}
 use Rattle.vtl_series.specs.Series.{frequencies}
 use Rattle.vtl_time.specs.declared.periods.Frequency.{Frequency}
 use Rattle.vtl_tree.specs.Columns.{place_of}
@@ -40,6 +39,7 @@ use Rattle.vtl_timing.specs.Times.{HasTime, by_measure, previous, up_to}
 use Rattle.vtl_timing.proofs.FlowOrders.{kept_too}
 use Rattle.sql_meaning.specs.Selects.{appended, rows_in}
 use Rattle.times_to_sql.specs.Frequencies.{is_of_frequency, part_of, series_window, within_frequencies}
+use Rattle.times_to_sql.proofs.RangeFaults.{join_parts}
 use Rattle.times_to_sql.proofs.SeriesLists.{one_before, own_items, take_front}
 use Rattle.times_to_sql.proofs.SeriesOrders.{Standing, order_is, previous_is, stands, up_to_is}
 
@@ -74,12 +74,6 @@ unless_same f g x y e same = ap (λ o. unless o x) e ∙ go g same
 fault_of : {X : Type 0} (f : Option Fault) (x : X) → fault_in (unless f x) ≡ f
 fault_of None x = refl
 fault_of (Some e) x = refl
-
-join_parts : (f g : Option Fault) → join f g ≡ None → (f ≡ None) × (g ≡ None)
-join_parts None g e = (refl, e)
-join_parts (Some DivZero) g e = cc
-join_parts (Some Range) None e = cc
-join_parts (Some Range) (Some g) e = cc
 
 module _ (fault : Row → Option Fault) (point : Row → Row) (part : Frequency → List Row) where
   abbrev result : List Row → Outcome (List Row)

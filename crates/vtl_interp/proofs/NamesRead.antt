@@ -28,6 +28,7 @@ use Rattle.vtl_meaning.specs.Turned.{pivot_of, unpivot_of}
 use Rattle.vtl_rulings.specs.Hierarchies.{hierarchy_of}
 use Rattle.vtl_rulings.specs.HierarchyChecks.{check_hierarchy_of, ruled_by}
 use Rattle.vtl_rulings.specs.PointChecks.{check_of, datapoint_of}
+use Rattle.vtl_timing.specs.Timed.{timed_of}
 use Rattle.check_laws.specs.Scripts.{AreKnownAlike}
 use Rattle.check_laws.proofs.Over.{made_over}
 
@@ -102,6 +103,7 @@ mutual
   form_same p e f s (nodes.unpivot a id m) h = ap (λ r. with_operand a r (λ d. Ok (unpivot_of d))) (node_same p e f a h)
   form_same p e f s (nodes.aggregate a spec) h = ap (λ r. with_operand a r (λ d. aggregate_of p spec d s)) (node_same p e f a h)
   form_same p e f s (nodes.analytic_of a spec) h = ap (λ r. with_operand a r (λ d. analytic_of p spec d s)) (node_same p e f a h)
+  form_same p e f s (nodes.time a op) h = ap (λ r. with_operand a r (λ d. timed_of p op d s)) (node_same p e f a h)
   form_same p e f s (nodes.join os spec) h = ap (λ r. after r (λ ds. Ok (join_of spec.kind ds))) (operands_same p e f os h)
   form_same p e f s (nodes.union ns) h = ap (λ r. after r (λ ds. Ok (union_of ds s))) (nodes_same p e f ns h)
   form_same p e f s (nodes.intersect ns) h = ap (λ r. after r (λ ds. Ok (intersection_of ds s))) (nodes_same p e f ns h)

@@ -22,6 +22,7 @@ use Rattle.vtl_tree.specs.CompExp.{CompExp}
 use Rattle.vtl_tree.specs.View.{comp_exp_of}
 use Rattle.vtl_tree.specs.declared.expression.CompExpr.{CompExpr}
 use Rattle.vtl_tree.specs.NodeView.{agg_tree, analytic_tree, form_tree, item_tree, measure_tree, node_tree, operand_tree, point_rules_tree}
+use Rattle.vtl_tree.specs.declared.calls.TimeOp.{TimeOp}
 use Rattle.vtl_tree.specs.declared.clauses.CalcItem.{CalcItem}
 use Rattle.vtl_tree.specs.declared.clauses.SubItem.{SubItem}
 use Rattle.vtl_tree.specs.declared.renaming.Renaming.{Renaming}
@@ -56,6 +57,7 @@ use Rattle.vtl_meaning.specs.Sets.{difference_of, existence_of, symmetric_differ
 use Rattle.vtl_meaning.specs.Shapes.{IsJoinedFrom}
 use Rattle.vtl_rulings.specs.PointChecks.{check_of}
 use Rattle.vtl_rulings.specs.Shaped.{IsChecked}
+use Rattle.vtl_timing.specs.Timed.{IsTimed}
 use Rattle.vtl_interp.specs.Evaluated.{Evaluates, Gives, GivesOne, GivesTwo}
 use Rattle.vtl_interp.specs.Values.{imbalance_tree, under_aliases}
 use Rattle.vtl_interp.proofs.Environments.{data_looked, known_looked}
@@ -110,6 +112,9 @@ form_tree-Aggregate a spec = search (rules, forms.the_lemmas)
 pub form_tree-Analytic : (a : Box Node Global) (spec : AnalyticSpec) → form_tree (form.Analytic a spec) ≡ nodes.analytic_of (node_tree a.value) (analytic_tree spec)
 form_tree-Analytic a spec = search (rules, forms.the_lemmas)
 
+pub form_tree-Time : (a : Box Node Global) (op : TimeOp) → form_tree (form.Time a op) ≡ nodes.time (node_tree a.value) op
+form_tree-Time a op = search (rules, forms.the_lemmas)
+
 pub form_tree-Join : (os : Vec JoinOperand Global) (spec : JoinSpec) → form_tree (form.Join os spec) ≡ nodes.join (operands_of (map operand_tree os.items)) spec
 form_tree-Join os spec = search (rules, forms.the_lemmas)
 
@@ -159,6 +164,11 @@ pub analytic_fits : (p : Settings) (env : Environment) (n : Node) (a : Box Node 
 analytic_fits p env n a spec d e made g =
     subst (λ (s : Structure). IsWindowed p (analytic_tree spec) s n.structure) (sym g.structure)
     (subst (IsMade p (known_in env)) (tree_with n (form.Analytic a spec) (nodes.analytic_of (node_tree a.value) (analytic_tree spec)) e (form_tree-Analytic a spec)) made).1.1
+
+pub time_fits : (p : Settings) (env : Environment) (n : Node) (a : Box Node Global) (op : TimeOp) (d : DataSet) → n.form ≡ form.Time a op → IsMade p (known_in env) (node_tree n) → Gives p env (node_tree a.value) d → IsTimed op d.structure n.structure
+time_fits p env n a op d e made g =
+    subst (λ (s : Structure). IsTimed op s n.structure) (sym g.structure)
+    (subst (IsMade p (known_in env)) (tree_with n (form.Time a op) (nodes.time (node_tree a.value) op) e (form_tree-Time a op)) made).1.1
 
 pub choose_fits : (p : Settings) (env : Environment) (n : Node) (c a b : Box Node Global) (t d o : DataSet) → n.form ≡ form.Choose c a b → IsMade p (known_in env) (node_tree n) → Gives p env (node_tree c.value) t → Gives p env (node_tree a.value) d → Gives p env (node_tree b.value) o → IsChoice t.structure d.structure o.structure n.structure
 choose_fits p env n c a b t d o e made gt gd go =

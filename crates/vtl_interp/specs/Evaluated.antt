@@ -34,6 +34,7 @@ GivesOne p env (nodes.pivot a id m) d = Gives p env a d
 GivesOne p env (nodes.unpivot a id m) d = Gives p env a d
 GivesOne p env (nodes.aggregate a spec) d = Gives p env a d
 GivesOne p env (nodes.analytic_of a spec) d = Gives p env a d
+GivesOne p env (nodes.time a op) d = Gives p env a d
 GivesOne p env (nodes.check_datapoint a rules out) d = Gives p env a d
 GivesOne p env (nodes.check_hierarchy a rules m out) d = Gives p env a d
 GivesOne p env (nodes.hierarchy a rules m i out) d = Gives p env a d

@@ -8,6 +8,7 @@ ghost use Rattle.vtl_scripts.specs.Made.{IsMade};
 ghost use Rattle.vtl_interp.specs.Evaluated.{Evaluates, GivesOne, GivesTwo};
 ghost use Rattle.vtl_interp.specs.Values.{value_view};
 
+use crate::times::timed;
 use crate::value::Value;
 use std::alloc::{AllocError, Global};
 use vtl_clause::{calc, rename, sub};
@@ -46,6 +47,7 @@ fn made_of_one(alloc: Global, node: &Node, a: DataSet, p: &Profile) -> Result<Da
         NodeForm::Unpivot { .. } => answered(unpivot(alloc, &a, made)),
         NodeForm::Aggregate { spec, .. } => aggregate(alloc, &a, spec, made, p),
         NodeForm::Analytic { spec, .. } => analytic(alloc, &a, spec, made, p),
+        NodeForm::Time { op, .. } => timed(alloc, &a, op, made, p),
         NodeForm::CheckDatapoint { rules, out, .. } => {
             check_datapoint(alloc, &a, rules, *out, p, made)
         }

@@ -52,6 +52,7 @@ pub fn evaluate<'a>(
         | NodeForm::Unpivot { a, .. }
         | NodeForm::Aggregate { a, .. }
         | NodeForm::Analytic { a, .. }
+        | NodeForm::Time { a, .. }
         | NodeForm::CheckDatapoint { a, .. }
         | NodeForm::CheckHierarchy { a, .. }
         | NodeForm::Hierarchy { a, .. } => {

@@ -20,8 +20,9 @@ use Rattle.vtl_rulings.specs.HierarchyShapes.{IsHierarchyChecked, IsHierarchyMad
 use Rattle.vtl_rulings.specs.Ordered.{HasOrder}
 use Rattle.vtl_rulings.specs.PointChecks.{datapoint_of}
 use Rattle.vtl_rulings.specs.Shaped.{IsPointChecked}
+use Rattle.vtl_timing.specs.Timed.{timed_of}
 use Rattle.vtl_interp.specs.Evaluated.{Gives}
-use Rattle.vtl_interp.proofs.NodesEvaluated.{aggregate_fits, analytic_fits, form_tree-Aggregate, form_tree-Analytic, form_tree-Calc, form_tree-CheckDatapoint, form_tree-CheckHierarchy, form_tree-DropNamed, form_tree-Hierarchy, form_tree-Keep, form_tree-Measures, form_tree-Member, form_tree-Pivot, form_tree-Rename, form_tree-Sub, form_tree-Unpivot, measures_fit, one_fits, one_given_at, one_operand, renamed}
+use Rattle.vtl_interp.proofs.NodesEvaluated.{aggregate_fits, analytic_fits, form_tree-Aggregate, form_tree-Analytic, form_tree-Calc, form_tree-CheckDatapoint, form_tree-CheckHierarchy, form_tree-DropNamed, form_tree-Hierarchy, form_tree-Keep, form_tree-Measures, form_tree-Member, form_tree-Pivot, form_tree-Rename, form_tree-Sub, form_tree-Time, form_tree-Unpivot, measures_fit, one_fits, one_given_at, one_operand, renamed, time_fits}
 use Rattle.vtl_interp.proofs.applied.made_of_one.Goals as goal
 
 pub map_measures-requires : goal.map_measures-requires
@@ -252,6 +253,25 @@ returns-in-Analytic c env made g =
     one_operand (λ d. d) c.args.p.now env n (form.Analytic x.a x.spec) (nodes.analytic_of a (analytic_tree x.spec)) a v (λ d. analytic_of c.args.p.now (analytic_tree x.spec) d s) c.analytic.result x.is (form_tree-Analytic x.a x.spec) refl
     (one_given_at c.args.p.now env n (form.Analytic x.a x.spec) (nodes.analytic_of a (analytic_tree x.spec)) v x.is (form_tree-Analytic x.a x.spec) g)
     c.analytic.ensures
+
+pub timed-requires : goal.timed-requires
+timed-requires c =
+    let n = c.args.node.now in
+    let v = c.args.a in
+    let x = c.in-Time in
+    time_fits c.args.p.now c.requires.0 n x.a x.op v x.is c.requires.1
+    (one_given_at c.args.p.now c.requires.0 n (form.Time x.a x.op) (nodes.time (node_tree x.a.value) x.op) v x.is (form_tree-Time x.a x.op) c.requires.2)
+
+pub returns-in-Time : goal.returns-in-Time
+returns-in-Time c env made g =
+    let n = c.args.node.now in
+    let s = n.structure in
+    let v = c.args.a in
+    let x = c.in-Time in
+    let a = node_tree x.a.value in
+    one_operand (λ d. d) c.args.p.now env n (form.Time x.a x.op) (nodes.time a x.op) a v (λ d. timed_of c.args.p.now x.op d s) c.timed.result x.is (form_tree-Time x.a x.op) refl
+    (one_given_at c.args.p.now env n (form.Time x.a x.op) (nodes.time a x.op) v x.is (form_tree-Time x.a x.op) g)
+    c.timed.ensures
 
 pub check_datapoint-requires : goal.check_datapoint-requires
 check_datapoint-requires c =
