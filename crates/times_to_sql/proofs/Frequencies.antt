@@ -1,6 +1,6 @@
 -- The time among the columns, and the condition that it has a frequency.
-use Rattle.std.proofs.Common.{◌≡◌, ◌+◌, ◌≤◌, ℕ, zero, suc, ◌&&◌, Bool, true, false, not, cond, List, [], ◌∷◌, ◌++◌, length, map, filter, Some, None, Ok, refl, ap, sym, ◌∙◌, subst, arith}
-use Rattle.std.specs.Prelude.{is_some, Option}
+use Rattle.std.proofs.Common.{◌≡◌, ◌+◌, ℕ, zero, suc, ◌&&◌, Bool, true, false, not, cond, List, [], ◌∷◌, ◌++◌, length, filter, Some, None, Ok, refl, ap, sym, ◌∙◌, subst, arith}
+use Rattle.std.specs.Prelude.{is_some}
 use Rattle.std.specs.List.{AllByRecursion, position_or_len}
 use Rattle.std.proofs.lemmas.Bool.{and_parts}
 use Rattle.vtl_cell.specs.Kinds.{is_null, is_of, same_kind}
@@ -49,7 +49,6 @@ use Rattle.selects_to_sql.proofs.OneOperand.{known_there, one_from, rows_there}
 use Rattle.selects_to_sql.proofs.SelectItems.{IsFrom}
 use Rattle.selects_to_sql.proofs.Sources.{one_formed, one_names, one_scope}
 use Rattle.groups_to_sql.proofs.ItemLists.{exactly_kept}
-use Rattle.times_to_sql.specs.Fills.{times_of}
 use Rattle.times_to_sql.specs.Flows.{has_frequency, time_name}
 use Rattle.times_to_sql.specs.Frequencies.{is_of_frequency}
 
