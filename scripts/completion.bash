@@ -3,7 +3,7 @@ _vtl() {
     local word=${COMP_WORDS[COMP_CWORD]} before=${COMP_WORDS[COMP_CWORD - 1]} command=${COMP_WORDS[1]} places
     COMPREPLY=()
     if [ "$COMP_CWORD" = 1 ]; then
-        mapfile -t COMPREPLY < <(compgen -W 'run sqlrun sql check engine lineage format demo lint infer help --help --version' -- "$word")
+        mapfile -t COMPREPLY < <(compgen -W 'run sqlrun sql check engine lineage format migrate demo lint infer help --help --version' -- "$word")
         return
     fi
     case $before in
@@ -13,6 +13,7 @@ _vtl() {
     case $command in
         run | sqlrun) places=4 ;;
         sql | check | lineage | lint) places=2 ;;
+        migrate) places=1 ;;
         *) places=0 ;;
     esac
     if [ "$places" != 0 ] && [ "$COMP_CWORD" -gt $((places + 1)) ]; then

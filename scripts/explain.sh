@@ -44,6 +44,10 @@ names_in() {
 files_at_hand() {
     dataset=${said#error: input }
     inputs=$4
+    if [ "$1" = migrate ]; then
+        [ ! -f "$2" ] || printf 'structures '
+        return
+    fi
     [ ! -f "$2" ] || printf 'script '
     if [ "$1" = engine ]; then
         inputs=$3

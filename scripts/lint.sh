@@ -1,9 +1,10 @@
 #!/bin/sh
 # Looks through the structures file, and then the input of each declared data set: lint.sh lint STRUCTURES IN [--scale D]
 # [--round R]. Prints a line for each fault, as the program does for the first one, with what is seen there. Exit codes: 0
-# where there is none, 2 for a fault of the structures file, 4 for one of an input.
+# where there is none, 2 for a fault of the structures file, 4 for one of an input. Scale and rounding are those of the
+# options, else those of the structures file.
 top=$(CDPATH='' cd -- "$(dirname -- "$0")/.." && pwd) || exit 1
-VTL_TOP=$top VTL_SCALE=6 VTL_ROUND=half_up LC_ALL=C
+VTL_TOP=$top VTL_SCALE= VTL_ROUND= LC_ALL=C
 export VTL_TOP VTL_SCALE VTL_ROUND LC_ALL
 
 usage() {

@@ -93,8 +93,8 @@ function value_habit(sort, text) {
     if (text ~ /^[-+]?[0-9.]+ *%$/) return "percent"
     if (text ~ /^[-+]?[0-9]+,[0-9]+$/) return "decimal_comma"
     if (text ~ /^[-+]?[0-9][0-9]?[0-9]?([ ,.'][0-9][0-9][0-9])+([.,][0-9]+)?$/) return "group_mark"
-    scale = option_of_call("--scale", 6)
-    rounding = option_of_call("--round", "half_up")
+    scale = option_of_call("--scale", declared_scale == "" ? 6 : declared_scale)
+    rounding = option_of_call("--round", declared_rounding == "" ? "half_up" : declared_rounding)
     text = value_of(sort, text)
     return text == "range" || text == "fraction" ? text : ""
 }

@@ -51,7 +51,7 @@ function takes_header(    i, seen) {
         seen[name[i]]
     }
     if (columns == 1 && record ~ /[;\t]/) refuse("one column: are fields parted by `;` or tabs? write commas")
-    if (columns > 64) refuse("more than 64 columns")
+    if (columns > 64) refuse("more than 64 columns: declare them in version 2 of a structures file")
     return columns > 1 || record !~ /[;\t]/
 }
 

@@ -214,7 +214,7 @@ function evaluation_line(status, result,    number) {
 function structures_line(number, rule) {
     if (to_record(structures, number)) tell_record(structures)
     else tell("where", shown(structures, 200))
-    if (rule == 1) tell("header", "dataset,component,role,type,codes")
+    if (rule == 1) tell("header", number == 2 ? "dataset,component,role,type,codes,nullable" : "dataset,component,role,type,codes; or structures,2,6,half_up,,")
     else if (rule == 7) tell_earlier(structures, number, 1, 2)
     else tell("here", declaration_fact(rule))
     tell_rule("structures", rule)
@@ -225,8 +225,9 @@ function declaration_fact(rule,    place, known) {
     if (rule == 2) return fields " fields"
     if (rule == 5) include(known, "identifier measure attribute")
     if (rule == 6) include(known, "integer number string boolean date time_period")
-    place = rule == 8 ? 5 : rule - 2
-    return rule < 9 ? "field " place " is " with_nearest(field[place], known) : ""
+    if (rule == 11) include(known, field[3] == "identifier" ? "false" : "true false")
+    place = rule == 8 ? 5 : (rule == 11 ? 6 : rule - 2)
+    return rule < 9 || rule == 11 ? "field " place " is " with_nearest(field[place], known) : ""
 }
 
 # The data sets of the structures file, or the INPUTs of a text of the SQL dialect.
@@ -290,7 +291,7 @@ function not_text_line(path,    line, number) {
 
 # `error: usage`
 function usage_line(    paths) {
-    paths = ARGV[1] ~ /^(check|sql)$/ ? 2 : 4
+    paths = ARGV[1] == "migrate" ? 1 : (ARGV[1] ~ /^(check|sql|lineage)$/ ? 2 : 4)
     tell("here", of_engine ? engine_words_fact() : words_fact(paths))
     tell_status("Usage")
 }
@@ -312,7 +313,7 @@ function path_fact() {
 # The first word that has no place.
 function words_fact(paths,    i, seen) {
     if (ARGC < 2) return "no words"
-    if (ARGV[1] !~ /^(run|sqlrun|sql|check|format|demo)$/) return quoted(ARGV[1]) " is no command"
+    if (ARGV[1] !~ /^(run|sqlrun|sql|check|lineage|format|migrate|demo)$/) return quoted(ARGV[1]) " is no command"
     for (i = 1; i < ARGC; i++) if (!is_text(ARGV[i])) return "a word is not UTF-8"
     if (ARGV[1] == "demo") return points_fact()
     if (ARGV[1] == "format") return path_fact()

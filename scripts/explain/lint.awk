@@ -3,16 +3,19 @@
 BEGIN {
     structures = ARGV[2]
     inputs = ARGV[3]
-    scale = ENVIRON["VTL_SCALE"]
-    rounding = ENVIRON["VTL_ROUND"]
     readable[structures]
     read_grammar(ENVIRON["VTL_TOP"] "/docs/LANGUAGE.md")
     include(is_role, "identifier measure attribute")
     include(is_type, "integer number string boolean date time_period")
     look_through_structures()
+    scale = chosen(ENVIRON["VTL_SCALE"], declared_scale, 6)
+    rounding = chosen(ENVIRON["VTL_ROUND"], declared_rounding, "half_up")
     if (!problems) for (number = 1; number <= sets; number++) look_through(set[number])
     exit problems > 0 ? (of_structures ? 2 : 4) : 0
 }
+
+# What the option says, else the structures file, else this.
+function chosen(option, declaration, otherwise) { return option != "" ? option : (declaration != "" ? declaration : otherwise) }
 
 # A line of a fault, with what is seen there.
 function told(line, seen) {
@@ -23,11 +26,32 @@ function told(line, seen) {
 # The structures file: each record's first broken rule, and data sets without identifiers.
 function look_through_structures(    i) {
     begin_records(structures)
-    if (next_record() && record == "dataset,component,role,type,codes") take_declarations()
-    else declaration_told(1, 1)
+    if (takes_headers()) take_declarations()
     close(source)
     for (i = 1; i <= sets && !problems; i++) if (!(set[i] in has_key)) declaration_told(first_record[set[i]], 10)
     of_structures = problems > 0
+}
+
+# Whether the first records are those of a version.
+function takes_headers() {
+    if (!next_record()) {
+        declaration_told(1, 1)
+        return 0
+    }
+    split_record()
+    take_opening()
+    if (version == 1) return is_header("dataset,component,role,type,codes", 5)
+    if (next_record()) split_record()
+    return is_header("dataset,component,role,type,codes,nullable", 6)
+}
+
+# Whether the record of this version that was read last names its fields.
+function is_header(names, count,    i, name) {
+    split(names, name, ",")
+    if (record_number < version || fields != count) count = -1
+    for (i = 1; i <= count; i++) if (field[i] != name[i]) count = -1
+    if (count < 0) declaration_told(version, 1)
+    return count > 0
 }
 
 function declaration_told(number, rule) { told("structures line " number " rule " rule, shown(record, 100)) }
@@ -43,14 +67,15 @@ function take_declarations(    rule) {
 
 # The first rule that the record breaks, or 0.
 function declaration_rule() {
-    if (fields != 5) return 2
+    if (fields != version + 4) return 2
     if (field[1] !~ /^[A-Za-z][A-Za-z0-9_.]*$/ || length(field[1]) > 64 || field[1] in reserved) return 3
     if (field[2] == "" || length(field[2]) > 64 || field[2] ~ /['\001-\037\177]/ || field[2] ~ /\302[\200-\237]/) return 4
     if (!(field[3] in is_role)) return 5
     if (!(field[4] in is_type)) return 6
     if ((field[1], field[2]) in type) return 7
     if (field[5] != "" && (field[3] != "identifier" || field[4] != "string" || !are_codes(field[5]))) return 8
-    return field[1] in count_of && count_of[field[1]] >= 64 ? 9 : 0
+    if (field[1] in count_of && count_of[field[1]] >= (version == 2 ? 256 : 64)) return 9
+    return version == 2 && field[6] != "false" && (field[6] != "true" || field[3] == "identifier") ? 11 : 0
 }
 
 # Whether the codes of a list are filled and distinct.
@@ -72,6 +97,7 @@ function take_declaration() {
     role[field[1], field[2]] = field[3]
     type[field[1], field[2]] = field[4]
     codes[field[1], field[2]] = field[5]
+    if (version == 2 && field[6] == "false") never_null[field[1], field[2]]
     if (field[3] == "identifier") has_key[field[1]]
 }
 
@@ -140,6 +166,7 @@ function look_at_field(dataset, i, name, text,    kind, value, is_key) {
     is_key = role[dataset, name] == "identifier"
     if (text == "") {
         if (is_key) input_told(dataset, i, "NullIdentifier", code(name))
+        else if ((dataset, name) in never_null) input_told(dataset, i, "NotNull", code(name))
         return
     }
     if (!is_text(text)) {

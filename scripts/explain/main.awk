@@ -4,9 +4,9 @@ BEGIN {
     fact = ENVIRON["VTL_FACT"]
     said = ENVIRON["VTL_SAID"]
     sub(/\n.*/, "", said)
-    script = ARGV[2]
     of_engine = ARGV[1] == "engine"
-    if (!of_engine) structures = ARGV[3]
+    if (ARGV[1] != "migrate") script = ARGV[2]
+    if (!of_engine) structures = ARGV[1] == "migrate" ? ARGV[2] : ARGV[3]
     inputs = of_engine ? ARGV[3] : ARGV[4]
     at_hand = ENVIRON["VTL_FILES"]
     if (at_hand ~ /script /) readable[script]

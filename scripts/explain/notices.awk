@@ -36,7 +36,8 @@ function of_declarations(    list, count, i) {
     begin_records(structures)
     while (next_record()) {
         split_record()
-        if (record_number == 1) continue
+        if (record_number == 1) take_opening()
+        if (!declares()) continue
         of_blanks("data set", field[1])
         of_blanks("component", field[2])
         count = split(field[5], list, "[|]")

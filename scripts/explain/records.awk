@@ -96,18 +96,38 @@ function to_record(path, number) {
     return 1
 }
 
+# Whether the record that was read last is the first one of a structures file of version 2, which declares a scale and a
+# rounding.
+function is_opening() {
+    return record_number == 1 && fields == 6 && field[1] == "structures" && field[2] == "2" && field[5] field[6] == "" && \
+        field[3] ~ /^[0-9]$/ && field[4] ~ /^(half_up|half_even|down)$/
+}
+
+# Takes the first record of a structures file, which was parted: its version, and what version 2 declares.
+function take_opening() {
+    version = is_opening() ? 2 : 1
+    if (version == 1) return
+    declared_scale = field[3]
+    declared_rounding = field[4]
+}
+
+# Whether the record that was read last declares a component.
+function declares() { return record_number > version && fields == version + 4 }
+
 # Reads the structures file: the components of each data set with role, type and codes, and where each name occurs.
 function read_structures(path,    set, name) {
     begin_records(path)
     while (next_record()) {
         split_record()
-        if (record_number == 1 || fields != 5) continue
+        if (record_number == 1) take_opening()
+        if (!declares()) continue
         set = field[1]
         name = field[2]
         declared[set] = declared[set] name "\n"
         role[set, name] = field[3]
         type[set, name] = field[4]
         codes[set, name] = field[5]
+        if (version == 2 && field[6] == "false") never_null[set, name]
         holders[name] = joined(holders[name], code(set))
         of_role[set, field[3]] = joined(of_role[set, field[3]], code(name) " (" field[4] ")")
         if (!((name, field[3], field[4]) in sorts)) sort_of[name] = with_fact(sort_of[name], field[3] " (" field[4] ")")

@@ -43,8 +43,8 @@ text_can_run t text tables is there ranged = record {
   script = is.script;
   spelled = is.spelled;
   typed = is.typed;
-  there = inputs_there tables (inputs_of t) is.script is.inputs there;
-  in_range = inputs_ranged tables t.settings _ (inputs_of t) is.script is.settings is.inputs ranged;
+  there = inputs_there tables t.not_null (inputs_of t) is.script is.inputs there;
+  in_range = inputs_ranged tables t.not_null t.settings _ (inputs_of t) is.script is.settings is.inputs ranged;
 }
 
 -- ---- tables of exports are tables of outputs
@@ -97,9 +97,9 @@ module _ (t : TypedScript) (tables : NamedTables) (script : IsScript t.settings 
   outputs_are_sets : (os : Outputs) → script_meaning t tables ≡ Ok os → AreDataSets os
   outputs_are_sets os e = meaning_kept t.settings (statements_of t) (environment_of t tables) os made sets e
 
-  value_is : script_value (script_for t.settings (inputs_of t) (statements_of t)) (rows_given tables) ≡ exported_as (script_meaning t tables)
-  value_is = script_means t.settings (inputs_of t) (statements_of t) script (environment_of t tables) known sets ranged (rows_given tables) (are_read tables (inputs_of t))
+  value_is : script_value (script_for t.settings t.not_null (inputs_of t) (statements_of t)) (rows_given tables) ≡ exported_as (script_meaning t tables)
+  value_is = script_means t.settings t.not_null (inputs_of t) (statements_of t) script (environment_of t tables) known sets ranged (rows_given tables) (are_read tables (inputs_of t))
 
-  pub text_runs : (text : List ℕ) → IsSpelled text (script_for t.settings (inputs_of t) (statements_of t)) → (before now : NamedTables) (r : Result (Unit {0}) RunErr) → RunsText text tables before now r → Runs t tables before now r
+  pub text_runs : (text : List ℕ) → IsSpelled text (script_for t.settings t.not_null (inputs_of t) (statements_of t)) → (before now : NamedTables) (r : Result (Unit {0}) RunErr) → RunsText text tables before now r → Runs t tables before now r
   text_runs text spelled before now r h =
-      tells_so (script_meaning t tables) outputs_are_sets before now r (subst (λ m. TellsText m before now r) value_is (h (script_for t.settings (inputs_of t) (statements_of t)) spelled))
+      tells_so (script_meaning t tables) outputs_are_sets before now r (subst (λ m. TellsText m before now r) value_is (h (script_for t.settings t.not_null (inputs_of t) (statements_of t)) spelled))

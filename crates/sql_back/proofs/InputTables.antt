@@ -13,6 +13,7 @@ use Rattle.vtl_rows.specs.Named.{NamedTables, table_of}
 use Rattle.vtl_rows.specs.Tables.{Listed, column_kinds}
 use Rattle.vtl_tree.specs.DataSet.{AreOfProfile, IsDataSet, is_point}
 use Rattle.vtl_tree.specs.Structure.{columns_of}
+use Rattle.vtl_tree.specs.NotNull.{NotNull}
 use Rattle.vtl_tree.specs.Structures.{Named}
 use Rattle.vtl_tree.specs.declared.structure.Component.{Component}
 use Rattle.vtl_tree.specs.declared.structure.Structure.{Structure}
@@ -68,13 +69,13 @@ points_fit : (xs : List Component) (rows : List Row) → AllByRecursion (λ r. i
 points_fit xs [] h = tt
 points_fit xs (r ∷ rs) h = (point_fits xs r h.0, points_fit xs rs h.1)
 
-is_input_table : (tables : NamedTables) (e : List ℕ × Structure) (o : Option Listed) → table_of e.0 tables ≡ o → Holds e.1 o → IsInputTable tables (input_of e)
-is_input_table tables e None there h = absurd h
-is_input_table tables e (Some t) there h =
-    let columns : entries (columns_of e.1) ≡ input_columns (input_of e) = sym (columns_read e h.points.well_formed) in
+is_input_table : (ls : NotNull) (tables : NamedTables) (e : List ℕ × Structure) (o : Option Listed) → table_of e.0 tables ≡ o → Holds e.1 o → IsInputTable tables (input_of ls e)
+is_input_table ls tables e None there h = absurd h
+is_input_table ls tables e (Some t) there h =
+    let columns : entries (columns_of e.1) ≡ input_columns (input_of ls e) = sym (columns_read ls e h.points.well_formed) in
     record {
-      columns = subst (HasTable (input_columns (input_of e))) (sym there) (ap (map column_entry) h.columns ∙ entries_are (columns_of e.1) ∙ columns);
-      fit = subst (λ (u : Option Listed). RowsFit (kinds_of (input_columns (input_of e))) (rows_of u)) (sym there) (subst (λ ks. RowsFit ks t.rows) (kinds_are (columns_of e.1) ∙ ap kinds_of columns) (points_fit (columns_of e.1) t.rows h.points.typed));
+      columns = subst (HasTable (input_columns (input_of ls e))) (sym there) (ap (map column_entry) h.columns ∙ entries_are (columns_of e.1) ∙ columns);
+      fit = subst (λ (u : Option Listed). RowsFit (kinds_of (input_columns (input_of ls e))) (rows_of u)) (sym there) (subst (λ ks. RowsFit ks t.rows) (kinds_are (columns_of e.1) ∙ ap kinds_of columns) (points_fit (columns_of e.1) t.rows h.points.typed));
     }
 
 same_rows : (o : Option Listed) → option_map_or (λ t. t.rows) o [] ≡ rows_of o
@@ -85,19 +86,19 @@ module _ (tables : NamedTables) where
   abbrev AreHeld : Named → Type 0
   AreHeld reads = AllByRecursion (λ e. Holds e.1 (table_of e.0 tables)) reads
 
-  are_input_tables : (reads : Named) → AreHeld reads → AllByRecursion (IsInputTable tables) (map input_of reads)
-  are_input_tables [] h = tt
-  are_input_tables (e ∷ es) h = (is_input_table tables e (table_of e.0 tables) refl h.0, are_input_tables es h.1)
+  are_input_tables : (ls : NotNull) (reads : Named) → AreHeld reads → AllByRecursion (IsInputTable tables) (map (input_of ls) reads)
+  are_input_tables ls [] h = tt
+  are_input_tables ls (e ∷ es) h = (is_input_table ls tables e (table_of e.0 tables) refl h.0, are_input_tables ls es h.1)
 
-  are_ranged : (p : Settings) (reads : Named) → AllAreOfProfile p (map (data_set_in tables) reads) → AllByRecursion (IsRanged p tables) (map input_of reads)
-  are_ranged p [] h = tt
-  are_ranged p (e ∷ es) h = (subst (AreOfProfile p) (same_rows (table_of e.0 tables)) h.0, are_ranged p es h.1)
+  are_ranged : (ls : NotNull) (p : Settings) (reads : Named) → AllAreOfProfile p (map (data_set_in tables) reads) → AllByRecursion (IsRanged p tables) (map (input_of ls) reads)
+  are_ranged ls p [] h = tt
+  are_ranged ls p (e ∷ es) h = (subst (AreOfProfile p) (same_rows (table_of e.0 tables)) h.0, are_ranged ls p es h.1)
 
-  pub inputs_there : (reads : Named) (ss : List StatementTree) → inputs_in ss ≡ map input_of reads → AreHeld reads → HaveInputTables tables ss
-  inputs_there reads ss same h = tables_there tables ss (subst (AllByRecursion (IsInputTable tables)) (sym same) (are_input_tables reads h))
+  pub inputs_there : (ls : NotNull) (reads : Named) (ss : List StatementTree) → inputs_in ss ≡ map (input_of ls) reads → AreHeld reads → HaveInputTables tables ss
+  inputs_there ls reads ss same h = tables_there tables ss (subst (AllByRecursion (IsInputTable tables)) (sym same) (are_input_tables ls reads h))
 
-  pub inputs_ranged : (p q : Settings) (reads : Named) (ss : List StatementTree) → q ≡ p → inputs_in ss ≡ map input_of reads → AllAreOfProfile p (map (data_set_in tables) reads) → AreInputsInRange q tables ss
-  inputs_ranged p q reads ss e same h = subst (λ s. AreInputsInRange s tables ss) (sym e) (tables_ranged p tables ss (subst (AllByRecursion (IsRanged p tables)) (sym same) (are_ranged p reads h)))
+  pub inputs_ranged : (ls : NotNull) (p q : Settings) (reads : Named) (ss : List StatementTree) → q ≡ p → inputs_in ss ≡ map (input_of ls) reads → AllAreOfProfile p (map (data_set_in tables) reads) → AreInputsInRange q tables ss
+  inputs_ranged ls p q reads ss e same h = subst (λ s. AreInputsInRange s tables ss) (sym e) (tables_ranged p tables ss (subst (AllByRecursion (IsRanged p tables)) (sym same) (are_ranged ls p reads h)))
 
   -- ---- the data sets of the rows
 

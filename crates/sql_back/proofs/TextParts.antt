@@ -2,6 +2,7 @@
 use Rattle.std.proofs.Common.{◌≡◌, List, [], ◌∷◌, ◌++◌, map, Result, Ok, Err, refl, sym, ap, ◌∙◌, subst, ℕ}
 use Rattle.std.specs.Prelude.{IfOk, IsUtf8}
 use Rattle.vtl_decimal.specs.Settings.{Settings}
+use Rattle.vtl_tree.specs.NotNull.{NotNull}
 use Rattle.vtl_tree.specs.Structures.{Named}
 use Rattle.vtl_scripts.specs.Meaning.{Statement}
 use Rattle.sql_tree.specs.Formed.{PrintableScript}
@@ -26,38 +27,38 @@ of_creates : (ts : List Table) (rest : List StatementTree) → inputs_in (map cr
 of_creates [] rest = refl
 of_creates (t ∷ ts) rest = of_creates ts rest
 
-of_inputs : (reads : Named) (rest : List StatementTree) → inputs_in rest ≡ [] → inputs_in (map input_for reads ++ rest) ≡ map input_of reads
-of_inputs [] rest e = e
-of_inputs (r ∷ rs) rest e = ap (λ l. input_of r ∷ l) (of_inputs rs rest e)
+of_inputs : (ls : NotNull) (reads : Named) (rest : List StatementTree) → inputs_in rest ≡ [] → inputs_in (map (input_for ls) reads ++ rest) ≡ map (input_of ls) reads
+of_inputs ls [] rest e = e
+of_inputs ls (r ∷ rs) rest e = ap (λ l. input_of ls r ∷ l) (of_inputs ls rs rest e)
 
-inputs_are : (p : Settings) (reads : Named) (ss : List Statement) → inputs_in (script_for p reads ss) ≡ map input_of reads
-inputs_are p reads ss = of_inputs reads (map create_for (script_tables p ss) ++ map export_for (written_of ss)) (of_creates (script_tables p ss) (map export_for (written_of ss)) ∙ of_exports (written_of ss))
+inputs_are : (p : Settings) (ls : NotNull) (reads : Named) (ss : List Statement) → inputs_in (script_for p ls reads ss) ≡ map (input_of ls) reads
+inputs_are p ls reads ss = of_inputs ls reads (map create_for (script_tables p ss) ++ map export_for (written_of ss)) (of_creates (script_tables p ss) (map export_for (written_of ss)) ∙ of_exports (written_of ss))
 
 -- ---- the text
 
-text_for : (p : Settings) (reads : Named) (ss : List Statement) (text : List ℕ) → IsUtf8 text → IsScript p reads ss → IsSpelled text (script_for p reads ss) → ((other : ScriptTree) → IsSpelled text other → other ≡ script_for p reads ss) → IsTextFor p reads ss text
-text_for p reads ss text utf8 script spelled alone = record {
-  script = script_for p reads ss;
+text_for : (p : Settings) (ls : NotNull) (reads : Named) (ss : List Statement) (text : List ℕ) → IsUtf8 text → IsScript p reads ss → IsSpelled text (script_for p ls reads ss) → ((other : ScriptTree) → IsSpelled text other → other ≡ script_for p ls reads ss) → IsTextFor p ls reads ss text
+text_for p ls reads ss text utf8 script spelled alone = record {
+  script = script_for p ls reads ss;
   utf8 = utf8;
   spelled = spelled;
   alone = alone;
-  typed = script_is_typed p reads ss script;
+  typed = script_is_typed p ls reads ss script;
   settings = set_is p script.low;
-  inputs = inputs_are p reads ss;
-  means = λ inputs taken ranged. inputs_mean inputs p reads ss script taken ranged;
+  inputs = inputs_are p ls reads ss;
+  means = λ inputs taken ranged. inputs_mean inputs ls p reads ss script taken ranged;
 }
 
-printable : (p : Settings) (reads : Named) (ss : List Statement) (tree : ScriptTree) → tree ≡ script_for p reads ss → IsScript p reads ss → PrintableScript tree
-printable p reads ss tree same script = subst PrintableScript (sym same) (script_is_printable p reads ss script)
+printable : (p : Settings) (ls : NotNull) (reads : Named) (ss : List Statement) (tree : ScriptTree) → tree ≡ script_for p ls reads ss → IsScript p reads ss → PrintableScript tree
+printable p ls reads ss tree same script = subst PrintableScript (sym same) (script_is_printable p ls reads ss script)
 
 -- of what was printed, or not
-module _ (p : Settings) (reads : Named) (ss : List Statement) (tree : ScriptTree) (same : tree ≡ script_for p reads ss) (script : IsScript p reads ss) {T E : Type 0} (bytes : T → List ℕ) (utf8 : (t : T) → IsUtf8 (bytes t)) where
-  pub printed_spells : (r : Result T E) → IfOk r (λ t. PrintableScript tree → IsSpelled (bytes t) tree) → IfOk r (λ t. IsSpelled (bytes t) (script_for p reads ss))
-  printed_spells (Ok t) h = subst (IsSpelled (bytes t)) same (h (printable p reads ss tree same script))
+module _ (p : Settings) (ls : NotNull) (reads : Named) (ss : List Statement) (tree : ScriptTree) (same : tree ≡ script_for p ls reads ss) (script : IsScript p reads ss) {T E : Type 0} (bytes : T → List ℕ) (utf8 : (t : T) → IsUtf8 (bytes t)) where
+  pub printed_spells : (r : Result T E) → IfOk r (λ t. PrintableScript tree → IsSpelled (bytes t) tree) → IfOk r (λ t. IsSpelled (bytes t) (script_for p ls reads ss))
+  printed_spells (Ok t) h = subst (IsSpelled (bytes t)) same (h (printable p ls reads ss tree same script))
   printed_spells (Err e) h = tt
 
-  pub printed_is_text : (r : Result T E) → IfOk r (λ t. PrintableScript tree → IsSpelled (bytes t) tree) → IfOk r (λ t. PrintableScript tree → (other : ScriptTree) → IsSpelled (bytes t) other → other ≡ tree) → IfOk r (λ t. IsTextFor p reads ss (bytes t))
+  pub printed_is_text : (r : Result T E) → IfOk r (λ t. PrintableScript tree → IsSpelled (bytes t) tree) → IfOk r (λ t. PrintableScript tree → (other : ScriptTree) → IsSpelled (bytes t) other → other ≡ tree) → IfOk r (λ t. IsTextFor p ls reads ss (bytes t))
   printed_is_text (Ok t) h i =
-      let can = printable p reads ss tree same script in
-      text_for p reads ss (bytes t) (utf8 t) script (subst (IsSpelled (bytes t)) same (h can)) (λ other s. i can other s ∙ same)
+      let can = printable p ls reads ss tree same script in
+      text_for p ls reads ss (bytes t) (utf8 t) script (subst (IsSpelled (bytes t)) same (h can)) (λ other s. i can other s ∙ same)
   printed_is_text (Err e) h i = tt

@@ -1,6 +1,7 @@
 -- The text of a script in SQL.
 use Rattle.std.specs.Prelude.{◌≡◌, ℕ, List, [], ◌∷◌, map, Option, Some, IsUtf8}
 use Rattle.vtl_decimal.specs.Settings.{Settings}
+use Rattle.vtl_tree.specs.NotNull.{NotNull}
 use Rattle.vtl_tree.specs.Structures.{Named}
 use Rattle.sql_tree.specs.Texts.{IsScript}
 use Rattle.sql_tree.specs.Trees as tree
@@ -24,7 +25,7 @@ inputs_in (tree.input s ∷ ss) = s ∷ inputs_in ss
 inputs_in (other ∷ ss) = inputs_in ss
 
 -- The text of a script in SQL.
-pub record IsTextFor (p : Settings) (reads : Named) (ss : List Statement) (text : List ℕ) : Type 0 where
+pub record IsTextFor (p : Settings) (ls : NotNull) (reads : Named) (ss : List Statement) (text : List ℕ) : Type 0 where
   pub script : ScriptTree
   -- the text is UTF-8, and spells this script, and no other
   pub utf8 : IsUtf8 text
@@ -32,15 +33,15 @@ pub record IsTextFor (p : Settings) (reads : Named) (ss : List Statement) (text 
   pub alone : (other : ScriptTree) → IsScript text other → other ≡ script
   -- it breaks no rule
   pub typed : IsTypedScript script
-  -- it sets these settings, and reads these data sets: an INPUT for each, in order
+  -- it sets these settings, and reads these data sets: an INPUT for each, in order, whose components on the lists are never null
   pub settings : script_settings script ≡ p
-  pub inputs : inputs_in script ≡ map input_of reads
+  pub inputs : inputs_in script ≡ map (input_of ls) reads
   -- over all rows of the profile that its INPUTs take, it exports the outputs that the statements mean, or has their fault with its name
-  pub means : (inputs : Inputs) → AreTaken inputs reads → AllAreOfProfile p (sets_read inputs reads) → script_value script inputs ≡ exported_as (meaning p ss (sets_read inputs reads))
+  pub means : (inputs : Inputs) → AreTaken inputs ls reads → AllAreOfProfile p (sets_read inputs reads) → script_value script inputs ≡ exported_as (meaning p ss (sets_read inputs reads))
 
 -- the text of a typed script
 abbrev pub IsTextOf : TypedScript → List ℕ → Type 0
-IsTextOf t text = IsTextFor t.settings (inputs_of t) (statements_of t) text
+IsTextOf t text = IsTextFor t.settings t.not_null (inputs_of t) (statements_of t) text
 
 -- there is a text, and it is that of the script
 abbrev pub HasTextOf : TypedScript → Option (List ℕ) → Type 0

@@ -16,7 +16,7 @@ use vtl_to_sql::translate;
 /// data sets and means the same. It fails only if memory runs out.
 pub fn text_of(alloc: Global, script: &Checked) -> Result<String, AllocError>
     ensures text { IfOk result (λ t. IsTextOf script.now (string_bytes t)) }
-    ensures script { IfOk result (λ t. IsSpelled (string_bytes t) (script_for script.now.settings (inputs_of script.now) (statements_of script.now))) }
+    ensures script { IfOk result (λ t. IsSpelled (string_bytes t) (script_for script.now.settings script.now.not_null (inputs_of script.now) (statements_of script.now))) }
     ensures accepted { IfOk result (λ t. IsScript script.now.settings (inputs_of script.now) (statements_of script.now)) }
 {
     let translated = translate(alloc, script)?;

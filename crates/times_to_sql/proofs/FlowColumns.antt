@@ -1,5 +1,5 @@
 -- The columns of a result of flows and stocks: the operand's identifiers, and a measure of the same name and kind for each of its measures.
-use Rattle.std.proofs.Common.{◌≡◌, ◌≤◌, ℕ, Bool, true, false, not, ◌&&◌, cond, List, [], ◌∷◌, ◌++◌, length, map, Some, None, refl, ap, sym, ◌∙◌, subst, arith}
+use Rattle.std.proofs.Common.{◌≡◌, Bool, true, false, ◌&&◌, cond, List, [], ◌∷◌, ◌++◌, map, Some, None, refl, ap, sym, ◌∙◌, subst}
 use Rattle.std.specs.Prelude.{unwrap_or}
 use Rattle.std.specs.List.{AllByRecursion, filter, list_all}
 use Rattle.std.specs.Option.{option_map_or}
@@ -13,12 +13,12 @@ use Rattle.vtl_cell.specs.Literals.{is_null_kind}
 use Rattle.vtl_cell.specs.declared.kind.Kind.{Kind}
 use Rattle.vtl_cell.specs.declared.kind.Kind.TheVariants as k
 use Rattle.vtl_tree.specs.Choices.{chosen}
-use Rattle.vtl_tree.specs.Columns.{identifiers_of, kind_named, measures_of, others_of, place_of}
+use Rattle.vtl_tree.specs.Columns.{identifiers_of, kind_named, measures_of, place_of}
 use Rattle.vtl_tree.specs.Measures.{given_measure, measures}
 use Rattle.vtl_tree.specs.Names.{component_of}
 use Rattle.vtl_tree.specs.Operands.{is_alike, is_there}
 use Rattle.vtl_tree.specs.Pairs.{contains}
-use Rattle.vtl_tree.specs.Structure.{IsStructure, columns_of, of_role, same_role}
+use Rattle.vtl_tree.specs.Structure.{columns_of, of_role, same_role}
 use Rattle.vtl_tree.specs.Times.{flow_components, flow_gives}
 use Rattle.vtl_tree.specs.declared.choices.Choice.TheVariants as choice
 use Rattle.vtl_tree.specs.declared.operands.Compared.TheVariants as compared
@@ -29,8 +29,8 @@ use Rattle.vtl_tree.specs.declared.structure.Structure.{Structure}
 use Rattle.vtl_meaning.specs.Made.{IsColumnAt}
 use Rattle.vtl_meaning.proofs.AnalyticColumns.{by_roles, own_found}
 use Rattle.vtl_meaning.proofs.Kept.{both_all}
-use Rattle.vtl_meaning.proofs.OwnColumns.{columns_apart, own_columns, own_measures}
-use Rattle.vtl_meaning.proofs.Places.{all_back, all_filtered, all_more, each}
+use Rattle.vtl_meaning.proofs.OwnColumns.{columns_apart, own_measures}
+use Rattle.vtl_meaning.proofs.Places.{all_back, all_more}
 use Rattle.vtl_timing.specs.TimeShapes.{IsFlowed}
 use Rattle.selects_to_sql.proofs.Givens.{AreGiven}
 use Rattle.selects_to_sql.proofs.OneOperand.{kind_at}

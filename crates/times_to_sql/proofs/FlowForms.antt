@@ -15,8 +15,8 @@ use Rattle.sql_tree.specs.declared.parts.Constant.TheVariants as constants
 use Rattle.sql_tree.specs.declared.word_groups.JoinKind.TheVariants as joining
 use Rattle.expressions_to_sql.specs.ToSql.{to_sql}
 use Rattle.selects_to_sql.specs.Items.{for_each_two, items_for}
-use Rattle.selects_to_sql.specs.PairItems.{from_two, joined_by, lead_column, lead_item}
-use Rattle.selects_to_sql.specs.Queries.{agree, item_as, of_two, pairs_select, second_alias, source_as}
+use Rattle.selects_to_sql.specs.PairItems.{from_two, lead_column, lead_item}
+use Rattle.selects_to_sql.specs.Queries.{agree, item_as, of_two, second_alias, source_as}
 use Rattle.selects_to_sql.proofs.PairForms.{agreements, second_of}
 use Rattle.times_to_sql.specs.Flows.{stock_query}
 use Rattle.times_to_sql.specs.Frequencies.{stock_exp, stock_exps}

@@ -1,11 +1,10 @@
 -- The tables of `flow_to_stock` and `stock_to_flow` mean them.
-use Rattle.std.proofs.Common.{◌≡◌, ◌<◌, ◌+◌, ◌^◌, ℕ, Bool, true, false, List, [], ◌∷◌, ◌++◌, length, Ok, Err, refl, ap, sym, ◌∙◌, subst, arith, append-nil, length-append}
+use Rattle.std.proofs.Common.{◌≡◌, ◌<◌, ◌+◌, ◌^◌, ℕ, true, List, [], ◌∷◌, ◌++◌, length, Ok, Err, refl, sym, subst, arith, append-nil, length-append}
 use Rattle.vtl_cell.specs.Outcome.{Outcome, after}
 use Rattle.vtl_cell.specs.Row.{Row}
 use Rattle.vtl_cell.specs.declared.operator.ScalarOp.TheVariants as op
 use Rattle.vtl_decimal.specs.Settings.{Settings}
 use Rattle.vtl_tree.specs.DataSet.{IsDataSet}
-use Rattle.vtl_tree.specs.Environment.{DataSet}
 use Rattle.vtl_tree.specs.Structure.{columns_of}
 use Rattle.vtl_tree.specs.declared.calls.AnalyticOp.{AnalyticOp}
 use Rattle.vtl_tree.specs.declared.structure.Structure.{Structure}
@@ -18,7 +17,7 @@ use Rattle.vtl_text.specs.Words.{is_word}
 use Rattle.sql_tree.specs.Trees.{QueryTree, Text}
 use Rattle.sql_meaning.specs.Scripts.{Data}
 use Rattle.selects_to_sql.specs.Means.{AreEarlier, AreThere, Means, NodeGives, SourcesGive, StandsAs}
-use Rattle.selects_to_sql.specs.Tables.{Made, Sources, and_then, by_names, over, stored, table_of, with_one, with_two}
+use Rattle.selects_to_sql.specs.Tables.{Made, Sources, and_then, by_names, over, table_of, with_one, with_two}
 use Rattle.selects_to_sql.specs.Writable.{HaveNames}
 use Rattle.selects_to_sql.proofs.Composition.{alone, no_tables, one_gives, stored_gives, together, two_gives}
 use Rattle.selects_to_sql.proofs.Exact.{means_by, set_turned}

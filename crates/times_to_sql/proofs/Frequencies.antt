@@ -1,6 +1,6 @@
 -- The time among the columns, and the condition that it has a frequency.
-use Rattle.std.proofs.Common.{◌≡◌, ◌≤◌, ℕ, zero, suc, ◌&&◌, Bool, true, false, not, cond, List, [], ◌∷◌, ◌++◌, length, map, filter, Some, None, Ok, refl, ap, sym, ◌∙◌, subst, arith}
-use Rattle.std.specs.Prelude.{is_some, Option}
+use Rattle.std.proofs.Common.{◌≡◌, ◌+◌, ℕ, zero, suc, ◌&&◌, Bool, true, false, not, cond, List, [], ◌∷◌, ◌++◌, length, filter, Some, None, Ok, refl, ap, sym, ◌∙◌, subst, arith}
+use Rattle.std.specs.Prelude.{is_some}
 use Rattle.std.specs.List.{AllByRecursion, position_or_len}
 use Rattle.std.proofs.lemmas.Bool.{and_parts}
 use Rattle.vtl_cell.specs.Kinds.{is_null, is_of, same_kind}
@@ -39,7 +39,7 @@ use Rattle.sql_check_parts.specs.Scopes.{add_source, found, or_null}
 use Rattle.sql_meaning.specs.From.{condition_fault, kept, source_rows}
 use Rattle.sql_meaning.specs.Outcomes.{operated}
 use Rattle.sql_meaning.specs.Scripts.{Data, base_of, tables_in}
-use Rattle.sql_meaning.specs.Values.{at_rows, value}
+use Rattle.sql_meaning.specs.Values.{at_rows, place_in, value}
 use Rattle.expressions_to_sql.specs.Names.{Names}
 use Rattle.selects_to_sql.specs.Queries.{first_alias, name_of_first, of_one, select_as, source_as}
 use Rattle.selects_to_sql.specs.Runs.{IsTable, printable_depth}
@@ -49,7 +49,6 @@ use Rattle.selects_to_sql.proofs.OneOperand.{known_there, one_from, rows_there}
 use Rattle.selects_to_sql.proofs.SelectItems.{IsFrom}
 use Rattle.selects_to_sql.proofs.Sources.{one_formed, one_names, one_scope}
 use Rattle.groups_to_sql.proofs.ItemLists.{exactly_kept}
-use Rattle.times_to_sql.specs.Fills.{times_of}
 use Rattle.times_to_sql.specs.Flows.{has_frequency, time_name}
 use Rattle.times_to_sql.specs.Frequencies.{is_of_frequency}
 
@@ -67,7 +66,9 @@ time_in (y ∷ ys) e = go (is_time y) refl e (time_in ys)
     go : (b : Bool) → is_time y ≡ b → length (cond b (y ∷ filter is_time ys) (filter is_time ys)) ≡ 1 → (length (filter is_time ys) ≡ 1 → IsColumnAt (position_or_len is_time ys) (name_of_first (filter is_time ys)) k.Period ys)
         → IsColumnAt (cond (not b) (1 + position_or_len is_time ys) 0) (name_of_first (cond b (y ∷ filter is_time ys) (filter is_time ys))) k.Period (y ∷ ys)
     go true t e ih = (refl, period_kind y.kind (and_parts (same_role y.role role.Identifier) (same_kind y.kind k.Period) t).1)
-    go false t e ih = ih e
+    go false t e ih =
+        let next : suc (position_or_len is_time ys) ≡ 1 + position_or_len is_time ys = omega arith in
+        subst (λ n. IsColumnAt n (name_of_first (filter is_time ys)) k.Period (y ∷ ys)) next (ih e)
 
 not_null : (x : Role) (n : Bool) → same_role x role.Identifier ≡ true → not (same_role x role.Identifier && n) ≡ true → n ≡ false
 not_null role.Identifier false e h = refl
@@ -121,7 +122,7 @@ module _ (p : Settings) (law : Translates p) (before : Data) (name : Text) (a : 
 
   frequency_value : (r : Row) → is_point xs r ≡ true → value (at_rows (base_of p before) (one_scope xs)) condition r [] ≡ Ok (c.Bool (is_of_frequency a f r))
   frequency_value r h =
-      ap (λ kind. value_with kind _ r) known
+      ap (λ kind. value_with kind (place_in (one_scope xs) (of_one (time_place a) (time_name a))) r) known
       ∙ ap (λ place. value_with k.Period place r) (names.placed (time_place a) (time_name a) k.Period (time_at a time))
       ∙ frequency_text p (time_of a r) f (cell_is_of (time_place a) (time_name a) k.Period xs r (time_at a time) h) (time_filled a time r h)
 

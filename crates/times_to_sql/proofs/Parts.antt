@@ -1,50 +1,43 @@
 -- The table of the totals or of the previous values: an analytic operator along the series of each frequency.
-use Rattle.std.proofs.Common.{◌≡◌, ◌≤◌, ℕ, ◌-◌, ◌^◌, ◌&&◌, pos, Bool, true, false, not, cond, List, [], ◌∷◌, ◌++◌, length, map, filter, Option, Some, None, Ok, Err, refl, ap, sym, ◌∙◌, subst, arith}
+use Rattle.std.proofs.Common.{◌≡◌, ◌≤◌, ◌-◌, ◌^◌, ◌&&◌, pos, Bool, true, false, not, cond, List, [], ◌∷◌, ◌++◌, length, map, filter, Some, None, Ok, Err, refl, ap, sym, ◌∙◌, subst, arith}
 use Rattle.std.specs.Prelude.{◌==◌, IsOk, unwrap_or}
 use Rattle.std.specs.List.{AllByRecursion}
 use Rattle.std.proofs.Math.Nat.{pow-le-pow_right}
 use Rattle.std.proofs.lemmas.Bool.{lt-ltb}
 use Rattle.std.proofs.lemmas.List.{length-map}
 use Rattle.vtl_lists.proofs.Aparts.{all_apart-filter}
-use Rattle.vtl_lists.proofs.Perms.{AllByRecursion-Perm}
 use Rattle.vtl_lists.proofs.Sorts.{AllByRecursion-filter}
 use Rattle.vtl_cell.specs.AggregateKinds.{is_number}
 use Rattle.vtl_cell.specs.Held.{IsHeld}
-use Rattle.vtl_cell.specs.Kinds.{same_kind}
 use Rattle.vtl_cell.specs.Literals.{is_null_kind}
 use Rattle.vtl_cell.specs.Outcome.{Outcome}
 use Rattle.vtl_cell.specs.Profile.{IsOfProfile}
 use Rattle.vtl_cell.specs.Row.{Row, same_key}
-use Rattle.vtl_cell.specs.declared.cell.Cell.TheVariants as c
 use Rattle.vtl_cell.specs.declared.kind.Kind.{Kind}
 use Rattle.vtl_cell.specs.declared.kind.Kind.TheVariants as k
 use Rattle.vtl_decimal.specs.Settings.{Settings}
 use Rattle.vtl_decimal.specs.declared.number.Fault.TheVariants.{Range}
-use Rattle.vtl_series.specs.Series.{frequencies}
 use Rattle.vtl_time.specs.declared.periods.Frequency.{Frequency}
 use Rattle.vtl_time.specs.declared.periods.Frequency.TheVariants as frequency
 use Rattle.vtl_tree.specs.Choices.{chosen}
-use Rattle.vtl_tree.specs.Columns.{identifiers_of, kind_named, others_of, place_of}
+use Rattle.vtl_tree.specs.Columns.{identifiers_of, place_of}
 use Rattle.vtl_tree.specs.DataSet.{IsDataSet, is_point}
 use Rattle.vtl_tree.specs.Kinds.{given_kind}
-use Rattle.vtl_tree.specs.Measures.{Gives, given_measure, made, measures}
-use Rattle.vtl_tree.specs.Structure.{IsStructure, columns_of, key_width, names_of}
-use Rattle.vtl_tree.specs.Times.{flow_components, flow_gives}
+use Rattle.vtl_tree.specs.Measures.{given_measure, made, measures}
+use Rattle.vtl_tree.specs.Structure.{columns_of, key_width}
+use Rattle.vtl_tree.specs.Times.{flow_gives}
 use Rattle.vtl_tree.specs.declared.calls.AnalyticOp.{AnalyticOp}
-use Rattle.vtl_tree.specs.declared.calls.AnalyticOp.TheVariants as analytic
 use Rattle.vtl_tree.specs.declared.choices.Choice.TheVariants as choice
 use Rattle.vtl_tree.specs.declared.structure.Component.{Component}
 use Rattle.vtl_tree.specs.declared.structure.Role.TheVariants as role
 use Rattle.vtl_tree.specs.declared.structure.Structure.{Structure}
 use Rattle.vtl_meaning.specs.AnalyticShapes.{IsAnalyzed, IsTypedAnalytic, default_in, of_measure, takes}
 use Rattle.vtl_meaning.specs.Analytics.{analytic_of}
-use Rattle.vtl_meaning.specs.Made.{AreAmong, IsColumnAt, IsNamedColumn, IsWindowOver, IsWindowed, is_suited}
+use Rattle.vtl_meaning.specs.Made.{IsColumnAt, IsNamedColumn, IsWindowed, is_suited}
 use Rattle.vtl_meaning.specs.Points.{with_points}
 use Rattle.vtl_meaning.specs.Reaches.{AreNear}
-use Rattle.vtl_meaning.proofs.AnalyticColumns.{by_roles}
 use Rattle.vtl_meaning.proofs.AnalyticShaped.{fits}
-use Rattle.vtl_meaning.proofs.Kept.{both_all}
-use Rattle.vtl_meaning.proofs.Places.{all_back, all_map, all_more}
+use Rattle.vtl_meaning.proofs.Places.{all_map, all_more}
 use Rattle.selects_to_sql.proofs.Identifiers.{IsIdentifierAt, own_there}
 use Rattle.vtl_timing.specs.TimeShapes.{IsFlowed}
 use Rattle.vtl_timing.specs.Times.{HasTime, is_time, other_identifiers}
@@ -60,7 +53,6 @@ use Rattle.selects_to_sql.proofs.Givens.{AreGiven}
 use Rattle.selects_to_sql.proofs.SelectItems.{GivesRows}
 use Rattle.selects_to_sql.proofs.Unions.{union_exactly}
 use Rattle.groups_to_sql.specs.WindowItems.{analytic_items}
-use Rattle.groups_to_sql.specs.Writable.{CallsCanBeWritten}
 use Rattle.groups_to_sql.proofs.Windowed.{analytic_gives}
 use Rattle.times_to_sql.specs.Flows.{along_series, has_frequency, part_select, parts_query, previous_value, time_name, total}
 use Rattle.times_to_sql.specs.Frequencies.{is_of_frequency, part_of, series_window, time_key, within_frequencies}

@@ -1,11 +1,10 @@
 -- The totals at the points of an operand, and the differences from the previous values: a select over the operand's table and the other one.
-use Rattle.std.proofs.Common.{◌≡◌, ◌≤◌, ◌+◌, ℕ, Bool, true, false, cond, List, [], ◌∷◌, ◌++◌, length, map, Some, None, Ok, refl, ap, sym, ◌∙◌, subst, arith}
+use Rattle.std.proofs.Common.{◌≡◌, ◌+◌, Bool, true, false, cond, List, [], ◌∷◌, ◌++◌, length, map, Some, None, refl, ap, sym, ◌∙◌, subst, arith}
 use Rattle.std.specs.List.{AllByRecursion}
 use Rattle.vtl_cell.specs.Literals.{is_null_kind}
 use Rattle.vtl_cell.specs.AggregateKinds.{is_number}
-use Rattle.vtl_cell.specs.Outcome.{Outcome}
 use Rattle.vtl_cell.specs.Row.{Row}
-use Rattle.vtl_cell.specs.ScalarKinds.{common_kind, kinds_of, shared_kind}
+use Rattle.vtl_cell.specs.ScalarKinds.{common_kind, kinds_of}
 use Rattle.vtl_cell.specs.declared.kind.Kind.{Kind}
 use Rattle.vtl_cell.specs.declared.kind.Kind.TheVariants as k
 use Rattle.vtl_cell.specs.declared.operator.ScalarOp.TheVariants as op
@@ -19,7 +18,7 @@ use Rattle.vtl_tree.specs.Structure.{columns_of}
 use Rattle.vtl_tree.specs.declared.structure.Component.{Component}
 use Rattle.vtl_tree.specs.declared.structure.Structure.{Structure}
 use Rattle.vtl_meaning.specs.Made.{AreAmong, AreFor, IsColumnAt, IsTyped}
-use Rattle.vtl_meaning.specs.Operators.{for_measures, pair_exps, pair_of, with_namesake}
+use Rattle.vtl_meaning.specs.Operators.{for_measures, pair_of, with_namesake}
 use Rattle.vtl_meaning.specs.Points.{each_point, paired, with_points}
 use Rattle.vtl_meaning.proofs.Kept.{column_front}
 use Rattle.vtl_meaning.proofs.OwnColumns.{among_front, columns_apart, own_identifiers}
@@ -40,7 +39,7 @@ use Rattle.selects_to_sql.proofs.Pairs.{column_later}
 use Rattle.selects_to_sql.proofs.TwoOperands.{pairs_mean}
 use Rattle.times_to_sql.specs.Flows.{flow_query, stock_query}
 use Rattle.times_to_sql.specs.Frequencies.{stock_exp, stock_exps}
-use Rattle.times_to_sql.proofs.FlowColumns.{IsBoth, IsKept, columns_made, contains_all, identifiers_same, kept, measures_both, measures_made, same_kind_kept}
+use Rattle.times_to_sql.proofs.FlowColumns.{IsBoth, columns_made, contains_all, identifiers_same, kept, measures_both, measures_made, same_kind_kept}
 
 -- ---- lists of expressions
 

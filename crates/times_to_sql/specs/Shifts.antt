@@ -1,5 +1,5 @@
 -- The query of `timeshift`.
-use Rattle.std.specs.Prelude.{ℤ, List, [], ◌∷◌, map, None, if◌then◌else◌}
+use Rattle.std.specs.Prelude.{ℤ, [], ◌∷◌, map, None, if◌then◌else◌}
 use Rattle.vtl_decimal.specs.Settings.{Settings}
 use Rattle.vtl_cell.specs.declared.cell.Cell.{Cell}
 use Rattle.vtl_cell.specs.declared.cell.Cell.TheVariants as c

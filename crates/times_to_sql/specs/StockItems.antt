@@ -1,5 +1,5 @@
 -- The items of the totals at the points of the operand, as they are written.
-use Rattle.std.specs.Prelude.{false, length, List, ◌++◌, map, None}
+use Rattle.std.specs.Prelude.{false, List, ◌++◌, map, None}
 use Rattle.vtl_tree.specs.Columns.{identifiers_of, measures_of}
 use Rattle.vtl_tree.specs.Structure.{columns_of}
 use Rattle.vtl_tree.specs.declared.structure.Component.{Component}

@@ -26,8 +26,8 @@ pub(crate) fn stocked(
     ensures tables { OnOk result (map statement_tree draft.new.statements.items ≡ map statement_tree draft.old.statements.items ++ map create_for (stock_made writer.now target.now a.now.structure.now s.now (by_names (a.now.table.now ∷ []) draft.old.next)).tables) }
     ensures next { OnOk result (draft.new.next ≡ (stock_made writer.now target.now a.now.structure.now s.now (by_names (a.now.table.now ∷ []) draft.old.next)).next) }
 {
-    let totals = parts_query(alloc, writer, AnalyticOp::Sum, a, s)?;
-    let totals = draft.store(alloc, target, totals)?;
+    let query = parts_query(alloc, writer, AnalyticOp::Sum, a, s)?;
+    let totals = draft.store(alloc, target, query)?;
     stock_query(alloc, writer, a, s, &totals)
 }
 
@@ -48,11 +48,11 @@ pub(crate) fn flowed(
         offset: 1,
         default: Cell::Int(0),
     };
-    let values = parts_query(alloc, writer, previous, a, s)?;
-    let values = draft.store(alloc, target, values)?;
+    let query = parts_query(alloc, writer, previous, a, s)?;
+    let table = draft.store(alloc, target, query)?;
     let values = Operand {
         structure: s,
-        table: &values,
+        table: &table,
     };
     pair_query(alloc, writer, ScalarOp::Subtract, a, &values, s)
 }

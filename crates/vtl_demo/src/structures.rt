@@ -1,6 +1,6 @@
 // The structures of the two data sets.
 ghost use Rattle.std.specs.List.{list_all};
-ghost use Rattle.std.specs.Prelude.{◌≡◌, true, IfOk};
+ghost use Rattle.std.specs.Prelude.{◌≡◌, [], true, IfOk};
 ghost use Rattle.vtl_text.specs.Words.{is_word_character};
 ghost use Rattle.vtl_tree.specs.Measures.{made};
 ghost use Rattle.vtl_demo.specs.DataSets as sets;
@@ -63,7 +63,8 @@ pub(crate) fn right_structure(alloc: Global) -> Result<Structure, AllocError>
 
 /// Both structures, by the names of the data sets. It fails only if memory runs out.
 pub(crate) fn structures(alloc: Global) -> Result<Structures, AllocError>
-    ensures { IfOk result (λ s. s.sets ≡ sets.declared) }
+    ensures sets { IfOk result (λ s. s.sets ≡ sets.declared) }
+    ensures lists { IfOk result (λ s. s.not_null ≡ []) }
 {
     let mut structures = Structures::new(alloc);
     structures.put(word(alloc, LEFT_NAME)?, left_structure(alloc)?)?;

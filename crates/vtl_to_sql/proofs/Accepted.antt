@@ -63,6 +63,7 @@ module _ (p : Settings) where
     form_words b s (nodes.unpivot a id m) w = names_words false a w.0
     form_words b s (nodes.aggregate a spec) w = names_words b a w.0
     form_words b s (nodes.analytic_of a spec) w = names_words b a w.0
+    form_words b s (nodes.time a o) w = names_words false a w
     form_words b s (nodes.union ns) w = all_words ns w
     form_words b s (nodes.intersect ns) w = all_words ns w
     form_words b s (nodes.set_diff a c) w = two_words (nodes_in a) (nodes_in c) (names_words false a w.0) (names_words false c w.1)

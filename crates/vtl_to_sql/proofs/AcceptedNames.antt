@@ -22,7 +22,13 @@ use Rattle.vtl_tree.specs.ClauseShapes.{first_kind, names_column, renamed}
 use Rattle.vtl_tree.specs.Measures.{bool_var, given_measures, made}
 use Rattle.vtl_tree.specs.Operands.{agreed_identifiers}
 use Rattle.vtl_tree.specs.Pairs.{pair_identifiers}
+use Rattle.vtl_tree.specs.Times.{flow_gives}
+use Rattle.vtl_tree.specs.declared.calls.TimeOp.{TimeOp}
+use Rattle.vtl_tree.specs.declared.calls.TimeOp.TheVariants as time
 use Rattle.vtl_tree.specs.declared.choices.Choice.TheVariants as choice
+use Rattle.vtl_tree.specs.declared.measures.Outcome.TheVariants as outcome
+use Rattle.vtl_timing.specs.Timed.{HasGiven}
+use Rattle.vtl_timing.specs.TimeShapes.{IsFlowed}
 use Rattle.vtl_tree.specs.declared.renaming.Renaming.{Renaming}
 use Rattle.vtl_meaning.proofs.Lists as lists
 use Rattle.vtl_to_sql.proofs.AcceptedComponents.{AreKnownNamed, ArePlain, Fits, IsPlain, agreed_named, all_weaker, analyzed_named, bool_var_named, calculated_named, check_named, chosen_named, found_named, given_named, made_named, pair_named, pivot_named, plain, renamed_named, role_named, ruled_named, sided_named, uncoded_named}
@@ -52,6 +58,19 @@ module _ (p : Settings) (known : Named) (all : AreKnownNamed known) where
 
   first_named : (b : Bool) (a : Structure) (bs : List Structure) (s : Structure) → ArePlain [] a.components → IsCombined a bs s → Fits (cond b [] []) s.components
   first_named b a bs s h is = outside b s _ is.shape (lists.appended (IsPlain []) (agreed_identifiers bs a.components) (measures_of a) (agreed_named [] bs a.components h) (role_named [] role.Measure a h))
+
+  -- of a flow or a stock
+  flow_named : (b : Bool) (a s : Structure) → ArePlain [] a.components → IsFlowed a s → Fits (cond b [] []) s.components
+  flow_named b a s h is =
+      outside b s _ is.shape
+      (lists.appended (IsPlain []) (chosen choice.Except [] a.components) (given_measures outcome.Each flow_gives None a.components) (chosen_named [] choice.Except [] a.components h) (given_named [] outcome.Each flow_gives None a.components h))
+
+  -- of a time operator
+  timed_named : (b : Bool) (o : TimeOp) (a s : Structure) → ArePlain [] a.components → HasGiven o a s → Fits (cond b [] []) s.components
+  timed_named b (time.Shift n) a s h is = outside b s a.components (ap (λ (z : Structure). z.components) is) h
+  timed_named b (time.Fill f) a s h is = outside b s a.components (ap (λ (z : Structure). z.components) is) h
+  timed_named b time.FlowToStock a s h is = flow_named b a s h is
+  timed_named b time.StockToFlow a s h is = flow_named b a s h is
 
   mutual
     pub components_named : (b : Bool) (n : NodeTree) → IsMade p known n → HasWords p b n → Fits (cond b (renamings_below n) []) (structure_of n).components
@@ -105,6 +124,7 @@ module _ (p : Settings) (known : Named) (all : AreKnownNamed known) where
         let rs = marks b (nodes.analytic_of a spec) in
         let h = components_named b a m.0 w.0 in
         (by_shape rs s _ m.1.analyzed.shape (analyzed_named rs spec (structure_of a).components w.1 h.0), h.1)
+    form_named b s (nodes.time a o) m w = timed_named b o (structure_of a) s (components_named false a m.0 w).0 m.1.given
     form_named true s (nodes.join os spec) m w =
         let h = operands_named os m.0 w in
         (by_shape (form_renamings (nodes.join os spec)) s _ m.2 (joined_named spec.kind (operands_in os) h), given_back_named spec.kind (held_names spec.kind (operands_in os)) (operands_in os) h)

@@ -193,6 +193,7 @@ module _ (p : Settings) (known : Named) (all : AreKnownNamed known) where
     form_translated b s (nodes.unpivot a id x) m w h own d = node_translated false a m.0 w.0 h d
     form_translated b s (nodes.aggregate a spec) m w h own d = (node_translated b a m.0 w.0 h.0 d, maybe_written spec.having (made_exps s (nodes.aggregate a spec)) h.1 own)
     form_translated b s (nodes.analytic_of a spec) m w h own d = (node_translated b a m.0 w.0 h.0 d, calls_written spec (made_exps s (nodes.analytic_of a spec)) h.1 own)
+    form_translated b s (nodes.time a o) m w h own d = node_translated false a m.0 w h d
     form_translated b s (nodes.union ns) m w h own d = nodes_translated ns m.0 w h d
     form_translated b s (nodes.intersect ns) m w h own d = nodes_translated ns m.0 w h d
     form_translated b s (nodes.set_diff a c) m w h own d =

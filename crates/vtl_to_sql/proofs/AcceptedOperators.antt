@@ -17,9 +17,11 @@ use Rattle.vtl_syntax.specs.declared.parts.Comp.{Comp}
 use Rattle.vtl_syntax.specs.declared.parts.Comp.TheVariants as comp
 use Rattle.vtl_syntax.specs.declared.parts.GroupPart.{GroupPart}
 use Rattle.vtl_syntax.specs.declared.parts.Literal.{Literal}
+use Rattle.vtl_syntax.specs.declared.parts.TimeCall.{TimeCall}
 use Rattle.vtl_syntax.specs.declared.word_groups.AggregateName.{AggregateName}
 use Rattle.vtl_tree.specs.Trees as nodes
 use Rattle.vtl_tree.specs.Trees.{FormTree, NodeTree}
+use Rattle.vtl_tree.specs.declared.calls.TimeOp.{TimeOp}
 use Rattle.vtl_tree.specs.declared.calls.Window.{Window}
 use Rattle.check_faults.specs.Rules.{ruled}
 use Rattle.check_faults.specs.declared.rules.Rule.{Rule}
@@ -39,6 +41,7 @@ use Rattle.check_operators.specs.Typed.{TypedTree, value, dataset, beside_kinds,
 use Rattle.check_expressions.specs.Typing.{Having, as_dataset, behind, grouped_of, or_component, own_groups}
 use Rattle.check_groups.specs.Windowed.{given_structure, or_count, over_dataset, over_form, over_node, over_parts, over_typed}
 use Rattle.check_groups.specs.declared.calls.Call.{Call}
+use Rattle.check_times.specs.Timed.{operator_typed, time_form, time_node}
 use Rattle.check_operators.specs.declared.places.Inside.{Inside}
 use Rattle.check_operators.specs.declared.places.Place.{Place}
 use Rattle.check_operators.specs.declared.places.Place.TheVariants as place
@@ -214,3 +217,11 @@ module _ (p : Settings) where
       go (Some (dataset n)) h call w = over_dataset_worded at e n call w h
       go (Some (value v)) h call w = tt
       go None h call w = tt
+
+  -- ---- time operators
+  time_node_worded : (o : TimeOp) (a : NodeTree) → IsWorded p a → Gives (IsTreeWorded p) (time_node o a)
+  time_node_worded o a h = dataset_worded (nodes.time a o) _ h
+
+  pub time_worded : (q : Settings) (c : TimeCall) (x : TypedTree) → IsTreeWorded p x → Gives (IsTreeWorded p) (time_form q c x)
+  unfolding time_form
+  time_worded q c x h = after (IsTreeWorded p) (operator_typed q c) (λ o. dataset_in x >>= time_node o) (λ o. then (IsWorded p) (IsTreeWorded p) (dataset_in x) (time_node o) (dataset_in_worded x h) (time_node_worded o))

@@ -13,6 +13,8 @@ use Rattle.vtl_syntax.specs.declared.word_groups.Mode.{Mode}
 use Rattle.vtl_syntax.specs.declared.word_groups.JoinKind.{JoinKind}
 use Rattle.vtl_syntax.specs.declared.word_groups.JoinKind.TheVariants as join
 use Rattle.vtl_tree.specs.Names.{is_among}
+use Rattle.vtl_tree.specs.declared.calls.TimeOp.{TimeOp}
+use Rattle.vtl_tree.specs.declared.calls.TimeOp.TheVariants as time
 use Rattle.vtl_tree.specs.RuleItems.{definitions, left_item}
 use Rattle.vtl_rulings.specs.HierarchyChecks.{Ruled, ruled_by}
 use Rattle.vtl_rulings.specs.Ordered.{places_or_none, rules_at}
@@ -29,6 +31,9 @@ use Rattle.joins_to_sql.specs.JoinTables.{full_made, join_made, keys_of}
 use Rattle.hierarchies_to_sql.specs.CheckTables.{check_hierarchy_made, checked_items, sided}
 use Rattle.hierarchies_to_sql.specs.ComputedTables.{computed_by, computed_made, first_name, given_items, merged_query, ordered_tables, run_over, run_tables, taken_table}
 use Rattle.hierarchies_to_sql.specs.ItemTables.{Tables as ItemTables, combinations_of, item_query, item_tables, others_structure, tables_by, with_table}
+use Rattle.times_to_sql.specs.Fills.{fill_keys_query}
+use Rattle.times_to_sql.specs.Flows.{parts_query, previous_value, total}
+use Rattle.times_to_sql.specs.TimeTables.{time_made}
 use Rattle.vtl_to_sql.specs.Hierarchies.{computed_table, hierarchy_made, ruled_made}
 
 -- the next number behind so many tables
@@ -128,6 +133,18 @@ module _ (p : Settings) (r : Text) (h : Ruled) (a : Structure) where
         let made = computed_made p r h m i rules order a s (by_names os.names os.next) in
         behind_counted os (computed_table p r h m i rules order a s os.names os.next) k c (stored_counted r made os.next (computed_counted (definitions rules) (rules_at rules order) s (by_names os.names os.next) os.next (omega arith)))
 
+-- ---- tables of time operators
+over_parts_counted : (r : Text) (Q : List Text → QueryTree) (os : Sources) (k : ℕ) → AreCounted k os → let all = stored r (over (by_names os.names os.next) Q) in all.next ≡ k + length (os.tables ++ all.tables)
+over_parts_counted r Q os k h =
+    let m = over (by_names os.names os.next) Q in
+    behind_counted os (stored r m) k h (stored_counted r m os.next (omega arith))
+
+time_counted : (p : Settings) (r : Text) (o : TimeOp) (a s : Structure) (os : Sources) (k : ℕ) → AreCounted k os → (time_made p r o a s os).next ≡ k + length (time_made p r o a s os).tables
+time_counted p r (time.Shift n) a s os k h = h
+time_counted p r (time.Fill f) a s os k h = over_parts_counted r (with_one (fill_keys_query f a)) os k h
+time_counted p r time.FlowToStock a s os k h = over_parts_counted r (with_one (parts_query p total a s)) os k h
+time_counted p r time.StockToFlow a s os k h = over_parts_counted r (with_one (parts_query p previous_value a s)) os k h
+
 module _ (p : Settings) (r : Text) where
   mutual
     unfolding ruled_made
@@ -159,6 +176,7 @@ module _ (p : Settings) (r : Text) where
     form_counted s (nodes.unpivot a id m) k = operand_counted a k
     form_counted s (nodes.aggregate a spec) k = operand_counted a k
     form_counted s (nodes.analytic_of a spec) k = operand_counted a k
+    form_counted s (nodes.time a o) k = time_counted p r o (structure_of a) s (sources_of p r a k) k (operand_counted a k)
     form_counted s (nodes.union (nodes.and_node a ns)) k = combined_counted (λ b c. union_query p b c s) s ns (structure_of a) (sources_of p r a k) k (operand_counted a k)
     form_counted s (nodes.intersect (nodes.and_node a ns)) k = combined_counted (λ b c. intersection_query p b c s) s ns (structure_of a) (sources_of p r a k) k (operand_counted a k)
     form_counted s (nodes.set_diff a b) k = let x = sources_of p r a k in behind_counted x (sources_of p r b x.next) k (operand_counted a k) (operand_counted b x.next)

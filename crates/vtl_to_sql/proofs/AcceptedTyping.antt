@@ -19,13 +19,14 @@ use Rattle.check_operators.specs.Typed.{TypedTree, dataset_in}
 use Rattle.check_expressions.specs.Rulings.{Sight, names_in}
 use Rattle.check_expressions.specs.Typing.{as_dataset, behind, clause_typed, grouped_of, has_exp, having_typed, maybe_typed, operands_typed, parts_typed, targets_typed, typed}
 use Rattle.check_groups.specs.Windowed.{over_typed}
+use Rattle.check_times.specs.Timed.{time_form}
 use Rattle.check_operators.specs.declared.places.Place.{Place}
 use Rattle.check_operators.specs.declared.places.Place.TheVariants as place
 use Rattle.check_laws.specs.Gives.{Gives}
 use Rattle.check_laws.proofs.Steps.{after, then}
 use Rattle.vtl_to_sql.proofs.AcceptedClauses.{filter_at, keeping_at, renaming_at, sub_worded, targets_at}
 use Rattle.vtl_to_sql.proofs.AcceptedJoins.{IsPart, joins_worded, part_worded}
-use Rattle.vtl_to_sql.proofs.AcceptedOperators.{behind_worded, dataset_step, grouped_worded, member_worded, names_worded, operator_step, or_component_worded, over_worded, set_step, tree_step, two_step, value_worded}
+use Rattle.vtl_to_sql.proofs.AcceptedOperators.{behind_worded, dataset_step, grouped_worded, member_worded, names_worded, operator_step, or_component_worded, over_worded, set_step, time_worded, tree_step, two_step, value_worded}
 use Rattle.vtl_to_sql.proofs.AcceptedSets.{check_worded, difference_worded, exists_worded, pivot_worded, sets_worded, unpivot_worded}
 use Rattle.vtl_to_sql.proofs.AcceptedRules.{AreCallsWorded}
 use Rattle.vtl_to_sql.proofs.AcceptedWords.{IsTreeWorded, IsWorded, at_outside, from_outside}
@@ -84,6 +85,7 @@ module _ (env : Sight) (calls : AreCallsWorded env.settings env.called) where
     worded at (tree.exists_in a b r) w =
         then (IsTreeWorded env.settings) (IsTreeWorded env.settings) (typed env place.Outside a) (λ x. typed env place.Outside b >>= exists_form r x) (worded place.Outside a w.0)
         (λ x hx. then (IsTreeWorded env.settings) (IsTreeWorded env.settings) (typed env place.Outside b) (exists_form r x) (worded place.Outside b w.1) (λ y hy. exists_worded env.settings r x y hx hy))
+    worded at (tree.time e call) w = then (IsTreeWorded env.settings) (IsTreeWorded env.settings) (typed env place.Outside e) (time_form env.settings call) (worded place.Outside e w) (λ x h. time_worded env.settings env.settings call x h)
     worded at (tree.check e err i o) w =
         then (IsTreeWorded env.settings) (IsTreeWorded env.settings) (typed env place.Outside e) (λ x. check_spec env.settings err o >>= λ s. maybe_typed env place.Outside i >>= check_form s x) (worded place.Outside e w.0)
         (λ x h. check_worded env.settings env.settings err o x (maybe_typed env place.Outside i) h (maybe_worded place.Outside i w.1))

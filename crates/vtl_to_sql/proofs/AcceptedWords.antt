@@ -142,6 +142,7 @@ abbrev mutual
   FormHasWords p b (nodes.unpivot a id m) = HasWords p false a × IsColumnName id × IsColumnName m
   FormHasWords p b (nodes.aggregate a spec) = HasWords p b a × TargetsHaveNames spec.items
   FormHasWords p b (nodes.analytic_of a spec) = HasWords p b a × CallsHaveNames spec
+  FormHasWords p b (nodes.time a o) = HasWords p false a
   FormHasWords p true (nodes.join os spec) = OperandsHaveWords p os
   FormHasWords p false (nodes.join os spec) = ⊥
   FormHasWords p b (nodes.union ns) = HaveWords p ns

@@ -22,6 +22,9 @@ use Rattle.vtl_tuples.specs.Keys.{each_once}
 use Rattle.vtl_tree.specs.Pairs.{contains}
 use Rattle.vtl_meaning.specs.Aggregates.{aggregate_of}
 use Rattle.vtl_meaning.specs.Analytics.{analytic_of}
+use Rattle.vtl_timing.specs.Timed.{timed_of}
+use Rattle.vtl_tree.specs.declared.calls.TimeOp.{TimeOp}
+use Rattle.vtl_tree.specs.declared.calls.TimeOp.TheVariants as time
 use Rattle.vtl_meaning.specs.Joined.{join_of}
 use Rattle.vtl_scripts.specs.Meaning.{AreDataSets, operands_value, Outputs, Statement, form_value, kept_output, maybe_value, meaning, node_value, nodes_value, stated, with_first, with_operand}
 use Rattle.vtl_meaning.specs.Operators.{calculated_of, choice_of, left_of, measured_of, pair_exps, pair_of, sub_of}
@@ -103,6 +106,13 @@ abbrev empty_maybe : MaybeNode → Option DataSet
 empty_maybe nodes.no_node = None
 empty_maybe (nodes.some_node n) = Some (with_points (structure_of n) [])
 
+-- a time operator without points
+none_timed : (p : Settings) (o : TimeOp) (a s : Structure) → timed_of p o (with_points a []) s ≡ no_outcome
+none_timed p (time.Shift n) a s = refl
+none_timed p (time.Fill f) a s = refl
+none_timed p time.FlowToStock a s = refl
+none_timed p time.StockToFlow a s = refl
+
 -- rules without points
 none_ruled : (p : Settings) (o : CheckOut) (a : Structure) (rules : List PointRule) → unless (faults_by (rule_fault p (with_points a [])) rules) (flat_map (rule_points p o (with_points a [])) rules) ≡ no_outcome
 none_ruled p o a [] = refl
@@ -171,6 +181,7 @@ module _ (p : Settings) (env : Environment) (h : AreEmpty env) where
     form_empty s (nodes.unpivot a id m) c = ap (λ v. with_operand a v (λ d. Ok (unpivot_of d))) (node_empty a c)
     form_empty s (nodes.aggregate a spec) c = ap (λ v. with_operand a v (λ d. aggregate_of p spec d s)) (node_empty a c.0)
     form_empty s (nodes.analytic_of a spec) c = ap (λ v. with_operand a v (λ d. analytic_of p spec d s)) (node_empty a c.0)
+    form_empty s (nodes.time a o) c = ap (λ v. with_operand a v (λ d. timed_of p o d s)) (node_empty a c) ∙ none_timed p o (structure_of a) s
     form_empty s (nodes.check a i spec) c =
         ap (λ v. with_operand a v (λ d. after (maybe_value p env i) (λ e. Ok (check_of p spec d e)))) (node_empty a c.0)
         ∙ ap (λ o. after o (λ e. Ok (check_of p spec (with_points (structure_of a) []) e))) (maybe_empty i c.1)

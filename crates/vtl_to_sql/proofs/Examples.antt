@@ -21,6 +21,7 @@ use Rattle.vtl_tree.specs.declared.structure.Structure.{Structure}
 use Rattle.vtl_tree.specs.Measures.{bool_var, made}
 use Rattle.vtl_syntax.specs.declared.word_groups.BasicOut.TheVariants as basic
 use Rattle.vtl_syntax.specs.declared.word_groups.CheckOut.TheVariants as out
+use Rattle.vtl_syntax.specs.declared.word_groups.Filling.TheVariants as filling
 use Rattle.vtl_syntax.specs.declared.word_groups.Retain.TheVariants as retain
 use Rattle.vtl_tree.specs.Checks.{error_measures, ruleid}
 use Rattle.vtl_tree.specs.Columns.{column_named}
@@ -47,6 +48,9 @@ use Rattle.vtl_to_sql.specs.Sets as sets
 use Rattle.groups_to_sql.specs.Turned as turned
 use Rattle.vtl_to_sql.specs.Scripts.{statements_for}
 use Rattle.groups_to_sql.specs.Windowed.{analytic_query}
+use Rattle.times_to_sql.specs.Fills.{fill_keys_query, fill_query}
+use Rattle.times_to_sql.specs.Flows.{flow_query, parts_query, stock_query}
+use Rattle.times_to_sql.specs.Shifts.{shift_query}
 
 abbrev scale_six : Settings
 scale_six = record { scale = 6; rounding = HalfUp }
@@ -285,6 +289,32 @@ rules_all : shown (datapoint_query scale_six (known ∷ []) out.All counted show
     ≡ codes " SELECT \"a\" . \"area\" AS \"area\" , 'known' AS \"ruleid\" , \"a\" . \"people\" IS NULL AS \"bool_var\" , CASE WHEN NOT \"a\" . \"people\" IS NULL THEN 'there' ELSE NULL END AS \"errorcode\" , CASE WHEN FALSE THEN 0 ELSE NULL END AS \"errorlevel\" FROM \"A\" AS \"a\""
 rules_all = rw (digit 0 (omega arith)) refl
 
+-- ---- time operators: the points of each frequency are apart, and `fill_time_series` has the rows of series as its keys
+
+abbrev moment : Component
+moment = made (codes "when") role.Identifier k.Period
+
+abbrev dated : Structure
+dated = of_components (area ∷ moment ∷ people ∷ [])
+
+shifted : shown (shift_query scale_six (pos 2) dated table) ≡ codes " SELECT \"a\" . \"area\" AS \"area\" , PERIOD_SHIFT ( \"a\" . \"when\" , 2 ) AS \"when\" , \"a\" . \"people\" AS \"people\" FROM \"A\" AS \"a\""
+shifted = rw (digit 2 (omega arith)) refl
+
+filled : shown (fill_query scale_six dated dated (codes "K") table) ≡ codes " SELECT \"a$0\" . \"area\" AS \"area\" , \"a$0\" . \"when\" AS \"when\" , \"a$1\" . \"people\" AS \"people\" FROM \"K\" AS \"a$0\" LEFT JOIN \"A\" AS \"a$1\" ON \"a$1\" . \"area\" = \"a$0\" . \"area\" AND \"a$1\" . \"when\" = \"a$0\" . \"when\""
+filled = rw (digit 0 (omega arith), digit 1 (omega arith)) refl
+
+abbrev timed : List (QueryTree × List ℕ)
+timed =
+    (fill_keys_query filling.Single dated table, codes " SELECT \"a\" . \"area\" AS \"area\" , \"a\" . \"when\" AS \"when\" FROM SERIES \"A\" ON \"when\" BY ( \"area\" ) SINGLE AS \"a\"")
+    ∷ (fill_keys_query filling.All (of_components (moment ∷ people ∷ [])) table, codes " SELECT \"a\" . \"when\" AS \"when\" FROM SERIES \"A\" ON \"when\" ALL AS \"a\"")
+    ∷ (parts_query scale_six window.Sum dated dated table, codes " SELECT \"a\" . \"area\" AS \"area\" , \"a\" . \"when\" AS \"when\" , SUM ( \"a\" . \"people\" ) OVER ( PARTITION BY \"a\" . \"area\" ORDER BY \"a\" . \"when\" ROWS BETWEEN UNBOUNDED PRECEDING AND CURRENT ROW ) AS \"people\" FROM \"A\" AS \"a\" WHERE PERIOD_FREQ ( \"a\" . \"when\" ) = 'A' UNION ALL SELECT \"a\" . \"area\" AS \"area\" , \"a\" . \"when\" AS \"when\" , SUM ( \"a\" . \"people\" ) OVER ( PARTITION BY \"a\" . \"area\" ORDER BY \"a\" . \"when\" ROWS BETWEEN UNBOUNDED PRECEDING AND CURRENT ROW ) AS \"people\" FROM \"A\" AS \"a\" WHERE PERIOD_FREQ ( \"a\" . \"when\" ) = 'S' UNION ALL SELECT \"a\" . \"area\" AS \"area\" , \"a\" . \"when\" AS \"when\" , SUM ( \"a\" . \"people\" ) OVER ( PARTITION BY \"a\" . \"area\" ORDER BY \"a\" . \"when\" ROWS BETWEEN UNBOUNDED PRECEDING AND CURRENT ROW ) AS \"people\" FROM \"A\" AS \"a\" WHERE PERIOD_FREQ ( \"a\" . \"when\" ) = 'Q' UNION ALL SELECT \"a\" . \"area\" AS \"area\" , \"a\" . \"when\" AS \"when\" , SUM ( \"a\" . \"people\" ) OVER ( PARTITION BY \"a\" . \"area\" ORDER BY \"a\" . \"when\" ROWS BETWEEN UNBOUNDED PRECEDING AND CURRENT ROW ) AS \"people\" FROM \"A\" AS \"a\" WHERE PERIOD_FREQ ( \"a\" . \"when\" ) = 'M'")
+    ∷ (stock_query scale_six dated dated table (codes "P"), codes " SELECT \"a\" . \"area\" AS \"area\" , \"a\" . \"when\" AS \"when\" , CASE WHEN \"a\" . \"people\" IS NULL THEN NULL ELSE \"b\" . \"people\" END AS \"people\" FROM \"A\" AS \"a\" INNER JOIN \"P\" AS \"b\" ON \"b\" . \"area\" = \"a\" . \"area\" AND \"b\" . \"when\" = \"a\" . \"when\"")
+    ∷ (flow_query scale_six dated dated table (codes "P"), codes " SELECT \"a\" . \"area\" AS \"area\" , \"a\" . \"when\" AS \"when\" , \"a\" . \"people\" - \"b\" . \"people\" AS \"people\" FROM \"A\" AS \"a\" INNER JOIN \"P\" AS \"b\" ON \"b\" . \"area\" = \"a\" . \"area\" AND \"b\" . \"when\" = \"a\" . \"when\"")
+    ∷ []
+
+timed_are : map (λ e. shown e.0) timed ≡ map (λ e. e.1) timed
+timed_are = refl
+
 -- ---- data sets without identifiers, which have one point at most
 
 abbrev alone : Structure
@@ -301,7 +331,8 @@ without_identifiers =
 without_identifiers_are : map (λ e. shown e.0) without_identifiers ≡ map (λ e. e.1) without_identifiers
 without_identifiers_are = refl
 
--- ---- a script: a result that is not written, and then a union of three, of which the first two are a table of their own
+-- ---- a script: an input whose measure is never null, a result that is not written, and then a union of three, of which the first two are a
+-- table of their own
 
 abbrev node_named : List ℕ → NodeTree
 node_named x = nodes.node counted (nodes.named x)
@@ -317,12 +348,12 @@ all = record {
 }
 
 abbrev statements : List StatementTree
-statements = statements_for scale_six (map (λ x. (x, counted)) (codes "A" ∷ codes "B" ∷ codes "C" ∷ [])) (missing ∷ all ∷ [])
+statements = statements_for scale_six ((codes "B", codes "people" ∷ []) ∷ []) (map (λ x. (x, counted)) (codes "A" ∷ codes "B" ∷ codes "C" ∷ [])) (missing ∷ all ∷ [])
 
 abbrev wanted : List (List ℕ)
 wanted =
     codes " INPUT \"A\" ( \"area\" TEXT , \"people\" INTEGER ) KEY ( \"area\" ) ;"
-    ∷ codes " INPUT \"B\" ( \"area\" TEXT , \"people\" INTEGER ) KEY ( \"area\" ) ;"
+    ∷ codes " INPUT \"B\" ( \"area\" TEXT , \"people\" INTEGER NOT NULL ) KEY ( \"area\" ) ;"
     ∷ codes " INPUT \"C\" ( \"area\" TEXT , \"people\" INTEGER ) KEY ( \"area\" ) ;"
     ∷ codes " CREATE TABLE \"M\" AS SELECT \"a\" . \"area\" AS \"area\" , \"a\" . \"people\" AS \"people\" FROM \"A\" AS \"a\" WHERE \"a\" . \"people\" IS NULL ;"
     ∷ codes " CREATE TABLE \"R$1\" AS SELECT \"a\" . \"area\" AS \"area\" , \"a\" . \"people\" AS \"people\" FROM \"M\" AS \"a\" UNION ALL SELECT \"a\" . \"area\" AS \"area\" , \"a\" . \"people\" AS \"people\" FROM \"B\" AS \"a\" WHERE NOT EXISTS ( SELECT 1 FROM \"M\" AS \"b\" WHERE \"b\" . \"area\" = \"a\" . \"area\" ) ;"

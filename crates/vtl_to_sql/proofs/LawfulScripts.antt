@@ -18,6 +18,7 @@ use Rattle.vtl_lists.proofs.Aparts.{apart_more}
 use Rattle.vtl_cell.specs.Literals.{lies_between}
 use Rattle.vtl_tree.specs.Structure.{IsStructure, columns_of, names_of, same_name}
 use Rattle.vtl_tree.specs.Structures as structures
+use Rattle.vtl_tree.specs.NotNull.{NotNull, not_null_of}
 use Rattle.vtl_tree.specs.Structures.{Named}
 use Rattle.vtl_tree.specs.declared.structure.Component.{Component}
 use Rattle.vtl_tree.specs.declared.structure.Structure.{Structure}
@@ -102,9 +103,9 @@ column_kind k.Text h = refl
 column_kind k.Day h = refl
 column_kind k.Period h = refl
 
-columns_printed : (xs : List Component) → HaveNames xs → AllByRecursion (λ x. structures.is_null_kind x.kind ≡ false) xs → Each IsInputColumn (map input_column xs)
-columns_printed [] n h = tt
-columns_printed (x ∷ xs) n h = ((n.0, column_kind x.kind h.0), columns_printed xs n.1 h.1)
+columns_printed : (l : List Text) (xs : List Component) → HaveNames xs → AllByRecursion (λ x. structures.is_null_kind x.kind ≡ false) xs → Each IsInputColumn (map (input_column l) xs)
+columns_printed l [] n h = tt
+columns_printed l (x ∷ xs) n h = ((n.0, column_kind x.kind h.0), columns_printed l xs n.1 h.1)
 
 names_printed : (xs : List Component) → HaveNames xs → Each IsName (names_of xs)
 names_printed [] n = tt
@@ -113,14 +114,14 @@ names_printed (x ∷ xs) n = (n.0, names_printed xs n.1)
 identifiers_printed : (s : Structure) → HaveNames (columns_of s) → Each IsName (names_of (identifiers_of s))
 identifiers_printed s n = names_printed (identifiers_of s) (all_front (λ x. IsName x.name) (identifiers_of s) (others_of s) (subst HaveNames (columns_split s) n))
 
-inputs_printed : (reads : Named) → AllByRecursion IsReadable reads → Each (IsStatement printable_depth) (map input_for reads)
-inputs_printed [] h = tt
-inputs_printed (e ∷ es) h =
+inputs_printed : (ls : NotNull) (reads : Named) → AllByRecursion IsReadable reads → Each (IsStatement printable_depth) (map (input_for ls) reads)
+inputs_printed ls [] h = tt
+inputs_printed ls (e ∷ es) h =
     let size = columns_count e.1 in
-    let many = length-map (columns_of e.1) input_column in
+    let many = length-map (columns_of e.1) (input_column (not_null_of e.0 ls)) in
     let some = h.0.shaped.well_formed.some in (
-      (word_is_name e.0 h.0.word, omega (arith, size, many, some), columns_printed (columns_of e.1) h.0.named (each_column (λ x. structures.is_null_kind x.kind ≡ false) e.1 h.0.shaped.kinds), identifiers_printed e.1 h.0.named),
-      inputs_printed es h.1,
+      (word_is_name e.0 h.0.word, omega (arith, size, many, some), columns_printed (not_null_of e.0 ls) (columns_of e.1) h.0.named (each_column (λ x. structures.is_null_kind x.kind ≡ false) e.1 h.0.shaped.kinds), identifiers_printed e.1 h.0.named),
+      inputs_printed ls es h.1,
     )
 
 creates_printed : (p : Settings) (given : Tables) (ts : List Table) → AreLawful p given ts → Each (IsStatement printable_depth) (map create_for ts)
@@ -146,9 +147,9 @@ scale_between n h = grind (arith, nat_tests, h)
 
 -- ---- the script
 
-module _ (p : Settings) (reads : Named) (ss : List Statement) (script : IsScript p reads ss) where
+module _ (p : Settings) (ls : NotNull) (reads : Named) (ss : List Statement) (script : IsScript p reads ss) where
   abbrev before : Data
-  before = tables_read [] reads
+  before = tables_read [] ls reads
 
   readable : AllByRecursion IsReadable reads
   readable = all_readable reads script.readable
@@ -160,7 +161,7 @@ module _ (p : Settings) (reads : Named) (ss : List Statement) (script : IsScript
   stores : Stores p before (script_tables p ss) outputs.0
   stores =
       subst (ScriptGives p before (script_tables p ss)) outputs.1
-      (tables_give p reads ss script (empty_sets reads) (empty_known reads) (empty_are_sets reads (all_more IsReadable (λ e. IsStructure e.1) (λ e h. h.shaped.well_formed) reads readable)) (empty_ranged p reads) [] (empty_read reads))
+      (tables_give p ls reads ss script (empty_sets reads) (empty_known reads) (empty_are_sets reads (all_more IsReadable (λ e. IsStructure e.1) (λ e h. h.shaped.well_formed) reads readable)) (empty_ranged p reads) [] (empty_read reads))
 
   abbrev now : Tables
   now = tables_in (before ++ stores.more)
@@ -185,11 +186,11 @@ module _ (p : Settings) (reads : Named) (ss : List Statement) (script : IsScript
   written [] r t = tt
   written (w ∷ ws) r t = (record { word = r.0.word; well_formed = r.0.well_formed; there = t.0 }, written ws r.1 t.1)
 
-  typed : AreTyped p nothing (statements_for p reads ss)
+  typed : AreTyped p nothing (statements_for p ls reads ss)
   typed =
-      (typed_behind p (giving [] []) (map input_for reads) (map create_for (script_tables p ss) ++ map export_for (written_of ss))).from (
-        inputs_fit p [] reads readable script.readable.structures.distinct (each (λ e. is_taken [] e.0 ≡ false) (λ e. refl) reads),
-        subst (λ g. AreTyped p g (map create_for (script_tables p ss) ++ map export_for (written_of ss))) (sym (inputs_give [] [] reads))
+      (typed_behind p (giving [] []) (map (input_for ls) reads) (map create_for (script_tables p ss) ++ map export_for (written_of ss))).from (
+        inputs_fit p ls [] reads readable script.readable.structures.distinct (each (λ e. is_taken [] e.0 ≡ false) (λ e. refl) reads),
+        subst (λ g. AreTyped p g (map create_for (script_tables p ss) ++ map export_for (written_of ss))) (sym (inputs_give [] ls [] reads))
             ((typed_behind p (giving (tables_in before) []) (map create_for (script_tables p ss)) (map export_for (written_of ss))).from (
               creates_fit p (tables_in before) [] (script_tables p ss) stores.lawful,
               subst (λ g. AreTyped p g (map export_for (written_of ss))) (sym (creates_give (tables_in before) [] (script_tables p ss) ∙ ap (λ t. giving t []) given))
@@ -197,14 +198,14 @@ module _ (p : Settings) (reads : Named) (ss : List Statement) (script : IsScript
             )),
       )
 
-  pub script_is_typed : IsTypedScript (script_for p reads ss)
+  pub script_is_typed : IsTypedScript (script_for p ls reads ss)
   script_is_typed =
-      (script_typed (decimal p.scale) p.rounding (statements_for p reads ss)).from
-      (ap (lies_between (pos 0) (pos 9)) (scale_read p.scale script.low) ∙ scale_between p.scale script.low, subst (λ q. AreTyped q nothing (statements_for p reads ss)) (sym (set_is p script.low)) typed)
+      (script_typed (decimal p.scale) p.rounding (statements_for p ls reads ss)).from
+      (ap (lies_between (pos 0) (pos 9)) (scale_read p.scale script.low) ∙ scale_between p.scale script.low, subst (λ q. AreTyped q nothing (statements_for p ls reads ss)) (sym (set_is p script.low)) typed)
 
-  pub script_is_printable : PrintableScript (script_for p reads ss)
+  pub script_is_printable : PrintableScript (script_for p ls reads ss)
   script_is_printable = (
     digits_printed p.scale script.low,
-    each_both (IsStatement printable_depth) (map input_for reads) (map create_for (script_tables p ss) ++ map export_for (written_of ss)) (inputs_printed reads readable)
+    each_both (IsStatement printable_depth) (map (input_for ls) reads) (map create_for (script_tables p ss) ++ map export_for (written_of ss)) (inputs_printed ls reads readable)
         (each_both (IsStatement printable_depth) (map create_for (script_tables p ss)) (map export_for (written_of ss)) (creates_printed p (tables_in before) (script_tables p ss) stores.lawful) (exports_printed (written_of ss) results)),
   )

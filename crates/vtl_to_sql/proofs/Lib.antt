@@ -5,6 +5,7 @@ pub mod Statements
 pub mod WholeScript
 pub mod ReadTables
 pub mod InputData
+pub mod TimedNodes
 pub mod TranslatedScripts
 pub mod EmptyJoins
 pub mod EmptyData

@@ -82,7 +82,9 @@ use Rattle.vtl_rulings.specs.Ordered.{places_or_none}
 use Rattle.hierarchies_to_sql.specs.CheckTables.{check_hierarchy_made}
 use Rattle.hierarchies_to_sql.specs.Writable.{CanBeSided}
 use Rattle.hierarchies_to_sql.proofs.CheckTables.{check_hierarchy_gives}
+use Rattle.times_to_sql.proofs.TimeTables.{time_gives}
 use Rattle.vtl_to_sql.proofs.Hierarchies.{checked_first, computed_first, hierarchy_gives, order_given}
+use Rattle.vtl_to_sql.proofs.TimedNodes.{time_first}
 
 -- ---- a naming that renames nothing
 
@@ -352,6 +354,10 @@ module _ (p : Settings) (law : Translates p) (r : Text) (word : is_word r ≡ tr
         means_by p now (analytic_query p spec (structure_of a) s x) s (analytic_of p spec (with_points (structure_of a) st.rows) s) (analytic_of p spec (with_points (structure_of a) d) s)
         (analytics_respect p spec (with_points (structure_of a) st.rows) (with_points (structure_of a) d) s refl st.same)
         (analytic_means p law now x (structure_of a) s st.rows st.table st.named (names_in p a c.0) (set_of a now x d c.0 i.0 is st) spec i.1 i.2 c.1 (columns_given s w n)))
+    form_gives s (nodes.time a o) m before stands apart w i n c few =
+        let os = sources_of p r a m in
+        time_gives p law r word before m os o (structure_of a) s (node_value p env a) (names_in p a c) (columns_given s w n) (given_sets a c i.0) i.1 apart few
+        (operand_gives a m before stands apart i.0 c (omega (arith, few, time_first p r o (structure_of a) s os)))
     form_gives s (nodes.join os spec) m before stands apart w i n c few =
         let ss = joins.structures_of (operands_in os) in
         let sources = operands_of p r os m in

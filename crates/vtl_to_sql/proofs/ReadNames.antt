@@ -116,13 +116,13 @@ one_more : (xs : Named) (i : ℕ) (x : List ℕ × Structure) → slice_get xs i
 one_more xs i x e = take_more xs i x (slice_get_within xs i x e) ∙ ap (λ (y : List ℕ × Structure). take i xs ++ y ∷ []) (get_or_from_slice_get xs i x x e)
 
 pub read_more : (t : TypedScript) (items : List (List ℕ)) (i : ℕ) (name : List ℕ) (done before now : List StatementTree) → items ≡ keys_of (inputs_of t) → i < length items → name ≡ get_or items i name
-    → before ≡ done ++ map input_for (take i (inputs_of t)) → ((s : Structure) → lookup (same_name name) (known_of t) ≡ Some s → now ≡ before ++ input_for (name, s) ∷ [])
-    → now ≡ done ++ map input_for (take (i + 1) (inputs_of t))
+    → before ≡ done ++ map (input_for t.not_null) (take i (inputs_of t)) → ((s : Structure) → lookup (same_name name) (known_of t) ≡ Some s → now ≡ before ++ input_for t.not_null (name, s) ∷ [])
+    → now ≡ done ++ map (input_for t.not_null) (take (i + 1) (inputs_of t))
 read_more t items i name done before now e h is so made =
     let it = at_turn t items i name e h is in
     let s = it.structure in
     made s (found_at t i name it)
-    ∙ ap (λ l. l ++ input_for (name, s) ∷ []) so
-    ∙ append_assoc done (map input_for (take i (inputs_of t))) (input_for (name, s) ∷ [])
-    ∙ ap (λ l. done ++ l) (sym (map-append input_for (take i (inputs_of t)) ((name, s) ∷ [])))
-    ∙ ap (λ l. done ++ map input_for l) (sym (one_more (inputs_of t) i (name, s) it.entry))
+    ∙ ap (λ l. l ++ input_for t.not_null (name, s) ∷ []) so
+    ∙ append_assoc done (map (input_for t.not_null) (take i (inputs_of t))) (input_for t.not_null (name, s) ∷ [])
+    ∙ ap (λ l. done ++ l) (sym (map-append (input_for t.not_null) (take i (inputs_of t)) ((name, s) ∷ [])))
+    ∙ ap (λ l. done ++ map (input_for t.not_null) l) (sym (one_more (inputs_of t) i (name, s) it.entry))

@@ -56,11 +56,11 @@ ruled_is p r s f a n (inr (ruled, m, i, o, e)) = ruled_at p r s a n (form_tree f
 -- ---- behind the tables of an operand
 
 -- a query over the operand alone
-alone_rest : (Q : List Text → QueryTree) (os : Sources) (x : Text) (m : ℕ) (old done : List StatementTree) → x ∷ [] ≡ os.names → m ≡ os.next → done ≡ old ++ map create_for os.tables → GivesRest (over os Q) old done (over (by_name x m) Q)
+pub alone_rest : (Q : List Text → QueryTree) (os : Sources) (x : Text) (m : ℕ) (old done : List StatementTree) → x ∷ [] ≡ os.names → m ≡ os.next → done ≡ old ++ map create_for os.tables → GivesRest (over os Q) old done (over (by_name x m) Q)
 alone_rest Q os x m old done names next made = record { query = ap Q names; next = next; tables = append-nil done ∙ made }
 
 -- and over tables that are made of it
-over_rest : (F : List Text → ℕ → Sources) (Q : List Text → QueryTree) (os : Sources) (x : Text) (m : ℕ) (old done : List StatementTree) → x ∷ [] ≡ os.names → m ≡ os.next → done ≡ old ++ map create_for os.tables
+pub over_rest : (F : List Text → ℕ → Sources) (Q : List Text → QueryTree) (os : Sources) (x : Text) (m : ℕ) (old done : List StatementTree) → x ∷ [] ≡ os.names → m ≡ os.next → done ≡ old ++ map create_for os.tables
     → GivesRest (over (and_then os (F os.names)) Q) old done (over (and_then (by_name x m) (F (x ∷ []))) Q)
 over_rest F Q os x m old done names next made =
     let behind : Sources = F os.names os.next in

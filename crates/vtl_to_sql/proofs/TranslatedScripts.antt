@@ -6,6 +6,7 @@ use Rattle.vtl_text.specs.Texts.{same_text}
 use Rattle.vtl_text.specs.Words.{is_word}
 use Rattle.vtl_tree.specs.Environment.{Environment, known_in}
 use Rattle.vtl_tree.specs.Structure.{IsStructure, same_name}
+use Rattle.vtl_tree.specs.NotNull.{NotNull}
 use Rattle.vtl_tree.specs.Structures.{Named, has_name}
 use Rattle.vtl_scripts.specs.Made.{AreMadeStatements}
 use Rattle.vtl_scripts.specs.Meaning.{AreDataSets, Statement, meaning}
@@ -49,11 +50,11 @@ all_apart_from p known s ss h =
     all_more (λ t. has_name t.result ((s.result, structure_of s.node) ∷ known) ≡ false) (λ t. same_text t.result s.result ≡ false)
     (λ t e. none_first (same_name t.result s.result) (has_name t.result known) e) ss (all_new p ((s.result, structure_of s.node) ∷ known) ss h)
 
-apart_from_reads : (inputs : Inputs) (r : Text) (reads : Named) → AllByRecursion (λ e. is_word e.0 ≡ true) reads → has_name r reads ≡ false → IsApartFrom r (tables_read inputs reads)
-apart_from_reads inputs r [] words h = tt
-apart_from_reads inputs r (e ∷ es) words h = (
+apart_from_reads : (inputs : Inputs) (ls : NotNull) (r : Text) (reads : Named) → AllByRecursion (λ e. is_word e.0 ≡ true) reads → has_name r reads ≡ false → IsApartFrom r (tables_read inputs ls reads)
+apart_from_reads inputs ls r [] words h = tt
+apart_from_reads inputs ls r (e ∷ es) words h = (
   ap (same_text r) (plain_name e.0 words.0) ∙ none_first (same_name r e.0) (has_name r es) h,
-  apart_from_reads inputs r es words.1 (none_second (same_name r e.0) (has_name r es) h),
+  apart_from_reads inputs ls r es words.1 (none_second (same_name r e.0) (has_name r es) h),
 )
 
 all_named : (p : Settings) (before : Data) (known : Named) (ss : List Statement) → AreTranslated p known ss → AllByRecursion (λ t. IsApartFrom t.result before) ss → AreNamed p before ss
@@ -72,14 +73,14 @@ all_translated p known (s ∷ ss) h = (h.0.translated, all_translated p ((s.resu
 
 -- ---- scripts
 
-module _ (p : Settings) (reads : Named) (ss : List Statement) (script : IsScript p reads ss) where
+module _ (p : Settings) (ls : NotNull) (reads : Named) (ss : List Statement) (script : IsScript p reads ss) where
   abbrev low : p.scale ≤ 9
   low = script.low
 
-  named : (inputs : Inputs) → AreNamed p (tables_read inputs reads) ss
+  named : (inputs : Inputs) → AreNamed p (tables_read inputs ls reads) ss
   named inputs =
-      all_named p (tables_read inputs reads) reads ss script.translated
-      (all_more (λ t. has_name t.result reads ≡ false) (λ t. IsApartFrom t.result (tables_read inputs reads)) (λ t h. apart_from_reads inputs t.result reads script.readable.words h) ss (all_new p reads ss script.translated))
+      all_named p (tables_read inputs ls reads) reads ss script.translated
+      (all_more (λ t. has_name t.result reads ≡ false) (λ t. IsApartFrom t.result (tables_read inputs ls reads)) (λ t h. apart_from_reads inputs ls t.result reads script.readable.words h) ss (all_new p reads ss script.translated))
 
   module _ (env : Environment) (same : known_in env ≡ reads) (sets : AreDataSets env) (ranged : AllAreOfProfile p env) (inputs : Inputs) (rows : AreRead inputs env) where
     structures : (es : Environment) → AreDataSets es → AllByRecursion (λ e. is_word e.0 ≡ true) (known_in es) → AllByRecursion (λ d. IsStructure d.1.structure × (is_word d.0 ≡ true)) es
@@ -92,12 +93,12 @@ module _ (p : Settings) (reads : Named) (ss : List Statement) (script : IsScript
     made : AreMadeStatements p (known_in env) ss
     made = subst (λ known. AreMadeStatements p known ss) (sym same) (all_made p reads ss script.translated)
 
-    pub tables_give : ScriptGives p (tables_read inputs reads) (script_tables p ss) (meaning p ss env)
+    pub tables_give : ScriptGives p (tables_read inputs ls reads) (script_tables p ss) (meaning p ss env)
     tables_give =
-        script_gives p (translates p low) ss env (tables_read inputs reads) sets ranged
-        (subst (λ known. Stands (tables_read inputs known) env) same (reads_stand inputs env (structures env sets words) rows)) (named inputs) made (all_translated p reads ss script.translated)
+        script_gives p (translates p low) ss env (tables_read inputs ls reads) sets ranged
+        (subst (λ known. Stands (tables_read inputs ls known) env) same (reads_stand ls inputs env (structures env sets words) rows)) (named inputs) made (all_translated p reads ss script.translated)
 
-    pub script_means : script_value (script_for p reads ss) inputs ≡ exported_as (meaning p ss env)
+    pub script_means : script_value (script_for p ls reads ss) inputs ≡ exported_as (meaning p ss env)
     script_means =
-        script_is p low (translates p low) reads ss env inputs sets ranged
-        (subst (λ known. Stands (tables_read inputs known) env) same (reads_stand inputs env (structures env sets words) rows)) (named inputs) made (all_translated p reads ss script.translated)
+        script_is p low (translates p low) ls reads ss env inputs sets ranged
+        (subst (λ known. Stands (tables_read inputs ls known) env) same (reads_stand ls inputs env (structures env sets words) rows)) (named inputs) made (all_translated p reads ss script.translated)

@@ -15,6 +15,8 @@ use Rattle.vtl_cell.specs.declared.kind.Kind.TheVariants as k
 use Rattle.vtl_lists.proofs.Aparts.{apart_parts}
 use Rattle.vtl_tree.specs.Structure.{IsStructure, columns_of, most_components, names_of, same_name, same_role}
 use Rattle.vtl_tree.specs.Structures as structures
+use Rattle.vtl_tree.specs.Names.{is_among as is_named}
+use Rattle.vtl_tree.specs.NotNull.{NotNull, not_null_of}
 use Rattle.vtl_tree.specs.Structures.{AreStructures, Named, is_declarable, is_declarable_component, is_declarable_entry, is_string_identifier}
 use Rattle.vtl_tree.specs.declared.structure.Component.{Component}
 use Rattle.vtl_tree.specs.declared.structure.Role.TheVariants as role
@@ -132,10 +134,10 @@ or_true : (a b : Bool) → b ≡ true → (a || b) ≡ true
 or_true true b h = refl
 or_true false b h = h
 
-one_coded : (key : List Text) (x : Component) → structures.codes_fit x ≡ true → (same_role x.role role.Identifier ≡ true → is_of_key key (input_column x) ≡ true) → HasCodes key (input_column x)
-one_coded key x h f = go x.codes h
+one_coded : (l : List Text) (key : List Text) (x : Component) → structures.codes_fit x ≡ true → (same_role x.role role.Identifier ≡ true → is_of_key key (input_column l x) ≡ true) → HasCodes key (input_column l x)
+one_coded l key x h f = go x.codes h
   where
-    go : (o : Option (List Text)) → option_map_or (λ texts. is_string_identifier x.role x.kind && structures.are_codes texts) o true ≡ true → codes_fit key (record { name = x.name; kind = x.kind; not_null = false; codes = unwrap_or o [] }) ≡ true
+    go : (o : Option (List Text)) → option_map_or (λ texts. is_string_identifier x.role x.kind && structures.are_codes texts) o true ≡ true → codes_fit key (record { name = x.name; kind = x.kind; not_null = is_named x.name l; codes = unwrap_or o [] }) ≡ true
     go None e = refl
     go (Some texts) e =
         let both = and_parts (is_string_identifier x.role x.kind) (structures.are_codes texts) e in
@@ -149,42 +151,42 @@ one_coded key x h f = go x.codes h
         (and_from (is_text x.kind && is_among x.name key) (not (list_any is_empty texts)) (and_from (is_text x.kind) (is_among x.name key) kind there) filled)
         (ap (λ b. not (not b)) last.1))
 
-pub all_coded : (s : Structure) → AllByRecursion (λ x. structures.codes_fit x ≡ true) (columns_of s) → AllByRecursion (HasCodes (names_of (identifiers_of s))) (map input_column (columns_of s))
-all_coded s all =
+pub all_coded : (l : List Text) (s : Structure) → AllByRecursion (λ x. structures.codes_fit x ≡ true) (columns_of s) → AllByRecursion (HasCodes (names_of (identifiers_of s))) (map (input_column l) (columns_of s))
+all_coded l s all =
     let ids = identifiers_of s in
     let rest = others_of s in
     let key = names_of ids in
     let split = subst (AllByRecursion (λ x. structures.codes_fit x ≡ true)) (columns_split s) all in
-    subst (λ l. AllByRecursion (HasCodes key) (map input_column l)) (sym (columns_split s))
-    (both ids rest (first ids (all_front (λ x. structures.codes_fit x ≡ true) ids rest split) (all_among [] ids)) (second rest (all_back (λ x. structures.codes_fit x ≡ true) ids rest split) (are_others s)))
+    subst (λ l. AllByRecursion (HasCodes key) (map (input_column l) l)) (sym (columns_split s))
+    (both ids rest (first ids (all_front (λ x. structures.codes_fit x ≡ true) ids rest split) (all_among l [] ids)) (second rest (all_back (λ x. structures.codes_fit x ≡ true) ids rest split) (are_others s)))
   where
-    first : (xs : List Component) → AllByRecursion (λ x. structures.codes_fit x ≡ true) xs → AllByRecursion (λ c. is_of_key (names_of (identifiers_of s)) c ≡ true) (map input_column xs) → AllByRecursion (HasCodes (names_of (identifiers_of s))) (map input_column xs)
+    first : (xs : List Component) → AllByRecursion (λ x. structures.codes_fit x ≡ true) xs → AllByRecursion (λ c. is_of_key (names_of (identifiers_of s)) c ≡ true) (map (input_column l) xs) → AllByRecursion (HasCodes (names_of (identifiers_of s))) (map (input_column l) xs)
     first [] f g = tt
-    first (x ∷ xs) f g = (one_coded (names_of (identifiers_of s)) x f.0 (λ e. g.0), first xs f.1 g.1)
+    first (x ∷ xs) f g = (one_coded l (names_of (identifiers_of s)) x f.0 (λ e. g.0), first xs f.1 g.1)
 
-    second : (xs : List Component) → AllByRecursion (λ x. structures.codes_fit x ≡ true) xs → AllByRecursion IsOther xs → AllByRecursion (HasCodes (names_of (identifiers_of s))) (map input_column xs)
+    second : (xs : List Component) → AllByRecursion (λ x. structures.codes_fit x ≡ true) xs → AllByRecursion IsOther xs → AllByRecursion (HasCodes (names_of (identifiers_of s))) (map (input_column l) xs)
     second [] f g = tt
-    second (x ∷ xs) f g = (one_coded (names_of (identifiers_of s)) x f.0 (λ e. absurd (true≢false (sym e ∙ g.0))), second xs f.1 g.1)
+    second (x ∷ xs) f g = (one_coded l (names_of (identifiers_of s)) x f.0 (λ e. absurd (true≢false (sym e ∙ g.0))), second xs f.1 g.1)
 
-    both : (xs ys : List Component) → AllByRecursion (HasCodes (names_of (identifiers_of s))) (map input_column xs) → AllByRecursion (HasCodes (names_of (identifiers_of s))) (map input_column ys) → AllByRecursion (HasCodes (names_of (identifiers_of s))) (map input_column (xs ++ ys))
+    both : (xs ys : List Component) → AllByRecursion (HasCodes (names_of (identifiers_of s))) (map (input_column l) xs) → AllByRecursion (HasCodes (names_of (identifiers_of s))) (map (input_column l) ys) → AllByRecursion (HasCodes (names_of (identifiers_of s))) (map (input_column l) (xs ++ ys))
     both [] ys f g = g
     both (x ∷ xs) ys f g = (f.0, both xs ys f.1 g)
 
 -- ---- INPUT
 
-input_fits : (given : Tables) (e : List ℕ × Structure) → IsReadable e → is_taken given e.0 ≡ false → IsInputTyped given (input_of e)
-input_fits given e h free =
+input_fits : (ls : NotNull) (given : Tables) (e : List ℕ × Structure) → IsReadable e → is_taken given e.0 ≡ false → IsInputTyped given (input_of ls e)
+input_fits ls given e h free =
     let w = h.shaped.well_formed in
-    let columns = columns_read e w in
+    let columns = columns_read ls e w in
     let size = columns_count e.1 in
-    let many = length-map (columns_of e.1) input_column in
+    let many = length-map (columns_of e.1) (input_column (not_null_of e.0 ls)) in
     let few = w.few in
     record {
       free = free;
       word = h.word;
       names = ap (λ cs. repeats (keys_of cs)) columns ∙ ap repeats (keys_of_entries (columns_of e.1)) ∙ ap not (columns_apart e.1 w);
       key = subst (λ cs. AreNames cs (names_of (identifiers_of e.1))) (sym columns) (identifiers_are_names e.1 w);
-      codes = all_coded e.1 h.coded;
+      codes = all_coded (not_null_of e.0 ls) e.1 h.coded;
       few = omega (arith, size, many, few);
     }
 
@@ -197,21 +199,21 @@ still_free (t ∷ ts) n name columns h i = go (same_text n t.0) h (still_free ts
     go false e ih = ih e i
     go true e ih = cc
 
-pub inputs_fit : (p : Settings) (given : Tables) (reads : Named) → AllByRecursion IsReadable reads → all_apart same_name (keys_of reads) ≡ true → AllByRecursion (λ e. is_taken given e.0 ≡ false) reads → AreTyped p (giving given []) (map input_for reads)
-inputs_fit p given [] h apart free = tt
-inputs_fit p given (e ∷ es) h apart free =
+pub inputs_fit : (p : Settings) (ls : NotNull) (given : Tables) (reads : Named) → AllByRecursion IsReadable reads → all_apart same_name (keys_of reads) ≡ true → AllByRecursion (λ e. is_taken given e.0 ≡ false) reads → AreTyped p (giving given []) (map (input_for ls) reads)
+inputs_fit p ls given [] h apart free = tt
+inputs_fit p ls given (e ∷ es) h apart free =
     let parts = apart_parts same_name e.0 (keys_of es) apart in
-    (input_fits given e h.0 free.0, inputs_fit p (given ++ (e.0, input_columns (input_of e)) ∷ []) es h.1 parts.1 (go es parts.0 free.1))
+    (input_fits ls given e h.0 free.0, inputs_fit p ls (given ++ (e.0, input_columns (input_of ls e)) ∷ []) es h.1 parts.1 (go es parts.0 free.1))
   where
-    go : (us : Named) → AllByRecursion (λ n. same_name e.0 n ≡ false) (keys_of us) → AllByRecursion (λ u. is_taken given u.0 ≡ false) us → AllByRecursion (λ u. is_taken (given ++ (e.0, input_columns (input_of e)) ∷ []) u.0 ≡ false) us
+    go : (us : Named) → AllByRecursion (λ n. same_name e.0 n ≡ false) (keys_of us) → AllByRecursion (λ u. is_taken given u.0 ≡ false) us → AllByRecursion (λ u. is_taken (given ++ (e.0, input_columns (input_of ls e)) ∷ []) u.0 ≡ false) us
     go [] a f = tt
-    go (u ∷ us) a f = (still_free given u.0 e.0 (input_columns (input_of e)) f.0 (same_name-sym u.0 e.0 ∙ a.0), go us a.1 f.1)
+    go (u ∷ us) a f = (still_free given u.0 e.0 (input_columns (input_of ls e)) f.0 (same_name-sym u.0 e.0 ∙ a.0), go us a.1 f.1)
 
-pub inputs_give : (inputs : Inputs) (given : Tables) (reads : Named) → fold after (giving given []) (map input_for reads) ≡ giving (given ++ tables_in (tables_read inputs reads)) []
-inputs_give inputs given [] = ap (λ g. giving g []) (sym (append-nil given))
-inputs_give inputs given (e ∷ es) =
-    inputs_give inputs (given ++ (e.0, input_columns (input_of e)) ∷ []) es
-    ∙ ap (λ g. giving g []) (append_assoc given ((e.0, input_columns (input_of e)) ∷ []) (tables_in (tables_read inputs es)))
+pub inputs_give : (inputs : Inputs) (ls : NotNull) (given : Tables) (reads : Named) → fold after (giving given []) (map (input_for ls) reads) ≡ giving (given ++ tables_in (tables_read inputs ls reads)) []
+inputs_give inputs ls given [] = ap (λ g. giving g []) (sym (append-nil given))
+inputs_give inputs ls given (e ∷ es) =
+    inputs_give inputs ls (given ++ (e.0, input_columns (input_of ls e)) ∷ []) es
+    ∙ ap (λ g. giving g []) (append_assoc given ((e.0, input_columns (input_of ls e)) ∷ []) (tables_in (tables_read inputs ls es)))
 
 -- ---- CREATE
 

@@ -17,6 +17,7 @@ use Rattle.vtl_cell.proofs.Keys.{window_order}
 use Rattle.vtl_lists.proofs.Sorts.{sorted_by-Perm}
 use Rattle.vtl_tree.specs.Environment.{Environment, known_in}
 use Rattle.vtl_tree.specs.Structure.{columns_of, names_of}
+use Rattle.vtl_tree.specs.NotNull.{NotNull}
 use Rattle.vtl_tree.specs.Structures.{Named}
 use Rattle.vtl_tree.specs.declared.structure.Structure.{Structure}
 use Rattle.vtl_tree.specs.Columns.{identifiers_of}
@@ -61,11 +62,11 @@ set_is p h = ap (λ o. record { scale = scale_of o; rounding = p.rounding }) (sc
 abbrev pub made : Data → List Export → sql.Made
 made tables exports = record { tables = tables; exports = exports }
 
-inputs_are : (p : Settings) (inputs : Inputs) (before : Data) (reads : Named) (rest : List StatementTree) → statements_made p inputs (made before []) (map input_for reads ++ rest) ≡ statements_made p inputs (made (before ++ tables_read inputs reads) []) rest
-inputs_are p inputs before [] rest = ap (λ d. statements_made p inputs (made d []) rest) (sym (append-nil before))
-inputs_are p inputs before (e ∷ es) rest =
-    let one : Data = (e.0, input_table inputs (input_of e)) ∷ [] in
-    inputs_are p inputs (before ++ one) es rest ∙ ap (λ d. statements_made p inputs (made d []) rest) (append_assoc before one (tables_read inputs es))
+inputs_are : (p : Settings) (inputs : Inputs) (ls : NotNull) (before : Data) (reads : Named) (rest : List StatementTree) → statements_made p inputs (made before []) (map (input_for ls) reads ++ rest) ≡ statements_made p inputs (made (before ++ tables_read inputs ls reads) []) rest
+inputs_are p inputs ls before [] rest = ap (λ d. statements_made p inputs (made d []) rest) (sym (append-nil before))
+inputs_are p inputs ls before (e ∷ es) rest =
+    let one : Data = (e.0, input_table inputs (input_of ls e)) ∷ [] in
+    inputs_are p inputs ls (before ++ one) es rest ∙ ap (λ d. statements_made p inputs (made d []) rest) (append_assoc before one (tables_read inputs ls es))
 
 creates_run : (p : Settings) (inputs : Inputs) (before now : Data) (ts : List Table) (rest : List StatementTree) → run p before ts ≡ Ok now → statements_made p inputs (made before []) (map create_for ts ++ rest) ≡ statements_made p inputs (made now []) rest
 creates_run p inputs before now [] rest e = let same : before ≡ now = cc in ap (λ d. statements_made p inputs (made d []) rest) same
@@ -124,17 +125,17 @@ exports_are p inputs now before (o ∷ os) h =
 
 -- ---- the script
 
-pub script_is : (p : Settings) → p.scale ≤ 9 → Translates p → (reads : Named) (ss : List Statement) (env : Environment) (inputs : Inputs) → AreDataSets env → AllAreOfProfile p env → Stands (tables_read inputs reads) env → AreNamed p (tables_read inputs reads) ss → AreMadeStatements p (known_in env) ss → AllByRecursion (λ s. IsTranslated p s.node) ss
-    → script_value (script_for p reads ss) inputs ≡ exported_as (meaning p ss env)
-script_is p low law reads ss env inputs sets ranged stands named typed written =
-    ap (λ q. statements_made q inputs (made [] []) (statements_for p reads ss) >>= (λ m. Ok m.exports)) (set_is p low)
-    ∙ ap (λ o. o >>= (λ m. Ok m.exports)) (inputs_are p inputs [] reads (map create_for (script_tables p ss) ++ map export_for (written_of ss)))
-    ∙ go (meaning p ss env) refl (script_gives p law ss env (tables_read inputs reads) sets ranged stands named typed written)
+pub script_is : (p : Settings) → p.scale ≤ 9 → Translates p → (ls : NotNull) (reads : Named) (ss : List Statement) (env : Environment) (inputs : Inputs) → AreDataSets env → AllAreOfProfile p env → Stands (tables_read inputs ls reads) env → AreNamed p (tables_read inputs ls reads) ss → AreMadeStatements p (known_in env) ss → AllByRecursion (λ s. IsTranslated p s.node) ss
+    → script_value (script_for p ls reads ss) inputs ≡ exported_as (meaning p ss env)
+script_is p low law ls reads ss env inputs sets ranged stands named typed written =
+    ap (λ q. statements_made q inputs (made [] []) (statements_for p ls reads ss) >>= (λ m. Ok m.exports)) (set_is p low)
+    ∙ ap (λ o. o >>= (λ m. Ok m.exports)) (inputs_are p inputs ls [] reads (map create_for (script_tables p ss) ++ map export_for (written_of ss)))
+    ∙ go (meaning p ss env) refl (script_gives p law ss env (tables_read inputs ls reads) sets ranged stands named typed written)
   where
-    go : (m : Result Outputs NamedFault) → meaning p ss env ≡ m → ScriptGives p (tables_read inputs reads) (script_tables p ss) m
-        → statements_made p inputs (made (tables_read inputs reads) []) (map create_for (script_tables p ss) ++ map export_for (written_of ss)) >>= (λ n. Ok n.exports) ≡ exported_as m
+    go : (m : Result Outputs NamedFault) → meaning p ss env ≡ m → ScriptGives p (tables_read inputs ls reads) (script_tables p ss) m
+        → statements_made p inputs (made (tables_read inputs ls reads) []) (map create_for (script_tables p ss) ++ map export_for (written_of ss)) >>= (λ n. Ok n.exports) ≡ exported_as m
     go (Ok outputs) e g =
-        ap (λ o. o >>= (λ n. Ok n.exports)) (creates_run p inputs (tables_read inputs reads) (tables_read inputs reads ++ g.more) (script_tables p ss) (map export_for (written_of ss)) g.ran)
-        ∙ ap (λ w. statements_made p inputs (made (tables_read inputs reads ++ g.more) []) (map export_for w) >>= (λ n. Ok n.exports)) (sym (written_are p ss env outputs e))
-        ∙ ap (λ o. o >>= (λ n. Ok n.exports)) (exports_are p inputs (tables_read inputs reads ++ g.more) [] outputs g.stored)
-    go (Err f) e g = ap (λ o. o >>= (λ n. Ok n.exports)) (creates_fault p inputs (tables_read inputs reads) (script_tables p ss) (map export_for (written_of ss)) f g)
+        ap (λ o. o >>= (λ n. Ok n.exports)) (creates_run p inputs (tables_read inputs ls reads) (tables_read inputs ls reads ++ g.more) (script_tables p ss) (map export_for (written_of ss)) g.ran)
+        ∙ ap (λ w. statements_made p inputs (made (tables_read inputs ls reads ++ g.more) []) (map export_for w) >>= (λ n. Ok n.exports)) (sym (written_are p ss env outputs e))
+        ∙ ap (λ o. o >>= (λ n. Ok n.exports)) (exports_are p inputs (tables_read inputs ls reads ++ g.more) [] outputs g.stored)
+    go (Err f) e g = ap (λ o. o >>= (λ n. Ok n.exports)) (creates_fault p inputs (tables_read inputs ls reads) (script_tables p ss) (map export_for (written_of ss)) f g)

@@ -74,6 +74,7 @@ abbrev mutual
   FormHoldsParts s (nodes.sub a items) = HoldsParts a × AllByRecursion (λ i. IsHeld i.value) items
   FormHoldsParts s (nodes.pivot a id m) = HoldsParts a
   FormHoldsParts s (nodes.unpivot a id m) = HoldsParts a
+  FormHoldsParts s (nodes.time a o) = HoldsParts a
   FormHoldsParts s (nodes.analytic_of a spec) = HoldsParts a × AnalyticHoldsValues spec
   FormHoldsParts s (nodes.aggregate a spec) = HoldsParts a × IfSome spec.having HoldsValues
   FormHoldsParts s (nodes.join os spec) = OperandsHoldParts os × (1 + length (operands_in os) < 2 ^ 64)

@@ -63,6 +63,7 @@ abbrev mutual
   IsFormTranslated p s (nodes.pivot a id m) = IsTranslated p a × (kind_named id (identifiers_of (structure_of a)) ≡ k.Text)
   IsFormTranslated p s (nodes.unpivot a id m) = IsTranslated p a
   IsFormTranslated p s (nodes.aggregate a spec) = IsTranslated p a × IfSome spec.having CanBeWritten
+  IsFormTranslated p s (nodes.time a o) = IsTranslated p a
   IsFormTranslated p s (nodes.analytic_of a spec) = IsTranslated p a × CallsCanBeWritten spec
   IsFormTranslated p s (nodes.check a i spec) = IsTranslated p a × IsMaybeTranslated p i × AreErrorsHeld spec.errorcode spec.errorlevel
   IsFormTranslated p s (nodes.check_datapoint a rules out) = IsTranslated p a × CanRulesBeWritten rules.rules

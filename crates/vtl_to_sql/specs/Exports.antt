@@ -3,6 +3,7 @@ use Rattle.std.specs.Prelude.{ℕ, List, map, Result, Ok, Err}
 use Rattle.std.specs.List.{AllByRecursion}
 use Rattle.vtl_lists.specs.Perm.{Perm}
 use Rattle.vtl_tree.specs.Environment.{DataSet, Environment}
+use Rattle.vtl_tree.specs.NotNull.{NotNull}
 use Rattle.vtl_tree.specs.Structures.{Named}
 use Rattle.vtl_scripts.specs.Meaning.{Outputs}
 use Rattle.sql_meaning.specs.Scripts.{Data, Export, Inputs, NamedFault, export_of, input_table, rows_read}
@@ -10,8 +11,8 @@ use Rattle.selects_to_sql.specs.Runs.{held}
 use Rattle.vtl_to_sql.specs.Scripts.{input_of, ordered}
 
 -- the tables of the inputs
-abbrev pub tables_read : Inputs → Named → Data
-tables_read inputs reads = map (λ e. (e.0, input_table inputs (input_of e))) reads
+abbrev pub tables_read : Inputs → NotNull → Named → Data
+tables_read inputs ls reads = map (λ e. (e.0, input_table inputs (input_of ls e))) reads
 
 -- the rows that are read for each data set are its points in any order
 abbrev pub AreRead : Inputs → Environment → Type 0

@@ -12,6 +12,7 @@ use Rattle.vtl_cell.specs.Row.{Row}
 use Rattle.vtl_cell.specs.declared.cell.Cell.{Cell}
 use Rattle.vtl_cell.specs.declared.cell.Cell.TheVariants as c
 use Rattle.vtl_tree.specs.DataSet.{IsDataSet}
+use Rattle.vtl_tree.specs.NotNull.{NotNull}
 use Rattle.vtl_tree.specs.Structure.{columns_of, same_name}
 use Rattle.vtl_tree.specs.declared.structure.Component.{Component}
 use Rattle.vtl_tree.specs.declared.structure.Structure.{Structure}
@@ -34,8 +35,8 @@ pub record AreAsked (s : Structure) (points : List Row) : Type 0 where
 -- ---- what is read for a script
 
 -- the rows that are read for each INPUT are such as it asks for
-abbrev pub AreTaken : Inputs → Named → Type 0
-AreTaken inputs reads = AllByRecursion (λ e. IsInputData (input_of e) (rows_read inputs e.0)) reads
+abbrev pub AreTaken : Inputs → NotNull → Named → Type 0
+AreTaken inputs ls reads = AllByRecursion (λ e. IsInputData (input_of ls e) (rows_read inputs e.0)) reads
 
 -- the data sets of these rows
 abbrev pub sets_read : Inputs → Named → Environment

@@ -20,6 +20,7 @@ use Rattle.joins_to_sql.specs.FilteredJoins.{filtered_made}
 use Rattle.joins_to_sql.specs.JoinTables.{join_made}
 use Rattle.rules_to_sql.specs.CheckQueries.{check_query, imbalance_query}
 use Rattle.rules_to_sql.specs.PointQueries.{datapoint_query}
+use Rattle.times_to_sql.specs.TimeTables.{time_made}
 use Rattle.vtl_to_sql.specs.Hierarchies.{ruled_made}
 use Rattle.selects_to_sql.specs.Tables.{Table, table_of, Made, Sources, by_name, stored, and_then, with_one, with_two, with_three, over, by_names, first_number}
 
@@ -71,6 +72,7 @@ abbrev mutual
   made_of_form p r s (nodes.exists_in a b kept) n = over (and_then (sources_of p r a n) (sources_of p r b)) (with_two (existence_query p kept (structure_of a) (structure_of b) s))
   made_of_form p r s (nodes.pivot a id m) n = over (sources_of p r a n) (with_one (pivot_query p id m (structure_of a) s))
   made_of_form p r s (nodes.analytic_of a spec) n = over (sources_of p r a n) (with_one (analytic_query p spec (structure_of a) s))
+  made_of_form p r s (nodes.time a o) n = time_made p r o (structure_of a) s (sources_of p r a n)
   made_of_form p r s (nodes.aggregate a spec) n = over (sources_of p r a n) (with_one (aggregate_query p spec (structure_of a) s))
   made_of_form p r s (nodes.unpivot a id m) n = over (sources_of p r a n) (with_one (unpivot_query p (structure_of a) s))
   made_of_form p r s (nodes.check a nodes.no_node spec) n = over (sources_of p r a n) (with_one (check_query p spec (structure_of a) s))

@@ -226,6 +226,7 @@ fn node_is_held(alloc: Global, node: &Node, p: &Profile)
             analytic_is_held(alloc, spec, p);
             node_is_held(alloc, a, p)
         }
+        NodeForm::Time { a, .. } => node_is_held(alloc, a, p),
         NodeForm::Member { a, .. } => node_is_held(alloc, a, p),
         NodeForm::Keep { a, .. } => node_is_held(alloc, a, p),
         NodeForm::DropNamed { a, .. } => node_is_held(alloc, a, p),

@@ -1,6 +1,7 @@
 // The INPUT statements of a script: one for each declared data set that it reads.
 ghost use Rattle.std.specs.Map.{lookup};
 ghost use Rattle.std.specs.Prelude.{◌≡◌, ◌++◌, ◌∷◌, [], map, unwrap_or, IfOk, OnOk, Some};
+ghost use Rattle.vtl_tree.specs.NotNull.{NotNull, not_null_of};
 ghost use Rattle.vtl_tree.specs.Shown.{shown};
 ghost use Rattle.vtl_tree.specs.Structure.{names_of, same_name};
 ghost use Rattle.vtl_tree.specs.declared.structure.Structure.{Structure as StructureOf};
@@ -15,7 +16,7 @@ use sql_tree::{InputColumn, SqlInput, Statement};
 use std::alloc::{AllocError, Global};
 use vtl_check::Checked;
 use vtl_text::{List, Shared, Txt};
-use vtl_tree::{Component, Structure};
+use vtl_tree::{Component, Structure, is_among};
 
 // The same texts, which are shared.
 fn same_texts(alloc: Global, texts: &[Txt]) -> Result<List<Txt>, AllocError>
@@ -38,23 +39,32 @@ fn codes(alloc: Global, codes: &Option<Shared<Txt>>) -> Result<List<Txt>, AllocE
     }
 }
 
-fn input_column(alloc: Global, component: &Component) -> Result<InputColumn, AllocError>
-    ensures { IfOk result (λ x. x ≡ input_column component.now) }
+// The column of a component, where these names are those of the components that are never null.
+fn input_column(
+    alloc: Global,
+    not_null: &[Txt],
+    component: &Component,
+) -> Result<InputColumn, AllocError>
+    ensures { IfOk result (λ x. x ≡ input_column not_null.now component.now) }
 {
     Ok(InputColumn {
         name: component.name.share()?,
         kind: component.kind,
-        not_null: false,
+        not_null: is_among(&component.name, not_null),
         codes: codes(alloc, &component.codes)?,
     })
 }
 
-fn input_columns(alloc: Global, components: &[&Component]) -> Result<List<InputColumn>, AllocError>
-    ensures { IfOk result (λ l. l ≡ map input_column (shown components.now)) }
+fn input_columns(
+    alloc: Global,
+    not_null: &[Txt],
+    components: &[&Component],
+) -> Result<List<InputColumn>, AllocError>
+    ensures { IfOk result (λ l. l ≡ map (input_column not_null.now) (shown components.now)) }
 {
     let mut columns = Vec::with_capacity(alloc, components.len())?;
     for component in components {
-        columns.push(input_column(alloc, component)?)?;
+        columns.push(input_column(alloc, not_null, component)?)?;
     }
     Ok(List::of(columns))
 }
@@ -70,23 +80,16 @@ pub(crate) fn names(alloc: Global, components: &[&Component]) -> Result<List<Txt
     Ok(List::of(names))
 }
 
-fn input(alloc: Global, name: &Txt, s: &Structure) -> Result<SqlInput, AllocError>
-    ensures { IfOk result (λ x. x ≡ input_of (name.now, s.now)) }
+fn input(alloc: Global, not_null: &[Txt], name: &Txt, s: &Structure) -> Result<SqlInput, AllocError>
+    ensures { IfOk result (λ x. (ls : NotNull) → not_null.now ≡ not_null_of name.now ls → x ≡ input_of ls (name.now, s.now)) }
 {
     let columns = s.columns(alloc)?;
     let identifiers = s.identifiers(alloc)?;
     Ok(SqlInput {
         name: name.share()?,
-        columns: input_columns(alloc, &columns)?,
+        columns: input_columns(alloc, not_null, &columns)?,
         key: names(alloc, &identifiers)?,
     })
-}
-
-// Adds the INPUT of a data set.
-fn push_input(alloc: Global, draft: &mut Draft, name: &Txt, s: &Structure) -> Result<(), AllocError>
-    ensures { OnOk result (map statement_tree draft.new.statements.items ≡ map statement_tree draft.old.statements.items ++ input_for (name.now, s.now) ∷ []) }
-{
-    draft.push(Statement::Input(input(alloc, name, s)?))
 }
 
 // Adds the INPUT of a data set that a script reads.
@@ -97,10 +100,13 @@ fn push_read(
     name: &Txt,
 ) -> Result<(), AllocError>
     requires { IsRead script.now name.now }
-    ensures { OnOk result ((s : StructureOf) → lookup (same_name name.now) (known_of script.now) ≡ Some s → map statement_tree draft.new.statements.items ≡ map statement_tree draft.old.statements.items ++ input_for (name.now, s) ∷ []) }
+    ensures { OnOk result ((s : StructureOf) → lookup (same_name name.now) (known_of script.now) ≡ Some s → map statement_tree draft.new.statements.items ≡ map statement_tree draft.old.statements.items ++ input_for script.now.not_null (name.now, s) ∷ []) }
 {
     match script.structure(name) {
-        Some(s) => push_input(alloc, draft, name, s),
+        Some(s) => {
+            let input = input(alloc, script.not_null(name), name, s)?;
+            draft.push(Statement::Input(input))
+        }
         None => unreachable!(),
     }
 }
@@ -111,7 +117,7 @@ pub(crate) fn push_inputs(
     draft: &mut Draft,
     script: &Checked,
 ) -> Result<(), AllocError>
-    ensures { OnOk result (map statement_tree draft.new.statements.items ≡ map statement_tree draft.old.statements.items ++ map input_for (inputs_of script.now)) }
+    ensures { OnOk result (map statement_tree draft.new.statements.items ≡ map statement_tree draft.old.statements.items ++ map (input_for script.now.not_null) (inputs_of script.now)) }
 {
     for name in script.inputs() {
         push_read(alloc, draft, script, name)?;

@@ -18,6 +18,7 @@ ghost use Rattle.std.specs.Prelude.{◌≡◌, ◌≤◌, ◌<◌, ◌+◌, ◌^
 ghost use Rattle.vtl_cell.specs.Row.{Row};
 ghost use Rattle.vtl_decimal.specs.Settings.{Settings};
 ghost use Rattle.vtl_tree.specs.Environment.{Environment, known_in};
+ghost use Rattle.vtl_tree.specs.NotNull.{NotNull};
 ghost use Rattle.vtl_tree.specs.Structure.{IsStructure, columns_of};
 ghost use Rattle.vtl_syntax.specs.Written.{AreWritten};
 ghost use Rattle.vtl_tree.specs.Structures.{AreStructures, Named, is_declarable};
@@ -44,30 +45,31 @@ ghost use Rattle.vtl_to_sql.specs.Tables.{made_of};
 /// Over the data sets that a script reads, whose integers are of the profile, their rows in any order, the script in SQL
 /// exports the outputs in order, each sorted by its identifiers; or it has the same fault with the name of the same result.
 pub fn scripts_are_translated()
-    ensures { (p : Settings) (reads : Named) (ss : List Statement) (env : Environment) (inputs : Inputs) → IsScript p reads ss → known_in env ≡ reads → AreDataSets env → AllAreOfProfile p env → AreRead inputs env → script_value (script_for p reads ss) inputs ≡ exported_as (meaning p ss env) }
+    ensures { (p : Settings) (ls : NotNull) (reads : Named) (ss : List Statement) (env : Environment) (inputs : Inputs) → IsScript p reads ss → known_in env ≡ reads → AreDataSets env → AllAreOfProfile p env → AreRead inputs env → script_value (script_for p ls reads ss) inputs ≡ exported_as (meaning p ss env) }
 {}
 
 /// So over any rows of the profile that its INPUTs take it exports the outputs over the data sets of these rows.
 pub fn scripts_are_translated_over_inputs()
-    ensures { (p : Settings) (reads : Named) (ss : List Statement) (inputs : Inputs) → IsScript p reads ss → AreTaken inputs reads → AllAreOfProfile p (sets_read inputs reads) → script_value (script_for p reads ss) inputs ≡ exported_as (meaning p ss (sets_read inputs reads)) }
+    ensures { (p : Settings) (ls : NotNull) (reads : Named) (ss : List Statement) (inputs : Inputs) → IsScript p reads ss → AreTaken inputs ls reads → AllAreOfProfile p (sets_read inputs reads) → script_value (script_for p ls reads ss) inputs ≡ exported_as (meaning p ss (sets_read inputs reads)) }
 {}
 
 /// The script in SQL breaks no rule, and can be printed so that it reads back.
 pub fn translated_scripts_are_lawful()
-    ensures typed { (p : Settings) (reads : Named) (ss : List Statement) → IsScript p reads ss → IsTypedScript (script_for p reads ss) }
-    ensures printable { (p : Settings) (reads : Named) (ss : List Statement) → IsScript p reads ss → PrintableScript (script_for p reads ss) }
+    ensures typed { (p : Settings) (ls : NotNull) (reads : Named) (ss : List Statement) → IsScript p reads ss → IsTypedScript (script_for p ls reads ss) }
+    ensures printable { (p : Settings) (ls : NotNull) (reads : Named) (ss : List Statement) → IsScript p reads ss → PrintableScript (script_for p ls reads ss) }
 {}
 
-/// The columns of an INPUT in the order of a table are those of the data set that it reads.
+/// The columns of an INPUT in the order of a table are those of the data set that it reads, whichever of them are never
+/// null.
 #[tactic(auto, using(crate::proofs::ReadTables::columns_read))]
 pub fn inputs_have_their_columns()
-    ensures { (e : List ℕ × Structure) → IsStructure e.1 → input_columns (input_of e) ≡ entries (columns_of e.1) }
+    ensures { (ls : NotNull) (e : List ℕ × Structure) → IsStructure e.1 → input_columns (input_of ls e) ≡ entries (columns_of e.1) }
 {}
 
 /// An INPUT asks of its rows what the structure asks of the points of a data set, and that codes are those listed.
 pub fn inputs_ask_for_data_sets()
-    ensures given { (e : List ℕ × Structure) (rows : List Row) → is_declarable e.1 ≡ true → IsInputData (input_of e) rows → AreAsked e.1 rows }
-    ensures taken { (e : List ℕ × Structure) (rows : List Row) → is_declarable e.1 ≡ true → AreAsked e.1 rows → IsInputData (input_of e) rows }
+    ensures given { (ls : NotNull) (e : List ℕ × Structure) (rows : List Row) → is_declarable e.1 ≡ true → IsInputData (input_of ls e) rows → AreAsked e.1 rows }
+    ensures taken { (ls : NotNull) (e : List ℕ × Structure) (rows : List Row) → is_declarable e.1 ≡ true → AreAsked e.1 rows → IsInputData (input_of ls e) rows }
 {}
 
 /// A script that the checker accepted can be translated, where its constants are values that a program holds, and a

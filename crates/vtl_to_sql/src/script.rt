@@ -117,7 +117,7 @@ fn push_exports(
 
 // The statements of a script behind its settings.
 fn statements(alloc: Global, script: &Checked) -> Result<Vec<Statement>, AllocError>
-    ensures statements { IfOk result (λ v. map statement_tree v.items ≡ statements_for script.now.settings (inputs_of script.now) (statements_of script.now)) }
+    ensures statements { IfOk result (λ v. map statement_tree v.items ≡ statements_for script.now.settings script.now.not_null (inputs_of script.now) (statements_of script.now)) }
     ensures few { IfOk result (λ v. AreFew script.now.settings (statements_of script.now)) }
 {
     let writer = Writer::new(alloc, script.profile())?;
@@ -145,7 +145,7 @@ fn scale(alloc: Global, p: &Profile) -> Result<Txt, AllocError>
 
 // The statements of a script behind its settings, with what the laws of translated scripts ask.
 fn accepted_statements(alloc: Global, script: &Checked) -> Result<Vec<Statement>, AllocError>
-    ensures statements { IfOk result (λ v. map statement_tree v.items ≡ statements_for script.now.settings (inputs_of script.now) (statements_of script.now)) }
+    ensures statements { IfOk result (λ v. map statement_tree v.items ≡ statements_for script.now.settings script.now.not_null (inputs_of script.now) (statements_of script.now)) }
     ensures accepted { IfOk result (λ v. script.now.settings.scale ≤ 9 → IsScript script.now.settings (inputs_of script.now) (statements_of script.now)) }
 {
     constants_are_held(alloc, script);
@@ -158,7 +158,7 @@ fn accepted_statements(alloc: Global, script: &Checked) -> Result<Vec<Statement>
 /// statement, and an EXPORT for each result that is written, in order. It meets what the laws of translated scripts ask,
 /// so it means the same as the script. It fails only if memory runs out.
 pub fn translate(alloc: Global, script: &Checked) -> Result<SqlScript, AllocError>
-    ensures script { IfOk result (λ x. script_tree x ≡ script_for script.now.settings (inputs_of script.now) (statements_of script.now)) }
+    ensures script { IfOk result (λ x. script_tree x ≡ script_for script.now.settings script.now.not_null (inputs_of script.now) (statements_of script.now)) }
     ensures accepted { IfOk result (λ x. IsScript script.now.settings (inputs_of script.now) (statements_of script.now)) }
 {
     let profile = script.profile();

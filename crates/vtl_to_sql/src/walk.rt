@@ -12,7 +12,7 @@ ghost use Rattle.vtl_scripts.specs.Made.{operands_in};
 ghost use Rattle.vtl_to_sql.specs.Combined.{combined_made};
 ghost use Rattle.vtl_to_sql.specs.Tables.{made_of_filter, made_of_form, operands_of as joined_sources, sources_of};
 
-use crate::form_queries::{query_of_one, query_of_three, query_of_two};
+use crate::form_queries::{operand, query_of_one, query_of_three, query_of_two};
 use crate::ruled_queries::ruled_query;
 use crate::set_operators::SetOperator;
 use crate::set_queries::set_query;
@@ -20,6 +20,7 @@ use joins_to_sql::filtered_join_query;
 use selects_to_sql::{Draft, Writer, filter_query, left_query, no_query};
 use sql_tree::Query;
 use std::alloc::{AllocError, Global};
+use times_to_sql::time_query;
 use vtl_text::Txt;
 use vtl_tree::{CompExpr, JoinOperand, JoinSpec, Node, NodeForm, Structure};
 
@@ -238,6 +239,10 @@ pub(crate) fn query(
         NodeForm::Intersect(nodes) => {
             let operator = SetOperator::Intersection;
             combined(alloc, writer, operator, nodes, s, target, draft)
+        }
+        NodeForm::Time { a, op } => {
+            let table = source(alloc, writer, a, target, draft)?;
+            time_query(alloc, writer, op, &operand(a, &table), s, target, draft)
         }
         NodeForm::CheckHierarchy { a, .. } | NodeForm::Hierarchy { a, .. } => {
             let operand = source(alloc, writer, a, target, draft)?;

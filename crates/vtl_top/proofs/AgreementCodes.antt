@@ -122,21 +122,21 @@ rows_arranged : (s : Structure) (layout : Layout) (rows : List Row) → IsLaidOu
 rows_arranged s layout rows laid all = rows_there layout.columns rows all (columns_of s) layout.places laid.places
 
 -- ---- the whole file
-pub codes_listed : (p : Settings) (s : Structure) (text : List ℕ) (rows : List Row) → IsStructure s → dataset_rows p s [] text ≡ Ok rows → AllByRecursion (λ r. are_listed (columns_of s) r ≡ true) rows
-codes_listed p s text rows well e = records_go (records_in text) e
+pub codes_listed : (p : Settings) (s : Structure) (list : List (List ℕ)) (text : List ℕ) (rows : List Row) → IsStructure s → dataset_rows p s list text ≡ Ok rows → AllByRecursion (λ r. are_listed (columns_of s) r ≡ true) rows
+codes_listed p s list text rows well e = records_go (records_in text) e
   where
     arranged : (layout : Layout) → IsLayout s layout → (r : Result (List Row) Fault) → ((read : List Row) → r ≡ Ok read → AreListed layout.columns read) → (r >>= λ read. Ok (map (cells_at layout.places) read)) ≡ Ok rows → AreListed (columns_of s) rows
     arranged layout found (Err fault) are q = cc
     arranged layout found (Ok read) are q =
         subst (AreListed (columns_of s)) (ok_same q) (rows_arranged s layout read (layout_lays_out s layout well found) (are read refl))
 
-    layout_go : (fields : List (List ℕ)) (rest : List (List (List ℕ))) (r : Result Layout ℕ) → layout_of s fields ≡ r → (of_header r >>= λ layout. rows_below p s [] layout rest) ≡ Ok rows → AreListed (columns_of s) rows
+    layout_go : (fields : List (List ℕ)) (rest : List (List (List ℕ))) (r : Result Layout ℕ) → layout_of s fields ≡ r → (of_header r >>= λ layout. rows_below p s list layout rest) ≡ Ok rows → AreListed (columns_of s) rows
     layout_go fields rest (Err column) t q = cc
     layout_go fields rest (Ok layout) t q =
         let keys = take (key_width s) layout.places in
-        arranged layout (fields, t) (rows_with p (read_columns [] layout.columns) keys [] rest)
-        (λ read e. subst (λ xs. AreListed xs read) (components_read [] layout.columns) (rows_listed p (read_columns [] layout.columns) keys rest [] read tt e)) q
+        arranged layout (fields, t) (rows_with p (read_columns list layout.columns) keys [] rest)
+        (λ read e. subst (λ xs. AreListed xs read) (components_read list layout.columns) (rows_listed p (read_columns list layout.columns) keys rest [] read tt e)) q
 
-    records_go : (rs : List (List (List ℕ))) → rows_in_records p s [] rs ≡ Ok rows → AreListed (columns_of s) rows
+    records_go : (rs : List (List (List ℕ))) → rows_in_records p s list rs ≡ Ok rows → AreListed (columns_of s) rows
     records_go [] q = cc
     records_go (header ∷ rest) q = layout_go header rest (layout_of s header) refl q

@@ -1,6 +1,6 @@
 -- What is read for a script, and what is read for the INPUTs of its text.
 use Rattle.std.proofs.Common.{◌≡◌, ℕ, true, false, cond, List, [], ◌∷◌, ◌++◌, map, Some, Result, Ok, Err, refl, sym, ap, ◌∙◌, subst, append-nil, append_assoc}
-use Rattle.std.specs.Prelude.{filter, unwrap_or}
+use Rattle.std.specs.Prelude.{unwrap_or}
 use Rattle.std.specs.Cmp.Lexicographic.{nat_list_eq_equiv}
 use Rattle.std.specs.List.{AllByRecursion}
 use Rattle.std.specs.Map.{keys_of, lookup}
@@ -14,27 +14,25 @@ use Rattle.vtl_decimal.specs.Settings.{Settings}
 use Rattle.vtl_meaning.specs.Profiles.{AllAreOfProfile}
 use Rattle.vtl_tree.specs.DataSet.{AreOfProfile}
 use Rattle.vtl_tree.specs.Environment.{DataSet, Environment}
+use Rattle.vtl_tree.specs.NotNull.{NotNull, not_null_of as list_of}
 use Rattle.vtl_tree.specs.Structure.{IsStructure, columns_of, same_name}
 use Rattle.vtl_tree.specs.Structures.{Named, codes_fit}
-use Rattle.vtl_tree.specs.declared.structure.Component.{Component}
 use Rattle.vtl_tree.specs.declared.structure.Structure.{Structure}
 use Rattle.vtl_csv.specs.InputFile.{Fault, dataset_rows}
 use Rattle.vtl_csv.proofs.InputDataSetLemmas.{dataset_good, dataset_of_profile}
 use Rattle.sql_tree.specs.Trees as tree
 use Rattle.sql_tree.specs.Trees.{ScriptTree}
-use Rattle.sql_tree.specs.declared.statements.InputColumn.{InputColumn}
-use Rattle.sql_tree.specs.declared.statements.SqlInput.{SqlInput}
 use Rattle.sql_back.specs.Texts.{inputs_in}
 use Rattle.sql_meaning.specs.Scripts.{Inputs, rows_read}
 use Rattle.sql_engine.specs.Structures.{not_null_of, structure_of}
 use Rattle.vtl_to_sql.specs.Inputs.{AreAsked, AreTaken, sets_read}
-use Rattle.vtl_to_sql.specs.Scripts.{input_column, input_of}
+use Rattle.vtl_to_sql.specs.Scripts.{input_of}
 use Rattle.vtl_to_sql.proofs.InputData.{data_read}
 use Rattle.vtl_top.specs.Agreement.{HoldSame}
 use Rattle.vtl_top.specs.Expected.{content, csv_limit, data_set, dataset_step, file_in, inputs_step, one_more_step, points_or_fault, read, sized, with_points}
-use Rattle.vtl_top.specs.SqlInputs.{input_structures, inputs_wanted, rows_by_name, wanted_input}
+use Rattle.vtl_top.specs.SqlInputs.{inputs_wanted, rows_by_name, wanted_input}
 use Rattle.vtl_top.specs.Steps.{Held, Path, Step, ◌>>=◌, settled}
-use Rattle.vtl_top.specs.Wanted.{Placed, Wanted, all_in, all_placed_in, placed_in}
+use Rattle.vtl_top.specs.Wanted.{Wanted, all_in, all_wanted_with, entry_wanted, wanted_with}
 use Rattle.vtl_status.specs.declared.status.Status.{Status}
 use Rattle.vtl_top.proofs.AgreementCodes.{codes_listed}
 use Rattle.vtl_top.proofs.AgreementColumns.{files_fit_alike}
@@ -50,51 +48,33 @@ then_gives step next held (Err status) f is each = (Err status, is, refl)
 
 -- ---- what inputs give
 module _ (folder : Path) (p : Settings) (held : Held) where
-  abbrev pub points_in : List ℕ × Structure → Result (List Row) Status
-  points_in e = then_on (content (file_in folder e.0) csv_limit held) (λ bytes. points_or_fault e.0 (dataset_rows p e.1 [] bytes))
+  abbrev pub points_in : Wanted → Result (List Row) Status
+  points_in w = then_on (content (file_in folder w.name) csv_limit held) (λ bytes. points_or_fault w.name (dataset_rows p w.structure w.not_null bytes))
 
-  abbrev pub one_more_in : Environment → List ℕ × Structure → Result Environment Status
-  one_more_in before e = then_on (points_in e) (λ points. Ok (with_points before e points))
+  abbrev pub one_more_in : Environment → Wanted → Result Environment Status
+  one_more_in before w = then_on (points_in w) (λ points. Ok (with_points before (entry_wanted w) points))
 
-  abbrev pub sets_in : Environment → Named → Result Environment Status
+  abbrev pub sets_in : Environment → List Wanted → Result Environment Status
   sets_in before [] = Ok before
-  sets_in before (e ∷ es) = then_on (one_more_in before e) (λ more. sets_in more es)
+  sets_in before (w ∷ ws) = then_on (one_more_in before w) (λ more. sets_in more ws)
 
-  points_given : (e : List ℕ × Structure) → (dataset_step p (placed_in folder e)).gives held (points_in e)
-  points_given e =
-      then_gives (read (file_in folder e.0) csv_limit) (λ bytes. settled (points_or_fault e.0 (dataset_rows p e.1 [] bytes))) held (content (file_in folder e.0) csv_limit held) (λ bytes. points_or_fault e.0 (dataset_rows p e.1 [] bytes)) refl (λ bytes. refl)
+  points_given : (w : Wanted) → (dataset_step p (folder, w)).gives held (points_in w)
+  points_given w =
+      then_gives (read (file_in folder w.name) csv_limit) (λ bytes. settled (points_or_fault w.name (dataset_rows p w.structure w.not_null bytes))) held (content (file_in folder w.name) csv_limit held)
+      (λ bytes. points_or_fault w.name (dataset_rows p w.structure w.not_null bytes)) refl (λ bytes. refl)
 
-  pub sets_given : (before : Environment) (es : Named) → (inputs_step p before (all_placed_in folder es)).gives held (sets_in before es)
+  pub sets_given : (before : Environment) (ws : List Wanted) → (inputs_step p before (all_in folder ws)).gives held (sets_in before ws)
   sets_given before [] = refl
-  sets_given before (e ∷ es) =
-      then_gives (one_more_step p before (placed_in folder e)) (λ more. inputs_step p more (all_placed_in folder es)) held (one_more_in before e) (λ more. sets_in more es)
-      (then_gives (dataset_step p (placed_in folder e)) (λ points. settled (Ok (with_points before e points))) held (points_in e) (λ points. Ok (with_points before e points)) (points_given e) (λ points. refl)) (λ more. sets_given more es)
+  sets_given before (w ∷ ws) =
+      then_gives (one_more_step p before (folder, w)) (λ more. inputs_step p more (all_in folder ws)) held (one_more_in before w) (λ more. sets_in more ws)
+      (then_gives (dataset_step p (folder, w)) (λ points. settled (Ok (with_points before (entry_wanted w) points))) held (points_in w) (λ points. Ok (with_points before (entry_wanted w) points)) (points_given w) (λ points. refl)) (λ more. sets_given more ws)
 
--- ---- the INPUTs of a text for the data sets
-abbrev pub as_input : List ℕ × Structure → List ℕ × Structure
-as_input e = (e.0, structure_of (input_of e))
+-- ---- the INPUTs of a text for the data sets, as they are read
+abbrev pub as_input : NotNull → List ℕ × Structure → Wanted
+as_input ls e = wanted_input (input_of ls e)
 
-structures_listed : (ss : ScriptTree) → input_structures ss ≡ map (λ s. (s.name, structure_of s)) (inputs_in ss)
-structures_listed [] = refl
-structures_listed (tree.setting digits rounding ∷ ss) = structures_listed ss
-structures_listed (tree.input s ∷ ss) = ap (λ l. (s.name, structure_of s) ∷ l) (structures_listed ss)
-structures_listed (tree.create name q ∷ ss) = structures_listed ss
-structures_listed (tree.export s ∷ ss) = structures_listed ss
-
-inputs_named : (es : Named) → map (λ s. (s.name, structure_of s)) (map input_of es) ≡ map as_input es
-inputs_named [] = refl
-inputs_named (e ∷ es) = ap (λ l. as_input e ∷ l) (inputs_named es)
-
-pub structures_are : (ss : ScriptTree) (es : Named) → inputs_in ss ≡ map input_of es → input_structures ss ≡ map as_input es
-structures_are ss es is = structures_listed ss ∙ ap (map (λ (s : SqlInput). (s.name, structure_of s))) is ∙ inputs_named es
-
--- an INPUT of a text has no NOT NULL columns
-none_not_null : (xs : List Component) → map (λ (x : InputColumn). x.name) (filter (λ (x : InputColumn). x.not_null) (map input_column xs)) ≡ []
-none_not_null [] = refl
-none_not_null (x ∷ xs) = none_not_null xs
-
-pub no_not_null : (e : List ℕ × Structure) → not_null_of (input_of e) ≡ []
-no_not_null e = none_not_null (columns_of e.1)
+abbrev pub all_as_inputs : NotNull → Named → List Wanted
+all_as_inputs ls es = map wanted_input (map (input_of ls) es)
 
 wanted_listed : (ss : ScriptTree) → inputs_wanted ss ≡ map wanted_input (inputs_in ss)
 wanted_listed [] = refl
@@ -103,21 +83,8 @@ wanted_listed (tree.input s ∷ ss) = ap (λ l. wanted_input s ∷ l) (wanted_li
 wanted_listed (tree.create name q ∷ ss) = wanted_listed ss
 wanted_listed (tree.export s ∷ ss) = wanted_listed ss
 
-inputs_plain : (folder : Path) (es : Named) → all_in folder (map wanted_input (map input_of es)) ≡ all_placed_in folder (map as_input es)
-inputs_plain folder [] = refl
-inputs_plain folder (e ∷ es) =
-    ap (λ (ns : List (List ℕ)). (folder, wanted_as e ns) ∷ all_in folder (map wanted_input (map input_of es))) (no_not_null e)
-    ∙ ap (λ (l : List Placed). placed_in folder (as_input e) ∷ l) (inputs_plain folder es)
-  where
-    wanted_as : List ℕ × Structure → List (List ℕ) → Wanted
-    wanted_as e ns = record { name = e.0; structure = structure_of (input_of e); not_null = ns }
-
--- so what is read for the INPUTs is what is read for their structures
-pub inputs_placed : (folder : Path) (ss : ScriptTree) (es : Named) → inputs_in ss ≡ map input_of es → all_in folder (inputs_wanted ss) ≡ all_placed_in folder (input_structures ss)
-inputs_placed folder ss es is =
-    ap (all_in folder) (wanted_listed ss ∙ ap (map wanted_input) is)
-    ∙ inputs_plain folder es
-    ∙ ap (all_placed_in folder) (sym (structures_are ss es is))
+pub inputs_are_wanted : (ls : NotNull) (ss : ScriptTree) (es : Named) → inputs_in ss ≡ map (input_of ls) es → inputs_wanted ss ≡ all_as_inputs ls es
+inputs_are_wanted ls ss es is = wanted_listed ss ∙ ap (map wanted_input) is
 
 -- data sets that are declared
 pub record IsDeclared (e : List ℕ × Structure) : Type 0 where
@@ -131,67 +98,70 @@ SameRows (Ok env) (Err status) = ⊥
 SameRows (Err status) (Ok other) = ⊥
 SameRows (Err status) (Err other) = status ≡ other
 
-one_more_row : (before now : Environment) (e : List ℕ × Structure) (points : List Row) → rows_by_name before ≡ rows_by_name now → rows_by_name (with_points before e points) ≡ rows_by_name (with_points now (as_input e) points)
-one_more_row before now e points same =
+one_more_row : (ls : NotNull) (before now : Environment) (e : List ℕ × Structure) (points : List Row) → rows_by_name before ≡ rows_by_name now → rows_by_name (with_points before e points) ≡ rows_by_name (with_points now (entry_wanted (as_input ls e)) points)
+one_more_row ls before now e points same =
     map-append (λ d. (d.0, d.1.points)) before ((e.0, data_set e.1 points) ∷ [])
     ∙ ap (λ l. l ++ (e.0, points) ∷ []) same
-    ∙ sym (map-append (λ d. (d.0, d.1.points)) now ((e.0, data_set (structure_of (input_of e)) points) ∷ []))
+    ∙ sym (map-append (λ d. (d.0, d.1.points)) now ((e.0, data_set (structure_of (input_of ls e)) points) ∷ []))
 
-module _ (folder : Path) (p : Settings) (held other : Held) where
-  points_alike : (e : List ℕ × Structure) → bytes_at (file_in folder e.0) other ≡ bytes_at (file_in folder e.0) held → IsDeclared e → points_in folder p held e ≡ points_in folder p other (as_input e)
+module _ (ls : NotNull) (folder : Path) (p : Settings) (held other : Held) where
+  points_alike : (e : List ℕ × Structure) → bytes_at (file_in folder e.0) other ≡ bytes_at (file_in folder e.0) held → IsDeclared e → points_in folder p held (wanted_with ls e) ≡ points_in folder p other (as_input ls e)
   points_alike e same is =
-      ap (λ o. then_on (sized (file_in folder e.0) csv_limit o) (λ bytes. points_or_fault e.0 (dataset_rows p e.1 [] bytes))) (sym same)
+      ap (λ o. then_on (sized (file_in folder e.0) csv_limit o) (λ bytes. points_or_fault e.0 (dataset_rows p e.1 (list_of e.0 ls) bytes))) (sym same)
       ∙ go (content (file_in folder e.0) csv_limit other)
     where
-      go : (r : Result (List ℕ) Status) → then_on r (λ bytes. points_or_fault e.0 (dataset_rows p e.1 [] bytes)) ≡ then_on r (λ bytes. points_or_fault e.0 (dataset_rows p (structure_of (input_of e)) [] bytes))
-      go (Ok bytes) = ap (points_or_fault e.0) (files_fit_alike e is.lawful is.coded p bytes)
+      go : (r : Result (List ℕ) Status)
+          → then_on r (λ bytes. points_or_fault e.0 (dataset_rows p e.1 (list_of e.0 ls) bytes)) ≡ then_on r (λ bytes. points_or_fault e.0 (dataset_rows p (structure_of (input_of ls e)) (not_null_of (input_of ls e)) bytes))
+      go (Ok bytes) = ap (points_or_fault e.0) (files_fit_alike ls e is.lawful is.coded p bytes)
       go (Err status) = refl
 
   pub sets_alike : (before now : Environment) (es : Named) → rows_by_name before ≡ rows_by_name now → HoldSame folder held other es → AllByRecursion IsDeclared es
-      → SameRows (sets_in folder p held before es) (sets_in folder p other now (map as_input es))
+      → SameRows (sets_in folder p held before (all_wanted_with ls es)) (sets_in folder p other now (all_as_inputs ls es))
   sets_alike before now [] rows same all = rows
   sets_alike before now (e ∷ es) rows same all =
-      subst (λ r. SameRows (sets_in folder p held before (e ∷ es)) (then_on (then_on r (λ points. Ok (with_points now (as_input e) points))) (λ more. sets_in folder p other more (map as_input es)))) (points_alike e same.0 all.0)
-      (go (points_in folder p held e) (λ one two r. sets_alike one two es r same.1 all.1))
+      subst (λ r. SameRows (sets_in folder p held before (all_wanted_with ls (e ∷ es))) (then_on (then_on r (λ points. Ok (with_points now (entry_wanted (as_input ls e)) points))) (λ more. sets_in folder p other more (all_as_inputs ls es)))) (points_alike e same.0 all.0)
+      (go (points_in folder p held (wanted_with ls e)) (λ one two r. sets_alike one two es r same.1 all.1))
     where
-      go : (r : Result (List Row) Status) → ((one two : Environment) → rows_by_name one ≡ rows_by_name two → SameRows (sets_in folder p held one es) (sets_in folder p other two (map as_input es)))
-          → SameRows (then_on (then_on r (λ points. Ok (with_points before e points))) (λ more. sets_in folder p held more es)) (then_on (then_on r (λ points. Ok (with_points now (as_input e) points))) (λ more. sets_in folder p other more (map as_input es)))
-      go (Ok points) ih = ih (with_points before e points) (with_points now (as_input e) points) (one_more_row before now e points rows)
+      go : (r : Result (List Row) Status) → ((one two : Environment) → rows_by_name one ≡ rows_by_name two → SameRows (sets_in folder p held one (all_wanted_with ls es)) (sets_in folder p other two (all_as_inputs ls es)))
+          → SameRows (then_on (then_on r (λ points. Ok (with_points before e points))) (λ more. sets_in folder p held more (all_wanted_with ls es)))
+          (then_on (then_on r (λ points. Ok (with_points now (entry_wanted (as_input ls e)) points))) (λ more. sets_in folder p other more (all_as_inputs ls es)))
+      go (Ok points) ih = ih (with_points before e points) (with_points now (entry_wanted (as_input ls e)) points) (one_more_row ls before now e points rows)
       go (Err status) ih = refl
 
 -- ---- what was read are the data sets, of rows that the INPUTs take
-module _ (p : Settings) where
+module _ (ls : NotNull) (p : Settings) where
   -- each of the structure, with the rows of a file
   abbrev pub AreSetsOf : Named → Environment → Type 0
   AreSetsOf [] [] = Unit {0}
   AreSetsOf [] (d ∷ ds) = ⊥
   AreSetsOf (e ∷ es) [] = ⊥
-  AreSetsOf (e ∷ es) (d ∷ ds) = ((rows : List Row) × (d ≡ (e.0, data_set e.1 rows)) × ((bytes : List ℕ) × (dataset_rows p e.1 [] bytes ≡ Ok rows))) × AreSetsOf es ds
+  AreSetsOf (e ∷ es) (d ∷ ds) = ((rows : List Row) × (d ≡ (e.0, data_set e.1 rows)) × ((bytes : List ℕ) × (dataset_rows p e.1 (list_of e.0 ls) bytes ≡ Ok rows))) × AreSetsOf es ds
 
   module _ (folder : Path) (held : Held) where
-    points_from : (e : List ℕ × Structure) (rows : List Row) → points_in folder p held e ≡ Ok rows → (bytes : List ℕ) × (dataset_rows p e.1 [] bytes ≡ Ok rows)
+    points_from : (e : List ℕ × Structure) (rows : List Row) → points_in folder p held (wanted_with ls e) ≡ Ok rows → (bytes : List ℕ) × (dataset_rows p e.1 (list_of e.0 ls) bytes ≡ Ok rows)
     points_from e rows q = go (content (file_in folder e.0) csv_limit held) q
       where
         whole : (r : Result (List Row) Fault) → points_or_fault e.0 r ≡ Ok rows → r ≡ Ok rows
         whole (Ok points) i = let same : points ≡ rows = cc in ap Ok same
         whole (Err fault) i = cc
 
-        go : (r : Result (List ℕ) Status) → then_on r (λ bytes. points_or_fault e.0 (dataset_rows p e.1 [] bytes)) ≡ Ok rows → (bytes : List ℕ) × (dataset_rows p e.1 [] bytes ≡ Ok rows)
-        go (Ok bytes) i = (bytes, whole (dataset_rows p e.1 [] bytes) i)
+        go : (r : Result (List ℕ) Status) → then_on r (λ bytes. points_or_fault e.0 (dataset_rows p e.1 (list_of e.0 ls) bytes)) ≡ Ok rows → (bytes : List ℕ) × (dataset_rows p e.1 (list_of e.0 ls) bytes ≡ Ok rows)
+        go (Ok bytes) i = (bytes, whole (dataset_rows p e.1 (list_of e.0 ls) bytes) i)
         go (Err status) i = cc
 
-    sets_behind : (before : Environment) (es : Named) (env : Environment) → sets_in folder p held before es ≡ Ok env → (more : Environment) × (env ≡ before ++ more) × AreSetsOf es more
+    sets_behind : (before : Environment) (es : Named) (env : Environment) → sets_in folder p held before (all_wanted_with ls es) ≡ Ok env → (more : Environment) × (env ≡ before ++ more) × AreSetsOf es more
     sets_behind before [] env q = let same : before ≡ env = cc in ([], sym same ∙ sym (append-nil before), tt)
-    sets_behind before (e ∷ es) env q = go (points_in folder p held e) refl (λ more. sets_behind more es env) q
+    sets_behind before (e ∷ es) env q = go (points_in folder p held (wanted_with ls e)) refl (λ more. sets_behind more es env) q
       where
-        go : (r : Result (List Row) Status) → points_in folder p held e ≡ r → ((next : Environment) → sets_in folder p held next es ≡ Ok env → (more : Environment) × (env ≡ next ++ more) × AreSetsOf es more)
-            → then_on (then_on r (λ points. Ok (with_points before e points))) (λ more. sets_in folder p held more es) ≡ Ok env → (more : Environment) × (env ≡ before ++ more) × AreSetsOf (e ∷ es) more
+        go : (r : Result (List Row) Status) → points_in folder p held (wanted_with ls e) ≡ r
+            → ((next : Environment) → sets_in folder p held next (all_wanted_with ls es) ≡ Ok env → (more : Environment) × (env ≡ next ++ more) × AreSetsOf es more)
+            → then_on (then_on r (λ points. Ok (with_points before e points))) (λ more. sets_in folder p held more (all_wanted_with ls es)) ≡ Ok env → (more : Environment) × (env ≡ before ++ more) × AreSetsOf (e ∷ es) more
         go (Ok rows) i ih q =
             let behind = ih (with_points before e rows) q in
             ((e.0, data_set e.1 rows) ∷ behind.0, behind.1 ∙ append_assoc before ((e.0, data_set e.1 rows) ∷ []) behind.0, ((rows, refl, points_from e rows i), behind.2))
         go (Err status) i ih q = cc
 
-    pub sets_are : (es : Named) (env : Environment) → sets_in folder p held [] es ≡ Ok env → AreSetsOf es env
+    pub sets_are : (es : Named) (env : Environment) → sets_in folder p held [] (all_wanted_with ls es) ≡ Ok env → AreSetsOf es env
     sets_are es env q = let all = sets_behind [] es env q in subst (AreSetsOf es) (sym all.1) all.2
 
   -- the rows of each stand under its name
@@ -219,7 +189,7 @@ module _ (p : Settings) where
         found_later d.0 d.1.points (rows_by_name ds) es ds (subst (λ n. AllByRecursion (λ m. same_name n m ≡ false) (keys_of es)) named parts.0) (all_found es ds are.1 parts.1),
       )
 
-  taken_of : (inputs : Inputs) (es : Named) (ds : Environment) → AllByRecursion IsDeclared es → AreSetsOf es ds → AreFound inputs es ds → AreTaken inputs es
+  taken_of : (inputs : Inputs) (es : Named) (ds : Environment) → AllByRecursion IsDeclared es → AreSetsOf es ds → AreFound inputs es ds → AreTaken inputs ls es
   taken_of inputs [] [] all are found = tt
   taken_of inputs [] (d ∷ ds) all are found = absurd are
   taken_of inputs (e ∷ es) [] all are found = absurd are
@@ -227,8 +197,11 @@ module _ (p : Settings) where
       let rows : List Row = are.0.0 in
       let there : rows_read inputs e.0 ≡ rows = found.0 ∙ ap (λ x. x.1.points) are.0.1 in
       let bytes : List ℕ = are.0.2.0 in
-      let asked : AreAsked e.1 rows = record { set = dataset_good p e.1 [] bytes rows all.0.lawful are.0.2.1; listed = codes_listed p e.1 bytes rows all.0.lawful are.0.2.1 } in
-      (data_read e all.0.lawful all.0.coded (rows_read inputs e.0) (subst (AreAsked e.1) (sym there) asked), taken_of inputs es ds all.1 are.1 found.1)
+      let asked : AreAsked e.1 rows = record {
+        set = dataset_good p e.1 (list_of e.0 ls) bytes rows all.0.lawful are.0.2.1;
+        listed = codes_listed p e.1 (list_of e.0 ls) bytes rows all.0.lawful are.0.2.1;
+      } in
+      (data_read ls e all.0.lawful all.0.coded (rows_read inputs e.0) (subst (AreAsked e.1) (sym there) asked), taken_of inputs es ds all.1 are.1 found.1)
 
   sets_of : (inputs : Inputs) (es : Named) (ds : Environment) → AreSetsOf es ds → AreFound inputs es ds → sets_read inputs es ≡ ds
   sets_of inputs [] [] are found = refl
@@ -239,7 +212,7 @@ module _ (p : Settings) where
       ap {B = Environment} (λ rows. (e.0, data_set e.1 rows) ∷ sets_read inputs es) there
       ∙ ap (λ x. x ∷ sets_read inputs es) (sym are.0.1) ∙ ap (λ l. d ∷ l) (sets_of inputs es ds are.1 found.1)
 
-  pub sets_taken : (es : Named) (ds : Environment) → AllByRecursion IsDeclared es → all_apart same_name (keys_of es) ≡ true → AreSetsOf es ds → AreTaken (rows_by_name ds) es
+  pub sets_taken : (es : Named) (ds : Environment) → AllByRecursion IsDeclared es → all_apart same_name (keys_of es) ≡ true → AreSetsOf es ds → AreTaken (rows_by_name ds) ls es
   sets_taken es ds all apart are = taken_of (rows_by_name ds) es ds all are (all_found es ds are apart)
 
   pub sets_again : (es : Named) (ds : Environment) → all_apart same_name (keys_of es) ≡ true → AreSetsOf es ds → sets_read (rows_by_name ds) es ≡ ds
@@ -251,7 +224,7 @@ module _ (p : Settings) where
   ranged_of [] (d ∷ ds) all are = absurd are
   ranged_of (e ∷ es) [] all are = absurd are
   ranged_of (e ∷ es) (d ∷ ds) all are = (
-    subst (λ (x : List ℕ × DataSet). AreOfProfile p x.1.points) (sym are.0.1) (dataset_of_profile p e.1 [] are.0.2.0 are.0.0 all.0.lawful are.0.2.1),
+    subst (λ (x : List ℕ × DataSet). AreOfProfile p x.1.points) (sym are.0.1) (dataset_of_profile p e.1 (list_of e.0 ls) are.0.2.0 are.0.0 all.0.lawful are.0.2.1),
     ranged_of es ds all.1 are.1,
   )
 

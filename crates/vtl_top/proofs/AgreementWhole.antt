@@ -6,6 +6,7 @@ use Rattle.vtl_decimal.specs.Settings.{Settings}
 use Rattle.vtl_decimal.specs.declared.number.Fault.{Fault as EvaluationFault}
 use Rattle.vtl_meaning.specs.Profiles.{AllAreOfProfile}
 use Rattle.vtl_tree.specs.Environment.{Environment}
+use Rattle.vtl_tree.specs.NotNull.{NotNull}
 use Rattle.vtl_tree.specs.Structures.{AreStructures, Named}
 use Rattle.sql_tree.specs.Trees.{ScriptTree}
 use Rattle.sql_meaning.specs.Scripts.{Inputs, script_value}
@@ -20,14 +21,15 @@ use Rattle.vtl_top.specs.Forms.{asked_step}
 use Rattle.vtl_top.specs.Expected.{IsTextOf, Typed, file_in, folder_step, inputs_step, meant, output_of, outputs_of, run_step, statements_in, wanted_step}
 use Rattle.vtl_top.specs.Meant.{IsTextMeant}
 use Rattle.vtl_top.specs.ScriptFile.{whole}
-use Rattle.vtl_top.specs.SqlInputs.{input_structures, inputs_wanted, rows_by_name}
+use Rattle.vtl_top.specs.SqlInputs.{inputs_wanted, rows_by_name}
 use Rattle.vtl_top.specs.SqlRun.{engine_step, exports_of, present, sql_checked_step, sql_typing}
 use Rattle.vtl_top.specs.Steps.{File, Held, Made, Name, Path, Step, Text, as_files, only_files, settled}
-use Rattle.vtl_top.specs.Words.{Engine, Run, Source, engine, run, settings_of}
+use Rattle.vtl_top.specs.Wanted.{Wanted, all_wanted_with}
+use Rattle.vtl_top.specs.Words.{Engine, Run, Source, engine, run}
 use Rattle.vtl_status.specs.declared.status.Status.{Status}
 use Rattle.vtl_top.proofs.AgreementDeclared.{all_declared, step_declares}
 use Rattle.vtl_top.proofs.AgreementExports.{exports_are_outputs}
-use Rattle.vtl_top.proofs.AgreementInputs.{IsDeclared, SameRows, as_input, inputs_placed, sets_again, sets_alike, sets_are, sets_given, sets_in, sets_ranged, sets_taken, structures_are, then_gives, then_on}
+use Rattle.vtl_top.proofs.AgreementInputs.{IsDeclared, SameRows, all_as_inputs, inputs_are_wanted, sets_again, sets_alike, sets_are, sets_given, sets_in, sets_ranged, sets_taken, then_gives, then_on}
 use Rattle.vtl_top.proofs.AgreementStructures.{HaveStructures, nodes_have_structures, outputs_have_structures, results_have_structures}
 use Rattle.vtl_top.proofs.InputLemmas.{inputs_are}
 use Rattle.vtl_top.proofs.MeantLemmas.{accepted_always}
@@ -69,12 +71,12 @@ made_same first second (Err status) (Err other) same = same
 -- ---- what a text exports is what its script's outputs are, whatever rows of the profile its INPUTs take
 module _ (s : Source) (held : Held) (text : Text) (is : IsTextMeant s held text) where
   declared : AreStructures is.typed.structures
-  declared = step_declares s.structures held is.typed.structures is.script.source.declared
+  declared = subst AreStructures (sym is.script.structures) (step_declares s.structures held is.script.declared is.script.source.declared)
 
   shaped : HaveStructures is.typed.nodes
-  shaped = nodes_have_structures (settings_of s) is.typed.structures is.typed.tree is.typed.nodes declared is.script.fits
+  shaped = nodes_have_structures is.typed.settings is.typed.structures is.typed.tree is.typed.nodes declared is.script.fits
 
-  pub writes_alike : (folder : Path) (inputs : Inputs) → AreTaken inputs (reads is.typed.structures is.typed.nodes) → AllAreOfProfile is.typed.settings (sets_read inputs (reads is.typed.structures is.typed.nodes))
+  pub writes_alike : (folder : Path) (inputs : Inputs) → AreTaken inputs is.typed.not_null (reads is.typed.structures is.typed.nodes) → AllAreOfProfile is.typed.settings (sets_read inputs (reads is.typed.structures is.typed.nodes))
       → exports_of folder is.typed.settings (script_value is.text_of.script inputs) ≡ outputs_of folder is.typed.settings (meant is.typed (sets_read inputs (reads is.typed.structures is.typed.nodes)))
   writes_alike folder inputs taken ranged =
       let t = is.typed in
@@ -90,6 +92,12 @@ module _ (r : Run) (e : Engine) (held other : Held) (twins : AreTwins r e held o
   abbrev es : Named
   es = reads t.structures t.nodes
 
+  abbrev ls : NotNull
+  ls = t.not_null
+
+  abbrev wanted : List Wanted
+  wanted = all_wanted_with ls es
+
   abbrev its_text : IsTextOf t twins.text
   its_text = twins.script.text_of
 
@@ -104,18 +112,18 @@ module _ (r : Run) (e : Engine) (held other : Held) (twins : AreTwins r e held o
 
   -- ---- what the run gives, in a folder
   abbrev result_in : Path → Result (List File) Status
-  result_in folder = then_on (sets_in r.input t.settings held [] es) (λ env. outputs_of folder t.settings (meant t env))
+  result_in folder = then_on (sets_in r.input t.settings held [] wanted) (λ env. outputs_of folder t.settings (meant t env))
 
   run_there : (run_step r).gives held (result_in r.output)
   run_there = (
     Ok t,
     accepted_always r.source held t twins.script.script,
-    then_gives (folder_step r.input t.settings es) (λ env. settled (outputs_of r.output t.settings (meant t env))) held (sets_in r.input t.settings held [] es) (λ env. outputs_of r.output t.settings (meant t env))
-        (sets_given r.input t.settings held [] es) (λ env. refl),
+    then_gives (folder_step r.input t.settings ls es) (λ env. settled (outputs_of r.output t.settings (meant t env))) held (sets_in r.input t.settings held [] wanted) (λ env. outputs_of r.output t.settings (meant t env))
+        (sets_given r.input t.settings held [] wanted) (λ env. refl),
   )
 
   -- ---- what the engine gives
-  abbrev result_by : Path → Settings → Named → Result (List File) Status
+  abbrev result_by : Path → Settings → List Wanted → Result (List File) Status
   result_by input p inputs = then_on (sets_in input p other [] inputs) (λ env. exports_of e.output p (script_value tree (rows_by_name env)))
 
   checked : (sql_checked_step e.sql).gives other (Ok tree)
@@ -125,45 +133,44 @@ module _ (r : Run) (e : Engine) (held other : Held) (twins : AreTwins r e held o
     (Ok tt, sym (ap sql_typing its_text.typed), refl),
   )
 
-  engine_there : (engine_step e).gives other (result_by e.input (script_settings tree) (input_structures tree))
+  engine_there : (engine_step e).gives other (result_by e.input (script_settings tree) (inputs_wanted tree))
   engine_there = (
     Ok tree,
     checked,
     then_gives (wanted_step e.input (script_settings tree) (inputs_wanted tree)) (λ env. settled (exports_of e.output (script_settings tree) (script_value tree (rows_by_name env)))) other
-        (sets_in e.input (script_settings tree) other [] (input_structures tree)) (λ env. exports_of e.output (script_settings tree) (script_value tree (rows_by_name env)))
-        (subst (λ l. (inputs_step (script_settings tree) [] l).gives other (sets_in e.input (script_settings tree) other [] (input_structures tree))) (sym (inputs_placed e.input tree es its_text.inputs))
-        (sets_given e.input (script_settings tree) other [] (input_structures tree))) (λ env. refl),
+        (sets_in e.input (script_settings tree) other [] (inputs_wanted tree)) (λ env. exports_of e.output (script_settings tree) (script_value tree (rows_by_name env)))
+        (sets_given e.input (script_settings tree) other [] (inputs_wanted tree)) (λ env. refl),
   )
 
   -- ---- it is what the run gives in the engine's folder
-  value_same : (env : Environment) → sets_in r.input t.settings held [] es ≡ Ok env → exports_of e.output t.settings (script_value tree (rows_by_name env)) ≡ outputs_of e.output t.settings (meant t env)
+  value_same : (env : Environment) → sets_in r.input t.settings held [] wanted ≡ Ok env → exports_of e.output t.settings (script_value tree (rows_by_name env)) ≡ outputs_of e.output t.settings (meant t env)
   value_same env q =
-      let are = sets_are t.settings r.input held es env q in
-      writes_alike r.source held twins.text twins.script e.output (rows_by_name env) (sets_taken t.settings es env each read.distinct are) (sets_ranged t.settings es env each read.distinct are)
-      ∙ ap (λ sets. outputs_of e.output t.settings (meant t sets)) (sets_again t.settings es env read.distinct are)
+      let are = sets_are ls t.settings r.input held es env q in
+      writes_alike r.source held twins.text twins.script e.output (rows_by_name env) (sets_taken ls t.settings es env each read.distinct are) (sets_ranged ls t.settings es env each read.distinct are)
+      ∙ ap (λ sets. outputs_of e.output t.settings (meant t sets)) (sets_again ls t.settings es env read.distinct are)
 
-  result_same : result_by r.input t.settings (map as_input es) ≡ result_in e.output
-  result_same = go (sets_in r.input t.settings held [] es) refl (sets_in r.input t.settings other [] (map as_input es)) (sets_alike r.input t.settings held other [] [] es refl twins.same each)
+  result_same : result_by r.input t.settings (all_as_inputs ls es) ≡ result_in e.output
+  result_same = go (sets_in r.input t.settings held [] wanted) refl (sets_in r.input t.settings other [] (all_as_inputs ls es)) (sets_alike ls r.input t.settings held other [] [] es refl twins.same each)
     where
-      go : (a : Result Environment Status) → sets_in r.input t.settings held [] es ≡ a → (b : Result Environment Status) → SameRows a b
+      go : (a : Result Environment Status) → sets_in r.input t.settings held [] wanted ≡ a → (b : Result Environment Status) → SameRows a b
           → then_on b (λ env. exports_of e.output t.settings (script_value tree (rows_by_name env))) ≡ then_on a (λ env. outputs_of e.output t.settings (meant t env))
       go (Ok env) q (Ok now) rows = ap (λ inputs. exports_of e.output t.settings (script_value tree inputs)) (sym rows) ∙ value_same env q
       go (Ok env) q (Err status) rows = absurd rows
       go (Err status) q (Ok now) rows = absurd rows
       go (Err status) q (Err found) same = ap Err (sym same)
 
-  one_result : result_by e.input (script_settings tree) (input_structures tree) ≡ result_in e.output
+  one_result : result_by e.input (script_settings tree) (inputs_wanted tree) ≡ result_in e.output
   one_result =
-      ap (λ folder. result_by folder (script_settings tree) (input_structures tree)) twins.input
-      ∙ ap (λ p. result_by r.input p (input_structures tree)) its_text.settings
-      ∙ ap (result_by r.input t.settings) (structures_are tree es its_text.inputs)
+      ap (λ folder. result_by folder (script_settings tree) (inputs_wanted tree)) twins.input
+      ∙ ap (λ p. result_by r.input p (inputs_wanted tree)) its_text.settings
+      ∙ ap (result_by r.input t.settings) (inputs_are_wanted ls tree es its_text.inputs)
       ∙ result_same
 
   engine_gives : (engine_step e).gives other (result_in e.output)
   engine_gives = subst (λ x. (engine_step e).gives other x) one_result engine_there
 
   both_same : ComeToSame (AreSameFiles r.output e.output) (result_in r.output) (result_in e.output)
-  both_same = by_sets (sets_in r.input t.settings held [] es)
+  both_same = by_sets (sets_in r.input t.settings held [] wanted)
     where
       by_sets : (a : Result Environment Status) → ComeToSame (AreSameFiles r.output e.output) (then_on a (λ env. outputs_of r.output t.settings (meant t env))) (then_on a (λ env. outputs_of e.output t.settings (meant t env)))
       by_sets (Ok env) = outputs_same r.output e.output t.settings (meant t env)

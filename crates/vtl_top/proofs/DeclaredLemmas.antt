@@ -7,6 +7,7 @@ use Rattle.std.specs.Cmp.Lexicographic.{bytes_decides}
 use Rattle.std.specs.Prelude.{ok_or}
 use Rattle.std.proofs.lemmas.Bool.{and_parts}
 use Rattle.std.proofs.lemmas.Bool.Decides.{nat_tests}
+use Rattle.vtl_tree.specs.NotNull.{Declared, no_sets}
 use Rattle.vtl_tree.specs.Structure.{IsStructure, key_width, most_components, names_of, same_name}
 use Rattle.vtl_tree.specs.Structures.{AreStructures, Named, components_of, has_name, is_declarable, is_declarable_component, structure_of, with_component}
 use Rattle.vtl_tree.specs.declared.structure.Component.{Component}
@@ -15,32 +16,37 @@ use Rattle.vtl_tree.proofs.StructuresLemmas.{add_are, all_found}
 use Rattle.vtl_lists.specs.Aliases.{Record}
 use Rattle.vtl_lists.specs.Apart.{all_apart}
 use Rattle.vtl_lists.specs.Results.{◌>>=◌}
-use Rattle.vtl_csv.specs.Declarations.{Declaration, codes_of, component_in, dataset_in, declaration_of, declared_by, has_component, is_full, kind_in, record_of, role_in}
-use Rattle.vtl_csv.specs.StructuresFile.{Fault, ◌at_line◌, is_header, is_identifier, lacks_identifier, lines_declare, lines_in, records_in, structures_of_file, with_identifiers, without_identifier}
+use Rattle.vtl_csv.specs.declared.declarations.NewComponent.{NewComponent}
+use Rattle.vtl_csv.specs.declared.structures.Declared.{Declared as Whole}
+use Rattle.vtl_csv.specs.declared.version.Opening.{Opening}
+use Rattle.vtl_csv.specs.declared.version.Version.{Version}
+use Rattle.vtl_csv.specs.Declarations.{Declaration, codes_of, component_in, dataset_in, declaration_of, declared_by, has_component, is_full, kind_in, listed_by, record_of, role_in, with_new}
+use Rattle.vtl_csv.specs.Opening.{Fault, first_line, opening_of}
+use Rattle.vtl_csv.specs.StructuresFile.{◌at_line◌, declaring, is_identifier, lacks_identifier, lines_behind, lines_declare, lines_in, missing_in, records_in, structures_of_file, with_identifiers, without_identifier}
 use Rattle.vtl_csv.proofs.DeclarationLemmas.{record_fits}
 
 abbrev pub Records : Type 0
 Records = List Record
 
 -- ---- declared lines are structures
-pub lines_are : (line : ℕ) (so_far : Named) (rs : Records) (all : Named) → AreStructures so_far → lines_declare line so_far rs ≡ Ok all → AreStructures all
-lines_are line so_far [] all h e = let same : so_far ≡ all = cc in subst (λ xs. AreStructures xs) same h
-lines_are line so_far (fields ∷ rest) all h e = go (λ new a q. lines_are (line + 1) new rest all a q) (record_of so_far fields) refl e
+pub lines_are : (version : Version) (line : ℕ) (so_far : Declared) (rs : Records) (all : Declared) → AreStructures so_far.sets → lines_declare version line so_far rs ≡ Ok all → AreStructures all.sets
+lines_are version line so_far [] all h e = let same : so_far ≡ all = cc in subst (λ (d : Declared). AreStructures d.sets) same h
+lines_are version line so_far (fields ∷ rest) all h e = go (λ new a q. lines_are version (line + 1) new rest all a q) (record_of version so_far.sets fields) refl e
   where
-    go : ((new : Named) → AreStructures new → lines_declare (line + 1) new rest ≡ Ok all → AreStructures all)
-        → (r : Result (List ℕ × Component) ℕ) → record_of so_far fields ≡ r → ((r >>= λ p. Ok (with_component p.0 p.1 so_far)) at_line line >>= λ new. lines_declare (line + 1) new rest) ≡ Ok all → AreStructures all
+    go : ((new : Declared) → AreStructures new.sets → lines_declare version (line + 1) new rest ≡ Ok all → AreStructures all.sets)
+        → (r : Result NewComponent ℕ) → record_of version so_far.sets fields ≡ r → ((r >>= λ n. Ok (with_new n so_far)) at_line line >>= λ new. lines_declare version (line + 1) new rest) ≡ Ok all → AreStructures all.sets
     go ih (Err rule) is q = cc
-    go ih (Ok p) is q = ih (with_component p.0 p.1 so_far) (add_are so_far p.0 p.1 h (record_fits so_far fields p is)) q
+    go ih (Ok n) is q = ih (with_new n so_far) (add_are so_far.sets n.dataset n.component h (record_fits version so_far.sets fields n is).0) q
 
 -- ---- each data set has a record
-abbrev name_in : List (List ℕ) → Option (List ℕ)
-name_in fields = option_and_then (λ d. dataset_in d.dataset) (declaration_of fields)
+abbrev name_in : Version → List (List ℕ) → Option (List ℕ)
+name_in version fields = option_and_then (λ d. dataset_in d.dataset) (declaration_of version fields)
 
-abbrev speaks_of : List ℕ → List (List ℕ) → Bool
-speaks_of name fields = option_map_or (same_name name) (name_in fields) false
+abbrev speaks_of : Version → List ℕ → List (List ℕ) → Bool
+speaks_of version name fields = option_map_or (same_name name) (name_in version fields) false
 
-abbrev has_record : List ℕ → Records → Bool
-has_record name rs = list_any (speaks_of name) rs
+abbrev has_record : Version → List ℕ → Records → Bool
+has_record version name rs = list_any (speaks_of version name) rs
 
 or_kept : {X Y : Type 0} (n : ℕ) (o : Option X) (f : X → Result Y ℕ) (y : Y) → (ok_or o n >>= f) ≡ Ok y → (x : X) × (o ≡ Some x) × (f x ≡ Ok y)
 or_kept n None f y e = cc
@@ -50,28 +56,28 @@ unless_rule_kept : {Y : Type 0} (n : ℕ) (b : Bool) (r : Result Y ℕ) (y : Y) 
 unless_rule_kept n true r y e = cc
 unless_rule_kept n false r y e = e
 
-declares_its_name : (so_far : Named) (d : Declaration) (p : List ℕ × Component) → declared_by so_far d ≡ Ok p → dataset_in d.dataset ≡ Some p.0
-declares_its_name so_far d p e =
-    let s3 = or_kept 3 (dataset_in d.dataset) _ p e in
-    let s4 = or_kept 4 (component_in d.component) _ p s3.2 in
-    let s5 = or_kept 5 (role_in d.role) _ p s4.2 in
-    let s6 = or_kept 6 (kind_in d.kind) _ p s5.2 in
-    let s7 = unless_rule_kept 7 (has_component so_far s3.0 s4.0) _ p s6.2 in
-    let s8 = or_kept 8 (codes_of s5.0 s6.0 d.code_list) _ p s7 in
-    let s9 = unless_rule_kept 9 (is_full so_far s3.0) _ p s8.2 in
-    let x : Component = record { name = s4.0; role = s5.0; kind = s6.0; codes = s8.0 } in
-    let same : ◌≡◌ {A = List ℕ × Component} (s3.0, x) p = ok_same (s3.0, x) p s9 in
-    s3.1 ∙ ap (λ (q : List ℕ × Component). Some q.0) same
+declares_its_name : (version : Version) (so_far : Named) (d : Declaration) (n : NewComponent) → declared_by version so_far d ≡ Ok n → dataset_in d.dataset ≡ Some n.dataset
+declares_its_name version so_far d n e =
+    let s3 = or_kept 3 (dataset_in d.dataset) _ n e in
+    let s4 = or_kept 4 (component_in d.component) _ n s3.2 in
+    let s5 = or_kept 5 (role_in d.role) _ n s4.2 in
+    let s6 = or_kept 6 (kind_in d.kind) _ n s5.2 in
+    let s7 = unless_rule_kept 7 (has_component so_far s3.0 s4.0) _ n s6.2 in
+    let s8 = or_kept 8 (codes_of s5.0 s6.0 d.code_list) _ n s7 in
+    let s9 = unless_rule_kept 9 (is_full version so_far s3.0) _ n s8.2 in
+    let s11 = or_kept 11 (listed_by s5.0 d.nullable) _ n s9 in
+    let x : NewComponent = record { dataset = s3.0; component = record { name = s4.0; role = s5.0; kind = s6.0; codes = s8.0 }; is_listed = s11.0 } in
+    s3.1 ∙ ap (λ (m : NewComponent). Some m.dataset) (ok_same x n s11.2)
   where
-    ok_same : (q r : List ℕ × Component) → ◌≡◌ {A = Result (List ℕ × Component) ℕ} (Ok q) (Ok r) → q ≡ r
-    ok_same q r e = cc
+    ok_same : (m n : NewComponent) → ◌≡◌ {A = Result NewComponent ℕ} (Ok m) (Ok n) → m ≡ n
+    ok_same m n e = cc
 
-record_names : (so_far : Named) (fields : List (List ℕ)) (p : List ℕ × Component) → record_of so_far fields ≡ Ok p → name_in fields ≡ Some p.0
-record_names so_far fields p e = go (declaration_of fields) e
+record_names : (version : Version) (so_far : Named) (fields : List (List ℕ)) (n : NewComponent) → record_of version so_far fields ≡ Ok n → name_in version fields ≡ Some n.dataset
+record_names version so_far fields n e = go (declaration_of version fields) e
   where
-    go : (o : Option Declaration) → (ok_or o 2 >>= declared_by so_far) ≡ Ok p → option_and_then (λ d. dataset_in d.dataset) o ≡ Some p.0
+    go : (o : Option Declaration) → (ok_or o 2 >>= declared_by version so_far) ≡ Ok n → option_and_then (λ d. dataset_in d.dataset) o ≡ Some n.dataset
     go None q = cc
-    go (Some d) q = declares_its_name so_far d p q
+    go (Some d) q = declares_its_name version so_far d n q
 
 -- a component more brings no other name than its data set's
 more_names : (n name : List ℕ) (x : Component) (xs : Named) → has_name n (with_component name x xs) ≡ true → (same_name n name || has_name n xs) ≡ true
@@ -93,9 +99,9 @@ more_names n name x (y ∷ ys) e = go (same_name name y.0) (more_names n name x 
     go false h q = turned (same_name n name) (has_name n ys) (has_name n (with_component name x ys)) h (same_name n y.0) q
 
 -- a name that is declared stood there before, or has a record
-lines_name : (n : List ℕ) (line : ℕ) (so_far : Named) (rs : Records) (all : Named) → lines_declare line so_far rs ≡ Ok all → has_name n all ≡ true → (has_name n so_far || has_record n rs) ≡ true
-lines_name n line so_far [] all e has = let same : so_far ≡ all = cc in ap (λ xs. has_name n xs || false) same ∙ rw has refl
-lines_name n line so_far (fields ∷ rest) all e has = go (λ new q. lines_name n (line + 1) new rest all q has) (record_of so_far fields) refl e
+lines_name : (version : Version) (n : List ℕ) (line : ℕ) (so_far : Declared) (rs : Records) (all : Declared) → lines_declare version line so_far rs ≡ Ok all → has_name n all.sets ≡ true → (has_name n so_far.sets || has_record version n rs) ≡ true
+lines_name version n line so_far [] all e has = let same : so_far ≡ all = cc in ap (λ (d : Declared). has_name n d.sets || false) same ∙ rw has refl
+lines_name version n line so_far (fields ∷ rest) all e has = go (λ new q. lines_name version n (line + 1) new rest all q has) (record_of version so_far.sets fields) refl e
   where
     join : (a b c : Bool) → (a || b) ≡ true → (b || (a || c)) ≡ true
     join true true c e = refl
@@ -109,18 +115,20 @@ lines_name n line so_far (fields ∷ rest) all e has = go (λ new q. lines_name 
     later true false c false h e = refl
     later false false c false h e = e
 
-    go : ((new : Named) → lines_declare (line + 1) new rest ≡ Ok all → (has_name n new || has_record n rest) ≡ true)
-        → (r : Result (List ℕ × Component) ℕ) → record_of so_far fields ≡ r → ((r >>= λ p. Ok (with_component p.0 p.1 so_far)) at_line line >>= λ new. lines_declare (line + 1) new rest) ≡ Ok all → (has_name n so_far || (speaks_of n fields || has_record n rest)) ≡ true
+    go : ((new : Declared) → lines_declare version (line + 1) new rest ≡ Ok all → (has_name n new.sets || has_record version n rest) ≡ true)
+        → (r : Result NewComponent ℕ) → record_of version so_far.sets fields ≡ r → ((r >>= λ x. Ok (with_new x so_far)) at_line line >>= λ new. lines_declare version (line + 1) new rest) ≡ Ok all
+        → (has_name n so_far.sets || (speaks_of version n fields || has_record version n rest)) ≡ true
     go ih (Err rule) is q = cc
-    go ih (Ok p) is q =
-        let named : speaks_of n fields ≡ same_name n p.0 = ap (λ o. option_map_or (same_name n) o false) (record_names so_far fields p is) in
-        let found = ih (with_component p.0 p.1 so_far) q in
-        ap (λ b. has_name n so_far || (b || has_record n rest)) named ∙ later (same_name n p.0) (has_name n so_far) (has_record n rest) (has_name n (with_component p.0 p.1 so_far)) (more_names n p.0 p.1 so_far) found
+    go ih (Ok x) is q =
+        let named : speaks_of version n fields ≡ same_name n x.dataset = ap (λ o. option_map_or (same_name n) o false) (record_names version so_far.sets fields x is) in
+        let found = ih (with_new x so_far) q in
+        ap (λ b. has_name n so_far.sets || (b || has_record version n rest)) named
+        ∙ later (same_name n x.dataset) (has_name n so_far.sets) (has_record version n rest) (has_name n (with_component x.dataset x.component so_far.sets)) (more_names n x.dataset x.component so_far.sets) found
 
 -- a data set with a record has an identifier, where no record lacks one
-record_identifies : (n : List ℕ) (line : ℕ) (all : Named) (rs : Records) → without_identifier line all rs ≡ None → has_record n rs ≡ true → list_any is_identifier (components_of n all) ≡ true
-record_identifies n line all [] e has = cc
-record_identifies n line all (fields ∷ rest) e has = go (record_identifies n (line + 1) all rest) (lacks_identifier all fields) refl (speaks_of n fields) refl e has
+record_identifies : (version : Version) (n : List ℕ) (line : ℕ) (all : Named) (rs : Records) → without_identifier version line all rs ≡ None → has_record version n rs ≡ true → list_any is_identifier (components_of n all) ≡ true
+record_identifies version n line all [] e has = cc
+record_identifies version n line all (fields ∷ rest) e has = go (record_identifies version n (line + 1) all rest) (lacks_identifier version all fields) refl (speaks_of version n fields) refl e has
   where
     same_as : (m : List ℕ) → same_name n m ≡ true → n ≡ m
     same_as m e = (bytes_decides n m).0 e
@@ -133,40 +141,46 @@ record_identifies n line all (fields ∷ rest) e has = go (record_identifies n (
     named None l s = cc
     named (Some m) l s = ap (λ name. list_any is_identifier (components_of name all)) (same_as m s) ∙ has_one (list_any is_identifier (components_of m all)) l
 
-    go : (without_identifier (line + 1) all rest ≡ None → has_record n rest ≡ true → list_any is_identifier (components_of n all) ≡ true)
-        → (b : Bool) → lacks_identifier all fields ≡ b → (t : Bool) → speaks_of n fields ≡ t → cond b (Some line) (without_identifier (line + 1) all rest) ≡ None → (t || has_record n rest) ≡ true → list_any is_identifier (components_of n all) ≡ true
+    go : (without_identifier version (line + 1) all rest ≡ None → has_record version n rest ≡ true → list_any is_identifier (components_of n all) ≡ true)
+        → (b : Bool) → lacks_identifier version all fields ≡ b → (t : Bool) → speaks_of version n fields ≡ t → cond b (Some line) (without_identifier version (line + 1) all rest) ≡ None → (t || has_record version n rest) ≡ true → list_any is_identifier (components_of n all) ≡ true
     go ih true l t s q h = cc
-    go ih false l true s q h = named (name_in fields) l s
+    go ih false l true s q h = named (name_in version fields) l s
     go ih false l false s q h = ih q h
 
 -- ---- a whole file
-record IsDeclared (rs : Records) (all : Named) : Type 0 where
+record IsDeclared (all : Named) : Type 0 where
   are : AreStructures all
   each : (n : List ℕ) → has_name n all ≡ true → list_any is_identifier (components_of n all) ≡ true
 
 no_name_yet : AreStructures []
 no_name_yet = record { declarable = refl; distinct = refl }
 
-file_declares : (rs : Records) (all : Named) → (lines_in rs >>= with_identifiers (drop 1 rs)) ≡ Ok all → IsDeclared rs all
-file_declares [] all e = cc
-file_declares (first ∷ rest) all e = header (is_header first) e
+file_declares : (rs : Records) (all : Whole) → (lines_in rs >>= with_identifiers rs) ≡ Ok all → IsDeclared all.structures.sets
+file_declares rs all e = by_opening (opening_of rs) e
   where
-    none_lacks : (r : Result Named Fault) → lines_declare 2 [] rest ≡ r → (r >>= with_identifiers rest) ≡ Ok all → IsDeclared (first ∷ rest) all
-    none_lacks (Err fault) is q = cc
-    none_lacks (Ok declared) is q = whole (without_identifier 2 declared rest) refl q
-      where
-        whole : (o : Option ℕ) → without_identifier 2 declared rest ≡ o → option_map_or {U = Result Named Fault} (λ line. Err (line, 10)) o (Ok declared) ≡ Ok all → IsDeclared (first ∷ rest) all
-        whole (Some line) w q = cc
-        whole None w q =
-            let same : declared ≡ all = cc in
-            subst (λ xs. IsDeclared (first ∷ rest) xs) same (record {
-              are = lines_are 2 [] rest declared no_name_yet is;
-              each = λ n has. record_identifies n 2 declared rest w (lines_name n 2 [] rest declared is has);
-            })
+    whole : (o : Opening) (d : Declared) → lines_behind o rs ≡ Ok d → (lacking : Option ℕ) → missing_in o d.sets rs ≡ lacking
+        → option_map_or {U = Result Whole Fault} (λ line. Err (line, 10)) lacking (Ok (record { structures = d; profile = o.profile })) ≡ Ok all → IsDeclared all.structures.sets
+    whole o d is (Some line) none q = cc
+    whole o d is None none q =
+        let made : Whole = record { structures = d; profile = o.profile } in
+        let same : made ≡ all = cc in
+        let first = first_line o.version in
+        let rest = declaring o.version rs in
+        subst (λ (x : Whole). IsDeclared x.structures.sets) same (record {
+          are = lines_are o.version first no_sets rest d no_name_yet is;
+          each = λ n has. record_identifies o.version n first d.sets rest none (lines_name o.version n first no_sets rest d is has);
+        })
 
-    header : (b : Bool) → (cond b (lines_declare 2 [] rest) (Err (1, 1)) >>= with_identifiers rest) ≡ Ok all → IsDeclared (first ∷ rest) all
-    header true q = none_lacks (lines_declare 2 [] rest) refl q
-    header false q = cc
+    by_lines : (o : Opening) (r : Result Declared Fault) → lines_behind o rs ≡ r → ((r >>= λ d. Ok (o, d)) >>= with_identifiers rs) ≡ Ok all → IsDeclared all.structures.sets
+    by_lines o (Err fault) is q = cc
+    by_lines o (Ok d) is q = whole o d is (missing_in o d.sets rs) refl q
+
+    by_opening : (r : Result Opening Fault) → ((r >>= λ o. lines_behind o rs >>= λ d. Ok (o, d)) >>= with_identifiers rs) ≡ Ok all → IsDeclared all.structures.sets
+    by_opening (Err fault) q = cc
+    by_opening (Ok o) q = by_lines o (lines_behind o rs) refl q
+
+pub file_are : (text : List ℕ) (all : Whole) → structures_of_file text ≡ Ok all → AreStructures all.structures.sets
+file_are text all read = (file_declares (records_in text) all read).are
 
 -- ---- the structure of a name
 found_named : (n : List ℕ) (xs : Named) (t : Structure) → lookup (same_name n) xs ≡ Some t → has_name n xs ≡ true
@@ -198,14 +212,14 @@ declarable_is_structure t e =
     upto : (n : ℕ) → nat_le n most_components ≡ true → n ≤ most_components
     upto n e = grind (arith, nat_tests)
 
-module _ (name text : List ℕ) (all : Named) (t : Structure) (read : structures_of_file text ≡ Ok all) (found : lookup (same_name name) all ≡ Some t) where
-  declared : IsDeclared (records_in text) all
+module _ (name text : List ℕ) (all : Whole) (t : Structure) (read : structures_of_file text ≡ Ok all) (found : lookup (same_name name) all.structures.sets ≡ Some t) where
+  declared : IsDeclared all.structures.sets
   declared = file_declares (records_in text) all read
 
   pub read_is_structure : IsStructure t
-  read_is_structure = declarable_is_structure t (all_found (same_name name) all t declared.are.declarable found)
+  read_is_structure = declarable_is_structure t (all_found (same_name name) all.structures.sets t declared.are.declarable found)
 
   pub read_has_identifier : 1 ≤ key_width t
   read_has_identifier =
-      let its : components_of name all ≡ t.components = ap (λ o. option_map_or (λ x. x.components) o []) found in
-      some_kept is_identifier t.components (ap (list_any is_identifier) (sym its) ∙ declared.each name (found_named name all t found))
+      let its : components_of name all.structures.sets ≡ t.components = ap (λ o. option_map_or (λ x. x.components) o []) found in
+      some_kept is_identifier t.components (ap (list_any is_identifier) (sym its) ∙ declared.each name (found_named name all.structures.sets t found))

@@ -4,7 +4,11 @@ use Rattle.std.specs.Global.{Vec}
 use Rattle.std.specs.Prelude.{IfOk}
 use Rattle.vtl_files.specs.declared.files.Files.{Ghosts}
 use Rattle.vtl_check.specs.Checked.{TypedScript, nodes_of}
-use Rattle.vtl_demo.specs.DataSets.{declared}
+use Rattle.vtl_demo.specs.DataSets.{declared as sets}
+use Rattle.vtl_decimal.specs.Settings.{Settings}
+use Rattle.vtl_syntax.specs.Trees.{ScriptTree}
+use Rattle.vtl_tree.specs.NotNull.{NotNull}
+use Rattle.vtl_tree.specs.Structures.{Named}
 use Rattle.vtl_demo.specs.Script as script
 use Rattle.vtl_demo.specs.Typed as demo
 use Rattle.vtl_top.specs.Answered.{Takes}
@@ -50,10 +54,11 @@ of_command g before now c d result t e = subst (λ (k : Command). Takes g before
 -- ---- the demonstration
 demonstration_viewed : (t : TypedScript) → demo.IsDemonstration t → typed_view t ≡ demonstration
 demonstration_viewed t is =
-    ap (λ tree. typed_by tree t.declared t.settings (nodes_of t)) is.spells
-    ∙ ap (λ structures. typed_by script.tree structures t.settings (nodes_of t)) is.over
-    ∙ ap (λ settings. typed_by script.tree declared settings (nodes_of t)) is.by
-    ∙ ap (λ nodes. typed_by script.tree declared script.settings nodes) is.gives
+    ap (λ (tree : ScriptTree). typed_by tree (record { sets = t.declared; not_null = t.not_null }) t.settings (nodes_of t)) is.spells
+    ∙ ap (λ (xs : Named). typed_by script.tree (record { sets = xs; not_null = t.not_null }) t.settings (nodes_of t)) is.over
+    ∙ ap (λ (ls : NotNull). typed_by script.tree (record { sets = sets; not_null = ls }) t.settings (nodes_of t)) is.lists
+    ∙ ap (λ (p : Settings). typed_by script.tree (record { sets = sets; not_null = [] }) p (nodes_of t)) is.by
+    ∙ ap (λ nodes. typed_by script.tree (record { sets = sets; not_null = [] }) script.settings nodes) is.gives
 
 pub told_of_demonstration : (told : TypedScript → Type 0) → demo.IsToldOf told → IsToldOf demonstration told
 told_of_demonstration told is = record { script = is.script; same = demonstration_viewed is.script is.demonstration; told_of = is.told_of }

@@ -9,15 +9,18 @@ use Rattle.vtl_cell.specs.Row.{Row}
 use Rattle.vtl_decimal.specs.Settings.{Settings}
 use Rattle.vtl_syntax.specs.Trees.{ScriptTree}
 use Rattle.vtl_tree.specs.Environment.{Environment}
+use Rattle.vtl_tree.specs.NotNull.{NotNull}
 use Rattle.vtl_tree.specs.Structures.{Named}
+use Rattle.vtl_csv.specs.declared.structures.Declared.{Declared as Whole}
 use Rattle.vtl_csv.specs.InputFile.{Fault, dataset_rows}
-use Rattle.vtl_csv.specs.StructuresFile.{Fault as StructuresFault, structures_of_file}
+use Rattle.vtl_csv.specs.Opening.{Fault as StructuresFault}
+use Rattle.vtl_csv.specs.StructuresFile.{structures_of_file}
 use Rattle.vtl_tree.specs.Trees.{NodeTree}
 use Rattle.vtl_scripts.specs.Meaning.{Outputs}
 use Rattle.vtl_check.specs.Checked.{env_over, TypedScript}
 use Rattle.vtl_check.specs.Script.{script_typed}
 use Rattle.vtl_check.specs.Uses.{reads}
-use Rattle.vtl_top.specs.Expected.{Typed, csv_limit, dataset_step, fault_status, file_in, folder_step, inputs_step, meant, one_more_step, outputs_of, points_or_fault, read, run_step, script_in, script_limit, script_of, script_step, sized, structures_limit, structures_step, text_for, text_step, typed_by, typed_or_fault, typed_step, typing_of, wanted_step, with_points}
+use Rattle.vtl_top.specs.Expected.{Typed, csv_limit, dataset_step, fault_status, file_in, folder_step, inputs_step, meant, one_more_step, outputs_of, points_or_fault, read, run_step, script_in, script_limit, script_of, script_step, settings_of, sized, structures_limit, structures_step, text_for, text_step, typed_by, typed_or_fault, typed_step, typing_of, wanted_step, with_points}
 use Rattle.vtl_top.specs.Meant.{IsFaulted, IsMistyped, IsRead, IsReady}
 use Rattle.std.specs.Option.{IfSome}
 use Rattle.vtl_files.specs.declared.files.Files.{Ghosts}
@@ -27,8 +30,8 @@ use Rattle.vtl_top.proofs.StepLemmas.{if_some_map}
 use Rattle.vtl_top.specs.ScriptFile.{Parsed, faulty, no_text, whole}
 use Rattle.vtl_top.specs.Steps.{Behind, Held, Path, Step, ◌>>=◌, settled}
 use Rattle.vtl_top.specs.Structures.{declared, structures_in}
-use Rattle.vtl_top.specs.Wanted.{Placed, Wanted, all_in, all_placed_in, entry_of}
-use Rattle.vtl_top.specs.Words.{Run, Source, settings_of}
+use Rattle.vtl_top.specs.Wanted.{Placed, Wanted, all_in, all_wanted_with, entry_of}
+use Rattle.vtl_top.specs.Words.{Run, Source}
 use Rattle.vtl_status.specs.declared.status.Status.{Status}
 use Rattle.vtl_status.specs.declared.status.Status.TheVariants as st
 use Rattle.vtl_top.proofs.MeantLemmas.{after_typing, after_script, after_structures, ready_from, ready_gives, script_there, source_from}
@@ -118,8 +121,8 @@ module _ (status : Status) (own : is_other (cause status) ≡ false) (held : Hel
   never_structures : (path bytes : List ℕ) → Never (settled (structures_in path bytes))
   never_structures path bytes gives = by_text (is_utf8 bytes) (structures_of_file bytes) gives
     where
-      by_text : (b : Bool) (read : Result Named StructuresFault) → Err status ≡ cond b (declared read) (Err (st.NotText (chars path))) → ⊥
-      by_text true (Ok structures) e = cc
+      by_text : (b : Bool) (read : Result Whole StructuresFault) → Err status ≡ cond b (declared read) (Err (st.NotText (chars path))) → ⊥
+      by_text true (Ok d) e = cc
       by_text true (Err fault) e = other (st.Structure fault.0 fault.1) refl e
       by_text false read e = other (st.NotText (chars path)) refl e
 
@@ -142,33 +145,35 @@ module _ (status : Status) (own : is_other (cause status) ≡ false) (held : Hel
       (never_onward (dataset_step p w) (λ points. settled (Ok (with_points before (entry_of w) points))) (never_dataset p w) (λ points. never_ok (with_points before (entry_of w) points)))
       (λ more. never_inputs p more rest)
 
-  pub never_folder : (folder : Path) (p : Settings) (es : Named) → Never (folder_step folder p es)
-  never_folder folder p es = never_inputs p [] (all_placed_in folder es)
-
   pub never_wanted : (folder : Path) (p : Settings) (ws : List Wanted) → Never (wanted_step folder p ws)
   never_wanted folder p ws = never_inputs p [] (all_in folder ws)
+
+  pub never_folder : (folder : Path) (p : Settings) (lists : NotNull) (es : Named) → Never (folder_step folder p lists es)
+  never_folder folder p lists es = never_wanted folder p (all_wanted_with lists es)
 
   -- ---- a source is refused so by its typing alone
   record ByTypes (s : Source) : Type 0 where
     tree : ScriptTree
-    structures : Named
-    is_read : IsRead s held tree structures
-    typing : Err status ≡ typing_of s tree structures
+    declared_by : Whole
+    is_read : IsRead s held tree declared_by
+    typing : Err status ≡ typing_of (settings_of s declared_by) tree declared_by.structures.sets
 
   by_typing : (s : Source) → (typed_step s).gives held (Err status) → ByTypes s
   by_typing s gives = at_script (refused_at (script_step s.script) (after_script s) held status gives)
     where
-      at_typing : (tree : ScriptTree) (structures : Named) → IsRead s held tree structures
-          → (settled (typing_of s tree structures)).gives held (Err status) ⊎ ((nodes : List NodeTree) × (settled (typing_of s tree structures)).gives held (Ok nodes) × (settled (Ok (typed_by tree structures (settings_of s) nodes))).gives held (Err status)) → ByTypes s
-      at_typing tree structures is (inl e) = record { tree = tree; structures = structures; is_read = is; typing = e }
-      at_typing tree structures is (inr (nodes, given, e)) = absurd (never_ok (typed_by tree structures (settings_of s) nodes) e)
+      at_typing : (tree : ScriptTree) (d : Whole) → IsRead s held tree d
+          → (settled (typing_of (settings_of s d) tree d.structures.sets)).gives held (Err status)
+          ⊎ ((nodes : List NodeTree) × (settled (typing_of (settings_of s d) tree d.structures.sets)).gives held (Ok nodes) × (settled (Ok (typed_by tree d.structures (settings_of s d) nodes))).gives held (Err status)) → ByTypes s
+      at_typing tree d is (inl e) = record { tree = tree; declared_by = d; is_read = is; typing = e }
+      at_typing tree d is (inr (nodes, given, e)) = absurd (never_ok (typed_by tree d.structures (settings_of s d) nodes) e)
 
       at_structures : (tree : ScriptTree) → (script_step s.script).gives held (Ok tree)
-          → (structures_step s.structures).gives held (Err status) ⊎ ((structures : Named) × (structures_step s.structures).gives held (Ok structures) × (after_structures s tree structures).gives held (Err status)) → ByTypes s
+          → (structures_step s.structures).gives held (Err status) ⊎ ((d : Whole) × (structures_step s.structures).gives held (Ok d) × (after_structures s tree d).gives held (Err status)) → ByTypes s
       at_structures tree script (inl e) =
           absurd (never_onward (read s.structures structures_limit) (λ bytes. settled (structures_in s.structures bytes)) (never_read s.structures structures_limit) (never_structures s.structures) e)
-      at_structures tree script (inr (structures, is, rest)) =
-          at_typing tree structures (source_from s held tree structures script is) (refused_at (settled (typing_of s tree structures)) (λ nodes. settled (Ok (typed_by tree structures (settings_of s) nodes))) held status rest)
+      at_structures tree script (inr (d, is, rest)) =
+          at_typing tree d (source_from s held tree d script is)
+          (refused_at (settled (typing_of (settings_of s d) tree d.structures.sets)) (λ nodes. settled (Ok (typed_by tree d.structures (settings_of s d) nodes))) held status rest)
 
       at_script : (script_step s.script).gives held (Err status) ⊎ ((tree : ScriptTree) × (script_step s.script).gives held (Ok tree) × (after_script s tree).gives held (Err status)) → ByTypes s
       at_script (inl e) = absurd (never_onward (read s.script script_limit) (script_of s.script) (never_read s.script script_limit) (never_script s.script) e)
@@ -192,14 +197,14 @@ module _ (status : Status) (own : is_other (cause status) ≡ false) (held : Hel
   by_run r gives = at_typed (refused_at (typed_step r.source) (after_typing r) held status gives)
     where
       at_values : (t : Typed) → (typed_step r.source).gives held (Ok t)
-          → (folder_step r.input t.settings (reads t.structures t.nodes)).gives held (Err status)
-          ⊎ ((env : Environment) × (folder_step r.input t.settings (reads t.structures t.nodes)).gives held (Ok env) × (settled (outputs_of r.output t.settings (meant t env))).gives held (Err status)) → ByTypes r.source ⊎ ByValues r
-      at_values t typed (inl e) = absurd (never_folder r.input t.settings (reads t.structures t.nodes) e)
+          → (folder_step r.input t.settings t.not_null (reads t.structures t.nodes)).gives held (Err status)
+          ⊎ ((env : Environment) × (folder_step r.input t.settings t.not_null (reads t.structures t.nodes)).gives held (Ok env) × (settled (outputs_of r.output t.settings (meant t env))).gives held (Err status)) → ByTypes r.source ⊎ ByValues r
+      at_values t typed (inl e) = absurd (never_folder r.input t.settings t.not_null (reads t.structures t.nodes) e)
       at_values t typed (inr (env, is, rest)) = inr (record { typed = t; inputs = env; ready = ready_from r held t env typed is; values = rest })
 
       at_typed : (typed_step r.source).gives held (Err status) ⊎ ((t : Typed) × (typed_step r.source).gives held (Ok t) × (after_typing r t).gives held (Err status)) → ByTypes r.source ⊎ ByValues r
       at_typed (inl e) = inl (by_typing r.source e)
-      at_typed (inr (t, is, rest)) = at_values t is (refused_at (folder_step r.input t.settings (reads t.structures t.nodes)) (λ env. settled (outputs_of r.output t.settings (meant t env))) held status rest)
+      at_typed (inr (t, is, rest)) = at_values t is (refused_at (folder_step r.input t.settings t.not_null (reads t.structures t.nodes)) (λ env. settled (outputs_of r.output t.settings (meant t env))) held status rest)
 
 -- ---- by types
 typing_fault : (i rule : ℕ) (typing : Result (List NodeTree) (ℕ × ℕ)) → Err (st.Mistyped i rule) ≡ typed_or_fault typing → typing ≡ Err (i, rule)
@@ -218,7 +223,12 @@ values_give_no_type i rule folder p (Err fault) e = go fault.0 e
     go Range e = cc
 
 mistyped_by : (s : Source) (held : Held) (i rule : ℕ) → ByTypes (st.Mistyped i rule) refl held s → IsMistyped s held i rule
-mistyped_by s held i rule b = record { tree = b.tree; structures = b.structures; source = b.is_read; fault = typing_fault i rule (script_typed (env_over (settings_of s) b.structures) b.tree) b.typing }
+mistyped_by s held i rule b = record {
+  tree = b.tree;
+  declared = b.declared_by;
+  source = b.is_read;
+  fault = typing_fault i rule (script_typed (env_over (settings_of s b.declared_by) b.declared_by.structures.sets) b.tree) b.typing;
+}
 
 pub mistyped_only : (r : Run) (held : Held) (i rule : ℕ) → (run_step r).gives held (Err (st.Mistyped i rule)) → IsMistyped r.source held i rule
 mistyped_only r held i rule gives = go (by_run (st.Mistyped i rule) refl held r gives)
@@ -232,8 +242,8 @@ mistyped_text_only s held i rule gives = mistyped_by s held i rule (by_text (st.
 
 refused_by_typing : (s : Source) (held : Held) (i rule : ℕ) → IsMistyped s held i rule → (typed_step s).gives held (Err (st.Mistyped i rule))
 refused_by_typing s held i rule is =
-    let typing : (settled (typing_of s is.tree is.structures)).gives held (Err (st.Mistyped i rule)) = sym (ap typed_or_fault is.fault) in
-    (Ok is.tree, script_there s held is.tree is.structures is.source, (Ok is.structures, is.source.declared, (Err (st.Mistyped i rule), typing, refl)))
+    let typing : (settled (typing_of (settings_of s is.declared) is.tree is.declared.structures.sets)).gives held (Err (st.Mistyped i rule)) = sym (ap typed_or_fault is.fault) in
+    (Ok is.tree, script_there s held is.tree is.declared is.source, (Ok is.declared, is.source.declared, (Err (st.Mistyped i rule), typing, refl)))
 
 pub mistyped_always : (r : Run) (held : Held) (i rule : ℕ) → IsMistyped r.source held i rule → (run_step r).gives held (Err (st.Mistyped i rule))
 mistyped_always r held i rule is = (Err (st.Mistyped i rule), refused_by_typing r.source held i rule is, refl)
@@ -265,7 +275,7 @@ pub faulted_only : (r : Run) (held : Held) (f : EvaluationFault) (name : List �
 faulted_only r held f name gives = go (by_run (fault_status f name) (own_values f name) held r gives)
   where
     go : ByTypes (fault_status f name) (own_values f name) held r.source ⊎ ByValues (fault_status f name) (own_values f name) held r → IsFaulted r held f name
-    go (inl b) = absurd (types_give_no_value f name (script_typed (env_over (settings_of r.source) b.structures) b.tree) b.typing)
+    go (inl b) = absurd (types_give_no_value f name (script_typed (env_over (settings_of r.source b.declared_by) b.declared_by.structures.sets) b.tree) b.typing)
     go (inr b) = record { typed = b.typed; inputs = b.inputs; ready = b.ready; means = value_fault f name r.output b.typed.settings (meant b.typed b.inputs) b.values }
 
 pub faulted_always : (r : Run) (held : Held) (f : EvaluationFault) (name : List ℕ) → IsFaulted r held f name → (run_step r).gives held (Err (fault_status f name))
@@ -285,9 +295,9 @@ typing_tells g a b s view told status = no_run g a b (typed_step s) never view (
     never : (f : EvaluationFault) (name : List ℕ) (held : Held) → (typed_step s).gives held (Err (fault_status f name)) → ⊥
     never f name held gives =
         let b = by_typing (fault_status f name) (own_values f name) held s gives in
-        types_give_no_value f name (script_typed (env_over (settings_of s) b.structures) b.tree) b.typing
+        types_give_no_value f name (script_typed (env_over (settings_of s b.declared_by) b.declared_by.structures.sets) b.tree) b.typing
 
-pub inputs_tell : {F X : Type 0} (g : Ghosts F) (a b c : F) (step : Step Typed) (folder : Path) (p : Settings) (inputs : Named) (view : X → Environment) (told : TypedScript → Type 0) (status : Status) → g.held b ≡ g.held a → Takes g b c (folder_step folder p inputs) view (Err status) → TellsRun g a step told status
-inputs_tell g a b c step folder p inputs view told status same t h =
+pub inputs_tell : {F X : Type 0} (g : Ghosts F) (a b c : F) (step : Step Typed) (folder : Path) (p : Settings) (lists : NotNull) (inputs : Named) (view : X → Environment) (told : TypedScript → Type 0) (status : Status) → g.held b ≡ g.held a → Takes g b c (folder_step folder p lists inputs) view (Err status) → TellsRun g a step told status
+inputs_tell g a b c step folder p lists inputs view told status same t h =
     subst (λ o. IfSome o (λ held. IsTold held step told)) same
-    (no_run g b c (folder_step folder p inputs) (λ f name held. never_folder (fault_status f name) (own_values f name) held folder p inputs) view (λ held. IsTold held step told) status t h)
+    (no_run g b c (folder_step folder p lists inputs) (λ f name held. never_folder (fault_status f name) (own_values f name) held folder p lists inputs) view (λ held. IsTold held step told) status t h)

@@ -7,6 +7,7 @@ use Rattle.vtl_cell.specs.Row.{Row}
 use Rattle.vtl_rows.specs.Named.{NamedTables}
 use Rattle.vtl_rows.specs.Tables.{Tabled}
 use Rattle.vtl_tree.specs.declared.structure.Structure.{Structure}
+use Rattle.vtl_csv.specs.declared.structures.Declared.{Declared as Whole}
 use Rattle.vtl_csv.specs.InputFile.{Fault, Reads}
 use Rattle.vtl_csv.specs.declared.input.InputErr.{InputErr}
 use Rattle.vtl_csv.specs.declared.input.InputErr.TheVariants as input
@@ -21,18 +22,19 @@ use Rattle.vtl_decimal.specs.Settings.{Settings}
 use Rattle.vtl_syntax.specs.Trees.{ScriptTree}
 use Rattle.vtl_syntax.specs.View.{script_tree, statement_tree}
 use Rattle.vtl_syntax.specs.declared.statements.Script.{Script}
-use Rattle.vtl_tree.specs.NotNull.{Declared}
+use Rattle.vtl_tree.specs.NotNull.{NotNull}
 use Rattle.vtl_tree.specs.Structures.{Named}
 use Rattle.vtl_check.specs.Checked.{TypedScript, nodes_of, tree_of}
 use Rattle.vtl_backend.specs.Inputs.{environment_of, inputs_of}
-use Rattle.vtl_top.specs.Expected.{IsTextOf, Typed, fault_status, folder_step, meant, outputs_of, points_or_fault, run_step, script_step, structures_step, text_for, text_step, typed_by, typed_step, typing_of}
+use Rattle.vtl_top.specs.Expected.{IsTextOf, Typed, fault_status, folder_step, meant, outputs_of, points_or_fault, run_step, script_step, settings_of, structures_step, text_for, text_step, typed_by, typed_step, typing_of}
 use Rattle.vtl_top.specs.InputsRead.{rows_in}
 use Rattle.vtl_top.specs.Kinds.{refused, told_by}
 use Rattle.vtl_top.specs.Linked.{lineage_step, lineage_text}
+use Rattle.vtl_top.specs.Migrated.{migrate_step, migrated}
 use Rattle.vtl_top.specs.Refusal.{IsOrMemory, IsTableRead, SettlesBy, faulted, input_refusal}
 use Rattle.vtl_top.specs.Steps.{File, Made, Path, Step, ◌>>=◌, settled}
 use Rattle.vtl_top.specs.Informed.{HasRun, typed_view}
-use Rattle.vtl_top.specs.Words.{Run, Source, settings_of}
+use Rattle.vtl_top.specs.Words.{Migration, Run, Source}
 use Rattle.vtl_status.specs.declared.status.Status.{Status}
 use Rattle.vtl_status.specs.declared.status.Status.TheVariants as st
 use Rattle.vtl_top.proofs.ReadScripts.{if_some_all, settled_given, typing_given}
@@ -91,30 +93,37 @@ module _ {F X : Type 0} (g : Ghosts F) (s : Source) (view : X → Typed) (a b : 
     onward : (c : F) (result : Result X Status) → Takes g b c (after_script s (script_tree script)) view result → Takes g a c (typed_step s) view result
     onward c result rest = takes_onward g (script_step s.script) (after_script s) a b c script_tree view script result t rest
 
-    pub structures_refused : (c : F) (status : Status) → Takes g b c (structures_step s.structures) (λ (x : Declared). x.sets) (Err status) → Takes g a c (typed_step s) view (Err status)
+    pub structures_refused : (c : F) (status : Status) → Takes g b c (structures_step s.structures) (λ (d : Whole). d) (Err status) → Takes g a c (typed_step s) view (Err status)
     structures_refused c status u =
-        onward c (Err status) (takes_stopped g (structures_step s.structures) (after_structures s (script_tree script)) b c (λ (x : Declared). x.sets) view status u)
+        onward c (Err status) (takes_stopped g (structures_step s.structures) (after_structures s (script_tree script)) b c (λ (d : Whole). d) view status u)
 
-    pub then_typed : (c : F) (structures : Declared) (result : Result X Status) → Takes g b c (structures_step s.structures) (λ (x : Declared). x.sets) (Ok structures)
-        → Takes g c c (after_structures s (script_tree script) structures.sets) view result → Takes g a c (typed_step s) view result
-    then_typed c structures result u rest =
-        onward c result (takes_onward g (structures_step s.structures) (after_structures s (script_tree script)) b c c (λ (x : Declared). x.sets) view structures result u rest)
+    pub then_typed : (c : F) (declared : Whole) (result : Result X Status) → Takes g b c (structures_step s.structures) (λ (d : Whole). d) (Ok declared)
+        → Takes g c c (after_structures s (script_tree script) declared) view result → Takes g a c (typed_step s) view result
+    then_typed c declared result u rest =
+        onward c result (takes_onward g (structures_step s.structures) (after_structures s (script_tree script)) b c c (λ (d : Whole). d) view declared result u rest)
 
-module _ {F : Type 0} (g : Ghosts F) (s : Source) (a : F) (tree : ScriptTree) (structures : Named) where
-  typed_same : (t : TypedScript) → tree_of t ≡ tree → t.declared ≡ structures → t.settings ≡ (settings_of s) → typed_by tree structures (settings_of s) (nodes_of t) ≡ typed_view t
-  typed_same t p q u =
-      ap (λ (x : ScriptTree). typed_by x structures (settings_of s) (nodes_of t)) (sym p)
-      ∙ ap (λ (x : Named). typed_by (tree_of t) x (settings_of s) (nodes_of t)) (sym q)
-      ∙ ap (λ (x : Settings). typed_by (tree_of t) t.declared x (nodes_of t)) (sym u)
+module _ {F : Type 0} (g : Ghosts F) (s : Source) (a : F) (tree : ScriptTree) (declared : Whole) where
+  abbrev p : Settings
+  p = settings_of s declared
 
-  pub typed_takes : (result : Result TypedScript Status) → SettlesBy nodes_of (typing_of s tree structures) result → IfOk result (λ t. tree_of t ≡ tree) → IfOk result (λ t. t.declared ≡ structures) → IfOk result (λ t. t.settings ≡ (settings_of s))
-      → Takes g a a (after_structures s tree structures) typed_view result
-  typed_takes (Ok t) is p q u =
-      takes_onward g (settled (typing_of s tree structures)) (λ nodes. settled (Ok (typed_by tree structures (settings_of s) nodes))) a a a nodes_of typed_view t (Ok t)
-      (settled_ok g a nodes_of t (typing_of s tree structures) is) (settled_ok g a typed_view t (Ok (typed_by tree structures (settings_of s) (nodes_of t))) (ap Ok (typed_same t p q u)))
-  typed_takes (Err status) is p q u =
-      takes_stopped g (settled (typing_of s tree structures)) (λ nodes. settled (Ok (typed_by tree structures (settings_of s) nodes))) a a nodes_of typed_view status
-      (typing_given g a s tree structures nodes_of (Err status) is)
+  abbrev structures : Named
+  structures = declared.structures.sets
+
+  typed_same : (t : TypedScript) → tree_of t ≡ tree → t.declared ≡ structures → t.not_null ≡ declared.structures.not_null → t.settings ≡ p → typed_by tree declared.structures p (nodes_of t) ≡ typed_view t
+  typed_same t is q l u =
+      ap (λ (x : ScriptTree). typed_by x declared.structures p (nodes_of t)) (sym is)
+      ∙ ap (λ (x : Named). typed_by (tree_of t) (record { sets = x; not_null = declared.structures.not_null }) p (nodes_of t)) (sym q)
+      ∙ ap (λ (x : NotNull). typed_by (tree_of t) (record { sets = t.declared; not_null = x }) p (nodes_of t)) (sym l)
+      ∙ ap (λ (x : Settings). typed_by (tree_of t) (record { sets = t.declared; not_null = t.not_null }) x (nodes_of t)) (sym u)
+
+  pub typed_takes : (result : Result TypedScript Status) → SettlesBy nodes_of (typing_of p tree structures) result → IfOk result (λ t. tree_of t ≡ tree) → IfOk result (λ t. t.declared ≡ structures)
+      → IfOk result (λ t. t.not_null ≡ declared.structures.not_null) → IfOk result (λ t. t.settings ≡ p) → Takes g a a (after_structures s tree declared) typed_view result
+  typed_takes (Ok t) is e q l u =
+      takes_onward g (settled (typing_of p tree structures)) (λ nodes. settled (Ok (typed_by tree declared.structures p nodes))) a a a nodes_of typed_view t (Ok t)
+      (settled_ok g a nodes_of t (typing_of p tree structures) is) (settled_ok g a typed_view t (Ok (typed_by tree declared.structures p (nodes_of t))) (ap Ok (typed_same t e q l u)))
+  typed_takes (Err status) is e q l u =
+      takes_stopped g (settled (typing_of p tree structures)) (λ nodes. settled (Ok (typed_by tree declared.structures p nodes))) a a nodes_of typed_view status
+      (typing_given g a p tree structures nodes_of (Err status) is)
 
 -- ---- the steps of a run
 module _ {F X : Type 0} (g : Ghosts F) (r : Run) (view : X → List File) (a b : F) where
@@ -125,16 +134,16 @@ module _ {F X : Type 0} (g : Ghosts F) (r : Run) (view : X → List File) (a b :
     typed_on : (c : F) (result : Result X Status) → Takes g b c (after_typing r (typed_view t)) view result → Takes g a c (run_step r) view result
     typed_on c result rest = takes_onward g (typed_step r.source) (after_typing r) a b c typed_view view t result typed rest
 
-    pub inputs_refused : (c : F) (status : Status) → Takes g b c (folder_step r.input t.settings (inputs_of t)) (environment_of t) (Err status) → Takes g a c (run_step r) view (Err status)
+    pub inputs_refused : (c : F) (status : Status) → Takes g b c (folder_step r.input t.settings t.not_null (inputs_of t)) (environment_of t) (Err status) → Takes g a c (run_step r) view (Err status)
     inputs_refused c status u =
-        typed_on c (Err status) (takes_stopped g (folder_step r.input t.settings (inputs_of t)) (λ env. settled (outputs_of r.output t.settings (meant (typed_view t) env))) b c (environment_of t) view status u)
+        typed_on c (Err status) (takes_stopped g (folder_step r.input t.settings t.not_null (inputs_of t)) (λ env. settled (outputs_of r.output t.settings (meant (typed_view t) env))) b c (environment_of t) view status u)
 
-    pub then_results : (c : F) (inputs : NamedTables) (result : Result X Status) → Takes g b c (folder_step r.input t.settings (inputs_of t)) (environment_of t) (Ok inputs)
+    pub then_results : (c : F) (inputs : NamedTables) (result : Result X Status) → Takes g b c (folder_step r.input t.settings t.not_null (inputs_of t)) (environment_of t) (Ok inputs)
         → SettlesBy view (outputs_of r.output t.settings (script_meaning t inputs)) result → Takes g a c (run_step r) view result
     then_results c inputs result u is =
         let m = script_meaning t inputs in
         typed_on c result
-        (takes_onward g (folder_step r.input t.settings (inputs_of t)) (λ env. settled (outputs_of r.output t.settings (meant (typed_view t) env))) b c c (environment_of t) view inputs result u
+        (takes_onward g (folder_step r.input t.settings t.not_null (inputs_of t)) (λ env. settled (outputs_of r.output t.settings (meant (typed_view t) env))) b c c (environment_of t) view inputs result u
         (settled_given g c view (outputs_of r.output t.settings m) (results_refuse r.output t.settings m) result is))
 
 -- ---- the steps that lead to a text in SQL
@@ -160,6 +169,21 @@ module _ {F X : Type 0} (g : Ghosts F) (s : Source) (view : X → List ℕ) (a b
   links_made t typed x is =
       takes_onward g (typed_step s) (λ t. settled (Ok (lineage_text t))) a b b typed_view view t (Ok x) typed
       (settled_given g b view (Ok (lineage_text (typed_view t))) (λ status e. cc) (Ok x) (ap Ok (sym is)))
+
+-- ---- the text of version 2 of a structures file
+module _ {F X : Type 0} (g : Ghosts F) (m : Migration) (view : X → List ℕ) (a b : F) where
+  pub migration_refused : (status : Status) → Takes g a b (structures_step m.structures) (λ (d : Whole). d) (Err status) → Takes g a b (migrate_step m) view (Err status)
+  migration_refused status t = takes_stopped g (structures_step m.structures) (λ d. settled (Ok (migrated m d))) a b (λ (d : Whole). d) view status t
+
+  module _ (declared : Whole) (read : Takes g a b (structures_step m.structures) (λ (d : Whole). d) (Ok declared)) where
+    pub migration_unmade : (status : Status) → status ≡ st.Memory → Takes g a b (migrate_step m) view (Err status)
+    migration_unmade status e =
+        takes_onward g (structures_step m.structures) (λ d. settled (Ok (migrated m d))) a b b (λ (d : Whole). d) view declared (Err status) read (memory_takes g b view (settled (Ok (migrated m declared))) status e)
+
+    pub migration_made : (x : X) → view x ≡ migrated m declared → Takes g a b (migrate_step m) view (Ok x)
+    migration_made x is =
+        takes_onward g (structures_step m.structures) (λ d. settled (Ok (migrated m d))) a b b (λ (d : Whole). d) view declared (Ok x) read
+        (settled_given g b view (Ok (migrated m declared)) (λ status e. cc) (Ok x) (ap Ok (sym is)))
 
 -- ---- what is made of files, or of a text
 module _ {F A X : Type 0} (g : Ghosts F) (a b : F) (step : Step A) (wrap : A → Made) (view : X → A) where

@@ -15,10 +15,11 @@ use Rattle.vtl_top.specs.Answered.{Adds, Ends}
 use Rattle.vtl_top.specs.Forms.{IsMadeBy, asked_step}
 use Rattle.vtl_top.specs.Said.{Hears, Says}
 use Rattle.vtl_top.specs.Expected.{format_step}
+use Rattle.vtl_top.specs.Migrated.{IsMigrated, migrate_step}
 use Rattle.vtl_top.specs.Meant.{IsFormMeant}
 use Rattle.vtl_top.specs.Steps.{Held, Made, Path, only_text, settled}
-use Rattle.vtl_top.specs.Words.{Command, Engine, Run, RunsScript, demo, engine, format}
-use Rattle.vtl_top.proofs.MeantLemmas.{form_only, went_on}
+use Rattle.vtl_top.specs.Words.{Command, Engine, Migration, Run, RunsScript, demo, engine, format, migrate}
+use Rattle.vtl_top.proofs.MeantLemmas.{form_only, migrated_only, went_on}
 
 taken_nothing : (t : Option (List ℕ)) → TakesAll t t []
 taken_nothing None = refl
@@ -68,4 +69,18 @@ form_is_said g o a b out now path held told ends =
       form_only path held went.0 went.1,
       subst (λ (m : Made). Adds (g.written a) (g.written b) m.files) same ends.command_ends.gave.0.0,
       subst (λ s. Hears o out s went.0) (sym ends.line) (subst (λ (m : Made). Hears o out ends.between m.text) same ends.command_ends.gave.1),
+    )
+
+-- what `migrate` says is the text of version 2 of the held structures file
+pub migration_is_said : {F S : Type 0} (g : Store F) (o : Ghosts S) (a b : F) (out now : S) (m : Migration) (held : Held) → g.held a ≡ Some held → Ends g o a b out now (Some (migrate m)) st.Done
+    → (text : List ℕ) × IsMigrated m held text × Adds (g.written a) (g.written b) [] × Hears o out now text
+migration_is_said g o a b out now m held told ends =
+    let made = ends.command_ends.made in
+    let given : (asked_step (Some (migrate m))).gives held (Ok made) = subst (λ (h : Option Held). IfSome h (λ held. (asked_step (Some (migrate m))).gives held (Ok made))) told ends.command_ends.given in
+    let went = went_on (migrate_step m) (λ text. settled (Ok (only_text text))) held made given in
+    let same : made ≡ only_text went.0 = ok_same went.2 in (
+      went.0,
+      migrated_only m held went.0 went.1,
+      subst (λ (x : Made). Adds (g.written a) (g.written b) x.files) same ends.command_ends.gave.0.0,
+      subst (λ s. Hears o out s went.0) (sym ends.line) (subst (λ (x : Made). Hears o out ends.between x.text) same ends.command_ends.gave.1),
     )

@@ -6,6 +6,7 @@ use Rattle.vtl_grammar.specs.Faults.{SyntaxFault, WholeScript}
 use Rattle.vtl_parser.specs.Parsed.{IsFaulty, IsScript}
 use Rattle.vtl_decimal.specs.Settings.{Settings}
 use Rattle.vtl_tree.specs.Environment.{Environment}
+use Rattle.vtl_tree.specs.NotNull.{NotNull}
 use Rattle.vtl_tree.specs.Structures.{Named}
 use Rattle.vtl_check.specs.Uses.{reads}
 use Rattle.sql_check_parts.specs.Statements.{script_settings}
@@ -18,8 +19,8 @@ use Rattle.vtl_top.specs.ScriptFile.{IsFormatted, IsParsed, IsParsedBy, IsSqlPar
 use Rattle.vtl_top.specs.SqlInputs.{inputs_wanted}
 use Rattle.vtl_top.specs.SqlRun.{engine_step, sql_checked_step, sql_in, sql_of}
 use Rattle.vtl_top.specs.Steps.{Behind, File, Held, Made, Path, Step, Text, ◌>>=◌, as_files, as_text, looked, only_text, read_as, settled, status_of}
-use Rattle.vtl_top.specs.Wanted.{Placed, Wanted, all_in, all_placed_in}
-use Rattle.vtl_top.specs.Words.{Command, Engine, Run, Source, demo, engine, format, lineage, run, sql, sqlrun}
+use Rattle.vtl_top.specs.Wanted.{Placed, Wanted, all_in, all_wanted_with}
+use Rattle.vtl_top.specs.Words.{Command, Engine, Run, Source, demo, engine, format, lineage, migrate, run, sql, sqlrun}
 use Rattle.vtl_status.specs.declared.status.Status.{Status}
 use Rattle.vtl_top.proofs.MeantLemmas.{accepted_only}
 use Rattle.vtl_top.proofs.ReadScripts.{form_there, formatted_once, parsed_once}
@@ -86,21 +87,21 @@ inputs_sure : (p : Settings) (before : Environment) (inputs : List Placed) → S
 inputs_sure p before [] = settled_sure _
 inputs_sure p before (w ∷ rest) = then_sure _ _ (then_sure _ _ (dataset_sure p w) (λ points. settled_sure _)) (λ more. inputs_sure p more rest)
 
-folder_sure : (folder : Path) (p : Settings) (es : Named) → Sure (folder_step folder p es)
-folder_sure folder p es = inputs_sure p [] (all_placed_in folder es)
-
 wanted_sure : (folder : Path) (p : Settings) (ws : List Wanted) → Sure (wanted_step folder p ws)
 wanted_sure folder p ws = inputs_sure p [] (all_in folder ws)
+
+folder_sure : (folder : Path) (p : Settings) (lists : NotNull) (es : Named) → Sure (folder_step folder p lists es)
+folder_sure folder p lists es = wanted_sure folder p (all_wanted_with lists es)
 
 pub typed_sure : (s : Source) → Sure (typed_step s)
 typed_sure s =
     then_sure _ _ (then_sure _ _ (looked_sure _ _) (λ bytes. script_sure s.script bytes)) (λ tree.
-    then_sure _ _ (structures_sure s.structures) (λ structures.
+    then_sure _ _ (structures_sure s.structures) (λ d.
     then_sure _ _ (settled_sure _) (λ nodes.
     settled_sure _)))
 
 pub run_sure : (r : Run) → Sure (run_step r)
-run_sure r = then_sure _ _ (typed_sure r.source) (λ t. then_sure _ _ (folder_sure r.input t.settings (reads t.structures t.nodes)) (λ env. settled_sure _))
+run_sure r = then_sure _ _ (typed_sure r.source) (λ t. then_sure _ _ (folder_sure r.input t.settings t.not_null (reads t.structures t.nodes)) (λ env. settled_sure _))
 
 formed_somehow : (bytes : Text) → ¬ ¬ (((form : Text) × IsFormed bytes form) ⊎ ((done : ℕ) × (byte : ℕ) × IsFaulty bytes done byte))
 formed_somehow bytes = then_too (vtl_read_somehow bytes) by_script
@@ -140,6 +141,7 @@ sure_or_text (Some (sql s)) = inr (s, refl)
 sure_or_text (Some (engine e)) = inl (files_sure _ (engine_sure e))
 sure_or_text (Some (lineage s)) = inl (text_sure _ (then_sure _ _ (typed_sure s) (λ t. settled_sure _)))
 sure_or_text (Some (format path)) = inl (text_sure _ (then_sure _ _ (looked_sure _ _) (λ bytes. form_sure path bytes)))
+sure_or_text (Some (migrate m)) = inl (text_sure _ (then_sure _ _ (structures_sure m.structures) (λ d. settled_sure _)))
 sure_or_text (Some (demo n)) = inl (settled_sure _)
 
 abbrev pub IsNoText : Option Command → Type 0

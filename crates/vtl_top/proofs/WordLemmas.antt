@@ -1,6 +1,6 @@
 -- Fewer words than a command has.
 use Rattle.std.proofs.Common.{◌≡◌, ℕ, ◌<◌, List, [], ◌∷◌, length, map, None, arith, refl}
-use Rattle.vtl_top.specs.Words.{run_of, source_of}
+use Rattle.vtl_top.specs.Words.{migration_of, run_of, source_of}
 
 pub too_few : {X : Type 0} (f : X → List ℕ) (xs : List X) → length xs < 4 → None ≡ run_of (map f xs)
 too_few f [] h = refl

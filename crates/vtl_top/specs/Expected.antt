@@ -7,6 +7,7 @@ use Rattle.vtl_cell.specs.Row.{Row}
 use Rattle.vtl_decimal.specs.Settings.{Settings}
 use Rattle.vtl_syntax.specs.Trees.{ScriptTree}
 use Rattle.vtl_tree.specs.Environment.{DataSet, Environment}
+use Rattle.vtl_tree.specs.NotNull.{Declared, NotNull}
 use Rattle.vtl_tree.specs.Structures.{Named}
 use Rattle.vtl_tree.specs.Trees.{NodeTree}
 use Rattle.vtl_scripts.specs.Meaning.{Outputs, Statement, meaning}
@@ -15,6 +16,7 @@ use Rattle.vtl_check.specs.Transformations.{transformations}
 use Rattle.vtl_tree.specs.declared.structure.Structure.{Structure}
 use Rattle.vtl_csv.specs.CsvText.{csv_of}
 use Rattle.vtl_csv.specs.InputFile.{Fault, dataset_rows}
+use Rattle.vtl_csv.specs.declared.structures.Declared.{Declared as Whole}
 use Rattle.vtl_check.specs.Checked.{env_over}
 use Rattle.vtl_check.specs.Script.{script_typed}
 use Rattle.vtl_check.specs.Uses.{reads}
@@ -22,8 +24,8 @@ use Rattle.sql_back.specs.Texts.{IsTextFor}
 use Rattle.vtl_top.specs.ScriptFile.{IsFormatted, IsParsed, Parsed, faulty, no_text, whole}
 use Rattle.vtl_top.specs.Steps.{File, Held, Name, Path, Step, Text, ◌>>=◌, looked, read_as, settled}
 use Rattle.vtl_top.specs.Structures.{structures_in}
-use Rattle.vtl_top.specs.Wanted.{Placed, Wanted, all_in, all_placed_in, entry_of}
-use Rattle.vtl_top.specs.Words.{Run, Source, settings_of}
+use Rattle.vtl_top.specs.Wanted.{Placed, Wanted, all_in, all_wanted_with, entry_of}
+use Rattle.vtl_top.specs.Words.{Run, Source, settings_for}
 use Rattle.vtl_status.specs.declared.status.Status.{Status}
 use Rattle.vtl_status.specs.declared.status.Status.TheVariants as st
 
@@ -99,12 +101,12 @@ inputs_step p before [] = settled (Ok before)
 inputs_step p before (w ∷ rest) = one_more_step p before w >>= λ more. inputs_step p more rest
 
 -- the data sets of one folder
-abbrev pub folder_step : Path → Settings → Named → Step Environment
-folder_step folder p es = inputs_step p [] (all_placed_in folder es)
-
--- the data sets of one folder, with not-null components
 abbrev pub wanted_step : Path → Settings → List Wanted → Step Environment
 wanted_step folder p ws = inputs_step p [] (all_in folder ws)
+
+-- those of these names and structures, with the not-null components of these lists
+abbrev pub folder_step : Path → Settings → NotNull → Named → Step Environment
+folder_step folder p lists es = wanted_step folder p (all_wanted_with lists es)
 
 -- ---- the outputs
 -- the file of a result in a folder
@@ -122,8 +124,8 @@ outputs_of folder p (Ok results) = Ok (map (output_of folder p) results)
 outputs_of folder p (Err fault) = Err (fault_status fault.0 fault.1)
 
 -- ---- the whole
--- the structures of the structures file
-abbrev pub structures_step : Path → Step Named
+-- what the structures file declares
+abbrev pub structures_step : Path → Step Whole
 structures_step path = read path structures_limit >>= λ bytes. settled (structures_in path bytes)
 
 -- the status of the first statement that breaks a rule of typing
@@ -131,27 +133,33 @@ abbrev pub typed_or_fault : {A : Type 0} → Result A (ℕ × ℕ) → Result A 
 typed_or_fault (Ok x) = Ok x
 typed_or_fault (Err fault) = Err (st.Mistyped fault.0 fault.1)
 
--- a script with the structures and the settings that it is typed over, and its nodes, one for each transformation
+-- a script with the structures, their not-null lists and the settings that it is typed over, and its nodes, one for each
+-- transformation
 pub record Typed : Type 0 where
   pub tree : ScriptTree
   pub structures : Named
+  pub not_null : NotNull
   pub settings : Settings
   pub nodes : List NodeTree
 
-abbrev pub typed_by : ScriptTree → Named → Settings → List NodeTree → Typed
-typed_by tree structures settings nodes = record { tree = tree; structures = structures; settings = settings; nodes = nodes }
+abbrev pub typed_by : ScriptTree → Declared → Settings → List NodeTree → Typed
+typed_by tree d settings nodes = record { tree = tree; structures = d.sets; not_null = d.not_null; settings = settings; nodes = nodes }
+
+-- the settings of a source whose structures file declares this
+abbrev pub settings_of : Source → Whole → Settings
+settings_of s d = settings_for s.chosen d.profile
 
 -- the typing of a script over structures
-abbrev pub typing_of : Source → ScriptTree → Named → Result (List NodeTree) Status
-typing_of s tree structures = typed_or_fault (script_typed (env_over (settings_of s) structures) tree)
+abbrev pub typing_of : Settings → ScriptTree → Named → Result (List NodeTree) Status
+typing_of p tree structures = typed_or_fault (script_typed (env_over p structures) tree)
 
 -- the script of a source, typed over its structures
 abbrev pub typed_step : Source → Step Typed
 typed_step s =
     script_step s.script >>= λ tree.
-    structures_step s.structures >>= λ structures.
-    settled (typing_of s tree structures) >>= λ nodes.
-    settled (Ok (typed_by tree structures (settings_of s) nodes))
+    structures_step s.structures >>= λ d.
+    settled (typing_of (settings_of s d) tree d.structures.sets) >>= λ nodes.
+    settled (Ok (typed_by tree d.structures (settings_of s d) nodes))
 
 -- its statements
 abbrev pub statements_in : Typed → List Statement
@@ -165,13 +173,13 @@ meant t env = meaning t.settings (statements_in t) env
 abbrev pub run_step : Run → Step (List File)
 run_step r =
     typed_step r.source >>= λ t.
-    folder_step r.input t.settings (reads t.structures t.nodes) >>= λ env.
+    folder_step r.input t.settings t.not_null (reads t.structures t.nodes) >>= λ env.
     settled (outputs_of r.output t.settings (meant t env))
 
 -- ---- the text in SQL
 -- a text of a typed script; others may be texts of it, too
 abbrev pub IsTextOf : Typed → Text → Type 0
-IsTextOf t text = IsTextFor t.settings (reads t.structures t.nodes) (statements_in t) text
+IsTextOf t text = IsTextFor t.settings t.not_null (reads t.structures t.nodes) (statements_in t) text
 
 abbrev pub text_for : Typed → Step Text
 text_for t = read_as (IsTextOf t) (λ text. Ok text)

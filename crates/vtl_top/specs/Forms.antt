@@ -1,14 +1,15 @@
 -- The form of each command: what its words ask for, what it gives out, and what a back end is told.
 use Rattle.std.specs.Prelude.{◌≡◌, [], Option, Some, None, Ok, Err}
-use Rattle.vtl_demo.specs.DataSets.{declared}
+use Rattle.vtl_demo.specs.DataSets.{declared as sets}
 use Rattle.vtl_demo.specs.Nodes.{typed_nodes}
 use Rattle.vtl_demo.specs.Said.{said}
 use Rattle.vtl_demo.specs.Script as script
 use Rattle.vtl_top.specs.Expected.{Typed, format_step, run_step, text_step, typed_by, typed_step}
 use Rattle.vtl_top.specs.Linked.{lineage_step}
+use Rattle.vtl_top.specs.Migrated.{migrate_step}
 use Rattle.vtl_top.specs.SqlRun.{engine_step}
 use Rattle.vtl_top.specs.Steps.{Made, Step, as_files, as_text, only_text, settled}
-use Rattle.vtl_top.specs.Words.{Command, demo, engine, format, lineage, run, sql, sqlrun}
+use Rattle.vtl_top.specs.Words.{Command, demo, engine, format, lineage, migrate, run, sql, sqlrun}
 use Rattle.vtl_status.specs.declared.status.Status.TheVariants as st
 
 -- what a command gives out: nothing, files, a text, or files and behind them a text
@@ -38,7 +39,7 @@ pub record Form : Type 1 where
 
 -- the script of the demonstration
 abbrev pub demonstration : Typed
-demonstration = typed_by script.tree declared script.settings typed_nodes
+demonstration = typed_by script.tree (record { sets = sets; not_null = [] }) script.settings typed_nodes
 
 -- the form of a command, and of words that are none
 abbrev pub form_of : Option Command → Form
@@ -49,6 +50,7 @@ form_of (Some (sql s)) = record { step = as_text (text_step s); half = text_alon
 form_of (Some (engine e)) = record { step = as_files (engine_step e); half = files_alone; tells = silent }
 form_of (Some (lineage s)) = record { step = as_text (lineage_step s); half = text_alone; tells = silent }
 form_of (Some (format path)) = record { step = as_text (format_step path); half = text_alone; tells = silent }
+form_of (Some (migrate m)) = record { step = as_text (migrate_step m); half = text_alone; tells = silent }
 form_of (Some (demo n)) = record { step = settled (Ok (only_text (said n))); half = text_alone; tells = of_itself demonstration }
 
 -- what the words ask for

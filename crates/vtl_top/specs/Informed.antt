@@ -18,7 +18,7 @@ HasRun status = ⊥
 
 -- a typed script, without where its parts lie in memory
 abbrev pub typed_view : TypedScript → Typed
-typed_view t = typed_by (tree_of t) t.declared t.settings (nodes_of t)
+typed_view t = typed_by (tree_of t) (record { sets = t.declared; not_null = t.not_null }) t.settings (nodes_of t)
 
 -- The back end was told of the script that the step gives over these held files.
 pub record IsTold (held : Held) (step : Step Typed) (told : TypedScript → Type 0) : Type 0 where

@@ -8,6 +8,7 @@ use Rattle.vtl_decimal.specs.Settings.{Settings}
 use Rattle.vtl_rows.specs.Named.{NamedTables}
 use Rattle.vtl_rows.specs.Tables.{Listed, Tabled}
 use Rattle.vtl_tree.specs.DataSet.{AreOfProfile}
+use Rattle.vtl_tree.specs.NotNull.{NotNull, not_null_of}
 use Rattle.vtl_tree.specs.Structure.{IsStructure, same_name}
 use Rattle.vtl_tree.specs.Structures.{Named}
 use Rattle.vtl_tree.specs.declared.structure.Structure.{Structure}
@@ -34,9 +35,9 @@ wanted_from folder w = (folder, as_wanted w)
 abbrev pub all_wanted_from : Path → List Wanted → List Placed
 all_wanted_from folder ws = map (wanted_from folder) ws
 
--- no component of it is not-null
-abbrev pub IsPlain : Wanted → Type 0
-IsPlain w = w.not_null.now ≡ []
+-- its not-null components are those on the list of its name
+abbrev pub IsListed : NotNull → Wanted → Type 0
+IsListed lists w = w.not_null.now ≡ not_null_of w.name.now lists
 
 -- data sets that can be read: each has a structure, and their names are distinct
 pub record AreReadable (inputs : Named) : Type 0 where

@@ -9,6 +9,7 @@ pub mod Kinds
 pub mod Linked
 pub mod MadeView
 pub mod Meant
+pub mod Migrated
 pub mod OutputView
 pub mod Refusal
 pub mod ResultTables

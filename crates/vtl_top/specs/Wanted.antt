@@ -1,5 +1,6 @@
 -- The data sets that are read, and the folders of their files.
-use Rattle.std.specs.Prelude.{ℕ, List, [], map}
+use Rattle.std.specs.Prelude.{ℕ, List, map}
+use Rattle.vtl_tree.specs.NotNull.{NotNull, not_null_of}
 use Rattle.vtl_tree.specs.Structures.{Named}
 use Rattle.vtl_tree.specs.declared.structure.Structure.{Structure}
 use Rattle.vtl_top.specs.Steps.{Name, Path}
@@ -21,12 +22,12 @@ entry_wanted w = (w.name, w.structure)
 abbrev pub entry_of : Placed → List ℕ × Structure
 entry_of w = entry_wanted w.1
 
--- data sets of these names and structures without not-null components, in one folder
-abbrev pub placed_in : Path → List ℕ × Structure → Placed
-placed_in folder e = (folder, record { name = e.0; structure = e.1; not_null = [] })
+-- a data set of this name and structure, whose not-null components are on the list of its name
+abbrev pub wanted_with : NotNull → List ℕ × Structure → Wanted
+wanted_with lists e = record { name = e.0; structure = e.1; not_null = not_null_of e.0 lists }
 
-abbrev pub all_placed_in : Path → Named → List Placed
-all_placed_in folder es = map (placed_in folder) es
+abbrev pub all_wanted_with : NotNull → Named → List Wanted
+all_wanted_with lists es = map (wanted_with lists) es
 
 -- data sets in one folder
 abbrev pub all_in : Path → List Wanted → List Placed

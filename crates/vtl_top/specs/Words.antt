@@ -21,6 +21,11 @@ pub record Source : Type 0 where
   pub structures : Path
   pub chosen : Chosen
 
+-- the path of a structures file that is written as version 2, and what the options chose
+pub record Migration : Type 0 where
+  pub structures : Path
+  pub chosen : Chosen
+
 -- a script that is run, from the folder of its inputs into the folder of its outputs
 pub record Run : Type 0 where
   pub source : Source
@@ -34,7 +39,7 @@ pub record Engine : Type 0 where
   pub output : Path
 
 -- a command, with its paths and options: a script is run by the interpreter, or by its text in SQL; its text in SQL is said; an SQL
--- file is run; the links of a script are said; the canonical text of the script at a path is said; the demonstration is run over so many points
+-- file is run; the links of a script are said; the canonical text of the script at a path is said; a structures file is said as version 2; the demonstration is run over so many points
 pub data Command : Type 0 where
   run : Run → Command
   sqlrun : Run → Command
@@ -42,6 +47,7 @@ pub data Command : Type 0 where
   engine : Engine → Command
   lineage : Source → Command
   format : Path → Command
+  migrate : Migration → Command
   demo : ℕ → Command
 
 -- the command runs a script, in either way
@@ -113,10 +119,6 @@ settings_for chosen declared = record {
   rounding = unwrap_or chosen.rounding (unwrap_or declared default_settings).rounding;
 }
 
--- those of a source, whose structures file declares none
-abbrev pub settings_of : Source → Settings
-settings_of s = settings_for s.chosen None
-
 -- ---- commands
 abbrev pub source_with : (script structures : Path) → Chosen → Source
 source_with script structures chosen = record { script = script; structures = structures; chosen = chosen }
@@ -149,6 +151,14 @@ abbrev pub path_of : List Text → Option Path
 path_of (path ∷ []) = if is_path path then Some path else None
 path_of _ = None
 
+abbrev pub migration_with : (structures : Path) → Chosen → Migration
+migration_with structures chosen = record { structures = structures; chosen = chosen }
+
+-- the words behind `migrate`: STRUCTURES, a path, and then options
+abbrev pub migration_of : List Text → Option Migration
+migration_of (structures ∷ options) = if is_path structures then option_map (migration_with structures) (chosen_in options) else None
+migration_of _ = None
+
 -- a number of points that the demonstration may have
 abbrev pub may_be_points : ℕ → Option ℕ
 may_be_points n = if nat_le 1 n && nat_le n most_points then Some n else None
@@ -173,4 +183,5 @@ command_of (name ∷ words) =
     else (if same_name name (codes "engine") then option_map engine (engine_of words)
     else (if same_name name (codes "lineage") then option_map lineage (source_of words)
     else (if same_name name (codes "format") then option_map format (path_of words)
-    else (if same_name name (codes "demo") then option_map demo (points_of words) else None))))))
+    else (if same_name name (codes "migrate") then option_map migrate (migration_of words)
+    else (if same_name name (codes "demo") then option_map demo (points_of words) else None)))))))

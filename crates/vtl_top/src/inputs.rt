@@ -15,7 +15,7 @@ ghost use Rattle.vtl_meaning.specs.Profiles.{AllAreOfProfile};
 ghost use Rattle.vtl_sets.specs.TableOf.{IsTableOf};
 ghost use Rattle.vtl_top.specs.Answered.{Takes};
 ghost use Rattle.vtl_top.specs.Expected.{dataset_step, folder_step, inputs_step};
-ghost use Rattle.vtl_top.specs.InputsRead.{Adds, AreReadable, IsPlain, all_wanted, all_wanted_from, rows_in, wanted_from};
+ghost use Rattle.vtl_top.specs.InputsRead.{Adds, AreReadable, IsListed, all_wanted, all_wanted_from, rows_in, wanted_from};
 ghost use Rattle.vtl_top.specs.Refusal.{IsTableRead};
 
 use crate::reading::{file_in, read_file};
@@ -149,7 +149,7 @@ fn input_at(checked: &Checked, i: usize) -> (&Txt, &Structure)
 // The data sets that a script reads.
 fn wanted_of(alloc: Global, checked: &Checked) -> Result<Vec<Wanted<'_>>, AllocError>
     ensures entries { IfOk result (λ wanted. all_wanted wanted.items ≡ inputs_of checked.now) }
-    ensures plain { IfOk result (λ wanted. AllByRecursion IsPlain wanted.items) }
+    ensures listed { IfOk result (λ wanted. AllByRecursion (IsListed checked.now.not_null) wanted.items) }
 {
     let mut wanted = Vec::new(alloc);
     for i in 0..checked.inputs().len() {
@@ -157,7 +157,7 @@ fn wanted_of(alloc: Global, checked: &Checked) -> Result<Vec<Wanted<'_>>, AllocE
         wanted.push(Wanted {
             name,
             structure,
-            not_null: &[],
+            not_null: checked.not_null(name),
         })?;
     }
     Ok(wanted)
@@ -170,7 +170,7 @@ pub fn read_inputs<F: Files>(
     folder: &str,
     checked: &Checked,
 ) -> Result<Tables, Status>
-    ensures takes { Takes F.Files files.old files.new (folder_step folder.now checked.now.settings (inputs_of checked.now)) (environment_of checked.now) result }
+    ensures takes { Takes F.Files files.old files.new (folder_step folder.now checked.now.settings checked.now.not_null (inputs_of checked.now)) (environment_of checked.now) result }
     ensures inputs { IfOk result (λ t. AreInputs checked.now t) }
     ensures ranges { IfOk result (λ t. AreInRange checked.now t) }
 {

@@ -5,10 +5,11 @@
 ghost use Rattle.std.specs.Prelude.{◌≡◌, ◌≢◌, ◌≤◌, ◌⊎◌, ℕ, [], Err, List, Ok, Option, Result, Some};
 ghost use Rattle.std.specs.Map.{lookup};
 ghost use Rattle.vtl_tree.specs.Structure.{IsStructure, key_width, same_name};
-ghost use Rattle.vtl_tree.specs.Structures.{Named};
+ghost use Rattle.vtl_tree.specs.NotNull.{not_null_of as list_of};
 ghost use Rattle.vtl_tree.specs.declared.structure.Structure.{Structure};
 ghost use Rattle.vtl_csv.specs.InputFile.{dataset_rows};
 ghost use Rattle.vtl_csv.specs.StructuresFile.{structures_of_file};
+ghost use Rattle.vtl_csv.specs.declared.structures.Declared.{Declared as Whole};
 ghost use Rattle.vtl_check.specs.Uses.{reads};
 ghost use Rattle.vtl_decimal.specs.Settings.{Settings};
 ghost use Rattle.vtl_meaning.specs.Profiles.{AllAreOfProfile};
@@ -23,13 +24,14 @@ ghost use Rattle.vtl_top.specs.Complete.{IsCalm};
 ghost use Rattle.vtl_top.specs.Forms.{asked_step};
 ghost use Rattle.vtl_top.specs.Expected.{IsTextOf, Typed, fault_status, format_step, meant, outputs_of, run_step, text_step};
 ghost use Rattle.vtl_top.specs.Meant.{IsAccepted, IsFaulted, IsFormMeant, IsMeant, IsMistyped, IsTextMeant};
+ghost use Rattle.vtl_top.specs.Migrated.{IsMigrated, migrate_step};
 ghost use Rattle.vtl_top.specs.SqlMeant.{IsExported, IsSqlFaulted, IsSqlMistyped};
 ghost use Rattle.vtl_top.specs.SqlRun.{engine_step, exports_of};
 ghost use Rattle.sql_check_parts.specs.Rules.{number_of};
 ghost use Rattle.sql_check_parts.specs.Statements.{Fault as Breach};
 ghost use Rattle.vtl_top.specs.Said.{Hears};
 ghost use Rattle.vtl_top.specs.Steps.{File, Held, Made, Name, Path, Text, status_of};
-ghost use Rattle.vtl_top.specs.Words.{Command, Engine, Run, RunsScript, Source, demo, engine, format, sql};
+ghost use Rattle.vtl_top.specs.Words.{Command, Engine, Migration, Run, RunsScript, Source, demo, engine, format, migrate, sql};
 ghost use Rattle.vtl_status.specs.declared.status.Status.{Status};
 
 use vtl_files::{Files, Sink};
@@ -96,13 +98,13 @@ pub fn sql_breaches_are_refused()
 /// that stands for a data set which a structures file declares asks of its file what the structure asks, under any
 /// settings.
 pub fn inputs_take_alike()
-    ensures { (name : Name) (text : Text) (all : Named) (t : Structure) (p : Settings) (bytes : Text) → structures_of_file text ≡ Ok all → lookup (same_name name) all ≡ Some t → dataset_rows p (structure_of (input_of (name, t))) (not_null_of (input_of (name, t))) bytes ≡ dataset_rows p t [] bytes }
+    ensures { (name : Name) (text : Text) (all : Whole) (t : Structure) (p : Settings) (bytes : Text) → structures_of_file text ≡ Ok all → lookup (same_name name) all.structures.sets ≡ Some t → dataset_rows p (structure_of (input_of all.structures.not_null (name, t))) (not_null_of (input_of all.structures.not_null (name, t))) bytes ≡ dataset_rows p t (list_of name all.structures.not_null) bytes }
 {}
 
 /// What the text of a script exports, over all rows that its INPUTs take and whose integers are of the profile, is in names
 /// and bytes what the outputs of the script are, or the same fault.
 pub fn texts_write_alike()
-    ensures { (s : Source) (held : Held) (text : Text) (is : IsTextMeant s held text) (folder : Path) (inputs : Inputs) → AreTaken inputs (reads is.typed.structures is.typed.nodes) → AllAreOfProfile is.typed.settings (sets_read inputs (reads is.typed.structures is.typed.nodes)) → exports_of folder is.typed.settings (script_value is.text_of.script inputs) ≡ outputs_of folder is.typed.settings (meant is.typed (sets_read inputs (reads is.typed.structures is.typed.nodes))) }
+    ensures { (s : Source) (held : Held) (text : Text) (is : IsTextMeant s held text) (folder : Path) (inputs : Inputs) → AreTaken inputs is.typed.not_null (reads is.typed.structures is.typed.nodes) → AllAreOfProfile is.typed.settings (sets_read inputs (reads is.typed.structures is.typed.nodes)) → exports_of folder is.typed.settings (script_value is.text_of.script inputs) ≡ outputs_of folder is.typed.settings (meant is.typed (sets_read inputs (reads is.typed.structures is.typed.nodes))) }
 {}
 
 /// Two outcomes of a command over the same held bytes have the same status, and but for `sql`, whose text may be any text
@@ -140,6 +142,17 @@ pub fn forms_are_said<F: Files, O: Sink>()
     ensures { (a b : F) (u v : O) (path : Path) (held : Held) → F.held a ≡ Some held → Ends F.Files O.Sink a b u v (Some (format path)) Status.Done → (form : Text) × IsFormMeant path held form × Adds (F.written a) (F.written b) [] × Hears O.Sink u v form }
 {}
 
+/// What `migrate` gives over the held files is the text of version 2 of the structures file that they hold at the path.
+pub fn migrations_are_meant()
+    ensures only { (m : Migration) (held : Held) (text : Text) → (migrate_step m).gives held (Ok text) → IsMigrated m held text }
+    ensures always { (m : Migration) (held : Held) (text : Text) → IsMigrated m held text → (migrate_step m).gives held (Ok text) }
+{}
+
+/// A `migrate` that is done has handed the text of version 2 of the held structures file to the sink, and written nothing.
+pub fn migrations_are_said<F: Files, O: Sink>()
+    ensures { (a b : F) (u v : O) (m : Migration) (held : Held) → F.held a ≡ Some held → Ends F.Files O.Sink a b u v (Some (migrate m)) Status.Done → (text : Text) × IsMigrated m held text × Adds (F.written a) (F.written b) [] × Hears O.Sink u v text }
+{}
+
 /// A demonstration that is done has handed its two lines to the sink, and written nothing.
 pub fn demonstrations_are_said<F: Files, O: Sink>()
     ensures { (a b : F) (u v : O) (n : ℕ) (held : Held) → F.held a ≡ Some held → Ends F.Files O.Sink a b u v (Some (demo n)) Status.Done → Adds (F.written a) (F.written b) [] × Hears O.Sink u v (said n) }
@@ -147,6 +160,6 @@ pub fn demonstrations_are_said<F: Files, O: Sink>()
 
 /// What a structures file declares under a name is a structure with at least one identifier.
 pub fn structures_have_identifiers()
-    ensures structure { (name : Name) (text : Text) (all : Named) (t : Structure) → structures_of_file text ≡ Ok all → lookup (same_name name) all ≡ Some t → IsStructure t }
-    ensures identifier { (name : Name) (text : Text) (all : Named) (t : Structure) → structures_of_file text ≡ Ok all → lookup (same_name name) all ≡ Some t → 1 ≤ key_width t }
+    ensures structure { (name : Name) (text : Text) (all : Whole) (t : Structure) → structures_of_file text ≡ Ok all → lookup (same_name name) all.structures.sets ≡ Some t → IsStructure t }
+    ensures identifier { (name : Name) (text : Text) (all : Whole) (t : Structure) → structures_of_file text ≡ Ok all → lookup (same_name name) all.structures.sets ≡ Some t → 1 ≤ key_width t }
 {}

@@ -19,6 +19,7 @@ mod inputs;
 mod laws;
 mod lineage;
 mod made;
+mod migrate;
 mod output;
 mod points;
 mod reading;
@@ -37,8 +38,9 @@ pub use inputs::read_inputs;
 pub use laws::{
     calm_calls_are_complete, demonstrations_are_said, expected_is_determined, expected_is_there,
     exports_are_meant, faults_are_meant, forms_are_meant, forms_are_said, inputs_take_alike,
-    mistyped_is_first_fault, output_is_meant, runs_are_quiet, sql_breaches_are_refused,
-    sql_faults_are_meant, structures_have_identifiers, texts_are_meant, texts_write_alike,
+    migrations_are_meant, migrations_are_said, mistyped_is_first_fault, output_is_meant,
+    runs_are_quiet, sql_breaches_are_refused, sql_faults_are_meant, structures_have_identifiers,
+    texts_are_meant, texts_write_alike,
 };
 pub use points::Points;
 pub use run::read_typed;

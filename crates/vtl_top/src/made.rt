@@ -15,19 +15,20 @@ ghost use Rattle.vtl_top.specs.Expected.{typed_step};
 ghost use Rattle.vtl_top.specs.Forms.{IsMadeBy, asked_step, demonstration};
 ghost use Rattle.vtl_top.specs.MadeView.{IsMade, Names, made_view};
 ghost use Rattle.vtl_top.specs.OutputView.{NamesPath, outputs_view};
-ghost use Rattle.vtl_top.specs.RunView.{command_view, engine_view, run_view, source_view};
+ghost use Rattle.vtl_top.specs.RunView.{command_view, engine_view, migration_view, run_view, source_view};
 ghost use Rattle.vtl_top.specs.Informed.{HasRun, Informs, IsToldOf, TellsRun};
 ghost use Rattle.vtl_top.specs.Refusal.{SettlesBy};
 ghost use Rattle.vtl_top.specs.Steps.{only_text, status_of};
-ghost use Rattle.vtl_top.specs.Words.{engine, format, lineage, run, sql};
+ghost use Rattle.vtl_top.specs.Words.{engine, format, lineage, migrate, run, sql};
 
 use crate::form::prepare_form;
 use crate::lineage::prepare_links;
+use crate::migrate::prepare_migration;
 use crate::output::Output;
 use crate::points::Points;
 use crate::run::{prepare, prepare_text};
 use crate::sql_run::prepare_exports;
-use crate::words::{Command, Engine, Run, Source};
+use crate::words::{Command, Engine, Migration, Run, Source};
 use std::alloc::Global;
 use vtl_backend::Backend;
 use vtl_demo::demonstrate;
@@ -67,6 +68,7 @@ pub fn make<B: Backend, F: Files>(
         Command::Engine(engine) => make_exports(alloc, files, engine),
         Command::Lineage(source) => make_links(alloc, files, source),
         Command::Format(path) => make_form(alloc, files, *path),
+        Command::Migrate(migration) => make_migration(alloc, files, migration),
         Command::Demo(points) => make_lines(alloc, back, points),
     }
 }
@@ -128,6 +130,21 @@ fn make_form<F: Files>(alloc: Global, files: &mut F, path: &str) -> Result<Made,
 {
     match prepare_form(alloc, files, path) {
         Ok(form) => made_of(alloc, Vec::new(alloc), form.into_bytes()),
+        Err(status) => Err(status),
+    }
+}
+
+fn make_migration<F: Files>(
+    alloc: Global,
+    files: &mut F,
+    asked: &Migration<'_>,
+) -> Result<Made, Status>
+    ensures takes { Takes F.Files files.old files.new (asked_step (Some (migrate (migration_view asked.now)))) made_view result }
+    ensures named { IfOk result Names }
+    ensures shape { IfOk result (λ m. outputs_view m.outputs ≡ []) }
+{
+    match prepare_migration(alloc, files, asked) {
+        Ok(text) => made_of(alloc, Vec::new(alloc), text),
         Err(status) => Err(status),
     }
 }

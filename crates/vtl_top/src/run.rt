@@ -24,11 +24,11 @@ use std::alloc::Global;
 use std::str;
 use vtl_backend::Backend;
 use vtl_check::Checked;
+use vtl_csv::Declared;
 use vtl_files::Files;
 use vtl_parser::{ParseErr, parse};
 use vtl_status::Status;
 use vtl_syntax::Script;
-use vtl_tree::Structures;
 
 pub(crate) const SCRIPT_LIMIT: usize = 65_536;
 
@@ -76,13 +76,13 @@ fn parsed(alloc: Global, text: &str) -> Result<Script, Status>
     }
 }
 
-// The structures of the structures file.
-fn read_structures_file<F: Files>(
+/// What the structures file at a path declares.
+pub fn read_structures_file<F: Files>(
     alloc: Global,
     files: &mut F,
     path: &str,
-) -> Result<Structures, Status>
-    ensures { Takes F.Files files.old files.new (structures_step path.now) (λ s. s.sets) result }
+) -> Result<Declared, Status>
+    ensures { Takes F.Files files.old files.new (structures_step path.now) (λ d. d) result }
 {
     match read_file(alloc, files, path, STRUCTURES_LIMIT) {
         Ok(bytes) => structures_of(alloc, path, &bytes),
@@ -100,9 +100,9 @@ pub fn read_typed<F: Files>(
     ensures { Takes F.Files files.old files.new (typed_step (source_view source.now)) typed_view result }
 {
     let script = read_script(alloc, files, source.script)?;
-    let structures = read_structures_file(alloc, files, source.structures)?;
-    let profile = source.chosen.profile(None);
-    typed(alloc, &script, &structures, &profile)
+    let declared = read_structures_file(alloc, files, source.structures)?;
+    let profile = source.chosen.profile(declared.profile);
+    typed(alloc, &script, &declared.structures, &profile)
 }
 
 /// Reads the files of a run, and makes its outputs: nothing is created. The answer is the outputs, or the first

@@ -38,12 +38,15 @@ use vtl_status::{Status, tell};
 /// - `lineage SCRIPT STRUCTURES` hands the links of the script to `out` as CSV, whole on Done: which components of data
 ///   sets each component of an output depends on. It reads no data set.
 /// - `format SCRIPT` hands the canonical text of the script to `out`, whole on Done; it reads nothing else.
+/// - `migrate STRUCTURES` hands a text of version 2 to `out`, whole on Done, that declares what the structures file declares
+///   and the scale and the rounding of a run over it; it reads nothing else.
 /// - `demo POINTS` runs a script of its own over data sets of its own of so many points, 1 to a million, in both ways, and
 ///   hands a line on each to `out`: what it gave, with its rows and the bytes of its CSV text. It reads and writes no file.
 ///
-/// Options may follow the paths of a script: `--scale D`, the digits of a number after its point (one digit, 6 by
-/// default), and `--round R`, how results are rounded to them (`half_up`, the default, `half_even` or `down`), each at
-/// most once. A status other than Done is named by a line on `out`.
+/// Options may follow the path of the structures file, or of the folders behind it: `--scale D`, the digits of a number
+/// after its point (one digit), and `--round R`, how results are rounded to them (`half_up`, `half_even` or `down`), each
+/// at most once. Without one the structures file decides, and where it declares none either, it is 6 and `half_up`. A
+/// status other than Done is named by a line on `out`.
 pub fn vtl<F: Files, O: Sink>(alloc: Global, words: &[String], files: &mut F, out: &mut O) -> Status
     requires { F.creating files.old ≡ false }
     ensures held { F.held files.new ≡ F.held files.old }

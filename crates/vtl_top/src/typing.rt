@@ -29,6 +29,7 @@ pub fn typed(
     ensures typing { SettlesBy nodes_of (typed_or_fault (script_typed (env_over profile.now structures.now.sets) (script_tree script.now))) result }
     ensures script { IfOk result (λ c. c.script ≡ script.now.statements) }
     ensures declared { IfOk result (λ c. c.declared ≡ structures.now.sets) }
+    ensures lists { IfOk result (λ c. c.not_null ≡ structures.now.not_null) }
     ensures settings { IfOk result (λ c. c.settings ≡ profile.now) }
 {
     match check(alloc, script, structures, profile) {

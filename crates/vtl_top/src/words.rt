@@ -3,8 +3,8 @@
 // What options chose is kept apart from the settings of a run, which come of it and of what the structures file
 // declares.
 ghost use Rattle.std.specs.Prelude.{◌≡◌, ◌∷◌, [], map, option_map, string_bytes};
-ghost use Rattle.vtl_top.specs.RunView.{command_view, engine_view, run_view, setting_view, source_view};
-ghost use Rattle.vtl_top.specs.Words.{both_set, chosen_in, chosen_with, command_of, default_settings, engine_of, is_path, one_set, path_of, points_of, rounding, rounding_in, run_of, scale, scale_in, setting_in, settings_for, source_of};
+ghost use Rattle.vtl_top.specs.RunView.{command_view, engine_view, migration_view, run_view, setting_view, source_view};
+ghost use Rattle.vtl_top.specs.Words.{both_set, chosen_in, chosen_with, command_of, default_settings, engine_of, is_path, migration_of, one_set, path_of, points_of, rounding, rounding_in, run_of, scale, scale_in, setting_in, settings_for, source_of};
 
 use crate::points::Points;
 use std::marker::Model;
@@ -80,6 +80,15 @@ pub struct Source<'a> {
     pub chosen: Chosen,
 }
 
+/// A structures file that is written as version 2, and what the options chose.
+#[derive(Drop)]
+pub struct Migration<'a> {
+    /// The path of the structures file.
+    pub structures: &'a str,
+    /// What the options chose.
+    pub chosen: Chosen,
+}
+
 /// A script that is run, from the folder of its inputs into the folder of its outputs.
 #[derive(Drop)]
 pub struct Run<'a> {
@@ -111,6 +120,8 @@ pub enum Command<'a> {
     Lineage(Source<'a>),
     /// The canonical text of the script at this path is said.
     Format(&'a str),
+    /// A structures file is said as version 2.
+    Migrate(Migration<'a>),
     /// The demonstration is run over so many points, in both ways.
     Demo(Points),
 }
@@ -132,7 +143,8 @@ fn is_path(word: &str) -> bool
 
 /// The command that the words are, by its name: `run` or `sqlrun`, and SCRIPT STRUCTURES IN OUT, each a path that is not
 /// empty, and then the options `--scale D` and `--round R`, each at most once; `sql`, and SCRIPT STRUCTURES and such
-/// options; `engine`, and SQLFILE IN OUT; `lineage`, with the same words as `sql`; `format`, and SCRIPT; or `demo`, and the decimal of a number of points.
+/// options; `engine`, and SQLFILE IN OUT; `lineage`, with the same words as `sql`; `format`, and SCRIPT;
+/// `migrate`, and STRUCTURES and such options; or `demo`, and the decimal of a number of points.
 pub fn command_of(words: &[String]) -> Option<Command<'_>>
     ensures { option_map command_view result ≡ command_of (map string_bytes words.now) }
 {
@@ -181,6 +193,12 @@ fn named<'a>(name: &str, words: &'a [String]) -> Option<Command<'a>>
             None => None,
         };
     }
+    if name == "migrate" {
+        return match migration_of(words) {
+            Some(migration) => Some(Command::Migrate(migration)),
+            None => None,
+        };
+    }
     if name == "demo" {
         return match points_of(words) {
             Some(points) => Some(Command::Demo(points)),
@@ -197,6 +215,25 @@ fn path_of(words: &[String]) -> Option<&str>
         [path] if is_path(path.as_str()) => Some(path.as_str()),
         _ => None,
     }
+}
+
+fn migration_of(words: &[String]) -> Option<Migration<'_>>
+    ensures { option_map migration_view result ≡ migration_of (map string_bytes words.now) }
+{
+    match words {
+        [structures, options @ ..] => migration_with(structures.as_str(), options),
+        [] => None,
+    }
+}
+
+fn migration_with<'a>(structures: &'a str, options: &[String]) -> Option<Migration<'a>>
+    ensures { option_map migration_view result ≡ migration_of (structures.now ∷ map string_bytes options.now) }
+{
+    if !is_path(structures) {
+        return None;
+    }
+    let chosen = chosen_of(options)?;
+    Some(Migration { structures, chosen })
 }
 
 fn points_of(words: &[String]) -> Option<Points>

@@ -8,10 +8,10 @@ use Rattle.sql_back.proofs.texts.text_of.Goals as goal
 
 pub returns-clause-text : goal.returns-clause-text
 returns-clause-text c =
-    printed_is_text c.args.script.now.settings (inputs_of c.args.script.now) (statements_of c.args.script.now) (script_tree c.in_ok-translated.translated) c.in_ok-translated.ensures.script c.in_ok-translated.ensures.accepted
+    printed_is_text c.args.script.now.settings c.args.script.now.not_null (inputs_of c.args.script.now) (statements_of c.args.script.now) (script_tree c.in_ok-translated.translated) c.in_ok-translated.ensures.script c.in_ok-translated.ensures.accepted
     string_bytes IsUtf8-string_bytes c.print.result c.print.ensures.script c.print.ensures.alone
 
 pub returns-clause-script : goal.returns-clause-script
 returns-clause-script c =
-    printed_spells c.args.script.now.settings (inputs_of c.args.script.now) (statements_of c.args.script.now) (script_tree c.in_ok-translated.translated) c.in_ok-translated.ensures.script c.in_ok-translated.ensures.accepted string_bytes IsUtf8-string_bytes c.print.result
+    printed_spells c.args.script.now.settings c.args.script.now.not_null (inputs_of c.args.script.now) (statements_of c.args.script.now) (script_tree c.in_ok-translated.translated) c.in_ok-translated.ensures.script c.in_ok-translated.ensures.accepted string_bytes IsUtf8-string_bytes c.print.result
     c.print.ensures.script

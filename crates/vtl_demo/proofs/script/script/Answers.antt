@@ -12,9 +12,10 @@ returns-in-Ok c =
     let t = script_tree c.in_ok-script.script in
     record {
       spells = ap (map statement_tree) c.in-Ok.ensures.script ∙ c.in_ok-script.ensures.tree;
-      over = c.in-Ok.ensures.declared ∙ c.in_ok-structures.ensures;
+      over = c.in-Ok.ensures.declared ∙ c.in_ok-structures.ensures.sets;
+      lists = c.in-Ok.ensures.lists ∙ c.in_ok-structures.ensures.lists;
       by = c.in-Ok.ensures.settings ∙ c.profile.ensures;
-      gives = typed_so (script_typed (env_over p s) t) (nodes_of c.in-Ok.checked) (accepted p s t c.profile.ensures c.in_ok-structures.ensures c.in_ok-script.ensures.tree) c.in-Ok.ensures.typing;
+      gives = typed_so (script_typed (env_over p s) t) (nodes_of c.in-Ok.checked) (accepted p s t c.profile.ensures c.in_ok-structures.ensures.sets c.in_ok-script.ensures.tree) c.in-Ok.ensures.typing;
     }
 
 pub unreachable-requires : goal.unreachable-requires
@@ -22,4 +23,4 @@ unreachable-requires c =
     let p = c.profile.result in
     let s = c.in_ok-structures.structures.sets in
     let t = script_tree c.in_ok-script.script in
-    never-mistyped (script_typed (env_over p s) t) c.in-Err-Mistyped.field-0 _ _ (accepted p s t c.profile.ensures c.in_ok-structures.ensures c.in_ok-script.ensures.tree) c.in-Err-Mistyped.field-0-is c.in-Err-Mistyped.ensures.typing
+    never-mistyped (script_typed (env_over p s) t) c.in-Err-Mistyped.field-0 _ _ (accepted p s t c.profile.ensures c.in_ok-structures.ensures.sets c.in_ok-script.ensures.tree) c.in-Err-Mistyped.field-0-is c.in-Err-Mistyped.ensures.typing

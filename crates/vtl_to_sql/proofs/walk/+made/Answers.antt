@@ -19,6 +19,7 @@ use Rattle.vtl_to_sql.specs.Tables.{made_of_filter, made_of_form, sources_of}
 use Rattle.vtl_to_sql.proofs.JoinNodes.{join_gives, join_of_form}
 use Rattle.vtl_to_sql.proofs.Combining.{alone, begun, ended, ends, intersection_of_form, one_more, turn_made, union_of_form}
 use Rattle.vtl_to_sql.proofs.RuledNodes.{ruled_gives}
+use Rattle.vtl_to_sql.proofs.TimedNodes.{timed_gives}
 use Rattle.vtl_to_sql.proofs.Walked.{behind_names, behind_others, check_made, filter_of_form, filter_of_join, filter_of_other, imbalance_made, one_made, one_renamed, tree_of_choose, tree_of_named, two_made}
 use Rattle.vtl_to_sql.proofs.walk.+made.Goals as goal
 
@@ -444,6 +445,54 @@ query-returns-in_ok-operand-in-CheckHierarchy-clause-next t c =
     (one.name ∙ ap (λ (x : Node). (of x).names) same) (one.next ∙ ap (λ (x : Node). (of x).next) same) (one.tables ∙ ap (λ (x : Node). old ++ map create_for (of x).tables) same)
     in
     IfOk-weaker c.ruled_query.result _ _ (λ q e. e ∙ rest.next) c.ruled_query.ensures.next
+
+pub query-returns-in_ok-table-in-Time-clause-query : goal.query-returns-in_ok-table-in-Time-clause-query
+query-returns-in_ok-table-in-Time-clause-query t c =
+    let p = c.args.writer.now in
+    let r = c.args.target.now in
+    let n = c.args.draft.now.next in
+    let old = map statement_tree c.args.draft.now.statements.items in
+    let of = λ (x : Node). sources_of p r (node_tree x) n in
+    let one = c.in_ok-table-in-Time.ensures in
+    let same = c.deref-in-Time.ensures in
+    let made = c.operand-in-Time.ensures in
+    let rest =
+    timed_gives p r c.args.s.now c.operand-in-Time.result.structure.now c.args.form.now c.in-Time.a c.in-Time.op n c.operand-in-Time.result.table.now c.source-in-Time.new.draft.next old (map statement_tree c.source-in-Time.new.draft.statements.items) c.in-Time.is
+    (made.structure ∙ ap (λ (x : Node). structure_of (node_tree x)) c.deref-in-Time-2.ensures) (ap (λ x. x ∷ []) made.table ∙ one.name ∙ ap (λ (x : Node). (of x).names) same) (one.next ∙ ap (λ (x : Node). (of x).next) same) (one.tables ∙ ap (λ (x : Node). old ++ map create_for (of x).tables) same)
+    in
+    IfOk-weaker c.time_query.result _ _ (λ q e. e ∙ rest.query) c.time_query.ensures.query
+
+pub query-returns-in_ok-table-in-Time-clause-tables : goal.query-returns-in_ok-table-in-Time-clause-tables
+query-returns-in_ok-table-in-Time-clause-tables t c =
+    let p = c.args.writer.now in
+    let r = c.args.target.now in
+    let n = c.args.draft.now.next in
+    let old = map statement_tree c.args.draft.now.statements.items in
+    let of = λ (x : Node). sources_of p r (node_tree x) n in
+    let one = c.in_ok-table-in-Time.ensures in
+    let same = c.deref-in-Time.ensures in
+    let made = c.operand-in-Time.ensures in
+    let rest =
+    timed_gives p r c.args.s.now c.operand-in-Time.result.structure.now c.args.form.now c.in-Time.a c.in-Time.op n c.operand-in-Time.result.table.now c.source-in-Time.new.draft.next old (map statement_tree c.source-in-Time.new.draft.statements.items) c.in-Time.is
+    (made.structure ∙ ap (λ (x : Node). structure_of (node_tree x)) c.deref-in-Time-2.ensures) (ap (λ x. x ∷ []) made.table ∙ one.name ∙ ap (λ (x : Node). (of x).names) same) (one.next ∙ ap (λ (x : Node). (of x).next) same) (one.tables ∙ ap (λ (x : Node). old ++ map create_for (of x).tables) same)
+    in
+    IfOk-weaker c.time_query.result _ _ (λ q e. e ∙ rest.tables) c.time_query.ensures.tables
+
+pub query-returns-in_ok-table-in-Time-clause-next : goal.query-returns-in_ok-table-in-Time-clause-next
+query-returns-in_ok-table-in-Time-clause-next t c =
+    let p = c.args.writer.now in
+    let r = c.args.target.now in
+    let n = c.args.draft.now.next in
+    let old = map statement_tree c.args.draft.now.statements.items in
+    let of = λ (x : Node). sources_of p r (node_tree x) n in
+    let one = c.in_ok-table-in-Time.ensures in
+    let same = c.deref-in-Time.ensures in
+    let made = c.operand-in-Time.ensures in
+    let rest =
+    timed_gives p r c.args.s.now c.operand-in-Time.result.structure.now c.args.form.now c.in-Time.a c.in-Time.op n c.operand-in-Time.result.table.now c.source-in-Time.new.draft.next old (map statement_tree c.source-in-Time.new.draft.statements.items) c.in-Time.is
+    (made.structure ∙ ap (λ (x : Node). structure_of (node_tree x)) c.deref-in-Time-2.ensures) (ap (λ x. x ∷ []) made.table ∙ one.name ∙ ap (λ (x : Node). (of x).names) same) (one.next ∙ ap (λ (x : Node). (of x).next) same) (one.tables ∙ ap (λ (x : Node). old ++ map create_for (of x).tables) same)
+    in
+    IfOk-weaker c.time_query.result _ _ (λ q e. e ∙ rest.next) c.time_query.ensures.next
 
 pub query-returns-in-Filter-clause-query : goal.query-returns-in-Filter-clause-query
 query-returns-in-Filter-clause-query t c =

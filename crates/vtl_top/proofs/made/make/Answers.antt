@@ -1,9 +1,9 @@
 use Rattle.std.proofs.Common.{Ok, ap, sym}
 use Rattle.vtl_demo.specs.Said.{said}
 use Rattle.vtl_top.specs.MadeView.{made_view}
-use Rattle.vtl_top.specs.RunView.{command_view, engine_view, run_view, source_view}
+use Rattle.vtl_top.specs.RunView.{command_view, engine_view, migration_view, run_view, source_view}
 use Rattle.vtl_top.specs.Steps.{only_text}
-use Rattle.vtl_top.specs.Words.{demo, engine, format, lineage, run, sql, sqlrun}
+use Rattle.vtl_top.specs.Words.{demo, engine, format, lineage, migrate, run, sql, sqlrun}
 use Rattle.vtl_top.proofs.MadeLemmas.{of_command}
 use Rattle.vtl_top.proofs.ReadScripts.{settled_given}
 use Rattle.vtl_top.proofs.made.make.Goals as goal
@@ -31,6 +31,10 @@ returns-in-Lineage-clause-takes g c =
 pub returns-in-Format-clause-takes : goal.returns-in-Format-clause-takes
 returns-in-Format-clause-takes g c =
     of_command g.F.Files c.args.files.now c.make_form.new.files (format c.in-Format.path.now) (command_view c.args.command.now) c.make_form.result c.make_form.ensures.takes (sym (ap command_view c.in-Format.is))
+
+pub returns-in-Migrate-clause-takes : goal.returns-in-Migrate-clause-takes
+returns-in-Migrate-clause-takes g c =
+    of_command g.F.Files c.args.files.now c.make_migration.new.files (migrate (migration_view c.in-Migrate.migration)) (command_view c.args.command.now) c.make_migration.result c.make_migration.ensures.takes (sym (ap command_view c.in-Migrate.is))
 
 pub returns-in-Demo-clause-takes : goal.returns-in-Demo-clause-takes
 returns-in-Demo-clause-takes g c =

@@ -27,7 +27,7 @@ returns-in_err-inputs-clause-told g c =
     let told = g.B.Backend.told c.args.back.now in
     subst (λ (res : Result (Vec Output Global) Status). TellsRun g.F.Files c.args.files.now step told (status_of res))
     (sym (passed_on c.from_residual-in_err-inputs.result c.in_err-inputs.field-0.0 c.from_residual-in_err-inputs.ensures.1))
-    (inputs_tell g.F.Files c.args.files.now c.read_typed.new.files c.read_inputs.new.files step c.args.run.now.input.now c.in_ok-checked.checked.settings (inputs_of c.in_ok-checked.checked) (environment_of c.in_ok-checked.checked) told c.in_err-inputs.field-0.0
+    (inputs_tell g.F.Files c.args.files.now c.read_typed.new.files c.read_inputs.new.files step c.args.run.now.input.now c.in_ok-checked.checked.settings c.in_ok-checked.checked.not_null (inputs_of c.in_ok-checked.checked) (environment_of c.in_ok-checked.checked) told c.in_err-inputs.field-0.0
     c.in_ok-checked.ensures.reads.held c.in_err-inputs.ensures.takes)
 
 pub returns-clause-takes : goal.returns-clause-takes

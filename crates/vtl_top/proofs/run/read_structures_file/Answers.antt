@@ -1,6 +1,6 @@
 use Rattle.std.proofs.Common.{subst}
 use Rattle.vtl_top.specs.Expected.{read, structures_limit}
-use Rattle.vtl_top.specs.Refusal.{SettlesBy}
+use Rattle.vtl_top.specs.Refusal.{Settles}
 use Rattle.vtl_top.specs.Steps.{settled}
 use Rattle.vtl_top.specs.Structures.{structures_in}
 use Rattle.vtl_top.proofs.ReadScripts.{settled_given, structures_refuse}
@@ -10,11 +10,11 @@ use Rattle.vtl_top.proofs.run.read_structures_file.Goals as goal
 pub returns-in-Ok : goal.returns-in-Ok
 returns-in-Ok g c =
     let path = c.args.path.now in
-    takes_onward g.F.Files (read path structures_limit) (λ bytes. settled (structures_in path bytes)) c.args.files.now c.read_file.new.files c.read_file.new.files (λ v. v.items) (λ s. s.sets) c.in-Ok.bytes c.structures_of.result c.in-Ok.ensures
-    (settled_given g.F.Files c.read_file.new.files (λ s. s.sets) (structures_in path c.in-Ok.bytes.items) (structures_refuse path c.in-Ok.bytes.items) c.structures_of.result
-    (subst (λ bytes. SettlesBy (λ s. s.sets) (structures_in path bytes) c.structures_of.result) c.deref.ensures.value c.structures_of.ensures))
+    takes_onward g.F.Files (read path structures_limit) (λ bytes. settled (structures_in path bytes)) c.args.files.now c.read_file.new.files c.read_file.new.files (λ v. v.items) (λ d. d) c.in-Ok.bytes c.structures_of.result c.in-Ok.ensures
+    (settled_given g.F.Files c.read_file.new.files (λ d. d) (structures_in path c.in-Ok.bytes.items) (structures_refuse path c.in-Ok.bytes.items) c.structures_of.result
+    (subst (λ bytes. Settles (structures_in path bytes) c.structures_of.result) c.deref.ensures.value c.structures_of.ensures))
 
 pub returns-in-Err : goal.returns-in-Err
 returns-in-Err g c =
     let path = c.args.path.now in
-    takes_stopped g.F.Files (read path structures_limit) (λ bytes. settled (structures_in path bytes)) c.args.files.now c.read_file.new.files (λ v. v.items) (λ s. s.sets) c.in-Err.status c.in-Err.ensures
+    takes_stopped g.F.Files (read path structures_limit) (λ bytes. settled (structures_in path bytes)) c.args.files.now c.read_file.new.files (λ v. v.items) (λ d. d) c.in-Err.status c.in-Err.ensures

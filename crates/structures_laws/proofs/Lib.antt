@@ -1,0 +1,5 @@
+pub mod RecordsAgain
+pub mod Orders
+pub mod Codes
+pub mod OneMore
+pub mod Whole
