@@ -1,6 +1,6 @@
 // The structures of the two data sets.
 ghost use Rattle.std.specs.List.{list_all};
-ghost use Rattle.std.specs.Prelude.{◌≡◌, true, IfOk};
+ghost use Rattle.std.specs.Prelude.{◌≡◌, [], true, IfOk};
 ghost use Rattle.vtl_text.specs.Words.{is_word_character};
 ghost use Rattle.vtl_tree.specs.Measures.{made};
 ghost use Rattle.vtl_demo.specs.DataSets as sets;

@@ -10,6 +10,7 @@ use Rattle.std.proofs.lemmas.Bool.Decides.{nat_tests}
 use Rattle.vtl_tree.specs.NotNull.{Declared, no_sets}
 use Rattle.vtl_tree.specs.Structure.{IsStructure, key_width, most_components, names_of, same_name}
 use Rattle.vtl_tree.specs.Structures.{AreStructures, Named, components_of, has_name, is_declarable, is_declarable_component, structure_of, with_component}
+use Rattle.vtl_tree.specs.declared.structure.Component.{Component}
 use Rattle.vtl_tree.specs.declared.structure.Structure.{Structure}
 use Rattle.vtl_tree.proofs.StructuresLemmas.{add_are, all_found}
 use Rattle.vtl_lists.specs.Aliases.{Record}
