@@ -103,7 +103,7 @@ column_kind k.Text h = refl
 column_kind k.Day h = refl
 column_kind k.Period h = refl
 
-columns_printed : (l : List Text) (xs : List Component) → HaveNames xs → AllByRecursion (λ x. structures.is_null_kind x.kind ≡ false) xs → Each IsInputColumn (map (input_column l) xs)
+columns_printed : (l : List (List ℕ)) (xs : List Component) → HaveNames xs → AllByRecursion (λ x. structures.is_null_kind x.kind ≡ false) xs → Each IsInputColumn (map (input_column l) xs)
 columns_printed l [] n h = tt
 columns_printed l (x ∷ xs) n h = ((n.0, column_kind x.kind h.0), columns_printed l xs n.1 h.1)
 

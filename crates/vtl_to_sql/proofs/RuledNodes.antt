@@ -115,7 +115,7 @@ check_is p r s b f a ruled m o x y n is same named =
     ∙ sym (ap (λ (t : FormTree). ruled_made p r t s (by_name y n)) (tree_of_check f a ruled m o is))
 
 -- the table of the computed points stands behind those that it is made of
-stored_behind : (r : Text) (m : Made) (k : ℕ) (q : QueryTree) (old between new : List StatementTree) → between ≡ old ++ map create_for m.tables → k ≡ m.next → q ≡ m.query → new ≡ between ++ create_for (table_of (numbered r k) q) ∷ [] → new ≡ old ++ map create_for (stored r m).tables
+pub stored_behind : (r : Text) (m : Made) (k : ℕ) (q : QueryTree) (old between new : List StatementTree) → between ≡ old ++ map create_for m.tables → k ≡ m.next → q ≡ m.query → new ≡ between ++ create_for (table_of (numbered r k) q) ∷ [] → new ≡ old ++ map create_for (stored r m).tables
 stored_behind r m k q old between new b e f g =
     let own : QueryTree → ℕ → List StatementTree = λ z j. create_for (table_of (numbered r j) z) ∷ [] in
     g ∙ ap (λ (z : QueryTree). between ++ own z k) f

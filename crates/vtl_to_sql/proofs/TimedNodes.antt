@@ -8,6 +8,7 @@ use Rattle.vtl_tree.specs.Trees as nodes
 use Rattle.vtl_tree.specs.Trees.{FormTree, structure_of}
 use Rattle.vtl_tree.specs.declared.calls.TimeOp.{TimeOp}
 use Rattle.vtl_tree.specs.declared.calls.TimeOp.TheVariants as op
+use Rattle.vtl_tree.specs.declared.nodes.Node.{Node}
 use Rattle.vtl_tree.specs.declared.nodes.NodeForm as forms
 use Rattle.vtl_tree.specs.declared.nodes.NodeForm.{NodeForm}
 use Rattle.vtl_tree.specs.declared.nodes.NodeForm.TheVariants as form

@@ -157,7 +157,7 @@ all_coded l s all =
     let rest = others_of s in
     let key = names_of ids in
     let split = subst (AllByRecursion (λ x. structures.codes_fit x ≡ true)) (columns_split s) all in
-    subst (λ l. AllByRecursion (HasCodes key) (map (input_column l) l)) (sym (columns_split s))
+    subst (λ cs. AllByRecursion (HasCodes key) (map (input_column l) cs)) (sym (columns_split s))
     (both ids rest (first ids (all_front (λ x. structures.codes_fit x ≡ true) ids rest split) (all_among l [] ids)) (second rest (all_back (λ x. structures.codes_fit x ≡ true) ids rest split) (are_others s)))
   where
     first : (xs : List Component) → AllByRecursion (λ x. structures.codes_fit x ≡ true) xs → AllByRecursion (λ c. is_of_key (names_of (identifiers_of s)) c ≡ true) (map (input_column l) xs) → AllByRecursion (HasCodes (names_of (identifiers_of s))) (map (input_column l) xs)

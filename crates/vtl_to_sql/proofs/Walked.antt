@@ -35,9 +35,9 @@ use Rattle.vtl_tree.specs.declared.rules.DatapointRules.{DatapointRules}
 use Rattle.sql_tree.specs.Trees.{StatementTree, Text}
 use Rattle.joins_to_sql.specs.FilteredJoins.{filtered_made}
 use Rattle.selects_to_sql.specs.Queries.{filter_query}
-use Rattle.selects_to_sql.specs.Tables.{create_for, Sources, and_then, over, with_one, with_two}
+use Rattle.selects_to_sql.specs.Tables.{Made, create_for, Sources, and_then, over, stored, with_one, with_two}
 use Rattle.vtl_to_sql.specs.FormQueries.{query_of_one, query_of_two}
-use Rattle.vtl_to_sql.specs.Tables.{filter_made, made_of, made_of_filter, made_of_form, sources_of, takes_filter}
+use Rattle.vtl_to_sql.specs.Tables.{filter_made, made_of, made_of_filter, made_of_form, source_of, sources_of, takes_filter}
 
 -- ---- trees of forms
 
@@ -111,6 +111,14 @@ tree_of_join f os spec e = ap form_tree e ∙ search (rules, forms.the_lemmas)
 
 node_is : (n : Node) → node_tree n ≡ nodes.node n.structure (form_tree n.form)
 node_is n = search (rules, node.the_lemmas)
+
+-- ---- an operand that is more than a name
+stored_form : (r : Text) (f : NodeForm) (layer : NodeForm-F NodeForm JoinOperand Node) → out-NodeForm f ≡ layer → ((name : Txt) → f ≡ form.Named name → ⊥) → (n : ℕ) (m : Made) → source_of r (form_tree f) n m ≡ stored r m
+stored_form r f (NodeForm-F.Named name) is other n m = absurd (other name (sym (roll-out-NodeForm f) ∙ ap roll-NodeForm is ∙ form.rolls-Named name))
+stored_form r f layer is other n m = search (rules, forms.the_lemmas)
+
+pub source_of_other : (p : Settings) (r : Text) (a : Node) (n : ℕ) → ((name : Txt) → a.form ≡ form.Named name → ⊥) → sources_of p r (node_tree a) n ≡ stored r (made_of_form p r a.structure (form_tree a.form) n)
+source_of_other p r a n other = ap (λ (b : NodeTree). sources_of p r b n) (node_is a) ∙ stored_form r a.form (out-NodeForm a.form) refl other n (made_of_form p r a.structure (form_tree a.form) n)
 
 -- ---- filters
 

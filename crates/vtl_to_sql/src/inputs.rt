@@ -1,7 +1,6 @@
 // The INPUT statements of a script: one for each declared data set that it reads.
 ghost use Rattle.std.specs.Map.{lookup};
 ghost use Rattle.std.specs.Prelude.{◌≡◌, ◌++◌, ◌∷◌, [], map, unwrap_or, IfOk, OnOk, Some};
-ghost use Rattle.vtl_tree.specs.NotNull.{NotNull, not_null_of};
 ghost use Rattle.vtl_tree.specs.Shown.{shown};
 ghost use Rattle.vtl_tree.specs.Structure.{names_of, same_name};
 ghost use Rattle.vtl_tree.specs.declared.structure.Structure.{Structure as StructureOf};
@@ -80,16 +79,34 @@ pub(crate) fn names(alloc: Global, components: &[&Component]) -> Result<List<Txt
     Ok(List::of(names))
 }
 
-fn input(alloc: Global, not_null: &[Txt], name: &Txt, s: &Structure) -> Result<SqlInput, AllocError>
-    ensures { IfOk result (λ x. (ls : NotNull) → not_null.now ≡ not_null_of name.now ls → x ≡ input_of ls (name.now, s.now)) }
+fn input(
+    alloc: Global,
+    script: &Checked,
+    name: &Txt,
+    s: &Structure,
+) -> Result<SqlInput, AllocError>
+    ensures { IfOk result (λ x. x ≡ input_of script.now.not_null (name.now, s.now)) }
 {
     let columns = s.columns(alloc)?;
     let identifiers = s.identifiers(alloc)?;
     Ok(SqlInput {
         name: name.share()?,
-        columns: input_columns(alloc, not_null, &columns)?,
+        columns: input_columns(alloc, script.not_null(name), &columns)?,
         key: names(alloc, &identifiers)?,
     })
+}
+
+// Adds the INPUT of a data set.
+fn push_input(
+    alloc: Global,
+    draft: &mut Draft,
+    script: &Checked,
+    name: &Txt,
+    s: &Structure,
+) -> Result<(), AllocError>
+    ensures { OnOk result (map statement_tree draft.new.statements.items ≡ map statement_tree draft.old.statements.items ++ input_for script.now.not_null (name.now, s.now) ∷ []) }
+{
+    draft.push(Statement::Input(input(alloc, script, name, s)?))
 }
 
 // Adds the INPUT of a data set that a script reads.
@@ -103,10 +120,7 @@ fn push_read(
     ensures { OnOk result ((s : StructureOf) → lookup (same_name name.now) (known_of script.now) ≡ Some s → map statement_tree draft.new.statements.items ≡ map statement_tree draft.old.statements.items ++ input_for script.now.not_null (name.now, s) ∷ []) }
 {
     match script.structure(name) {
-        Some(s) => {
-            let input = input(alloc, script.not_null(name), name, s)?;
-            draft.push(Statement::Input(input))
-        }
+        Some(s) => push_input(alloc, draft, script, name, s),
         None => unreachable!(),
     }
 }

@@ -61,7 +61,6 @@ pub fn translated_scripts_are_lawful()
 
 /// The columns of an INPUT in the order of a table are those of the data set that it reads, whichever of them are never
 /// null.
-#[tactic(auto, using(crate::proofs::ReadTables::columns_read))]
 pub fn inputs_have_their_columns()
     ensures { (ls : NotNull) (e : List ℕ × Structure) → IsStructure e.1 → input_columns (input_of ls e) ≡ entries (columns_of e.1) }
 {}

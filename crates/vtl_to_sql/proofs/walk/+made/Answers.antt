@@ -13,14 +13,14 @@ use Rattle.sql_tree.specs.View.{query_tree, statement_tree}
 use Rattle.vtl_to_sql.specs.Combined.{combined_made}
 use Rattle.vtl_to_sql.specs.FormQueries.{query_of_one, query_of_two}
 use Rattle.selects_to_sql.specs.Queries.{filter_query}
-use Rattle.selects_to_sql.specs.Tables.{create_for, Made, and_then, with_one, with_two}
+use Rattle.selects_to_sql.specs.Tables.{create_for, Made, Sources, and_then, numbered, with_one, with_two}
 use Rattle.joins_to_sql.specs.FilteredJoins.{condition_of, filtered_by}
 use Rattle.vtl_to_sql.specs.Tables.{made_of_filter, made_of_form, sources_of}
 use Rattle.vtl_to_sql.proofs.JoinNodes.{join_gives, join_of_form}
 use Rattle.vtl_to_sql.proofs.Combining.{alone, begun, ended, ends, intersection_of_form, one_more, turn_made, union_of_form}
-use Rattle.vtl_to_sql.proofs.RuledNodes.{ruled_gives}
+use Rattle.vtl_to_sql.proofs.RuledNodes.{ruled_gives, stored_behind}
 use Rattle.vtl_to_sql.proofs.TimedNodes.{timed_gives}
-use Rattle.vtl_to_sql.proofs.Walked.{behind_names, behind_others, check_made, filter_of_form, filter_of_join, filter_of_other, imbalance_made, one_made, one_renamed, tree_of_choose, tree_of_named, two_made}
+use Rattle.vtl_to_sql.proofs.Walked.{behind_names, behind_others, check_made, filter_of_form, filter_of_join, filter_of_other, imbalance_made, one_made, one_renamed, source_of_other, tree_of_choose, tree_of_named, two_made}
 use Rattle.vtl_to_sql.proofs.walk.+made.Goals as goal
 
 pub join-returns-clause-query : goal.join-returns-clause-query
@@ -91,6 +91,31 @@ filter-returns-in_ok-table-in_default-clause-next t c =
     let e = comp_exp_of c.args.condition.now in
     let is = filter_of_other p c.args.target.now s c.args.operand.now e c.args.draft.now.next c.in_default.not-Join in
     IfOk-weaker c.filter_query.result _ _ (λ q h. c.in_ok-table-in_default.ensures.next ∙ ap (λ (m : Made). m.next) is) c.filter_query.ensures
+
+pub source-returns-in_ok-query-in_default-clause-name : goal.source-returns-in_ok-query-in_default-clause-name
+source-returns-in_ok-query-in_default-clause-name t c =
+    let r = c.args.target.now in
+    let is = source_of_other c.args.writer.now r c.args.node.now c.args.draft.now.next c.in_default.not-Named in
+    IfOk-weaker c.store.result _ _ (λ x e. ap (λ y. y ∷ []) (e ∙ ap (numbered r) c.in_ok-query-in_default.ensures.next) ∙ sym (ap (λ (os : Sources). os.names) is)) c.store.ensures.name
+
+pub source-returns-in_ok-query-in_default-clause-tables : goal.source-returns-in_ok-query-in_default-clause-tables
+source-returns-in_ok-query-in_default-clause-tables t c =
+    let p = c.args.writer.now in
+    let r = c.args.target.now in
+    let a = c.args.node.now in
+    let n = c.args.draft.now.next in
+    let made = made_of_form p r a.structure (form_tree a.form) n in
+    let old = map statement_tree c.args.draft.now.statements.items in
+    let is = source_of_other p r a n c.in_default.not-Named in
+    let one = c.in_ok-query-in_default.ensures in
+    IfOk-weaker c.store.result _ _
+    (λ x e. stored_behind r made c.query.new.draft.next (query_tree c.in_ok-query-in_default.query) old (map statement_tree c.query.new.draft.statements.items) (map statement_tree c.store.new.self.statements.items) one.tables one.next one.query e
+    ∙ sym (ap (λ (os : Sources). old ++ map create_for os.tables) is)) c.store.ensures.statements
+
+pub source-returns-in_ok-query-in_default-clause-next : goal.source-returns-in_ok-query-in_default-clause-next
+source-returns-in_ok-query-in_default-clause-next t c =
+    let is = source_of_other c.args.writer.now c.args.target.now c.args.node.now c.args.draft.now.next c.in_default.not-Named in
+    IfOk-weaker c.store.result _ _ (λ x e. e ∙ ap (λ (k : ℕ). k + 1) c.in_ok-query-in_default.ensures.next ∙ sym (ap (λ (os : Sources). os.next) is)) c.store.ensures.next
 
 pub query-returns-in_ok-table-in-Measures-clause-query : goal.query-returns-in_ok-table-in-Measures-clause-query
 query-returns-in_ok-table-in-Measures-clause-query t c =
@@ -455,9 +480,9 @@ query-returns-in_ok-table-in-Time-clause-query t c =
     let of = λ (x : Node). sources_of p r (node_tree x) n in
     let one = c.in_ok-table-in-Time.ensures in
     let same = c.deref-in-Time.ensures in
-    let made = c.operand-in-Time.ensures in
+    let made = c.operand.ensures in
     let rest =
-    timed_gives p r c.args.s.now c.operand-in-Time.result.structure.now c.args.form.now c.in-Time.a c.in-Time.op n c.operand-in-Time.result.table.now c.source-in-Time.new.draft.next old (map statement_tree c.source-in-Time.new.draft.statements.items) c.in-Time.is
+    timed_gives p r c.args.s.now c.operand.result.structure.now c.args.form.now c.in-Time.a c.in-Time.op n c.operand.result.table.now c.source-in-Time.new.draft.next old (map statement_tree c.source-in-Time.new.draft.statements.items) c.in-Time.is
     (made.structure ∙ ap (λ (x : Node). structure_of (node_tree x)) c.deref-in-Time-2.ensures) (ap (λ x. x ∷ []) made.table ∙ one.name ∙ ap (λ (x : Node). (of x).names) same) (one.next ∙ ap (λ (x : Node). (of x).next) same) (one.tables ∙ ap (λ (x : Node). old ++ map create_for (of x).tables) same)
     in
     IfOk-weaker c.time_query.result _ _ (λ q e. e ∙ rest.query) c.time_query.ensures.query
@@ -471,9 +496,9 @@ query-returns-in_ok-table-in-Time-clause-tables t c =
     let of = λ (x : Node). sources_of p r (node_tree x) n in
     let one = c.in_ok-table-in-Time.ensures in
     let same = c.deref-in-Time.ensures in
-    let made = c.operand-in-Time.ensures in
+    let made = c.operand.ensures in
     let rest =
-    timed_gives p r c.args.s.now c.operand-in-Time.result.structure.now c.args.form.now c.in-Time.a c.in-Time.op n c.operand-in-Time.result.table.now c.source-in-Time.new.draft.next old (map statement_tree c.source-in-Time.new.draft.statements.items) c.in-Time.is
+    timed_gives p r c.args.s.now c.operand.result.structure.now c.args.form.now c.in-Time.a c.in-Time.op n c.operand.result.table.now c.source-in-Time.new.draft.next old (map statement_tree c.source-in-Time.new.draft.statements.items) c.in-Time.is
     (made.structure ∙ ap (λ (x : Node). structure_of (node_tree x)) c.deref-in-Time-2.ensures) (ap (λ x. x ∷ []) made.table ∙ one.name ∙ ap (λ (x : Node). (of x).names) same) (one.next ∙ ap (λ (x : Node). (of x).next) same) (one.tables ∙ ap (λ (x : Node). old ++ map create_for (of x).tables) same)
     in
     IfOk-weaker c.time_query.result _ _ (λ q e. e ∙ rest.tables) c.time_query.ensures.tables
@@ -487,9 +512,9 @@ query-returns-in_ok-table-in-Time-clause-next t c =
     let of = λ (x : Node). sources_of p r (node_tree x) n in
     let one = c.in_ok-table-in-Time.ensures in
     let same = c.deref-in-Time.ensures in
-    let made = c.operand-in-Time.ensures in
+    let made = c.operand.ensures in
     let rest =
-    timed_gives p r c.args.s.now c.operand-in-Time.result.structure.now c.args.form.now c.in-Time.a c.in-Time.op n c.operand-in-Time.result.table.now c.source-in-Time.new.draft.next old (map statement_tree c.source-in-Time.new.draft.statements.items) c.in-Time.is
+    timed_gives p r c.args.s.now c.operand.result.structure.now c.args.form.now c.in-Time.a c.in-Time.op n c.operand.result.table.now c.source-in-Time.new.draft.next old (map statement_tree c.source-in-Time.new.draft.statements.items) c.in-Time.is
     (made.structure ∙ ap (λ (x : Node). structure_of (node_tree x)) c.deref-in-Time-2.ensures) (ap (λ x. x ∷ []) made.table ∙ one.name ∙ ap (λ (x : Node). (of x).names) same) (one.next ∙ ap (λ (x : Node). (of x).next) same) (one.tables ∙ ap (λ (x : Node). old ++ map create_for (of x).tables) same)
     in
     IfOk-weaker c.time_query.result _ _ (λ q e. e ∙ rest.next) c.time_query.ensures.next
