@@ -14,7 +14,7 @@ use Rattle.vtl_tree.specs.Structure.{key_width, names_of, same_name}
 use Rattle.vtl_tree.specs.declared.structure.Component.{Component}
 use Rattle.vtl_tree.specs.declared.structure.Structure.{Structure}
 use Rattle.vtl_csv.specs.InputFields.{ReadColumn, read_column, read_columns}
-use Rattle.vtl_csv.specs.InputFile.{Fault, Layout, columns_with, dataset_rows, layout_of, named_by, newly_named, of_header, places_in, rows_below, rows_in_records, rows_with}
+use Rattle.vtl_csv.specs.InputFile.{Fault, Layout, columns_with, dataset_rows, named_by, newly_named, of_header, places_in, rows_below, rows_in_records, rows_with}
 use Rattle.vtl_csv.specs.StructuresFile.{records_in}
 use Rattle.sql_tree.specs.declared.statements.InputColumn.{InputColumn}
 use Rattle.vtl_to_sql.specs.Scripts.{input_column}
@@ -26,11 +26,11 @@ one_more P (y ∷ ys) x all p = (all.0, one_more P ys x all.1 p)
 
 named_kept : (P : Component → Type 0) (xs : List Component) (f : Field) (x : Component) → AllByRecursion P xs → named_by xs f ≡ Some x → P x
 named_kept P [] f x all e = cc
-named_kept P (y ∷ ys) f x all e = go (same_name f (encode_utf8_all y.name)) e
+named_kept P (y ∷ ys) f x all e = go (same_name f (encode_utf8_all y.name)) e (named_kept P ys f x all.1)
   where
-    go : (b : Bool) → cond b (Some y) (named_by ys f) ≡ Some x → P x
-    go true q = let same : y ≡ x = cc in subst P same all.0
-    go false q = named_kept P ys f x all.1 q
+    go : (b : Bool) → cond b (Some y) (named_by ys f) ≡ Some x → (named_by ys f ≡ Some x → P x) → P x
+    go true q later = let same : y ≡ x = cc in subst P same all.0
+    go false q later = later q
 
 newly_kept : (P : Component → Type 0) (xs before : List Component) (f : Field) (x : Component) → AllByRecursion P xs → newly_named xs before f ≡ Some x → P x
 newly_kept P xs before f x all e = go (is_some (named_by before f)) e
@@ -41,11 +41,12 @@ newly_kept P xs before f x all e = go (is_some (named_by before f)) e
 
 columns_kept : (P : Component → Type 0) (xs before : List Component) (fs : Record) (columns : List Component) → AllByRecursion P xs → AllByRecursion P before → columns_with xs before fs ≡ Ok columns → AllByRecursion P columns
 columns_kept P xs before [] columns all kept e = let same : before ≡ columns = cc in subst (AllByRecursion P) same kept
-columns_kept P xs before (f ∷ fs) columns all kept e = go (newly_named xs before f) refl e
+columns_kept P xs before (f ∷ fs) columns all kept e = go (newly_named xs before f) refl e (λ x. columns_kept P xs (before ++ x ∷ []) fs columns all)
   where
-    go : (o : Option Component) → newly_named xs before f ≡ o → (ok_or o (length before + 1) >>= λ x. columns_with xs (before ++ x ∷ []) fs) ≡ Ok columns → AllByRecursion P columns
-    go None is q = cc
-    go (Some x) is q = columns_kept P xs (before ++ x ∷ []) fs columns all (one_more P before x kept (newly_kept P xs before f x all is)) q
+    go : (o : Option Component) → newly_named xs before f ≡ o → (ok_or o (length before + 1) >>= λ x. columns_with xs (before ++ x ∷ []) fs) ≡ Ok columns
+        → ((x : Component) → AllByRecursion P (before ++ x ∷ []) → columns_with xs (before ++ x ∷ []) fs ≡ Ok columns → AllByRecursion P columns) → AllByRecursion P columns
+    go None is q later = cc
+    go (Some x) is q later = later x (one_more P before x kept (newly_kept P xs before f x all is)) q
 
 -- ---- two lists that name the same components
 module _ (a b : List Name) where
@@ -64,14 +65,14 @@ module _ (a b : List Name) where
   pub rows_alike : (p : Settings) (s : Structure) (text : List ℕ) → AllByRecursion IsNamedAlike s.components → dataset_rows p s a text ≡ dataset_rows p s b text
   rows_alike p s text all = by_records (records_in text)
     where
+      laid : List Component → List ℕ → Layout
+      laid columns places = record { columns = columns; places = places }
+
       by_places : (rest : List Record) (columns : List Component) → AllByRecursion IsNamedAlike columns → (r : Result (List ℕ) ℕ)
           → ◌≡◌ {A = Result (List Row) Fault} (of_header (r >>= λ places. Ok (laid columns places)) >>= λ layout. rows_below p s a layout rest) (of_header (r >>= λ places. Ok (laid columns places)) >>= λ layout. rows_below p s b layout rest)
       by_places rest columns named (Err column) = refl
       by_places rest columns named (Ok places) =
           ap (λ (cs : List ReadColumn). rows_with p cs (take (key_width s) places) [] rest >>= λ rows. Ok (map (cells_at places) rows)) (read_alike columns named)
-
-      laid : List Component → List ℕ → Layout
-      laid columns places = record { columns = columns; places = places }
 
       by_columns : (header : Record) (rest : List Record) (r : Result (List Component) ℕ) → columns_with s.components [] header ≡ r
           → (of_header (r >>= λ columns. places_in s columns >>= λ places. Ok (laid columns places)) >>= λ layout. rows_below p s a layout rest)

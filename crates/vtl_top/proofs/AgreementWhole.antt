@@ -18,7 +18,7 @@ use Rattle.vtl_csv.specs.CsvText.{csv_of}
 use Rattle.vtl_to_sql.specs.Inputs.{AreTaken, sets_read}
 use Rattle.vtl_top.specs.Agreement.{AreSameFiles, AreSameMade, AreTwins, ComeToSame, GivesOne, IsOutcomeOf, behind}
 use Rattle.vtl_top.specs.Forms.{asked_step}
-use Rattle.vtl_top.specs.Expected.{IsTextOf, Typed, file_in, folder_step, inputs_step, meant, output_of, outputs_of, run_step, statements_in, wanted_step}
+use Rattle.vtl_top.specs.Expected.{IsTextOf, Typed, file_in, folder_step, meant, output_of, outputs_of, run_step, statements_in, wanted_step}
 use Rattle.vtl_top.specs.Meant.{IsTextMeant}
 use Rattle.vtl_top.specs.ScriptFile.{whole}
 use Rattle.vtl_top.specs.SqlInputs.{inputs_wanted, rows_by_name}

@@ -1,5 +1,5 @@
 -- The links of a script as CSV.
-use Rattle.std.specs.Prelude.{ℕ, List, [], ◌∷◌, map, Ok, chars, codes}
+use Rattle.std.specs.Prelude.{List, [], ◌∷◌, map, Ok, chars, codes}
 use Rattle.vtl_cell.specs.Row.{Row}
 use Rattle.vtl_cell.specs.declared.cell.Cell.TheVariants as c
 use Rattle.vtl_cell.specs.declared.kind.Kind.TheVariants as k

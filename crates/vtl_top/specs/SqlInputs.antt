@@ -1,5 +1,5 @@
 -- The data sets that an SQL script reads: those that its INPUTs declare.
-use Rattle.std.specs.Prelude.{ℕ, List, [], ◌∷◌, map}
+use Rattle.std.specs.Prelude.{List, [], ◌∷◌, map}
 use Rattle.vtl_tree.specs.Environment.{Environment}
 use Rattle.vtl_tree.specs.Structures.{Named}
 use Rattle.sql_tree.specs.Trees as tree
