@@ -79,12 +79,7 @@ pub(crate) fn names(alloc: Global, components: &[&Component]) -> Result<List<Txt
     Ok(List::of(names))
 }
 
-fn input(
-    alloc: Global,
-    script: &Checked,
-    name: &Txt,
-    s: &Structure,
-) -> Result<SqlInput, AllocError>
+fn input(alloc: Global, script: &Checked, name: &Txt, s: &Structure) -> Result<SqlInput, AllocError>
     ensures { IfOk result (λ x. x ≡ input_of script.now.not_null (name.now, s.now)) }
 {
     let columns = s.columns(alloc)?;
