@@ -16,8 +16,6 @@ use Rattle.vtl_tree.specs.Structure.{columns_of}
 use Rattle.std.specs.Prelude.{IfOk}
 use Rattle.vtl_times.specs.Columns.{column_value, row_values}
 use Rattle.vtl_times.specs.Flows.{flow_by}
-use Rattle.vtl_times.specs.InOrder.{AreSeries}
-use Rattle.vtl_times.specs.Lists.{lists_of}
 use Rattle.vtl_times.proofs.FlowLemmas.{flow_fits, flow_kept}
 use Rattle.vtl_times.proofs.RowLemmas.{made_fits, row_is, rows_made}
 use Rattle.vtl_times.proofs.flows.flow_table.Goals as goal
