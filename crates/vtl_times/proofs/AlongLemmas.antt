@@ -1,12 +1,12 @@
 -- What is made along a series in order is what is meant at its points.
-use Rattle.std.proofs.Common.{◌≡◌, ℕ, zero, suc, ◌+◌, ◌-◌, ◌<◌, ◌≤◌, ◌==◌, ◌||◌, ◌⊎◌, inl, inr, Bool, true, false, nat_le, None, Some, List, [], ◌∷◌, ◌++◌, Ok, length, map, take, get_or, set, refl, sym, ap, ◌∙◌, subst, arith, pos, if◌then◌else◌}
-use Rattle.std.specs.List.{list_any, range_with_len}
+use Rattle.std.proofs.Common.{◌≡◌, ℕ, zero, suc, ◌+◌, ◌-◌, ◌<◌, ◌==◌, ◌||◌, ◌⊎◌, inl, inr, Bool, true, false, nat_le, None, Some, List, [], ◌∷◌, ◌++◌, Ok, length, map, take, get_or, set, refl, sym, ap, ◌∙◌, subst, arith, pos, if◌then◌else◌}
+use Rattle.std.specs.List.{list_any}
 use Rattle.std.specs.Option.{option_map_or}
 use Rattle.std.proofs.lemmas.Bool.{cases_order, eqb-true}
 use Rattle.std.proofs.lemmas.Bool.Decides.{nat_tests}
 use Rattle.std.proofs.lemmas.List.{get_or-map, get_or-set_other, get_or-set_same, length-map, length-set}
 use Rattle.std.proofs.lemmas.List.FromFn.{fill_by_all}
-use Rattle.vtl_lists.proofs.Perms.{Perm-map, Perm-sym}
+use Rattle.vtl_lists.proofs.Perms.{Perm-map}
 use Rattle.vtl_cell.specs.Frames.{lag_of}
 use Rattle.vtl_cell.specs.Groups.{group_value}
 use Rattle.vtl_cell.specs.Outcome.{Outcome}
@@ -21,7 +21,7 @@ use Rattle.vtl_frames.specs.Lanes.{lane_cells}
 use Rattle.vtl_frames.proofs.ListLemmas.{listed, map_same}
 use Rattle.vtl_rows.specs.Places.{row_at}
 use Rattle.vtl_tree.specs.Environment.{DataSet}
-use Rattle.vtl_timing.specs.Times.{previous, up_to}
+use Rattle.vtl_timing.specs.Times.{up_to}
 use Rattle.vtl_times.specs.Along.{value_along, value_at}
 use Rattle.vtl_times.specs.declared.along.Along.{Along}
 use Rattle.vtl_times.specs.declared.along.Along.TheVariants as along

@@ -1,5 +1,5 @@
 -- The columns of flows and stocks, value by value.
-use Rattle.std.proofs.Common.{◌≡◌, ℕ, true, false, Ok, List, if◌then◌else◌, sym, ap, ◌∙◌}
+use Rattle.std.proofs.Common.{◌≡◌, ℕ, true, Ok, if◌then◌else◌, sym, ap, ◌∙◌}
 use Rattle.std.specs.Prelude.{IfOk}
 use Rattle.std.specs.List.{AllByRecursion}
 use Rattle.vtl_cell.specs.Kinds.{is_of}

@@ -1,4 +1,5 @@
 mod AlongLemmas
+mod CutLists
 mod FillLemmas
 mod FilledRows
 mod FlowLemmas

@@ -1,5 +1,5 @@
 -- Rows of values that are made one after the other.
-use Rattle.std.proofs.Common.{◌≡◌, ℕ, ◌+◌, ◌<◌, ◌≤◌, true, ◌&&◌, List, [], ◌∷◌, ◌++◌, length, map, take, get_or, Option, Result, Ok, refl, sym, ap, ◌∙◌, subst, arith}
+use Rattle.std.proofs.Common.{◌≡◌, ℕ, ◌+◌, ◌<◌, true, ◌&&◌, List, [], ◌∷◌, ◌++◌, length, map, take, get_or, Option, refl, sym, ap, ◌∙◌, arith}
 use Rattle.std.specs.List.{AllByRecursion, range_with_len}
 use Rattle.std.proofs.lemmas.List.{map_more, map-append}
 use Rattle.std.proofs.lemmas.List.FromFn.{map-range_with_len_more}
@@ -9,10 +9,8 @@ use Rattle.vtl_cell.specs.Kinds.{is_of}
 use Rattle.vtl_decimal.specs.declared.number.Fault.{Fault}
 use Rattle.vtl_frames.proofs.ListLemmas.{listed, map_same}
 use Rattle.vtl_rows.specs.Places.{row_at}
-use Rattle.vtl_rows.specs.Tables.{Tabled, fits, fits_kinds}
-use Rattle.vtl_scalar.specs.Answers.{AnswersBy}
-use Rattle.vtl_scalar.specs.declared.error.ScalarErr.{ScalarErr}
-use Rattle.vtl_sets.specs.TableOf.{column_for, table_columns}
+use Rattle.vtl_rows.specs.Tables.{fits, fits_kinds}
+use Rattle.vtl_sets.specs.TableOf.{column_for}
 use Rattle.vtl_sets.proofs.ColumnLemmas.{kinds_of_columns}
 use Rattle.std.specs.Borrow.{Bor}
 use Rattle.vtl_tree.specs.Shown.{shown}
@@ -23,7 +21,7 @@ use Rattle.vtl_times.specs.declared.column.Column.{Column}
 use Rattle.vtl_cell.specs.Outcome.{Outcome, fault_in, faults_by, join, unless}
 use Rattle.vtl_tree.proofs.Faults.{faults_by-append, join_none}
 use Rattle.vtl_meaning.specs.Points.{cell_or_null}
-use Rattle.vtl_times.specs.Columns.{FitEach, cells_of, fault_of, row_values, rows_of}
+use Rattle.vtl_times.specs.Columns.{cells_of, fault_of, rows_of}
 
 faults_map : {X Y : Type 0} (f : Y → Option Fault) (g : X → Y) (xs : List X) → faults_by f (map g xs) ≡ faults_by (λ x. f (g x)) xs
 faults_map f g [] = refl

@@ -1,5 +1,5 @@
 -- The stretches of points in order, cut by the frequencies of their times, are the series in the order of their times.
-use Rattle.std.proofs.Common.{◌≡◌, ◌⊎◌, inl, inr, ℕ, zero, suc, ◌+◌, ◌-◌, ◌<◌, ◌≤◌, ◌==◌, ◌&&◌, ◌||◌, nat_le, Bool, true, false, not, List, [], ◌∷◌, ◌++◌, length, map, take, drop, get_or, Option, None, Some, refl, sym, ap, ◌∙◌, subst, arith, append-nil, true≢false, if◌then◌else◌}
+use Rattle.std.proofs.Common.{◌≡◌, ℕ, zero, suc, ◌+◌, ◌-◌, ◌<◌, ◌≤◌, ◌==◌, ◌&&◌, ◌||◌, nat_le, Bool, true, false, not, List, [], ◌∷◌, ◌++◌, length, map, take, drop, get_or, None, Some, refl, sym, ap, ◌∙◌, subst, arith, append-nil, true≢false, if◌then◌else◌}
 use Rattle.std.specs.Prelude.{filter, find}
 use Rattle.std.specs.List.{AllByRecursion, concat, flat_map, list_all, list_any, range_with_len}
 use Rattle.std.specs.Ordering.{is_le, is_lt}
@@ -19,10 +19,8 @@ use Rattle.vtl_cell.specs.Order.{cell_cmp}
 use Rattle.vtl_cell.specs.Row.{Row, same_key, same_row}
 use Rattle.vtl_cell.specs.Sorted.{rising}
 use Rattle.vtl_cell.specs.declared.cell.Cell.{Cell}
-use Rattle.vtl_cell.specs.declared.cell.Cell.TheVariants as c
 use Rattle.vtl_cell.proofs.Rows.{same_key-sym}
 use Rattle.std.specs.declared.cmp.Ordering.TheVariants.{Less}
-use Rattle.vtl_frames.specs.Ranked.{AreInOrder}
 use Rattle.vtl_frames.specs.Stretches.{stretches_of}
 use Rattle.vtl_frames.proofs.ListLemmas.{all_filtered, all_get, filter-map, rises_get}
 use Rattle.vtl_frames.proofs.OrderLemmas.{at_most}
@@ -35,7 +33,7 @@ use Rattle.vtl_rows.specs.Tables.{cells_at}
 use Rattle.vtl_rows.specs.declared.column.SortKey.{SortKey}
 use Rattle.vtl_rows.proofs.Placed.{all_places}
 use Rattle.vtl_series.specs.Series.{frequencies}
-use Rattle.vtl_time.specs.Periods.{YearPart, frequency_rank}
+use Rattle.vtl_time.specs.Periods.{frequency_rank}
 use Rattle.vtl_time.specs.declared.periods.Frequency.{Frequency}
 use Rattle.vtl_time.specs.declared.periods.Frequency.TheVariants.{Annual, Semester, Quarter, Month}
 use Rattle.vtl_tree.specs.Columns.{place_of, places_in}

@@ -1,5 +1,5 @@
 -- What is made along a series of one of its columns.
-use Rattle.std.specs.Prelude.{◌≡◌, ℕ, ◌<◌, ◌==◌, Ok, List, length, map, pos}
+use Rattle.std.specs.Prelude.{ℕ, Ok, List, map, pos}
 use Rattle.std.specs.Option.{option_map_or}
 use Rattle.vtl_cell.specs.Frames.{lag_of}
 use Rattle.vtl_cell.specs.Groups.{group_value}

@@ -1,5 +1,5 @@
 -- Columns of a result, value by value.
-use Rattle.std.specs.Prelude.{◌≡◌, ℕ, ◌<◌, true, Ok, Option, Some, List, [], ◌∷◌, length, map, slice_index_or, if◌then◌else◌}
+use Rattle.std.specs.Prelude.{◌≡◌, ℕ, ◌<◌, true, Ok, Option, Some, List, [], ◌∷◌, map, slice_index_or, if◌then◌else◌}
 use Rattle.std.specs.List.{range_with_len}
 use Rattle.vtl_cell.specs.Kinds.{is_null}
 use Rattle.vtl_cell.specs.Outcome.{Outcome, after, fault_in, faults_by, unless}

@@ -1,7 +1,6 @@
 -- What a filled data set is gathered from: a row of a series, and the point with its identifiers.
 use Rattle.std.specs.Prelude.{ℕ, List, [], ◌∷◌, ◌++◌, length, map}
-use Rattle.std.specs.List.{flat_map, range_with_len}
-use Rattle.vtl_cell.specs.Row.{Row}
+use Rattle.std.specs.List.{range_with_len}
 use Rattle.vtl_index.specs.Seekers.{Sought}
 use Rattle.vtl_rows.specs.declared.gather.Pick.{Pick}
 use Rattle.vtl_tree.specs.Columns.{identifiers_of, others_of, places_in}

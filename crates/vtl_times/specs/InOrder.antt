@@ -11,7 +11,6 @@ use Rattle.vtl_time.specs.declared.periods.Frequency.{Frequency}
 use Rattle.vtl_tree.specs.Columns.{place_of}
 use Rattle.vtl_tree.specs.Environment.{DataSet}
 use Rattle.vtl_tree.specs.Structure.{columns_of}
-use Rattle.vtl_tree.specs.declared.structure.Component.{Component}
 use Rattle.vtl_tree.specs.declared.structure.Structure.{Structure}
 use Rattle.vtl_timing.specs.Times.{other_identifiers, previous, time_place, up_to}
 

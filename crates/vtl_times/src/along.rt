@@ -8,10 +8,11 @@ ghost use Rattle.vtl_frames.specs.Lanes.{lane_cells};
 ghost use Rattle.vtl_rows.specs.Places.{row_at};
 ghost use Rattle.vtl_times.specs.Along.{value_along, value_at};
 ghost use Rattle.vtl_times.specs.InOrder.{AreSeries, IsSeries};
-ghost use Rattle.vtl_times.specs.Lists.{lists_of};
+ghost use Rattle.vtl_times.specs.Lists.{IsWhole, lists_of};
 ghost use Rattle.vtl_times.specs.Put.{put_each};
 
 use crate::column::Outcomes;
+use crate::lists::Lists;
 use std::alloc::{AllocError, Global};
 use vtl_cell::{AggKind, Cell};
 use vtl_decimal::{Fault, Profile};
@@ -84,41 +85,44 @@ fn put_back(values: &mut Outcomes, run: &[usize], made: Outcomes)
     }
 }
 
-// Makes the values of one series and puts them at its points.
-fn put_along(
+// Makes the values of each series, one series behind the other.
+fn made_along(
     alloc: Global,
-    values: &mut Outcomes,
     a: &DataSet,
-    run: &[usize],
+    series: &Lists,
     column: usize,
     along: Along,
     p: &Profile,
-) -> Result<(), AllocError>
-    requires series { IsSeries a.now run.now }
-    requires many { length values.old.items ≡ length a.now.points }
-    ensures { OnOk result (values.new.items ≡ put_each (λ k. value_at p.now along column a.now (row_at a.now.points k)) run.now values.old.items) }
+) -> Result<Outcomes, AllocError>
+    requires whole { IsWhole series.now }
+    requires series { AllByRecursion (IsSeries a.now) (lists_of series.now) }
+    ensures { IfOk result (λ v. v.items ≡ map (λ k. value_at p.now along column a.now (row_at a.now.points k)) series.now.numbers.items) }
 {
-    let mut made = Vec::with_capacity(alloc, run.len())?;
-    push_along(alloc, &mut made, a.table(), run, column, along, p)?;
-    put_back(values, run, made);
-    Ok(())
+    let mut made = Vec::with_capacity(alloc, series.numbers.len())?;
+    let mut start = 0;
+    for count in &series.counts {
+        let run = &series.numbers[start..start + *count];
+        push_along(alloc, &mut made, a.table(), run, column, along, p)?;
+        start += *count;
+    }
+    Ok(made)
 }
 
 /// What is made of a column at each point, in the order of the points, by the series. It fails only if memory runs out.
 pub(crate) fn values_along(
     alloc: Global,
     a: &DataSet,
-    series: &[Vec<usize>],
+    series: &Lists,
     column: usize,
     along: Along,
     p: &Profile,
 ) -> Result<Outcomes, AllocError>
-    requires { AreSeries a.now (lists_of series.now) }
+    requires whole { IsWhole series.now }
+    requires series { AreSeries a.now (lists_of series.now) }
     ensures { IfOk result (λ v. v.items ≡ map (value_at p.now along column a.now) a.now.points) }
 {
+    let made = made_along(alloc, a, series, column, along, p)?;
     let mut values = nulls(alloc, a.table().len())?;
-    for run in series {
-        put_along(alloc, &mut values, a, run, column, along, p)?;
-    }
+    put_back(&mut values, &series.numbers, made);
     Ok(values)
 }

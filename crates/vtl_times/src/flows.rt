@@ -16,10 +16,11 @@ ghost use Rattle.vtl_meaning.specs.Analytics.{each_point as each_made};
 ghost use Rattle.vtl_times.specs.Columns.{column_value, outcome_at, row_values};
 ghost use Rattle.vtl_times.specs.Flows.{flow_by, made_by};
 ghost use Rattle.vtl_times.specs.InOrder.{AreSeries};
-ghost use Rattle.vtl_times.specs.Lists.{lists_of};
+ghost use Rattle.vtl_times.specs.Lists.{IsWhole, lists_of};
 
 use crate::along::{Along, values_along};
 use crate::column::{Column, Outcomes};
+use crate::lists::Lists;
 use crate::order::series_in_order;
 use crate::rows::each_row;
 use std::alloc::{AllocError, Global};
@@ -45,12 +46,13 @@ fn made_column(
     alloc: Global,
     a: &DataSet,
     columns: &[&Component],
-    series: &[Vec<usize>],
+    series: &Lists,
     component: &Component,
     along: Along,
     p: &Profile,
 ) -> Result<Column, AllocError>
     requires columns { shown columns.now ≡ columns_of a.now.structure }
+    requires whole { IsWhole series.now }
     requires series { AreSeries a.now (lists_of series.now) }
     ensures { IfOk result (λ v. (i : ℕ) → i < length a.now.points → column_value p.now (row_at a.now.points i) i v ≡ flow_by along p.now a.now component.now (row_at a.now.points i)) }
 {
@@ -67,12 +69,13 @@ fn made_columns(
     alloc: Global,
     a: &DataSet,
     columns: &[&Component],
-    series: &[Vec<usize>],
+    series: &Lists,
     made: &Structure,
     along: Along,
     p: &Profile,
 ) -> Result<Vec<Column>, AllocError>
     requires columns { shown columns.now ≡ columns_of a.now.structure }
+    requires whole { IsWhole series.now }
     requires series { AreSeries a.now (lists_of series.now) }
     ensures { IfOk result (λ v. (i : ℕ) → i < length a.now.points → row_values p.now v.items a.now.points i ≡ map (λ y. flow_by along p.now a.now y (row_at a.now.points i)) (columns_of made.now)) }
 {

@@ -13,6 +13,7 @@ mod along;
 mod column;
 mod fill;
 mod flows;
+mod lists;
 mod order;
 mod places;
 mod rows;

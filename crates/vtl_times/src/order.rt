@@ -9,8 +9,9 @@ ghost use Rattle.vtl_frames.specs.Stretches.{stretches_of};
 ghost use Rattle.vtl_rows.specs.Places.{IsOrderOf};
 ghost use Rattle.vtl_timing.specs.Times.{HasTime, time_place};
 ghost use Rattle.vtl_times.specs.InOrder.{AreSeries, group_keys, is_at, of_frequency, part_of, parts_of, rising_key, time_keys};
-ghost use Rattle.vtl_times.specs.Lists.{lists_of};
+ghost use Rattle.vtl_times.specs.Lists.{IsWhole, lists_of};
 
+use crate::lists::{Lists, no_lists};
 use crate::places::{other_identifiers, time_place};
 use std::alloc::{AllocError, Global};
 use vtl_cell::Cell;
@@ -19,9 +20,6 @@ use vtl_rows::{SortKey, Table};
 use vtl_sets::DataSet;
 use vtl_time::Frequency;
 use vtl_tree::{Structure, place_of};
-
-/// Lists of numbers.
-pub(crate) type Lists = Vec<Vec<usize>>;
 
 // A key that rises.
 fn rising(column: usize) -> SortKey
@@ -69,61 +67,63 @@ fn is_at(row: &[Cell], time: usize, frequency: Frequency) -> bool
     }
 }
 
-// Of rows by their numbers those whose time has a frequency.
-fn of_frequency(
-    alloc: Global,
-    table: &Table,
-    time: usize,
-    run: &[usize],
-    frequency: Frequency,
-) -> Result<Vec<usize>, AllocError>
-    requires { All (λ k. k < length table.now.rows) run.now }
-    ensures { IfOk result (λ v. v.items ≡ of_frequency time frequency table.now.rows run.now) }
-{
-    let mut own = Vec::new(alloc);
-    for place in run {
-        if is_at(table.row(*place), time, frequency) {
-            own.push(*place)?;
-        }
-    }
-    Ok(own)
-}
-
-// Puts them behind other lists, where there are some.
-fn push_part(
-    alloc: Global,
-    series: &mut Lists,
+// Puts those of rows by their numbers whose time has a frequency behind other numbers.
+fn push_numbers(
+    numbers: &mut Vec<usize>,
     table: &Table,
     time: usize,
     run: &[usize],
     frequency: Frequency,
 ) -> Result<(), AllocError>
     requires { All (λ k. k < length table.now.rows) run.now }
-    ensures { OnOk result (lists_of series.new.items ≡ lists_of series.old.items ++ part_of time table.now.rows run.now frequency) }
+    ensures { OnOk result (numbers.new.items ≡ numbers.old.items ++ of_frequency time frequency table.now.rows run.now) }
 {
-    let own = of_frequency(alloc, table, time, run, frequency)?;
-    if own.is_empty() {
-        return Ok(());
+    for place in run {
+        if is_at(table.row(*place), time, frequency) {
+            numbers.push(*place)?;
+        }
     }
-    series.push(own)?;
+    Ok(())
+}
+
+// Puts them behind other lists, where there are some.
+fn push_part(
+    series: &mut Lists,
+    table: &Table,
+    time: usize,
+    run: &[usize],
+    frequency: Frequency,
+) -> Result<(), AllocError>
+    requires within { All (λ k. k < length table.now.rows) run.now }
+    requires whole { IsWhole series.old }
+    ensures whole { OnOk result (IsWhole series.new) }
+    ensures lists { OnOk result (lists_of series.new ≡ lists_of series.old ++ part_of time table.now.rows run.now frequency) }
+{
+    let before = series.numbers.len();
+    push_numbers(&mut series.numbers, table, time, run, frequency)?;
+    let count = series.numbers.len() - before;
+    if count > 0 {
+        series.counts.push(count)?;
+    }
     Ok(())
 }
 
 // Those of each frequency.
 fn push_parts(
-    alloc: Global,
     series: &mut Lists,
     table: &Table,
     time: usize,
     run: &[usize],
 ) -> Result<(), AllocError>
-    requires { All (λ k. k < length table.now.rows) run.now }
-    ensures { OnOk result (lists_of series.new.items ≡ lists_of series.old.items ++ parts_of time table.now.rows run.now) }
+    requires within { All (λ k. k < length table.now.rows) run.now }
+    requires whole { IsWhole series.old }
+    ensures whole { OnOk result (IsWhole series.new) }
+    ensures lists { OnOk result (lists_of series.new ≡ lists_of series.old ++ parts_of time table.now.rows run.now) }
 {
-    push_part(alloc, series, table, time, run, Frequency::Annual)?;
-    push_part(alloc, series, table, time, run, Frequency::Semester)?;
-    push_part(alloc, series, table, time, run, Frequency::Quarter)?;
-    push_part(alloc, series, table, time, run, Frequency::Month)
+    push_part(series, table, time, run, Frequency::Annual)?;
+    push_part(series, table, time, run, Frequency::Semester)?;
+    push_part(series, table, time, run, Frequency::Quarter)?;
+    push_part(series, table, time, run, Frequency::Month)
 }
 
 // The parts of all stretches of points that agree in the other identifiers.
@@ -135,12 +135,13 @@ fn parts_in(
     keys: &[SortKey],
 ) -> Result<Lists, AllocError>
     requires { All (λ k. k < length a.now.points) places.now }
-    ensures { IfOk result (λ v. lists_of v.items ≡ flat_map (parts_of time a.now.points) (stretches_of keys.now a.now.points places.now)) }
+    ensures whole { IfOk result IsWhole }
+    ensures lists { IfOk result (λ v. lists_of v ≡ flat_map (parts_of time a.now.points) (stretches_of keys.now a.now.points places.now)) }
 {
     let groups = Stretches::of(alloc, a.table(), places, keys)?;
-    let mut series = Vec::new(alloc);
+    let mut series = no_lists(alloc, places.len())?;
     for i in 0..groups.len() {
-        push_parts(alloc, &mut series, a.table(), time, groups.stretch(i))?;
+        push_parts(&mut series, a.table(), time, groups.stretch(i))?;
     }
     Ok(series)
 }
@@ -149,7 +150,8 @@ fn parts_in(
 /// only if memory runs out.
 pub(crate) fn series_in_order(alloc: Global, a: &DataSet) -> Result<Lists, AllocError>
     requires { HasTime a.now.structure }
-    ensures { IfOk result (λ v. AreSeries a.now (lists_of v.items)) }
+    ensures whole { IfOk result IsWhole }
+    ensures series { IfOk result (λ v. AreSeries a.now (lists_of v)) }
 {
     let time = time_place(alloc, a.structure())?;
     let keys = group_keys(alloc, a.structure())?;

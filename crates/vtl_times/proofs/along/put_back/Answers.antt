@@ -1,5 +1,4 @@
-use Rattle.std.proofs.Common.{◌≡◌, ◌<◌, ◌≤◌, ◌+◌, ℕ, Ok, length, map, drop, get_or, refl, ap, sym, subst, ◌∙◌, arith}
-use Rattle.std.specs.Vec.Iter.{into_iter_items}
+use Rattle.std.proofs.Common.{◌<◌, ◌≤◌, ◌+◌, Ok, length, map, drop, get_or, refl, ap, sym, subst, ◌∙◌, arith}
 use Rattle.std.proofs.lemmas.List.{drop_all, drop_more, length-set}
 use Rattle.vtl_cell.specs.declared.cell.Cell.TheVariants as cells
 use Rattle.vtl_frames.proofs.ListLemmas.{all_get}

@@ -1,46 +1,39 @@
-use Rattle.std.proofs.Common.{◌≡◌, ◌+◌, ◌≤◌, ◌++◌, ℕ, List, [], ◌∷◌, length, map, take, get_or, ap, sym, subst, ◌∙◌, arith}
-use Rattle.std.specs.Global.{Vec}
-use Rattle.std.proofs.lemmas.List.{map_more, take_all}
+use Rattle.std.proofs.Common.{◌≡◌, ℕ, true, ◌<◌, [], ◌∷◌, length, map, ap, sym, subst, ◌∙◌}
+use Rattle.std.specs.List.{AllByRecursion, list_any}
 use Rattle.vtl_cell.specs.Outcome.{Outcome}
 use Rattle.vtl_cell.specs.declared.cell.Cell.{Cell}
-use Rattle.vtl_expr.proofs.PointLemmas.{holds_at}
-use Rattle.vtl_meaning.proofs.Places.{all_of_map}
+use Rattle.vtl_frames.proofs.ListLemmas.{all_more}
 use Rattle.vtl_rows.specs.Places.{row_at}
 use Rattle.vtl_times.specs.Along.{value_at}
-use Rattle.vtl_times.specs.InOrder.{IsSeries}
+use Rattle.vtl_times.specs.InOrder.{IsSeries, has_number}
 use Rattle.vtl_times.specs.Lists.{lists_of}
+use Rattle.vtl_times.specs.Put.{put_each}
 use Rattle.vtl_times.proofs.AlongLemmas.{StandsAt, all_points, length-put, one_series}
+use Rattle.vtl_times.proofs.CutLists.{all_joined, any_alone, any_joined, cut_joined}
 use Rattle.vtl_times.proofs.along.values_along.Goals as goal
 
-pub put_along-requires-clause-series : goal.put_along-requires-clause-series
-put_along-requires-clause-series c =
+pub put_back-requires : goal.put_back-requires
+put_back-requires c =
     let d = c.args.a.now in
-    let series = c.args.series.now in
-    subst (IsSeries d) (sym c.deref.ensures.value)
-    (holds_at (λ (v : Vec ℕ). IsSeries d v.items) series c.loop-run.run-index c.run-item.result (all_of_map (λ (v : Vec ℕ). v.items) (IsSeries d) series c.requires.each) c.loop-run-test.true c.run-item.is)
-
-pub loop-run-preserved : goal.loop-run-preserved
-loop-run-preserved c =
-    let d = c.args.a.now in
-    let series = c.args.series.now in
-    let k = c.loop-run.run-index in
-    let run = c.deref.result.now in
-    let f : ℕ → Outcome Cell = λ j. value_at c.args.p.now c.args.along c.args.column d (row_at d.points j) in
-    let old = c.loop-run.values.items in
-    let new = c.put_along.new.values.items in
-    let split : lists_of (take (k + 1) series) ≡ lists_of (take k series) ++ run ∷ []
-    = map_more (λ (v : Vec ℕ). v.items) series k c.run-item.result c.loop-run-test.true ∙ ap (λ l. lists_of (take k series) ++ l ∷ []) (ap (λ (v : Vec ℕ). v.items) (sym c.run-item.is) ∙ sym c.deref.ensures.value) in
-    record {
-      many = ap length c.in_ok-put_along.ensures ∙ length-put f run old ∙ c.loop-run.invariant.many;
-      stands = subst (λ ss. StandsAt f ss new) (sym split) (one_series f (lists_of (take k series)) run old new c.in_ok-put_along.ensures c.loop-run.invariant.stands);
-    }
+    let l = c.args.series.now in
+    let P : ℕ → Type 0 = λ k. k < length d.points in
+    let each = all_more (IsSeries d) (AllByRecursion P) (λ s (i : IsSeries d s). i.within) (lists_of l) c.requires.series.each in
+    let all = subst (AllByRecursion P) (cut_joined l.counts.items l.numbers.items c.requires.whole) (all_joined P (lists_of l) each) in
+    let many : length c.in_ok-values.values.items ≡ length d.points = c.in_ok-values.ensures ∙ c.len.ensures.rows ∙ ap length c.table.ensures.points in
+    subst (AllByRecursion (λ k. k < length c.in_ok-values.values.items)) (sym c.deref.ensures.value) (subst (λ n. AllByRecursion (λ k. k < n) l.numbers.items) (sym many) all)
 
 pub returns : goal.returns
 returns c =
     let d = c.args.a.now in
-    let series = c.args.series.now in
-    let f : ℕ → Outcome Cell = λ j. value_at c.args.p.now c.args.along c.args.column d (row_at d.points j) in
-    let values = c.loop-run.values.items in
-    let past : length series ≤ c.loop-run.run-index = omega (arith, c.loop-run-test.false) in
-    all_points (value_at c.args.p.now c.args.along c.args.column d) d.points (lists_of series) values c.loop-run.invariant.many c.requires.all
-    (subst (λ ss. StandsAt f ss values) (ap lists_of (take_all c.loop-run.run-index series past)) c.loop-run.invariant.stands)
+    let l = c.args.series.now in
+    let numbers = l.numbers.items in
+    let v = value_at c.args.p.now c.args.along c.args.column d in
+    let f : ℕ → Outcome Cell = λ k. v (row_at d.points k) in
+    let old = c.in_ok-values.values.items in
+    let new = c.put_back.new.values.items in
+    let put : new ≡ put_each f numbers old = c.put_back.ensures f (c.in_ok-made.ensures ∙ ap (map f) (sym c.deref.ensures.value)) ∙ ap (λ ks. put_each f ks old) c.deref.ensures.value in
+    let many : length new ≡ length d.points = ap length put ∙ length-put f numbers old ∙ c.in_ok-values.ensures ∙ c.len.ensures.rows ∙ ap length c.table.ensures.points in
+    let none : StandsAt f [] old = λ j h e. cc in
+    let all : (k : ℕ) → k < length d.points → list_any (has_number k) (numbers ∷ []) ≡ true
+    = λ k h. any_alone k numbers ∙ ap (has_number k) (sym (cut_joined l.counts.items numbers c.requires.whole)) ∙ sym (any_joined k (lists_of l)) ∙ c.requires.series.all k h in
+    all_points v d.points (numbers ∷ []) new many all (one_series f [] numbers old new put none)

@@ -1,22 +1,17 @@
-use Rattle.std.proofs.Common.{◌≡◌, ◌<◌, ◌++◌, ℕ, List, [], ◌∷◌, map, ap, sym, subst, ◌∙◌}
-use Rattle.std.specs.Prelude.{IfOk}
+use Rattle.std.proofs.Common.{◌≡◌, ◌<◌, [], ◌∷◌, map, ap, sym, ◌∙◌}
 use Rattle.std.proofs.lemmas.List.Elements.{All-same}
 use Rattle.std.proofs.lemmas.Result.{IfOk-weaker}
-use Rattle.vtl_cell.specs.Row.{Row}
-use Rattle.vtl_index.specs.Seekers.{first_meant}
 use Rattle.vtl_rows.specs.Gathered.{picked, picked_kind, pieces}
-use Rattle.vtl_rows.specs.Tables.{Listed, Tabled, column_kinds, listed}
-use Rattle.vtl_rows.specs.declared.column.Column.{Column}
+use Rattle.vtl_rows.specs.Tables.{Tabled, column_kinds, listed}
 use Rattle.vtl_rows.specs.declared.gather.Pick.{Pick}
 use Rattle.vtl_sets.proofs.ColumnLemmas.{some_table_columns}
 use Rattle.vtl_sets.proofs.TableLemmas.{made_is_table}
 use Rattle.vtl_tree.specs.Columns.{places_in}
 use Rattle.vtl_tree.specs.Structure.{columns_of}
 use Rattle.vtl_timing.proofs.FilledPoints.{fill_kept}
-use Rattle.vtl_sets.specs.TableOf.{column_for, table_columns}
-use Rattle.vtl_tree.specs.declared.structure.Structure.{Structure}
+use Rattle.vtl_sets.specs.TableOf.{table_columns}
 use Rattle.vtl_timing.specs.Times.{fill_of, other_identifiers, time_place}
-use Rattle.vtl_times.specs.Filling.{filled_picks, numbered, sought_in}
+use Rattle.vtl_times.specs.Filling.{filled_picks, numbered}
 use Rattle.vtl_times.proofs.FilledRows.{all_within, filled_kinds, filled_rows}
 use Rattle.vtl_times.proofs.fill.filled_table.Goals as goal
 

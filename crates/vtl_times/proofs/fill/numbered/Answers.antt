@@ -1,4 +1,4 @@
-use Rattle.std.proofs.Common.{◌≡◌, ◌≤◌, [], ◌∷◌, ◌++◌, length, get_or, ap, sym, ◌∙◌, arith, append_assoc}
+use Rattle.std.proofs.Common.{[], ◌∷◌, ◌++◌, get_or, ap, sym, ◌∙◌, arith, append_assoc}
 use Rattle.vtl_times.proofs.FillLemmas.{numbered_all, numbered_more}
 use Rattle.vtl_times.proofs.fill.numbered.Goals as goal
 

@@ -6,7 +6,6 @@ use Rattle.vtl_tree.specs.Columns.{identifiers_of, places_in}
 use Rattle.vtl_tree.specs.Structure.{columns_of}
 use Rattle.vtl_tree.specs.declared.structure.Structure.{Structure}
 use Rattle.vtl_timing.specs.Times.{series_columns}
-use Rattle.vtl_times.specs.Filling.{sought_in}
 use Rattle.vtl_times.proofs.fill.partners.Goals as goal
 
 abbrev sought : List ℕ → List ℕ → List Row → Sought

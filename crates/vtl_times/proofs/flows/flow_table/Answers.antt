@@ -16,8 +16,6 @@ use Rattle.vtl_tree.specs.Structure.{columns_of}
 use Rattle.std.specs.Prelude.{IfOk}
 use Rattle.vtl_times.specs.Columns.{column_value, row_values}
 use Rattle.vtl_times.specs.Flows.{flow_by}
-use Rattle.vtl_times.specs.InOrder.{AreSeries}
-use Rattle.vtl_times.specs.Lists.{lists_of}
 use Rattle.vtl_times.proofs.FlowLemmas.{flow_fits, flow_kept}
 use Rattle.vtl_times.proofs.RowLemmas.{made_fits, row_is, rows_made}
 use Rattle.vtl_times.proofs.flows.flow_table.Goals as goal
@@ -34,9 +32,9 @@ each_row-requires-clause-fits c i h =
     let xs = columns_of a.structure in
     let ys = columns_of s in
     let made : Made = flow_by w p a in
-    let values : ℕ → List (Outcome Cell) = row_values p c.deref-3.result.now a.points in
+    let values : ℕ → List (Outcome Cell) = row_values p c.deref-2.result.now a.points in
     let same : (j : ℕ) → j < length a.points → values j ≡ map (λ y. made y (row_at a.points j)) ys
-    = λ j l. ap (map (column_value p (row_at a.points j) j)) c.deref-3.ensures.value ∙ c.in_ok-columns.ensures j l in
+    = λ j l. ap (map (column_value p (row_at a.points j) j)) c.deref-2.ensures.value ∙ c.in_ok-columns.ensures j l in
     let typed = all_get (λ r. is_point xs r ≡ true) a.points i [] h c.structure.ensures.points.typed in
     ap (fits (table_columns s)) (row_is made ys a.points values same i h)
     ∙ made_fits (λ y. cell_or_null (made y (row_at a.points i))) ys (flow_fits p a s c.requires c.structure.ensures.points w (row_at a.points i) typed)
@@ -47,9 +45,9 @@ returns-clause-rows c =
     let p = c.args.p.now in
     let made : Made = flow_by c.args.along p a in
     let ys = columns_of c.args.made.now in
-    let values : ℕ → List (Outcome Cell) = row_values p c.deref-3.result.now a.points in
+    let values : ℕ → List (Outcome Cell) = row_values p c.deref-2.result.now a.points in
     let same : (j : ℕ) → j < length a.points → values j ≡ map (λ y. made y (row_at a.points j)) ys
-    = λ j l. ap (map (column_value p (row_at a.points j) j)) c.deref-3.ensures.value ∙ c.in_ok-columns.ensures j l in
+    = λ j l. ap (map (column_value p (row_at a.points j) j)) c.deref-2.ensures.value ∙ c.in_ok-columns.ensures j l in
     subst (AnswersBy (λ (t : Tabled). t.rows) c.each_row.result) (rows_made made ys a.points values same) c.each_row.ensures.rows
 
 pub returns-clause-table : goal.returns-clause-table

@@ -1,8 +1,6 @@
-use Rattle.std.proofs.Common.{◌≡◌, ◌<◌, ℕ, true, List, [], Ok, ap, ◌∙◌, rules}
+use Rattle.std.proofs.Common.{◌≡◌, true, [], Ok, ap, ◌∙◌, rules}
 use Rattle.std.proofs.lemmas.List.{get_or-map}
-use Rattle.vtl_cell.specs.Outcome.{Outcome}
-use Rattle.vtl_cell.specs.Row.{Row, column_of}
-use Rattle.vtl_cell.specs.declared.cell.Cell.{Cell}
+use Rattle.vtl_cell.specs.Row.{column_of}
 use Rattle.vtl_cell.specs.declared.cell.Cell.TheVariants as cells
 use Rattle.vtl_rows.specs.Places.{row_at}
 use Rattle.vtl_tree.specs.Columns.{place_of}

@@ -1,4 +1,4 @@
-use Rattle.std.proofs.Common.{◌≡◌, ◌<◌, ◌-◌, ℕ, List, length, take, drop, ap, sym, subst, ◌∙◌, arith}
+use Rattle.std.proofs.Common.{◌≡◌, ◌<◌, ◌-◌, ℕ, List, length, drop, ap, sym, subst, ◌∙◌, arith}
 use Rattle.std.specs.List.{AllByRecursion}
 use Rattle.std.proofs.lemmas.List.Elements.{All-from_recursion, recursion_from_All}
 use Rattle.vtl_cell.specs.Row.{Row}
@@ -7,8 +7,8 @@ use Rattle.vtl_frames.proofs.RunLemmas.{one_found}
 use Rattle.vtl_times.proofs.OrderLemmas.{all_drop, all_take}
 use Rattle.vtl_times.proofs.order.parts_in.Goals as goal
 
-pub push_parts-requires : goal.push_parts-requires
-push_parts-requires c =
+pub push_parts-requires-clause-within : goal.push_parts-requires-clause-within
+push_parts-requires-clause-within c =
     let rows = c.args.a.now.points in
     let places = c.args.places.now in
     let keys = c.args.keys.now in

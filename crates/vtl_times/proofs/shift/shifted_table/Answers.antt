@@ -2,7 +2,6 @@ use Rattle.std.proofs.Common.{◌≡◌, ◌<◌, ℕ, ℤ, List, [], map, lengt
 use Rattle.std.proofs.lemmas.Int.{to_z-of_z}
 use Rattle.std.specs.Prelude.{IfOk}
 use Rattle.vtl_cell.specs.Outcome.{Outcome}
-use Rattle.vtl_cell.specs.Row.{Row}
 use Rattle.vtl_cell.specs.declared.cell.Cell.{Cell}
 use Rattle.vtl_frames.proofs.ListLemmas.{all_get}
 use Rattle.vtl_meaning.specs.Aggregates.{Made}
@@ -17,7 +16,6 @@ use Rattle.vtl_tree.specs.Structure.{columns_of}
 use Rattle.vtl_tree.specs.declared.structure.Structure.{Structure}
 use Rattle.vtl_timing.proofs.ShiftKept.{made_of_kinds, shift_kept}
 use Rattle.vtl_timing.specs.Times.{shifted_value, timeshift_of}
-use Rattle.vtl_times.specs.declared.column.Column.{Column}
 use Rattle.vtl_times.specs.Columns.{cells_of, column_value, row_values}
 use Rattle.vtl_times.proofs.RowLemmas.{made_fits, row_is, rows_made}
 use Rattle.vtl_times.proofs.shift.shifted_table.Goals as goal
