@@ -11,6 +11,7 @@ MILLION = 1000000
 # The KB of stack that the deepest script and the deepest text have, as README names them.
 STACK, STACK_OF_A_TEXT = 1024, 3072
 HEADER = 'dataset,component,role,type,codes\n'
+SECOND = 'structures,2,6,half_up,,\ndataset,component,role,type,codes,nullable\n'
 
 
 def file_of(path, text):
@@ -40,7 +41,8 @@ class Cases:
             file_of(f'{self.folder}/{name}/words', '\n'.join(words) + '\n')
 
     def script(self, name, script, structures, inputs, options=(), **wanted):
-        files = {'script.vtl': script, 'structures.csv': HEADER + structures}
+        header = '' if structures.startswith(SECOND) else HEADER
+        files = {'script.vtl': script, 'structures.csv': header + structures}
         files.update((f'in/{key}.csv', text) for key, text in inputs.items())
         words = ['run', 'script.vtl', 'structures.csv', 'in', 'out', *options] if options else None
         self.put(name, files, words=words, **wanted)
@@ -53,6 +55,11 @@ class Cases:
 
 def components(dataset, *given):
     return ''.join(f'{dataset},{name},{role},{kind},\n' for name, role, kind in given)
+
+
+def second(dataset, *given):
+    """The same as a whole file of version 2, of components that may be null."""
+    return SECOND + ''.join(f'{dataset},{name},{role},{kind},,{str(role != "identifier").lower()}\n' for name, role, kind in given)
 
 
 KEY = ('Id_1', 'identifier', 'string')
@@ -120,17 +127,18 @@ def widths(cases):
     def table(count):
         return ','.join(['Id_1'] + [f'm{i}' for i in range(count)]) + '\n' + ','.join(['a'] + ['7'] * count) + '\n'
 
-    cases.script('components', COPY, components('DS_1', KEY, *measures(63)), {'DS_1': table(63)}, outputs={'DS_r': table(63)})
-    cases.script('components_too_many', COPY, components('DS_1', KEY, *measures(64)), {'DS_1': table(64)}, line='error: structures line 66 rule 9', code=2)
+    for declared, most, line in (components, 64, 66), (second, 256, 259):
+        cases.script(f'components_{most}', COPY, declared('DS_1', KEY, *measures(most - 1)), {'DS_1': table(most - 1)}, outputs={'DS_r': table(most - 1)})
+        cases.script(f'components_{most + 1}', COPY, declared('DS_1', KEY, *measures(most)), {'DS_1': table(most)}, line=f'error: structures line {line} rule 9', code=2)
     more = 'DS_r <- DS_1[calc {}];\n'
-    for count, wanted in (63, {'outputs': {'DS_r': table(63)}}), (64, {'line': 'error: type in statement 1 rule 12', 'code': 3}):
+    for count, wanted in (255, {'outputs': {'DS_r': table(255)}}), (256, {'line': 'error: type in statement 1 rule 12', 'code': 3}):
         made = ', '.join(f'm{i} := 7' for i in range(1, count))
         cases.script(f'components_of_a_result_{count + 1}', more.format(made), components('DS_1', KEY, *measures(1)), {'DS_1': table(1)}, **wanted)
     text = 'SET SCALE 6 ROUNDING HALF_UP; INPUT "T" ("Id_1" TEXT, {}) KEY ("Id_1"); EXPORT "T";\n'
-    for count, wanted in (63, {'outputs': {'T': table(63)}}), (64, {'line': 'error: sql type in statement 2 rule 12', 'code': 3}):
+    for count, wanted in (255, {'outputs': {'T': table(255)}}), (256, {'line': 'error: sql type in statement 2 rule 12', 'code': 3}):
         cases.text(f'columns_of_an_input_{count + 1}', text.format(', '.join(f'"m{i}" INTEGER' for i in range(count))), {'T': table(count)}, **wanted)
     text = 'SET SCALE 6 ROUNDING HALF_UP; INPUT "T" ("Id_1" TEXT, "m0" INTEGER) KEY ("Id_1"); CREATE TABLE "U" AS SELECT "t"."Id_1" AS "Id_1", {} FROM "T" AS "t"; EXPORT "U";\n'
-    for count, wanted in (1023, {'outputs': {'U': table(1023)}}), (1024, {'line': 'error: sql type in statement 3 rule 12', 'code': 3}):
+    for count, wanted in (4095, {'outputs': {'U': table(4095)}}), (4096, {'line': 'error: sql type in statement 3 rule 12', 'code': 3}):
         cases.text(f'columns_of_a_query_{count + 1}', text.format(', '.join(f'"t"."m0" AS "m{i}"' for i in range(count))), {'T': table(1)}, **wanted)
 
 
