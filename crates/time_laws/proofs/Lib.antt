@@ -1,0 +1,4 @@
+pub mod Alike
+pub mod Filled
+pub mod Gaps
+pub mod Shifts
