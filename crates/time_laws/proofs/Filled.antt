@@ -34,9 +34,10 @@ use Rattle.vtl_meaning.proofs.Places.{columns_split, first_cells, point_append, 
 use Rattle.vtl_tuples.proofs.Lists.{map-map}
 use Rattle.vtl_timing.specs.Times.{HasTime, fill_of, filled_keys, in_order, is_time, other_identifiers, series_columns, time_of, time_place}
 use Rattle.vtl_timing.proofs.FilledPoints as filled
-use Rattle.vtl_timing.proofs.FlowOrders.{own_time, time_at}
+use Rattle.vtl_timing.proofs.FlowOrders.{all_both, own_time, time_at}
 use Rattle.vtl_timing.proofs.SeriesColumns.{time_only}
 use Rattle.time_laws.proofs.Alike.{AreAlike, series_same}
+use Rattle.time_laws.proofs.Lists.{IsAmong, all_among, map_same}
 
 -- ---- lists
 longer : (xs : Row) (x : Cell) → [] ≡ xs ++ x ∷ [] → ⊥
@@ -57,32 +58,9 @@ behind_same : (us vs ws : Row) → us ++ vs ≡ us ++ ws → vs ≡ ws
 behind_same [] vs ws e = e
 behind_same (u ∷ us) vs ws e = let rest : us ++ vs ≡ us ++ ws = cc in behind_same us vs ws rest
 
-map_same : {X Y : Type 0} (f g : X → Y) (xs : List X) → AllByRecursion (λ x. f x ≡ g x) xs → map f xs ≡ map g xs
-map_same f g [] all = refl
-map_same f g (x ∷ xs) all = λ i. all.0 i ∷ map_same f g xs all.1 i
-
 map_self : {X : Type 0} (xs : List X) → map (λ x. x) xs ≡ xs
 map_self [] = refl
 map_self (x ∷ xs) = ap (λ l. x ∷ l) (map_self xs)
-
-all_both : {X : Type 0} (P Q R : X → Type 0) → ((x : X) → P x → Q x → R x) → (xs : List X) → AllByRecursion P xs → AllByRecursion Q xs → AllByRecursion R xs
-all_both P Q R f [] h i = tt
-all_both P Q R f (x ∷ xs) h i = (f x h.0 i.0, all_both P Q R f xs h.1 i.1)
-
-or_later : (a b : Bool) → b ≡ true → (a || b) ≡ true
-or_later true b e = refl
-or_later false b e = e
-
-abbrev IsAmong : List Row → Row → Type 0
-IsAmong xs r = list_any (same_row r) xs ≡ true
-
-more_among : (x : Row) (xs ys : List Row) → AllByRecursion (IsAmong xs) ys → AllByRecursion (IsAmong (x ∷ xs)) ys
-more_among x xs [] all = tt
-more_among x xs (y ∷ ys) all = (or_later (same_row y x) (list_any (same_row y) xs) all.0, more_among x xs ys all.1)
-
-all_among : (xs : List Row) → AllByRecursion (IsAmong xs) xs
-all_among [] = tt
-all_among (x ∷ xs) = (ap (λ b. b || list_any (same_row x) xs) (same_row-refl x), more_among x xs xs (all_among xs))
 
 -- ---- points
 module _ (e : Extent) (d : DataSet) (timed : HasTime d.structure) (h : IsDataSet d.structure d.points) where
