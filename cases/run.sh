@@ -1,6 +1,6 @@
 #!/bin/sh
 # Runs all of cases/ and examples/ by the built programs, in less than a minute: cases/run.sh [NAME ..], where a NAME is a
-# folder of cases/, `examples`, `launcher`, `check`, `limits`, or `sentences`, `pages`, `crates`, `edits`, for which no program is
+# folder of cases/, `examples`, `migrate`, `launcher`, `check`, `limits`, or `sentences`, `pages`, `crates`, `edits`, for which no program is
 # needed. By the name `large` alone runs with large files are made.
 # Prints what differs, the longest chain of libraries, and at the end 'N passed, M failed'.
 top=$(CDPATH='' cd -- "$(dirname -- "$0")/.." && pwd) || exit 1
@@ -77,6 +77,26 @@ formed() {
         fail "$1: exit code $code"
         diff "$2" "$made/said" | head -n 10
     fi
+}
+
+# A structures file that is migrated: what is written is version 2, and is written again as it is. One that is refused stays refused.
+migrated() {
+    "$vtl" migrate "$1" >"$made/second" 2>"$made/told"
+    code=$?
+    read -r first <"$made/second"
+    case $code:$first in
+        0:structures,2,[0-9],*,,) ;;
+        2:'error: structures line '* | 2:'error: not text: '* | 4:'error: too long: '*)
+            pass
+            return
+            ;;
+        *)
+            fail "$1: migrate: exit code $code, $first"
+            return
+            ;;
+    esac
+    "$vtl" migrate "$made/second" >"$made/third" 2>>"$made/told"
+    if [ ! -s "$made/told" ] && cmp -s "$made/second" "$made/third"; then pass; else fail "$1: migrated otherwise again"; fi
 }
 
 # A script that is its own canonical text.
@@ -583,7 +603,7 @@ wanted() { case " $names " in *" $1 "*) ;; *) return 1 ;; esac; }
 
 # All of it, in four parts side by side.
 run_all() {
-    names='examples launcher check sentences pages crates edits'
+    names='examples migrate launcher check sentences pages crates edits'
     for folder in "$top"/cases/*/; do
         case $(basename "$folder") in
             run | engine | translated | cut | devices) ;;
@@ -728,6 +748,9 @@ for folder in cases/*/; do
         *) for file in "cases/$word"/*.csv; do table "$word" "$file"; done ;;
     esac
 done
+if wanted migrate; then
+    for file in examples/*/structures.csv cases/*/structures.csv cases/*/*/structures.csv cases/types/structures.txt; do migrated "$top/$file"; done
+fi
 if wanted examples; then
     for case in examples/*/; do
         run_three_ways "$top/${case%/}"
