@@ -15,7 +15,7 @@ filled() {
         }
         BEGIN {
             text = "dataset,component,role,type,codes\n" (filling == "codes" ? "d,c,identifier,string,code" : "")
-            for (bytes = 0; bytes < 1048576 - 64; text = part(i++)) {
+            for (bytes = 0; bytes < 4194304 - 64; text = part(i++)) {
                 printf "%s", text
                 bytes += length(text)
             }

@@ -83,7 +83,7 @@ def sizes(cases):
                                    ('line_feeds', COPY, '', '\n')]:
         cases.script(f'script_of_{name}', filled(front, most - len(end), sign) + end, PLAIN, ROW, outputs=SAME)
         cases.script(f'script_of_{name}_too_long', filled(front, most + 1 - len(end), sign) + end, PLAIN, ROW, **too_long)
-    most = 1048576 - len(HEADER)
+    most = 4194304 - len(HEADER)
     too_long = {'line': 'error: too long: structures.csv', 'code': 4}
     codes = 'DS_1,Id_1,identifier,string,b|a'
     for name, front, end, sign in [('line_feeds', PLAIN, '', '\n'), ('a_code', codes, '\n' + components('DS_1', INTEGER), 'a')]:
