@@ -28,7 +28,7 @@ make_points() {
     }' >"$made/in/flows.csv"
 }
 
-number='CAST(substr(Month, 1, 4) AS INTEGER) * 12 + CAST(substr(Month, 7) AS INTEGER) - 1'
+ordinal='CAST(substr(Month, 1, 4) AS INTEGER) * 12 + CAST(substr(Month, 7) AS INTEGER) - 1'
 
 # A job: the call, the query of sqlite3, the statements by which pandas makes `result` of `flows` in order, whose column `at` is
 # the number of the month.
@@ -56,7 +56,7 @@ END
 
 make_points 4000
 job 'timeshift(flows, 12)' \
-    "SELECT Series, printf('%04d-M%02d', at / 12, at % 12 + 1) AS Month, Value FROM (SELECT Series, $number + 12 AS at, Value FROM flows) ORDER BY 1, 2;" \
+    "SELECT Series, printf('%04d-M%02d', at / 12, at % 12 + 1) AS Month, Value FROM (SELECT Series, $ordinal + 12 AS at, Value FROM flows) ORDER BY 1, 2;" \
     "flows['at'] += 12
 result = flows"
 job 'flow_to_stock(flows)' \
@@ -70,12 +70,12 @@ result = flows"
 
 make_points 4000 5
 for extent in single all; do
-    first="MIN($number)"
-    last="MAX($number)"
+    first="MIN($ordinal)"
+    last="MAX($ordinal)"
     ends="flows.groupby('Series')['at'].agg(['min', 'max'])"
     if [ "$extent" = all ]; then
-        first="(SELECT MIN($number) FROM flows)"
-        last="(SELECT MAX($number) FROM flows)"
+        first="(SELECT MIN($ordinal) FROM flows)"
+        last="(SELECT MAX($ordinal) FROM flows)"
         ends="flows.groupby('Series')['at'].agg(['min', 'max']).assign(min=flows['at'].min(), max=flows['at'].max())"
     fi
     job "fill_time_series(flows, $extent)" \
