@@ -293,6 +293,23 @@ def lengths_of_texts(folder, count):
     clause(folder, count, 'calc x := length(Id_1)')
 
 
+# A text that is doubled so often has a megabyte.
+TEXT_DOUBLINGS = 20
+
+
+def megabytes(folder, count, script, text):
+    data_sets(folder, script, [INTEGER_KEY, TEXT], DS_1=(b'%d,%s' % (i, text) for i in range(count)))
+
+
+def doubled_texts(folder, count):
+    steps = ''.join(f'r{i} := {f"r{i - 1}" if i else "DS_1"}[calc Me_1 := Me_1 || Me_1];\n' for i in range(TEXT_DOUBLINGS))
+    megabytes(folder, count, f'{steps}DS_r <- r{TEXT_DOUBLINGS - 1};\n', b'x')
+
+
+def texts_of_a_file(folder, count):
+    megabytes(folder, count, COPY, b'x' * (1 << TEXT_DOUBLINGS))
+
+
 # ---- texts that the engine runs
 
 SETTINGS = 'SET SCALE 2 ROUNDING HALF_UP;\n'
@@ -486,6 +503,41 @@ def exists_of_one_source(folder, count):
     looked_up(folder, count, JOINED, 'WHERE EXISTS (SELECT 1 FROM "T" AS "t" WHERE "t"."id" = "a"."id" AND "t"."v" = "a"."v")')
 
 
+def held_product(folder, count):
+    """A thousand rows, each with each of others: so many pairs."""
+    inputs = [('S', PAIR, keyed(1000)), ('T', PAIR, keyed(count // 1000))]
+    engine_folder(folder, inputs, 'CREATE TABLE "U" AS SELECT COUNT(*) AS "n" FROM "S" AS "s" CROSS JOIN "T" AS "t";\nEXPORT "U";\n')
+
+
+def refused_product(folder, count):
+    """Each row with each: more pairs than a machine holds."""
+    looked_up(folder, count, 'FROM "T" AS "a" CROSS JOIN "T" AS "b"', '')
+
+
+def one_group(folder, count):
+    """A group of all rows, whose values are all held for their median."""
+    looked_up(folder, count, 'FROM "T" AS "t"', 'HAVING MEDIAN("t"."v") >= 0.0')
+
+
+def group_of_each_row(folder, count):
+    looked_up(folder, count, 'FROM "T" AS "t"', 'GROUP BY "t"."v" HAVING MEDIAN("t"."v") < 0.0')
+
+
+DOUBLINGS = 8
+
+
+def doubled_tables(folder, count):
+    """Tables that are each the one before twice, until there are so many rows."""
+    copy = 'SELECT "t"."v" AS "v" FROM "U{0}" AS "t"'
+    made = ''.join(f'CREATE TABLE "U{i + 1}" AS {copy.format(i)} UNION ALL {copy.format(i)};\n' for i in range(DOUBLINGS))
+    count_all = f'CREATE TABLE "U" AS SELECT COUNT(*) AS "n" FROM "U{DOUBLINGS}" AS "t";\nEXPORT "U";\n'
+    engine_folder(folder, [('U0', PAIR, keyed(count >> DOUBLINGS))], made + count_all)
+
+
+def table_of_a_file(folder, count):
+    looked_up(folder, count, 'FROM "T" AS "t"', '')
+
+
 # ---- what is cut off, at a limit or beyond it
 
 def one_record(folder, data):
@@ -505,6 +557,83 @@ def closed_quote(folder, count):
 
 def commas(folder, count):
     one_record(folder, b',' * count)
+
+
+def line_feeds(folder, count):
+    one_record(folder, b'\n' * count)
+
+
+def text_of_a_query(folder, count, end):
+    one_table(folder, 1, f"SELECT '{'x' * count}{end} AS \"x\" FROM \"T\" AS \"t\"")
+
+
+def open_text(folder, count):
+    """A text of the dialect that nothing closes."""
+    text_of_a_query(folder, count, '')
+
+
+def closed_text(folder, count):
+    text_of_a_query(folder, count, "'")
+
+
+def numerals(folder, count, digits):
+    data_sets(folder, COPY, [INTEGER_KEY, INTEGER], DS_1=(b'%d,%s' % (i, (b'%d' % i).zfill(digits)) for i in mixed(count)))
+
+
+def longest_numerals(folder, count):
+    numerals(folder, count, 64)
+
+
+def usual_numerals(folder, count):
+    numerals(folder, count, 18)
+
+
+def rows_of(folder, width, count):
+    """Rows of so many components, which a structures file of the second version may have."""
+    names = ['id'] + [f'm{i}' for i in range(1, width)]
+    run_folder(folder, COPY, [])
+    roles = (f'DS_1,{name},{"measure" if name != "id" else "identifier"},integer,,{str(name != "id").lower()}\n' for name in names)
+    head = 'structures,2,6,half_up,,\ndataset,component,role,type,codes,nullable\n'
+    write(f'{folder}/structures.csv', [(head + ''.join(roles)).encode()])
+    rest = b',7' * (width - 1) + b'\n'
+    write(f'{folder}/in/DS_1.csv', itertools.chain([','.join(names).encode() + b'\n'], (b'%d' % i + rest for i in mixed(count))))
+
+
+def widest_rows(folder, count):
+    rows_of(folder, 256, count)
+
+
+def narrow_rows(folder, count):
+    """As many cells: their rows are more."""
+    rows_of(folder, 8, count * 32)
+
+
+def queries(folder, width, count):
+    items = ', '.join(f'"t"."v" AS "c{i}"' for i in range(width))
+    one_table(folder, count, f'SELECT {items} FROM "T" AS "t"')
+
+
+def widest_query(folder, count):
+    queries(folder, 4096, count)
+
+
+def narrow_query(folder, count):
+    """As many cells: their rows are more."""
+    queries(folder, 8, count * 512)
+
+
+def joined_data_sets(folder, count, script):
+    data_sets(folder, script, [INTEGER_KEY], DS_1=(b'%d' % i for i in mixed(count)))
+
+
+def joins_in_joins(folder, count):
+    """As deep as a statement may be."""
+    joined_data_sets(folder, count, f'DS_r <- {"inner_join(" * 127}DS_1{" as a, DS_1 as b)" * 127};\n')
+
+
+def joins_in_turn(folder, count):
+    steps = ''.join(f'r{i} := inner_join({f"r{i - 1}" if i else "DS_1"} as a, DS_1 as b);\n' for i in range(127))
+    joined_data_sets(folder, count, steps + 'DS_r <- r126;\n')
 
 
 def one_point_too_many(folder, count):
@@ -589,6 +718,7 @@ CASES = [
     (renamed, short_rows, 1000000, 'vtl'),
     (parts_of_texts, lengths_of_texts, 1000000, 'vtl'),
     (changed_texts, lengths_of_texts, 1000000, 'vtl'),
+    (doubled_texts, texts_of_a_file, 50, 'vtl'),
     (chosen_creates, plain_creates, 4000, 'engine'),
     (chosen_exports, plain_exports, 8000, 'engine'),
     (parts_beside_a_join, parts_alone, 20000, 'engine'),
@@ -601,8 +731,18 @@ CASES = [
     (product_with_an_equality, equality_alone, 200000, 'engine'),
     (third_of_two_sources, third_of_one_source, 200000, 'engine'),
     (exists_of_two_sources, exists_of_one_source, 200000, 'engine'),
+    (held_product, equality_alone, 1000000, 'engine'),
+    (refused_product, equality_alone, 1000000, 'engine'),
+    (one_group, group_of_each_row, 1000000, 'engine'),
+    (doubled_tables, table_of_a_file, 1000000, 'engine'),
     (open_quote, closed_quote, 60000000, 'vtl'),
     (commas, closed_quote, 60000000, 'vtl'),
+    (line_feeds, closed_quote, 60000000, 'vtl'),
+    (open_text, closed_text, 60000000, 'engine'),
+    (longest_numerals, usual_numerals, 1000000, 'vtl'),
+    (widest_rows, narrow_rows, 8000, 'vtl'),
+    (widest_query, narrow_query, 500, 'engine'),
+    (joins_in_joins, joins_in_turn, 5000, 'vtl'),
     (one_point_too_many, as_many_points, 1000000, 'vtl'),
     (most_nodes, as_many_results, 2000, 'vtl'),
     (deepest_cases, flat_cases, 500, 'engine'),

@@ -1,11 +1,12 @@
 #!/bin/sh
 # Runs all of cases/ and examples/ by the built programs, in less than a minute: cases/run.sh [NAME ..], where a NAME is a
-# folder of cases/, `examples`, `migrate`, `launcher`, `check`, `limits`, or `sentences`, `pages`, `crates`, `edits`, for which no program is
-# needed. By the name `large` alone runs with large files are made.
+# folder of cases/, `examples`, `migrate`, `launcher`, `check`, `limits`, `session`, or `sentences`, `pages`, `crates`, `edits`, for which no
+# program is needed. By the name `large` alone runs with large files are made.
 # Prints what differs, the longest chain of libraries, and at the end 'N passed, M failed'.
 top=$(CDPATH='' cd -- "$(dirname -- "$0")/.." && pwd) || exit 1
 vtl=$top/crates/vtl/out/vtl
 probe=$top/crates/vtl_probe/out/vtl_probe
+sessions=$top/crates/session_probe/out/session_probe
 made=$(mktemp -d) || exit 1
 trap 'chmod -R u+rwx "$made"; rm -rf "$made"' EXIT
 newline='
@@ -162,6 +163,8 @@ with_words() {
         while IFS= read -r word || [ "$word" ]; do set -- "$@" "$word"; done <"$case/words"
     elif [ -e "$folder/script.sql" ]; then
         set -- engine script.sql in out
+    elif [ -e "$folder/edits" ]; then
+        set -- replay script.vtl structures.csv in edits out
     else
         set -- run script.vtl structures.csv in out
     fi
@@ -202,18 +205,34 @@ run() {
     laid_out && with_words ended
 }
 
-# The same by the script's text in SQL: by `sqlrun`, and by `engine` on the text that `sql` prints.
-run_three_ways() {
+# The same by the script's text in SQL, by `sqlrun`, and by `engine` on the text that `sql` prints; and by `replay` without edits,
+# which runs each statement as a script of its own.
+run_all_ways() {
     run "$1"
-    with_words run_in_sql
+    with_words run_otherwise
 }
 
-run_in_sql() {
+run_otherwise() {
     [ "$1" = run ] && [ ! -e "$case/stdout" ] || return
     shift
     way=', by sqlrun'
     laid_out_again && ended sqlrun "$@"
-    [ $# -ge 4 ] && laid_out_again && run_by_its_text "$@"
+    [ $# -ge 4 ] || return
+    laid_out_again && run_by_its_text "$@"
+    laid_out_again && run_by_its_parts "$@"
+}
+
+# A replay that is done says one line besides.
+run_by_its_parts() {
+    script=$1
+    structures=$2
+    inputs=$3
+    outputs=$4
+    shift 4
+    : >"$folder/edits"
+    called replay "$script" "$structures" "$inputs" edits "$outputs" "$@"
+    if [ "$code" = 0 ] && [ "$(grep -cx 'ran\( [1-9][0-9]*\)*' "$made/said")" = 1 ]; then sed -i 1d "$made/said"; fi
+    judged "$case, by replay"
 }
 
 # Where there is no text, what `sql` says is compared: what refuses a script or its structures refuses it on each way.
@@ -229,6 +248,65 @@ run_by_its_text() {
         called engine text.sql "$inputs" "$outputs"
     fi
     judged "$case, by the text of sql"
+}
+
+# A replay; and, where it comes to a run, the runs over the inputs that its edits leave behind: they come to the same files, or to
+# the same fault.
+replayed() {
+    run "$1"
+    case $wanted_code in
+        0 | 5) with_words runs_behind_edits ;;
+    esac
+}
+
+runs_behind_edits() {
+    shift 6
+    for command in run sqlrun; do
+        laid_out_again
+        inputs_behind_edits
+        called "$command" script.vtl structures.csv left_in out "$@"
+        if [ "$code" != "$wanted_code" ] || ! written "$case/expected" "$folder/out"; then
+            fail "$case, by $command behind its edits: exit code $code, wanted $wanted_code: $(head -n 1 "$made/said")"
+        elif [ "$code" = 0 ]; then
+            if [ ! -s "$made/said" ]; then pass; else fail "$case, by $command behind its edits: printed $(head -n 1 "$made/said")"; fi
+        elif same_bytes "$case/line" "$made/said"; then
+            pass
+        else
+            fail "$case, by $command behind its edits: printed $(head -n 1 "$made/said")"
+        fi
+    done
+}
+
+# A replay that is done, by sessions over two back ends: one that counts carries out as many transformations as it says, and both come to
+# the lines and the outputs that are wanted of the command.
+by_sessions() {
+    case=$1
+    laid_out || return
+    (cd "$folder" && "$sessions" script.vtl structures.csv in edits) >"$made/said" 2>"$made/told" </dev/null
+    code=$?
+    for back in counting sql_back; do
+        echo "$back"
+        awk -v back="$back" '{ print $0 (back == "counting" && $1 == "ran" ? ", " NF - 1 " carried out" : "") }' "$case/line"
+        for output in $(sed -n 's/^\([A-Za-z0-9_.]*\) <- .*/\1/p' "$folder/script.vtl"); do
+            echo "$output"
+            cat "$case/expected/$output.csv"
+        done
+    done >"$made/wanted"
+    if [ "$code" = 0 ] && cmp -s "$made/wanted" "$made/said"; then
+        pass
+    else
+        fail "$case, by sessions: exit code $code"
+        diff "$made/wanted" "$made/said" | head -n 10
+        cat "$made/told"
+    fi
+}
+
+# The inputs as edits leave them, in a folder of their own: those of `in`, and over each its last edit.
+inputs_behind_edits() {
+    rm -rf "$folder/left_in"
+    mkdir "$folder/left_in"
+    [ ! -d "$folder/in" ] || cp "$folder"/in/*.csv "$folder/left_in"
+    while IFS= read -r edit; do cp "$folder/${edit#* }/${edit%% *}.csv" "$folder/left_in"; done <"$folder/edits"
 }
 
 # The text that `sql` prints of a script, beside the one that is wanted.
@@ -395,6 +473,13 @@ without_output() {
     if [ "$code" = "$wanted_code" ] && written '' "$folder/out"; then pass; else fail "closed standard output, $*: exit code $code, wanted $wanted_code"; fi
 }
 
+# A replay whose standard output is closed: its files are whole, and its lines could not be written.
+without_lines() {
+    (cd "$folder" && exec "$program" replay script.vtl structures.csv in edits out) >&- 2>"$made/told" </dev/null
+    code=$?
+    if [ "$code" = 6 ] && written "$case/expected" "$folder/out"; then pass; else fail "closed standard output, replay: exit code $code, wanted 6"; fi
+}
+
 # The files that a call has written, each with its name and its text, on one line: `|` stands for LF, and `^` for CR.
 files_written() {
     for file in "$folder"/out/*; do
@@ -418,6 +503,10 @@ comes_to() {
             line=${line# }
             [ -z "$line" ] || { rm -rf "$folder/out" && mkdir "$folder/out"; }
             ;;
+        replay:0:*)
+            line=$(tr '\n' '|' <"$made/said")$(files_written)
+            rm -rf "$folder/out" && mkdir "$folder/out"
+            ;;
     esac
     if [ "$code:$line" = "$wanted_code:$answer" ] && written '' "$folder/out"; then
         passed=$((passed + 1))
@@ -437,6 +526,7 @@ fronts_of() {
         case $way in
             sql | lineage) set -- "$way" script.vtl structures.csv ;;
             engine) set -- engine script.sql in out ;;
+            replay) set -- replay script.vtl structures.csv in edits out ;;
         esac
         while IFS='	' read -r from to wanted_code answer; do
             size=$from
@@ -481,6 +571,7 @@ devices() {
             sql | lineage) set -- "$way" script.vtl structures.csv ;;
             format) set -- format script.vtl ;;
             engine) set -- engine script.sql in out ;;
+            replay) set -- replay script.vtl structures.csv in edits out ;;
             demo) set -- demo 2 ;;
             none) set -- ;;
         esac
@@ -606,12 +697,12 @@ run_all() {
     names='examples migrate launcher check sentences pages crates edits'
     for folder in "$top"/cases/*/; do
         case $(basename "$folder") in
-            run | engine | translated | cut | devices) ;;
+            run | engine | translated | cut | devices | replay) ;;
             *) names="$names $(basename "$folder")" ;;
         esac
     done
     "$top/cases/run.sh" run >"$made/part.1" &
-    "$top/cases/run.sh" engine translated >"$made/part.2" &
+    "$top/cases/run.sh" engine translated replay session >"$made/part.2" &
     # shellcheck disable=SC2086 # the names are parted by blanks
     "$top/cases/run.sh" $names >"$made/part.3" &
     "$top/cases/run.sh" cut devices limits >"$made/part.4" &
@@ -653,11 +744,17 @@ for folder in cases/*/; do
     case $word in
         run)
             for case in cases/run/*/; do
-                run_three_ways "$top/${case%/}"
+                run_all_ways "$top/${case%/}"
                 is_formed_in "$case"
             done
             ;;
         lineage) for case in cases/lineage/*/; do run "$top/${case%/}"; done ;;
+        replay)
+            for case in cases/replay/*/; do
+                replayed "$top/${case%/}"
+                is_formed_in "$case"
+            done
+            ;;
         engine) for case in cases/engine/*/; do run "$top/${case%/}"; done ;;
         translated) for case in cases/translated/*/; do translated "$top/${case%/}"; done ;;
         explain)
@@ -742,6 +839,7 @@ for folder in cases/*/; do
             without_output 6 demo 2
             without_output 1 run
             without_output 4 run script.vtl structures.csv nowhere out
+            without_lines
             ;;
         cut) for case in cases/cut/*/; do fronts_of "$top/${case%/}"; done ;;
         prefix) for file in cases/prefix/*.csv; do fronts syntax "${file%.*}.vtl" "$file"; done ;;
@@ -751,9 +849,20 @@ done
 if wanted migrate; then
     for file in examples/*/structures.csv cases/*/structures.csv cases/*/*/structures.csv cases/types/structures.txt; do migrated "$top/$file"; done
 fi
+# Replays without options that are done, and write nothing but their outputs.
+if wanted session; then
+    [ -x "$sessions" ] || fail "there is no program at $sessions; scripts/build.sh builds it"
+    for case in cases/replay/*/ examples/*/; do
+        case=${case%/}
+        if [ -e "$case/line" ] && [ ! -e "$case/code" ] && [ ! -e "$case/words" ] &&
+            { [ -e "$case/edits" ] || [ -e "$case/setup" ]; }; then
+            by_sessions "$top/$case"
+        fi
+    done
+fi
 if wanted examples; then
     for case in examples/*/; do
-        run_three_ways "$top/${case%/}"
+        if [ -e "$case/edits" ]; then replayed "$top/${case%/}"; else run_all_ways "$top/${case%/}"; fi
         [ ! -e "$case/text.sql" ] || printed_in_sql "$case/text.sql"
         is_formed_in "$case"
     done
@@ -829,7 +938,7 @@ for size in limits large; do
     [ "$size" = limits ] || set -- large
     scripts/limits.py "$made/limits" "$@" || fail "scripts/limits.py: exit code $?"
     for case in "$made"/limits/*/; do
-        run_three_ways "${case%/}"
+        run_all_ways "${case%/}"
         is_refused "${case%/}"
     done
     rm -rf "${made:?}/limits"

@@ -3,7 +3,7 @@ _vtl() {
     local word=${COMP_WORDS[COMP_CWORD]} before=${COMP_WORDS[COMP_CWORD - 1]} command=${COMP_WORDS[1]} places
     COMPREPLY=()
     if [ "$COMP_CWORD" = 1 ]; then
-        mapfile -t COMPREPLY < <(compgen -W 'run sqlrun sql check engine lineage format migrate demo lint infer help --help --version' -- "$word")
+        mapfile -t COMPREPLY < <(compgen -W 'run sqlrun replay sql check engine lineage format migrate demo lint infer help --help --version' -- "$word")
         return
     fi
     case $before in
@@ -12,6 +12,7 @@ _vtl() {
     esac
     case $command in
         run | sqlrun) places=4 ;;
+        replay) places=5 ;;
         sql | check | lineage | lint) places=2 ;;
         migrate) places=1 ;;
         *) places=0 ;;
@@ -22,8 +23,9 @@ _vtl() {
     fi
     compopt -o filenames
     case $command:$COMP_CWORD in
-        run:[45] | sqlrun:[45] | engine:[34] | lint:3) mapfile -t COMPREPLY < <(compgen -d -- "$word") ;;
-        run:2 | sqlrun:2 | sql:2 | check:2 | lineage:2 | format:[23]) mapfile -t COMPREPLY < <(compgen -f -X '!*.vtl' -- "$word"; compgen -d -- "$word") ;;
+        run:[45] | sqlrun:[45] | replay:[46] | engine:[34] | lint:3) mapfile -t COMPREPLY < <(compgen -d -- "$word") ;;
+        run:2 | sqlrun:2 | replay:2 | sql:2 | check:2 | lineage:2 | format:[23]) mapfile -t COMPREPLY < <(compgen -f -X '!*.vtl' -- "$word"; compgen -d -- "$word") ;;
+        replay:5) mapfile -t COMPREPLY < <(compgen -f -- "$word") ;;
         engine:2) mapfile -t COMPREPLY < <(compgen -f -X '!*.sql' -- "$word"; compgen -d -- "$word") ;;
         *) mapfile -t COMPREPLY < <(compgen -f -X '!*.csv' -- "$word"; compgen -d -- "$word") ;;
     esac

@@ -96,7 +96,8 @@ breaches() {
         }
         BEGIN {
             vtl = "facts values tables read speak check files evaluate trace"
-            bar(vtl, "SQL translate programs")
+            bar(vtl, "SQL translate replay programs")
+            bar("replay", "SQL programs files vtl_files vtl_csv vtl_status vtl_interp sql_back")
             bar("facts values tables read speak check evaluate trace SQL translate", "vtl_files vtl_csv vtl_status")
             bar("files", "vtl_files vtl_status")
             bar("facts values tables read speak", "check files evaluate trace")

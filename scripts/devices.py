@@ -56,10 +56,10 @@ def written(outputs, chunk):
             yield 6, listed(f'error: write fault: {path}\n', outputs[:number] + [(path, text[:piece * chunk])])
 
 
-def taken(text, chunk):
-    """A front of the text is on standard output, and then the line of the fault."""
+def taken(outputs, text, chunk):
+    """A front of the text is on standard output, and then the line of the fault; the files are there."""
     for piece in range(pieces(text, chunk)):
-        yield 6, shown(text[:piece * chunk]) + 'error: write fault: -|'
+        yield 6, listed(text[:piece * chunk] + 'error: write fault: -\n', outputs)
 
 
 def rows(command, inputs, outputs, text):
@@ -72,7 +72,7 @@ def rows(command, inputs, outputs, text):
                 'read': lambda: read(inputs, chunk),
                 'create': lambda: created(outputs),
                 'write': lambda: written(outputs, chunk),
-                'sink': lambda: taken(text, chunk),
+                'sink': lambda: taken(outputs, text, chunk),
             }[kind]()
             answers = [*failing, (0, listed(text, outputs))]
             number = 1
@@ -95,9 +95,12 @@ def main(folder):
     of_run = held('script.vtl', 'structures.csv', 'in/A.csv', 'in/B.csv')
     of_engine = held('script.sql', 'in/A.csv', 'in/B.csv')
     of_text = held('script.vtl', 'structures.csv')
+    # The edits leave the inputs as they were at first.
+    of_replay = held('script.vtl', 'structures.csv', 'edits', 'in/A.csv', 'in/B.csv', 'in2/A.csv', 'in3/A.csv')
     cases = [
         ('run', of_run, [('out/X.csv', x), ('out/Y.csv', y)], ''),
         ('sqlrun', of_run, [('out/X.csv', x), ('out/Y.csv', y)], ''),
+        ('replay', of_replay, [('out/X.csv', x), ('out/Y.csv', y)], *held('refreshes').values()),
         ('engine', of_engine, [('out/A.csv', x), ('out/B.csv', y)], ''),
         ('sql', of_text, [], *held('script.printed').values()),
         ('lineage', of_text, [], *held('links').values()),

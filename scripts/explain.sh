@@ -43,7 +43,7 @@ names_in() {
 # Which of the files that an explanation looks at are there to be read once more.
 files_at_hand() {
     dataset=${said#error: input }
-    inputs=$4
+    inputs=${VTL_INPUTS:-$4}
     if [ "$1" = migrate ]; then
         [ ! -f "$2" ] || printf 'structures '
         return
@@ -55,6 +55,27 @@ files_at_hand() {
         printf 'structures '
     fi
     [ ! -f "$inputs/${dataset%% *}.csv" ] || printf 'input '
+    [ "$1" != replay ] || [ ! -f "$5" ] || printf 'edits '
+}
+
+# The folder whose file of a data set has the fault that a replay told: IN, or that of an edit. It is the first over which a script
+# that reads this data set alone says the same line.
+folder_at_fault() {
+    dataset=${said#error: input }
+    dataset=${dataset%% *}
+    structures=$3
+    printf '%s %s\n' "$dataset" "$4" >"$VTL_ROOM/edits"
+    [ ! -f "$5" ] || cat -- "$5" >>"$VTL_ROOM/edits"
+    shift 6
+    printf 'the_copy <- %s;\n' "$dataset" >"$VTL_ROOM/script.vtl"
+    while IFS= read -r edit; do
+        [ "${edit%% *}" = "$dataset" ] || continue
+        again=$("$VTL_PROGRAM" run "$VTL_ROOM/script.vtl" "$structures" "${edit#* }" "$VTL_ROOM" "$@" </dev/null)
+        if [ "$again" = "${said%"$newline"}" ]; then
+            printf %s "${edit#* }"
+            break
+        fi
+    done <"$VTL_ROOM/edits"
 }
 
 newline='
@@ -71,16 +92,23 @@ case $said in
         ;;
 esac
 parts=$top/scripts/explain
-# Where parts of a statement are tried.
+# Where parts of a statement are tried, and the files of edits.
 VTL_ROOM=
-case $said in
-    'error: type '*)
+VTL_INPUTS=
+case ${1-}:$said in
+    *:'error: type '* | replay:'error: input '*)
         VTL_ROOM=$(mktemp -d)
         trap 'rm -rf "$VTL_ROOM"' EXIT
         ;;
+    replay:'error: edits line '*)
+        [ ! -f "$5" ] || [ -z "$(tail -c 1 -- "$5")" ] || fact="the line is the last one, and no line feed ends it"
+        ;;
 esac
-VTL_TOP=$top VTL_SAID=$said VTL_FACT=$fact VTL_NAMES=$names VTL_FILES=$(files_at_hand "$@" - - - -) LC_ALL=C
-export VTL_TOP VTL_SAID VTL_FACT VTL_NAMES VTL_FILES VTL_ROOM LC_ALL
+case ${1-}:$said in
+    replay:'error: input '*) [ -z "${VTL_PROGRAM-}" ] || VTL_INPUTS=$(folder_at_fault "$@") ;;
+esac
+VTL_TOP=$top VTL_SAID=$said VTL_FACT=$fact VTL_NAMES=$names VTL_FILES=$(files_at_hand "$@" - - - - -) LC_ALL=C
+export VTL_TOP VTL_SAID VTL_FACT VTL_NAMES VTL_FILES VTL_ROOM VTL_INPUTS LC_ALL
 awk -f "$parts/text.awk" -f "$parts/script.awk" -f "$parts/grammar.awk" -f "$parts/records.awk" \
     -f "$parts/sql.awk" -f "$parts/sql_lines.awk" -f "$parts/narrow.awk" -f "$parts/advice.awk" -f "$parts/values.awk" \
     -f "$parts/data.awk" -f "$parts/lines.awk" -f "$parts/main.awk" -- "$@"

@@ -2,8 +2,8 @@
 """What the fronts of a file come to: fronts.py CASE, a folder of cases/cut, prints its table of answers.
 
 It reads by the rules of docs/FILES.md, docs/LANGUAGE.md and docs/SQL.md, and never by a program. The file that is cut is a
-good one for the most part: of a script and of a text it is known how many statements are whole, and what whole statements
-and whole records come to stands in the folder, in whole.tsv. Of the file of a data set all is worked out here.
+good one for the most part: of a script and of a text it is known how many statements are whole, and what whole statements,
+whole records and whole edits come to stands in the folder, in whole.tsv. Of the file of a data set all is worked out here.
 """
 import datetime
 import decimal
@@ -277,6 +277,17 @@ def answer_of_text(case, front):
     raise Fault(f'error: sql syntax after {done} statements at byte {len(front) if more is None else more}', 3)
 
 
+def answer_of_edits(case, front):
+    """Of whole lines that are right it stands in the folder what they come to."""
+    try:
+        lines = front.decode().split('\n')
+    except UnicodeDecodeError:
+        raise Fault('error: not text: edits', 2) from None
+    if lines[-1]:
+        raise Fault(f'error: edits line {len(lines)}', 2)
+    return after(case, len(lines) - 1)
+
+
 def answer_of_structures(case, front):
     structures(front)
     return after(case, len(records(front)) - 1)
@@ -313,6 +324,7 @@ READERS = {
     'script.vtl': answer_of_script,
     'script.sql': answer_of_text,
     'structures.csv': answer_of_structures,
+    'edits': answer_of_edits,
     'in/DS_1.csv': answer_of_input,
     'in/T.csv': answer_of_table,
 }

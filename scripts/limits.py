@@ -26,7 +26,7 @@ class Cases:
         self.stack = None
 
     def put(self, name, files, outputs=None, line=None, code=0, words=None):
-        """A case: its files, either the outputs or the line and its code, and perhaps the KB of its stack."""
+        """A case: its files, the outputs or the line and its code, or both, and perhaps the KB of its stack."""
         for path, text in files.items():
             file_of(f'{self.folder}/{name}/{path}', text)
         os.makedirs(f'{self.folder}/{name}/in', exist_ok=True)
@@ -116,6 +116,19 @@ def large(cases):
     text = 'SET SCALE 6 ROUNDING HALF_UP;\nINPUT "DS_1" ("Id_1" TEXT, "Me_1" INTEGER) KEY ("Id_1");\nEXPORT "DS_1";\n'
     cases.text('text_of_spaces_longer_than_an_input', filled(text, most + 1), ROW, outputs={'DS_1': SAME['DS_r']})
     cases.put('demo_of_a_million_and_one', {'script.vtl': ''}, line='error: usage', code=1, words=['demo', '1000001'])
+
+
+# ---- edits
+
+def edits(cases):
+    def replay(name, script, edits, refreshes, outputs):
+        files = {'script.vtl': script, 'structures.csv': HEADER + PLAIN, 'in/DS_1.csv': ROW['DS_1'], 'edits': edits}
+        cases.put(name, files, outputs=outputs, line='\n'.join(refreshes))
+
+    replay('edits_as_many_as_may_be', COPY, 'DS_1 in\n' * 8192, ['ran 1'] * 8193, SAME)
+    script = 'R1 := DS_1;\n' + ''.join(f'R{i} := R{i - 1};\n' for i in range(2, 200)) + 'DS_r <- R199;\n'
+    all_of_them = 'ran ' + ' '.join(map(str, range(1, 201)))
+    replay('edits_of_many_statements', script, 'DS_1 in\n' * 2, [all_of_them] * 3, SAME)
 
 
 # ---- widths and names
@@ -330,7 +343,7 @@ def sql_depths(cases):
 
 def main(folder, *words):
     cases = Cases(folder)
-    made = [large] if words == ('large',) else [sizes, rows, widths, names, numbers, nodes, depths, sql_depths]
+    made = [large] if words == ('large',) else [sizes, rows, edits, widths, names, numbers, nodes, depths, sql_depths]
     for make in made:
         cases.stack = {nodes: STACK, depths: STACK, sql_depths: STACK_OF_A_TEXT}.get(make)
         make(cases)

@@ -1,8 +1,8 @@
 #!/bin/sh
 # Runs examples in which memory runs out, by the built program: no-memory.sh [EXAMPLE ..], each a folder in the form of
 # examples/ or its name there; `balance` where none is named, and for `all` those of examples/ and cases/translated/, which hold
-# every form and every operator, and texts of the dialect. A script is run by `run` and `sqlrun`, and told by `sql`, `lineage` and
-# `format`; a text is run by `engine`; `demo` takes no example. Each is called once for each call that asks for memory: that call
+# every form and every operator, and texts of the dialect. A script is run by `run` and `sqlrun`, one with edits by `replay`, and told
+# by `sql`, `lineage` and `format`; a text is run by `engine`; `demo` takes no example. Each is called once for each call that asks for memory: that call
 # alone finds none, or no call from there on. Each answer is to be that the call is done, with the expected files or the whole
 # text; that there is no memory, with nothing written; or that a file could not be read or written, since the system asks for
 # memory too: then each file is a front of the expected one. Prints what differs, and at the end 'N passed, M failed'. It takes a
@@ -89,7 +89,7 @@ is_bare() {
 # Compares what the call has come to with what may be.
 judged() {
     case $code:$said in
-        0:*) if ! same; then fail "$1" 'done, with something else'; return; fi ;;
+        0:*) if ! same "$1"; then fail "$1" 'done, with something else'; return; fi ;;
         7:'error: memory') if ! is_bare; then fail "$1" 'answered, but with files'; return; fi ;;
         6:'error: read fault: '*) if ! is_bare; then fail "$1" 'a read fault, but with files'; return; fi ;;
         6:'error: write fault: '*) if ! are_fronts; then fail "$1" 'a write fault, with other files'; return; fi ;;
@@ -101,11 +101,12 @@ judged() {
 
 # Whether a call that is done has said and written what it is to say and write.
 same() {
-    if [ -e "$made/whole" ]; then
-        cmp -s "$made/whole" "$made/said" && is_bare
-    else
-        [ ! -s "$made/said" ] && diff -r "$folder/expected" "$made/out" >/dev/null
-    fi
+    same_text || return
+    if [ -e "$made/whole" ] && [ "$1" != replay ]; then is_bare; else diff -r "$folder/expected" "$made/out" >/dev/null; fi
+}
+
+same_text() {
+    if [ -e "$made/whole" ]; then cmp -s "$made/whole" "$made/said"; else [ ! -s "$made/said" ]; fi
 }
 
 # A call with these words: once as it is, and then without memory at each place. What it prints then is what it printed at first.
@@ -139,7 +140,11 @@ for example; do
         continue
     fi
     if [ -e "$folder/script.vtl" ]; then
-        for way in run sqlrun; do without_memory "$way" script.vtl structures.csv in "$made/out"; done
+        if [ -e "$folder/edits" ]; then
+            without_memory replay script.vtl structures.csv in edits "$made/out"
+        else
+            for way in run sqlrun; do without_memory "$way" script.vtl structures.csv in "$made/out"; done
+        fi
         for way in sql lineage; do without_memory "$way" script.vtl structures.csv; done
         without_memory format script.vtl
     fi

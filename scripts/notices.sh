@@ -27,6 +27,7 @@ export VTL_TOP VTL_FILES LC_ALL
 [ -n "$began" ] || exit 0
 case $1 in
     run | sqlrun) out=${5-} ;;
+    replay) out=${6-} ;;
     engine) out=${4-} ;;
     *) exit 0 ;;
 esac

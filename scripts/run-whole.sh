@@ -1,11 +1,12 @@
 #!/bin/sh
-# Runs the words of `run`, `sqlrun` or `engine` so that the results are put into OUT all together or not at all:
+# Runs the words of `run`, `sqlrun`, `replay` or `engine` so that the results are put into OUT all together or not at all:
 # run-whole.sh run SCRIPT STRUCTURES IN OUT .. They are written to a folder beside OUT first, and renamed into it once the
 # last one was written. The exit code is that of the call.
 top=$(CDPATH='' cd -- "$(dirname -- "$0")/.." && pwd) || exit 1
 case ${1-}:$# in
-    run:[0-4] | sqlrun:[0-4] | engine:[0-3]) place=0 ;;
+    run:[0-4] | sqlrun:[0-4] | replay:[0-5] | engine:[0-3]) place=0 ;;
     run:* | sqlrun:*) place=5 ;;
+    replay:*) place=6 ;;
     engine:*) place=4 ;;
     *) place=0 ;;
 esac

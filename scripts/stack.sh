@@ -40,10 +40,14 @@ least() {
 for case; do
     folder=$made/cases/$case
     if [ -e "$folder/script.vtl" ]; then
-        for command in format sql lineage run sqlrun; do
+        for command in format sql lineage run sqlrun replay; do
             case $command in
                 format) set -- format script.vtl ;;
                 sql | lineage) set -- "$command" script.vtl structures.csv ;;
+                replay)
+                    : >"$folder/edits"
+                    set -- replay script.vtl structures.csv in edits "$made/out"
+                    ;;
                 *) set -- "$command" script.vtl structures.csv in "$made/out" ;;
             esac
             echo "$command $(least "$@") $case"

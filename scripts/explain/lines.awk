@@ -230,6 +230,45 @@ function declaration_fact(rule,    place, known) {
     return rule < 9 || rule == 11 ? "field " place " is " with_nearest(field[place], known) : ""
 }
 
+# `error: edits line LINE`
+function edits_line(number,    path, line, count, name) {
+    path = ARGV[5]
+    while (path in readable && (getline line < file_path(path)) > 0) if (++count == number) break
+    tell("where", shown(path, 200) ", line " number)
+    if (count == number) {
+        tell("", shown(line, 100))
+        read_script(script)
+        read_tokens()
+        read_statements()
+        gather_names(statements)
+        read_structures(structures)
+        tell("here", edit_fact(line, path))
+    }
+    tell_status("Edits")
+}
+
+# What is wrong with a line of the edits file.
+function edit_fact(line, path,    name, folder) {
+    if (line ~ /^\357\273\277/) return "a byte order mark stands before the name"
+    if (line == "") return "the line is empty"
+    if (!index(line, " ")) return "no blank stands in the line"
+    name = substr(line, 1, index(line, " ") - 1)
+    folder = substr(line, index(line, " ") + 1)
+    if (name == "") return "the line begins with a blank"
+    if (!(name in declared)) return name in made_by ? code(name) " is the " of_statement(name) : with_nearest(name, declared) " is declared nowhere"
+    if (!is_read(name)) return code(name) " is declared, and the script does not read it"
+    if (folder == "") return "no folder stands behind the blank"
+    if (folder ~ /\r$/) return "a carriage return ends the line: the file has the line ends of Windows"
+    if (folder ~ /[\001-\037\177]|\302[\200-\237]/) return "a control character stands in the folder"
+    return (getline line < file_path(path)) > 0 ? "" : fact
+}
+
+# Whether the script reads a data set.
+function is_read(name,    token) {
+    for (token = 1; token <= tokens; token++) if (symbol[token] == "NAME" && token_text[token] == name) return 1
+    return 0
+}
+
 # The data sets of the structures file, or the INPUTs of a text of the SQL dialect.
 function read_declarations() {
     if (of_engine) read_inputs()
@@ -291,7 +330,7 @@ function not_text_line(path,    line, number) {
 
 # `error: usage`
 function usage_line(    paths) {
-    paths = ARGV[1] == "migrate" ? 1 : (ARGV[1] ~ /^(check|sql|lineage)$/ ? 2 : 4)
+    paths = ARGV[1] == "migrate" ? 1 : (ARGV[1] ~ /^(check|sql|lineage)$/ ? 2 : (ARGV[1] == "replay" ? 5 : 4))
     tell("here", of_engine ? engine_words_fact() : words_fact(paths))
     tell_status("Usage")
 }
@@ -313,7 +352,7 @@ function path_fact() {
 # The first word that has no place.
 function words_fact(paths,    i, seen) {
     if (ARGC < 2) return "no words"
-    if (ARGV[1] !~ /^(run|sqlrun|sql|check|lineage|format|migrate|demo)$/) return quoted(ARGV[1]) " is no command"
+    if (ARGV[1] !~ /^(run|sqlrun|replay|sql|check|lineage|format|migrate|demo)$/) return quoted(ARGV[1]) " is no command"
     for (i = 1; i < ARGC; i++) if (!is_text(ARGV[i])) return "a word is not UTF-8"
     if (ARGV[1] == "demo") return points_fact()
     if (ARGV[1] == "format") return path_fact()

@@ -8,9 +8,11 @@ BEGIN {
     if (ARGV[1] != "migrate") script = ARGV[2]
     if (!of_engine) structures = ARGV[1] == "migrate" ? ARGV[2] : ARGV[3]
     inputs = of_engine ? ARGV[3] : ARGV[4]
+    if (ENVIRON["VTL_INPUTS"] != "") inputs = ENVIRON["VTL_INPUTS"]
     at_hand = ENVIRON["VTL_FILES"]
     if (at_hand ~ /script /) readable[script]
     if (at_hand ~ /structures /) readable[structures]
+    if (at_hand ~ /edits /) readable[ARGV[5]]
     read_sentences(page("sentences.tsv"))
     explain(said)
 }
@@ -21,6 +23,7 @@ function explain(line,    word) {
     if (line == "error: usage") usage_line()
     else if (line ~ /^error: syntax after [0-9]+ statements at byte [0-9]+$/) syntax_line(word[8])
     else if (line ~ /^error: structures line [0-9]+ rule [0-9]+$/) structures_line(word[4], word[6])
+    else if (line ~ /^error: edits line [0-9]+$/) edits_line(word[4])
     else if (line ~ /^error: sql syntax after [0-9]+ statements at byte [0-9]+$/) sql_syntax_line(word[5], word[9])
     else if (line ~ /^error: sql type in statement [0-9]+ rule [0-9]+$/) sql_type_line(word[6], word[8])
     else if (line ~ /^error: type in statement [0-9]+ rule [0-9]+$/) type_line(word[5], word[7])

@@ -7,7 +7,7 @@ BEGIN {
     if (ENVIRON["VTL_FILES"] ~ /structures /) readable[structures]
     read_script(script)
     read_tokens()
-    if (ARGV[1] ~ /run$/) of_results()
+    if (ARGV[1] ~ /^(run|sqlrun|replay)$/) of_results()
     of_comparisons()
     of_declarations()
 }

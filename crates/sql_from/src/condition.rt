@@ -16,6 +16,9 @@ pub(crate) trait Condition {
     fn width(&self) -> usize
         ensures { result ≡ width self.now };
 
+    /// Whether it is known to be true at every tuple. Nothing but the room that is asked for goes by it.
+    fn is_always(&self) -> bool;
+
     /// Whether it is true at a tuple, whose last number is given apart; or its fault.
     fn at(&self, alloc: Global, front: &[usize], last: usize) -> Result<bool, ScalarErr>
         requires { length front.now + 1 ≡ width self.now }

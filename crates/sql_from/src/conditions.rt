@@ -69,6 +69,10 @@ impl<'a> Condition for Conditions<'a> {
         self.sources.len()
     }
 
+    fn is_always(&self) -> bool {
+        self.parts.is_empty()
+    }
+
     fn at(&self, alloc: Global, front: &[usize], last: usize) -> Result<bool, ScalarErr> {
         for part in &self.parts {
             if !part.at(alloc, front, last)? {

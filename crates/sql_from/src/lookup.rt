@@ -106,6 +106,10 @@ impl<'c, 'f, 'l, 'k, C: Condition, F: Condition> Pairing for Lookup<'c, 'f, 'l, 
         self.rows.keys.count
     }
 
+    fn room(&self, _tuples: usize) -> usize {
+        0
+    }
+
     fn keep(
         &self,
         alloc: Global,

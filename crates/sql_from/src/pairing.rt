@@ -36,6 +36,10 @@ pub(crate) trait Pairing {
     fn count(&self) -> usize
         ensures { result ≡ count self.now };
 
+    /// For how many tuples room is asked at once where so many are joined: for all of a product; for none where some may be
+    /// left out.
+    fn room(&self, tuples: usize) -> usize;
+
     /// Puts a tuple behind the others where the filter is true at it. Its last number is given apart.
     fn keep(
         &self,

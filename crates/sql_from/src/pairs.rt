@@ -157,6 +157,14 @@ impl<'c, 'f, C: Condition, F: Condition> Pairing for EachRow<'c, 'f, C, F> {
         self.count
     }
 
+    fn room(&self, tuples: usize) -> usize {
+        if self.condition.is_always() && self.filter.is_always() {
+            tuples.saturating_mul(self.count)
+        } else {
+            0
+        }
+    }
+
     fn keep(
         &self,
         alloc: Global,
@@ -210,7 +218,8 @@ fn left_row<P: Pairing>(
     Ok(())
 }
 
-// What becomes of all left tuples and is kept by the filter, and the fault beside the one that was seen before.
+// What becomes of all left tuples and is kept by the filter, and the fault beside the one that was seen before. All room of
+// a product is asked for at once, so one that memory does not hold is refused before a tuple is made.
 pub(crate) fn left_rows<P: Pairing>(
     alloc: Global,
     keeps: bool,
@@ -226,8 +235,9 @@ pub(crate) fn left_rows<P: Pairing>(
     ensures met { IfOk result (λ _. AreMarked (partner_numbers (P.value pairing.now) (P.count pairing.now) left.now.rows.tuples) met.old.items met.new.items) }
     ensures err { IfErr result (λ e. e ≡ ScalarErr.OutOfMemory) }
 {
+    let room = pairing.room(left.rows.len());
     let mut so_far = Walked {
-        rows: Tuples::new(alloc, pairing.width()),
+        rows: Tuples::with_room(alloc, pairing.width(), room)?,
         seen: left.seen,
     };
     for i in 0..left.rows.len() {

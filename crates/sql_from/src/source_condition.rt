@@ -126,6 +126,10 @@ impl<'a> Condition for SourceCondition<'a> {
         self.partners.sources().len()
     }
 
+    fn is_always(&self) -> bool {
+        false
+    }
+
     fn at(&self, alloc: Global, front: &[usize], last: usize) -> Result<bool, ScalarErr> {
         let row = PartneredRow::of(&self.partners, front, last);
         if let Some(is_equal) = equality(&self.expression, &row) {

@@ -53,6 +53,19 @@ impl Tuples {
         }
     }
 
+    /// No tuples, of this many numbers each, with room for so many. It fails only if memory runs out.
+    pub fn with_room(alloc: Global, width: usize, tuples: usize) -> Result<Tuples, AllocError>
+        requires { 0 < width }
+        ensures width { IfOk result (λ t. t.width ≡ width) }
+        ensures tuples { IfOk result (λ t. t.tuples ≡ []) }
+    {
+        Ok(Tuples {
+            width,
+            numbers: Vec::with_capacity(alloc, tuples.saturating_mul(width))?,
+            count: 0,
+        })
+    }
+
     /// Each number below a count alone. It fails only if memory runs out.
     pub fn singles(alloc: Global, count: usize) -> Result<Tuples, AllocError>
         ensures width { IfOk result (λ t. t.width ≡ 1) }

@@ -8,7 +8,7 @@ ghost use Rattle.std.specs.Prelude.{◌≡◌, IfOk, length, map};
 ghost use Rattle.vtl_syntax.specs.View.{script_tree, statement_tree};
 ghost use Rattle.vtl_syntax.specs.Written.{AreWritten};
 ghost use Rattle.vtl_tree.specs.NodeView.{node_tree};
-ghost use Rattle.vtl_tree.specs.NotNull.{not_null_of};
+ghost use Rattle.vtl_tree.specs.NotNull.{HaveLists, not_null_of};
 ghost use Rattle.vtl_tree.specs.Structure.{same_name};
 ghost use Rattle.vtl_tree.specs.Structures.{AreStructures};
 ghost use Rattle.vtl_check.specs.Checked.{AreUses, IsTyped, TypedScript, env_over, inputs_of, known_of, nodes_of, outputs_of, tree_of, typed_script};
@@ -42,6 +42,7 @@ pub struct Checked {
 impl Model for Checked {
     ghost use Rattle.std.specs.Coded.{codes};
     ghost use Rattle.std.specs.Prelude.{◌≡◌, length, map};
+    ghost use Rattle.vtl_tree.specs.NotNull.{HaveLists};
     ghost use Rattle.vtl_tree.specs.Structures.{AreStructures};
     ghost use Rattle.vtl_check.specs.Checked.{AreUses, IsTyped, TypedScript};
     ghost use Rattle.vtl_check.specs.Transformations.{transformations};
@@ -60,6 +61,7 @@ impl Model for Checked {
         IsTyped (record { script = c.script.statements; declared = c.declared; not_null = c.lists; settings = c.profile; nodes = c.nodes.items })
         × AreUses (record { script = c.script.statements; declared = c.declared; not_null = c.lists; settings = c.profile; nodes = c.nodes.items }) c.uses
         × AreStructures c.declared
+        × HaveLists c.declared c.lists
         × AreWritten (map statement_tree c.script.statements)
         × (length c.nodes.items ≡ length (transformations (map statement_tree c.script.statements))) };
 }
@@ -124,6 +126,15 @@ impl Checked {
         self.nodes.as_slice()
     }
 
+    /// The declared structures, in order, with their not-null lists as `not_null` gives them.
+    pub fn declared(&self) -> &ByName<Structure>
+        ensures declared { result.now ≡ self.now.declared }
+        ensures structures { AreStructures self.now.declared }
+        ensures lists { HaveLists self.now.declared self.now.not_null }
+    {
+        &self.declared
+    }
+
     /// How numbers are read and rounded.
     pub fn profile(&self) -> &Profile
         ensures { result.now ≡ self.now.settings }
@@ -185,6 +196,7 @@ fn parts_of(
     ensures declared { IfOk result (λ p. p.declared ≡ structures.now.sets) }
     ensures structures { IfOk result (λ p. AreStructures p.declared) }
     ensures lists { IfOk result (λ p. p.lists ≡ structures.now.not_null) }
+    ensures fit { IfOk result (λ p. HaveLists p.declared p.lists) }
     ensures known { IfOk result (λ p. p.uses.known ≡ results_behind (reads structures.now.sets (map node_tree nodes.now)) (transformations (map statement_tree script.now.statements)) (map node_tree nodes.now)) }
     ensures inputs { IfOk result (λ p. p.uses.inputs.items ≡ keys_of (reads structures.now.sets (map node_tree nodes.now))) }
     ensures outputs { IfOk result (λ p. p.uses.outputs.items ≡ outputs_in (transformations (map statement_tree script.now.statements))) }

@@ -1,5 +1,6 @@
 // Data sets that are known, by name.
 ghost use Rattle.std.specs.Prelude.{◌≡◌, ◌<◌, ◌+◌, ◌++◌, [], ◌∷◌, false, length, take, IfOk, OnOk};
+ghost use Rattle.vtl_tree.specs.NotNull.{HaveLists};
 ghost use Rattle.vtl_tree.specs.Structures.{AreStructures, has_name};
 
 use std::alloc::{AllocError, Global};
@@ -59,7 +60,8 @@ pub fn share_structures(
 
 /// The not-null lists of the declared structures. It fails only if memory runs out.
 pub fn share_lists(structures: &Structures) -> Result<ByName<List<Txt>>, AllocError>
-    ensures { IfOk result (λ lists. lists ≡ structures.now.not_null) }
+    ensures lists { IfOk result (λ lists. lists ≡ structures.now.not_null) }
+    ensures fit { HaveLists structures.now.sets structures.now.not_null }
 {
     structures.share_lists()
 }

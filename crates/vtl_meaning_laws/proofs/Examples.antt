@@ -14,6 +14,11 @@ use Rattle.vtl_cell.specs.declared.operator.AggKind.TheVariants.{Sum}
 use Rattle.vtl_decimal.specs.Settings.{Settings}
 use Rattle.vtl_decimal.specs.declared.settings.Rounding.TheVariants.{HalfUp}
 use Rattle.vtl_syntax.specs.declared.word_groups.JoinKind.TheVariants as join
+use Rattle.vtl_tree.specs.ClauseShapes.{renamed}
+use Rattle.vtl_tree.specs.Columns.{identifiers_of}
+use Rattle.vtl_tree.specs.Joins.{held_names, joined_components}
+use Rattle.vtl_tree.specs.declared.joins.Operand.{Operand}
+use Rattle.vtl_tree.specs.declared.renaming.Renaming.{Renaming}
 use Rattle.vtl_syntax.specs.declared.word_groups.Retain.TheVariants as retain
 use Rattle.vtl_tree.specs.DataSet.{IsDataSet, look}
 use Rattle.vtl_tree.specs.Environment.{DataSet}
@@ -39,6 +44,7 @@ use Rattle.vtl_meaning_laws.specs.Found.{IsFullTuple, IsLeftTuple, begins_whole}
 use Rattle.vtl_meaning_laws.specs.Frames.{of_current_alone, turned_round}
 use Rattle.vtl_meaning_laws.specs.Overs.{by_groups, over_partitions}
 use Rattle.vtl_meaning_laws.proofs.BracketCodes.{same_structures}
+use Rattle.vtl_meaning_laws.proofs.ClauseCodes.{joined_shared, renamed_identifiers}
 use Rattle.vtl_meaning_laws.proofs.Combined.{own_points}
 use Rattle.vtl_meaning_laws.proofs.Existence.{absent_is_difference, there_is_intersection}
 use Rattle.vtl_meaning_laws.proofs.FallingOrders.{from_its_end}
@@ -354,3 +360,19 @@ null_is_not = undone (codes "area") (codes "people") (codes "area") (codes "peop
 -- ---- `order by people desc`
 falling_people : (stand_of first (turned_round by_people) lower).ordered ≡ reverse (lower ∷ higher ∷ [])
 falling_people = from_its_end first by_people lower (((λ e. refl), ((λ e. cc), tt)), (((λ e. cc), ((λ e. refl), tt)), tt))
+
+-- ---- an identifier with codes under another name, and beside an operand in which it has none
+abbrev region : Component
+region = record coded { name = codes "region" }
+
+abbrev to_region : List Renaming
+to_region = record { from = codes "area"; to = codes "region" } ∷ []
+
+region_keeps_codes : identifiers_of (of_components (year ∷ region ∷ people ∷ [])) ≡ map (renamed to_region) (identifiers_of by_area.structure)
+region_keeps_codes = renamed_identifiers to_region by_area.structure (of_components (year ∷ region ∷ people ∷ [])) refl
+
+abbrev beside : List Operand
+beside = record { alias = codes "d"; structure = by_area.structure } ∷ record { alias = codes "e"; structure = of_components (year ∷ area ∷ size ∷ []) } ∷ []
+
+area_loses_codes : identifiers_of (of_components (joined_components join.Inner (held_names join.Inner beside) beside)) ≡ year ∷ area ∷ []
+area_loses_codes = joined_shared join.Inner beside (record { alias = codes "d"; structure = by_area.structure }) (of_components (joined_components join.Inner (held_names join.Inner beside) beside)) refl refl refl

@@ -34,10 +34,10 @@ use Rattle.vtl_meaning_laws.proofs.Twice.{none_left}
 abbrev pub AreIdentifiers : List Component → Type 0
 AreIdentifiers xs = AllByRecursion (λ x. is_identifier x ≡ true) xs
 
-abbrev AreOthers : List Component → Type 0
+abbrev pub AreOthers : List Component → Type 0
 AreOthers xs = AllByRecursion (λ x. is_identifier x ≡ false) xs
 
-front : (s : Structure) (ids others : List Component) → s.components ≡ ids ++ others → AreIdentifiers ids → AreOthers others → identifiers_of s ≡ ids
+pub front : (s : Structure) (ids others : List Component) → s.components ≡ ids ++ others → AreIdentifiers ids → AreOthers others → identifiers_of s ≡ ids
 front s ids others e all none =
     ap (filter is_identifier) e ∙ filter-append is_identifier ids others ∙ ap (λ l. l ++ filter is_identifier others) (filter_once is_identifier ids all)
     ∙ ap (λ l. ids ++ l) (none_left is_identifier others none) ∙ append-nil ids
@@ -61,7 +61,7 @@ left_ones names xs = all_more (λ x. is_chosen choice.Except names x ≡ true) (
     first true b e = refl
     first false b e = e
 
-agreed_ones : (bs : List Structure) (xs : List Component) → AreIdentifiers (agreed_identifiers bs xs)
+pub agreed_ones : (bs : List Structure) (xs : List Component) → AreIdentifiers (agreed_identifiers bs xs)
 agreed_ones bs xs = agreed_roles role.Identifier bs xs
 
 -- ---- operators

@@ -1,4 +1,5 @@
 pub mod BracketCodes
+pub mod ClauseCodes
 pub mod Combined
 pub mod Examples
 pub mod Existence

@@ -13,7 +13,10 @@ mod pivots;
 mod sets;
 mod windows;
 
-pub use codes::{codes_are_kept_where_all_list_the_same, operators_on_one_data_set_keep_codes};
+pub use codes::{
+    clauses_keep_codes, codes_are_kept_where_all_list_the_same,
+    joins_keep_codes_where_all_list_the_same, operators_on_one_data_set_keep_codes,
+};
 pub use joins::{
     full_joins_are_sets_of_tuples, inner_joins_are_whole_left_joins,
     inner_joins_do_not_see_which_stands_first, left_joins_are_full_joins_of_first_points,

@@ -11,6 +11,7 @@ code_of st.Usage = 1
 code_of (st.Syntax done byte) = 2
 code_of (st.Structure line rule) = 2
 code_of (st.NotText path) = 2
+code_of (st.Edits line) = 2
 code_of (st.Mistyped statement rule) = 3
 code_of (st.SqlSyntax done byte) = 3
 code_of (st.SqlType statement rule) = 3
@@ -59,6 +60,7 @@ parts_of (st.Structure line rule) = text (codes "error: structures line ") ∷ n
 parts_of (st.Mistyped statement rule) = text (codes "error: type in statement ") ∷ number statement ∷ text (codes " rule ") ∷ number rule ∷ end ∷ []
 parts_of (st.SqlSyntax done byte) = text (codes "error: sql syntax after ") ∷ number done ∷ text (codes " statements at byte ") ∷ number byte ∷ end ∷ []
 parts_of (st.SqlType statement rule) = text (codes "error: sql type in statement ") ∷ number statement ∷ text (codes " rule ") ∷ number rule ∷ end ∷ []
+parts_of (st.Edits line) = text (codes "error: edits line ") ∷ number line ∷ end ∷ []
 parts_of (st.Input dataset line column kind) =
     text (codes "error: input ") ∷ text (encode_utf8_all dataset) ∷ text (codes " line ") ∷ number line ∷ text (codes " column ") ∷ number column ∷ text (codes " ") ∷ text (name_of_kind kind) ∷ end ∷ []
 parts_of (st.DivZero result) = at (codes "error: division by zero in ") result

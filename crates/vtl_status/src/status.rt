@@ -54,6 +54,11 @@ pub enum Status {
         /// The number of the rule.
         rule: u8,
     },
+    /// A line of the edits file, counted from 1 on, has not the form of an edit: the first that has not.
+    Edits {
+        /// The number of the line.
+        line: u64,
+    },
     /// The file of a data set that is read holds no data set of its structure: its first fault, by line and column from
     /// 1 on.
     Input {
@@ -70,7 +75,7 @@ pub enum Status {
     DivZero(Txt),
     /// The statement with this result has a number out of range, and divides nothing by zero before it.
     Range(Txt),
-    /// The file at the path, the script or the structures file, is not text in UTF-8.
+    /// The file at the path, the script, the structures file or the edits file, is not text in UTF-8.
     NotText(Txt),
     /// There is no file at the path.
     NoFile(Txt),
@@ -85,7 +90,7 @@ pub enum Status {
 }
 
 impl Status {
-    /// The exit code: 0 done, 1 usage, 2 no script, no structures or no text, 3 not typed or no SQL script, 4 no file, too
+    /// The exit code: 0 done, 1 usage, 2 no script, no structures, no edits or no text, 3 not typed or no SQL script, 4 no file, too
     /// long or no data set, 5 a fault of evaluation, 6 a fault of reading or writing, 7 memory.
     pub fn code(&self) -> u8
         ensures { result ≡ code_of self.now }
@@ -94,6 +99,7 @@ impl Status {
             Status::Done => 0,
             Status::Usage => 1,
             Status::Syntax { .. } | Status::Structure { .. } | Status::NotText(_) => 2,
+            Status::Edits { .. } => 2,
             Status::Mistyped { .. } | Status::SqlSyntax { .. } | Status::SqlType { .. } => 3,
             Status::NoFile(_) | Status::TooLong(_) | Status::Input { .. } => 4,
             Status::DivZero(_) | Status::Range(_) => 5,
@@ -143,6 +149,13 @@ impl Status {
                 Part::Text(" rule "),
                 Part::Number(*rule as u64),
                 END,
+            ]),
+            Status::Edits { line } => padded([
+                Part::Text("error: edits line "),
+                Part::Number(*line),
+                END,
+                NOTHING,
+                NOTHING,
             ]),
             Status::Input {
                 dataset,

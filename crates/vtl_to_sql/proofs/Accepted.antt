@@ -27,12 +27,12 @@ use Rattle.check_laws.proofs.Over.{made_over}
 use Rattle.check_laws.proofs.Scripts.{script-made}
 use Rattle.vtl_to_sql.specs.Accepted.{AreFew, AreHeld, HoldsParts}
 use Rattle.vtl_to_sql.specs.Conditions.{AreTranslated, IsScript}
-use Rattle.vtl_to_sql.proofs.AcceptedComponents.{AreKnownNamed, declared_named}
-use Rattle.vtl_to_sql.proofs.AcceptedNames.{components_named}
+use Rattle.result_laws.proofs.Components.{AreKnownNamed, declared_named}
+use Rattle.result_laws.proofs.Names.{components_named}
 use Rattle.vtl_to_sql.proofs.AcceptedNodes.{node_translated}
 use Rattle.vtl_to_sql.proofs.AcceptedReads.{IsWord, reads_alike, reads_fewer, reads_readable}
-use Rattle.vtl_to_sql.proofs.AcceptedScripts.{results_named, script_worded}
-use Rattle.vtl_to_sql.proofs.AcceptedWords.{FormHasWords, HasWords, HaveWords, IsWorded, MaybeHasWords, OperandsHaveWords, name_word}
+use Rattle.result_laws.proofs.WordedScripts.{results_named, script_worded}
+use Rattle.result_laws.proofs.Words.{FormHasWords, HasWords, HaveWords, IsWorded, MaybeHasWords, OperandsHaveWords, name_word}
 
 -- ---- the names that an expression reads are words
 module _ (p : Settings) where

@@ -42,9 +42,10 @@ use Rattle.vtl_to_sql.specs.Conditions.{AreNodesTranslated, AreOperandsTranslate
 use Rattle.groups_to_sql.specs.Writable.{CallsCanBeWritten, ValueCanBeWritten}
 use Rattle.rules_to_sql.specs.Writable.{CanBeCondition, CanRuleBeWritten}
 use Rattle.hierarchies_to_sql.specs.Writable.{CanBeSided, most_items}
-use Rattle.vtl_to_sql.proofs.AcceptedComponents.{AreKnownNamed, codes_are_texts, columns_named}
-use Rattle.vtl_to_sql.proofs.AcceptedNames.{components_named, form_named, marks}
-use Rattle.vtl_to_sql.proofs.AcceptedWords.{AreSided, AreValues, FormHasWords, HasWords, HaveWords, IsFilled, MaybeHasWords, OperandsHaveWords}
+use Rattle.result_laws.proofs.Components.{AreKnownNamed, codes_are_texts}
+use Rattle.result_laws.proofs.Names.{components_named, form_named, marks}
+use Rattle.result_laws.proofs.Words.{AreSided, AreValues, FormHasWords, HasWords, HaveWords, IsFilled, MaybeHasWords, OperandsHaveWords}
+use Rattle.vtl_to_sql.proofs.AcceptedColumns.{columns_named}
 use Rattle.vtl_to_sql.proofs.HeldLevels.{level_held}
 
 -- ---- expressions
@@ -171,7 +172,7 @@ module _ (p : Settings) (known : Named) (all : AreKnownNamed known) where
 
   mutual
     pub node_translated : (b : Bool) (n : NodeTree) → IsMade p known n → HasWords p b n → HoldsParts n → AreNodesUpTo depth_limit (nodes_in n) → IsTranslated p n
-    node_translated b (nodes.node s form) m w h d = (columns_named (marks b form) s (form_named p known all b s form m.1 w).0, form_translated b s form m.1 w h d.0 d.1)
+    node_translated b (nodes.node s form) m w h d = (columns_named (marks b form) s (form_named p known all b s form m.0 m.1 w).0, form_translated b s form m.1 w h d.0 d.1)
 
     form_translated : (b : Bool) (s : Structure) (form : FormTree) → IsMadeForm p known s form → FormHasWords p b form → FormHoldsParts s form → AreUpTo depth_limit (exps_in (nodes.node s form)) → AreNodesUpTo depth_limit (form_nodes form) → IsFormTranslated p s form
     form_translated b s (nodes.named x) m w h own d = tt

@@ -4,13 +4,13 @@
 // table of the script is made, and typing does not see rows.
 //
 // What translation asks of a script is said on trees (specs/Conditions.antt) and asks nothing of the points. That an
-// accepted script meets it is shown by a walk over typing (proofs/AcceptedTyping.antt), which tells the words that
-// nodes take from the script; the names of all other columns follow from the structures that typing gives
-// (proofs/AcceptedNames.antt). A name stands behind an alias only inside the body of a join, whose last naming gives
-// the names back. That a ruleset has a rule comes from its definition, which the walk follows to its calls
-// (proofs/AcceptedRules.antt). What only a program can tell is a premise (specs/Accepted.antt): that constants are in
-// the range of their types and texts of rules are texts, and that tables, operands and rules can be numbered; a union
-// of many names is one node, so the limit on nodes does not bound the tables.
+// accepted script meets it is shown by a walk over typing, which tells the words that nodes take from the script; the
+// names of all other columns follow from the structures that typing gives. Both are in `result_laws`
+// (proofs/WordedTyping.antt, proofs/Names.antt). A name stands behind an alias only inside the body of a join, whose
+// last naming gives the names back. That a ruleset has a rule comes from its definition, which the walk follows to its
+// calls (proofs/WordedRules.antt there). What only a program can tell is a premise (specs/Accepted.antt): that
+// constants are in the range of their types and texts of rules are texts, and that tables, operands and rules can be
+// numbered; a union of many names is one node, so the limit on nodes does not bound the tables.
 //
 // An integer outside the profile is no number: where `check` shows it as an imbalance, null stands there, and SQL has a
 // fault. So the laws of meaning speak of data sets of the profile, as those are that a back end runs over.

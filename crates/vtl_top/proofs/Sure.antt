@@ -15,12 +15,14 @@ use Rattle.vtl_format.specs.Formed.{IsFormed}
 use Rattle.vtl_top.specs.Expected.{IsTextOf, Typed, dataset_step, folder_step, form_of, inputs_step, run_step, script_in, script_of, structures_step, text_for, typed_step, wanted_step}
 use Rattle.vtl_top.specs.Forms.{asked_step}
 use Rattle.vtl_top.specs.Meant.{IsAccepted}
+use Rattle.vtl_top.specs.Edits.{Edit}
+use Rattle.vtl_top.specs.Replayed.{Stage, begun, replay_step, replayed_step}
 use Rattle.vtl_top.specs.ScriptFile.{IsFormatted, IsParsed, IsParsedBy, IsSqlParsed, Parsed, faulty, no_text, whole}
 use Rattle.vtl_top.specs.SqlInputs.{inputs_wanted}
 use Rattle.vtl_top.specs.SqlRun.{engine_step, sql_checked_step, sql_in, sql_of}
 use Rattle.vtl_top.specs.Steps.{Behind, File, Held, Made, Path, Step, Text, ◌>>=◌, as_files, as_text, looked, only_text, read_as, settled, status_of}
 use Rattle.vtl_top.specs.Wanted.{Placed, Wanted, all_in, all_wanted_with}
-use Rattle.vtl_top.specs.Words.{Command, Engine, Run, Source, demo, engine, format, lineage, migrate, run, sql, sqlrun}
+use Rattle.vtl_top.specs.Words.{Command, Engine, Replay, Run, Source, demo, engine, format, lineage, migrate, replay, run, sql, sqlrun}
 use Rattle.vtl_status.specs.declared.status.Status.{Status}
 use Rattle.vtl_top.proofs.MeantLemmas.{accepted_only}
 use Rattle.vtl_top.proofs.ReadScripts.{form_there, formatted_once, parsed_once}
@@ -103,6 +105,18 @@ typed_sure s =
 pub run_sure : (r : Run) → Sure (run_step r)
 run_sure r = then_sure _ _ (typed_sure r.source) (λ t. then_sure _ _ (folder_sure r.input t.settings t.not_null (reads t.structures t.nodes)) (λ env. settled_sure _))
 
+replayed_sure : (t : Typed) (s : Stage) (edits : List Edit) → Sure (replayed_step t s edits)
+replayed_sure t s [] = settled_sure _
+replayed_sure t s (e ∷ edits) = then_sure _ _ (then_sure _ _ (dataset_sure _ _) (λ points. settled_sure _)) (λ next. replayed_sure t next edits)
+
+replay_sure : (r : Replay) → Sure (replay_step r)
+replay_sure r =
+    then_sure _ _ (typed_sure r.source) (λ t.
+    then_sure _ _ (then_sure _ _ (looked_sure _ _) (λ bytes. settled_sure _)) (λ edits.
+    then_sure _ _ (folder_sure r.input t.settings t.not_null (reads t.structures t.nodes)) (λ inputs.
+    then_sure _ _ (replayed_sure t (begun t inputs) edits) (λ last.
+    settled_sure _))))
+
 formed_somehow : (bytes : Text) → ¬ ¬ (((form : Text) × IsFormed bytes form) ⊎ ((done : ℕ) × (byte : ℕ) × IsFaulty bytes done byte))
 formed_somehow bytes = then_too (vtl_read_somehow bytes) by_script
   where
@@ -139,6 +153,7 @@ sure_or_text (Some (run r)) = inl (files_sure _ (run_sure r))
 sure_or_text (Some (sqlrun r)) = inl (files_sure _ (run_sure r))
 sure_or_text (Some (sql s)) = inr (s, refl)
 sure_or_text (Some (engine e)) = inl (files_sure _ (engine_sure e))
+sure_or_text (Some (replay r)) = inl (replay_sure r)
 sure_or_text (Some (lineage s)) = inl (text_sure _ (then_sure _ _ (typed_sure s) (λ t. settled_sure _)))
 sure_or_text (Some (format path)) = inl (text_sure _ (then_sure _ _ (looked_sure _ _) (λ bytes. form_sure path bytes)))
 sure_or_text (Some (migrate m)) = inl (text_sure _ (then_sure _ _ (structures_sure m.structures) (λ d. settled_sure _)))

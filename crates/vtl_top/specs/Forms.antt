@@ -7,9 +7,10 @@ use Rattle.vtl_demo.specs.Script as script
 use Rattle.vtl_top.specs.Expected.{Typed, format_step, run_step, text_step, typed_by, typed_step}
 use Rattle.vtl_top.specs.Linked.{lineage_step}
 use Rattle.vtl_top.specs.Migrated.{migrate_step}
+use Rattle.vtl_top.specs.Replayed.{replay_step}
 use Rattle.vtl_top.specs.SqlRun.{engine_step}
 use Rattle.vtl_top.specs.Steps.{Made, Step, as_files, as_text, only_text, settled}
-use Rattle.vtl_top.specs.Words.{Command, demo, engine, format, lineage, migrate, run, sql, sqlrun}
+use Rattle.vtl_top.specs.Words.{Command, demo, engine, format, lineage, migrate, replay, run, sql, sqlrun}
 use Rattle.vtl_status.specs.declared.status.Status.TheVariants as st
 
 -- what a command gives out: nothing, files, a text, or files and behind them a text
@@ -48,6 +49,7 @@ form_of (Some (run r)) = record { step = as_files (run_step r); half = files_alo
 form_of (Some (sqlrun r)) = record { step = as_files (run_step r); half = files_alone; tells = of_step (typed_step r.source) }
 form_of (Some (sql s)) = record { step = as_text (text_step s); half = text_alone; tells = silent }
 form_of (Some (engine e)) = record { step = as_files (engine_step e); half = files_alone; tells = silent }
+form_of (Some (replay r)) = record { step = replay_step r; half = both; tells = silent }
 form_of (Some (lineage s)) = record { step = as_text (lineage_step s); half = text_alone; tells = silent }
 form_of (Some (format path)) = record { step = as_text (format_step path); half = text_alone; tells = silent }
 form_of (Some (migrate m)) = record { step = as_text (migrate_step m); half = text_alone; tells = silent }

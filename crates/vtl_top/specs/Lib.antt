@@ -1,6 +1,8 @@
 pub mod Agreement
 pub mod Answered
 pub mod Complete
+pub mod Edits
+pub mod EditsView
 pub mod Expected
 pub mod Forms
 pub mod Informed
@@ -12,6 +14,8 @@ pub mod Meant
 pub mod Migrated
 pub mod OutputView
 pub mod Refusal
+pub mod ReplayMeant
+pub mod Replayed
 pub mod ResultTables
 pub mod RunView
 pub mod Said

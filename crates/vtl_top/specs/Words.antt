@@ -32,6 +32,13 @@ pub record Run : Type 0 where
   pub input : Path
   pub output : Path
 
+-- a script that is run, and run again each time that an input is replaced, as an edits file says; its last outputs are written
+pub record Replay : Type 0 where
+  pub source : Source
+  pub input : Path
+  pub edits : Path
+  pub output : Path
+
 -- an SQL file that is run, from the folder of its inputs into the folder of its exports
 pub record Engine : Type 0 where
   pub sql : Path
@@ -39,12 +46,14 @@ pub record Engine : Type 0 where
   pub output : Path
 
 -- a command, with its paths and options: a script is run by the interpreter, or by its text in SQL; its text in SQL is said; an SQL
--- file is run; the links of a script are said; the canonical text of the script at a path is said; a structures file is said as version 2; the demonstration is run over so many points
+-- file is run; a script is run while inputs are replaced; the links of a script are said; the canonical text of the script at a path is
+-- said; a structures file is said as version 2; the demonstration is run over so many points
 pub data Command : Type 0 where
   run : Run → Command
   sqlrun : Run → Command
   sql : Source → Command
   engine : Engine → Command
+  replay : Replay → Command
   lineage : Source → Command
   format : Path → Command
   migrate : Migration → Command
@@ -146,6 +155,15 @@ abbrev pub engine_of : List Text → Option Engine
 engine_of (file ∷ input ∷ output ∷ []) = if list_all is_path (file ∷ input ∷ output ∷ []) then Some (engine_with file input output) else None
 engine_of _ = None
 
+abbrev pub replay_with : (input edits output : Path) → Source → Replay
+replay_with input edits output source = record { source = source; input = input; edits = edits; output = output }
+
+-- the words behind `replay`: SCRIPT STRUCTURES IN EDITS OUT, each a path, and then options
+abbrev pub replay_of : List Text → Option Replay
+replay_of (script ∷ structures ∷ input ∷ edits ∷ output ∷ options) =
+    if list_all is_path (input ∷ edits ∷ output ∷ []) then option_map (replay_with input edits output) (source_of (script ∷ structures ∷ options)) else None
+replay_of _ = None
+
 -- the word behind `format`: SCRIPT, a path
 abbrev pub path_of : List Text → Option Path
 path_of (path ∷ []) = if is_path path then Some path else None
@@ -181,7 +199,8 @@ command_of (name ∷ words) =
     else (if same_name name (codes "sqlrun") then option_map sqlrun (run_of words)
     else (if same_name name (codes "sql") then option_map sql (source_of words)
     else (if same_name name (codes "engine") then option_map engine (engine_of words)
+    else (if same_name name (codes "replay") then option_map replay (replay_of words)
     else (if same_name name (codes "lineage") then option_map lineage (source_of words)
     else (if same_name name (codes "format") then option_map format (path_of words)
     else (if same_name name (codes "migrate") then option_map migrate (migration_of words)
-    else (if same_name name (codes "demo") then option_map demo (points_of words) else None)))))))
+    else (if same_name name (codes "demo") then option_map demo (points_of words) else None))))))))

@@ -2,21 +2,24 @@
 //
 // All inputs are read before any statement is carried out, in order of first use. They are let go after the run
 // (`run_over`), before the first text is made.
-ghost use Rattle.std.specs.Prelude.{◌≡◌, ◌<◌, [], None, length, map, slice_index_or, IfOk, OnOk};
-ghost use Rattle.std.specs.List.{AllByRecursion};
-ghost use Rattle.std.specs.Map.{keys_of};
+ghost use Rattle.std.specs.Prelude.{◌≡◌, ◌<◌, [], true, None, Some, length, map, slice_index_or, IfOk, OnOk};
+ghost use Rattle.std.specs.List.{AllByRecursion, list_any};
+ghost use Rattle.std.specs.Map.{keys_of, lookup};
 ghost use Rattle.vtl_rows.specs.Named.{table_of};
 ghost use Rattle.vtl_rows.specs.Tables.{listed};
 ghost use Rattle.vtl_tree.specs.DataSet.{AreOfProfile};
-ghost use Rattle.vtl_tree.specs.Structure.{IsStructure};
+ghost use Rattle.vtl_tree.specs.Structure.{IsStructure, same_name};
+ghost use Rattle.vtl_check.specs.Checked.{inputs_of as names_of};
 ghost use Rattle.vtl_csv.specs.InputFile.{dataset_rows};
 ghost use Rattle.vtl_backend.specs.Inputs.{AreInRange, AreInputs, Holds, environment_of, input_of, inputs_of, rows_named};
 ghost use Rattle.vtl_meaning.specs.Profiles.{AllAreOfProfile};
 ghost use Rattle.vtl_sets.specs.TableOf.{IsTableOf};
 ghost use Rattle.vtl_top.specs.Answered.{Takes};
 ghost use Rattle.vtl_top.specs.Expected.{dataset_step, folder_step, inputs_step};
-ghost use Rattle.vtl_top.specs.InputsRead.{Adds, AreReadable, IsListed, all_wanted, all_wanted_from, rows_in, wanted_from};
+ghost use Rattle.vtl_top.specs.InputsRead.{Adds, AreReadable, IsListed, all_wanted, all_wanted_from, as_wanted, rows_in, wanted_from};
 ghost use Rattle.vtl_top.specs.Refusal.{IsTableRead};
+ghost use Rattle.vtl_top.specs.ResultTables.{structure_named};
+ghost use Rattle.vtl_top.specs.Wanted.{wanted_with};
 
 use crate::reading::{file_in, read_file};
 use crate::refusal::input_refusal;
@@ -61,7 +64,7 @@ fn table_in(
 }
 
 // The table of a data set, from its file in a folder.
-fn read_input<F: Files>(
+pub(crate) fn read_input<F: Files>(
     alloc: Global,
     files: &mut F,
     folder: &str,
@@ -135,13 +138,32 @@ pub fn read_all_wanted<F: Files>(
 
 // The name and the structure of the data set at a place among those that are read.
 #[tactic(auto, using(crate::proofs::InputLemmas::key_within, crate::proofs::InputLemmas::input_there, crate::proofs::InputLemmas::input_not_missing))]
-fn input_at(checked: &Checked, i: usize) -> (&Txt, &Structure)
+pub(crate) fn input_at(checked: &Checked, i: usize) -> (&Txt, &Structure)
     requires within { i < length (inputs_of checked.now) }
     ensures at { (result.0.now, result.1.now) ≡ slice_index_or (inputs_of checked.now) i (result.0.now, result.1.now) }
 {
     let name = &checked.inputs()[i];
     match checked.structure(name) {
         Some(structure) => (name, structure),
+        None => unreachable!(),
+    }
+}
+
+// The data set of a name that a script reads.
+pub(crate) fn wanted_named<'a>(checked: &'a Checked, name: &'a Txt) -> Wanted<'a>
+    requires { list_any (same_name name.now) (names_of checked.now) ≡ true }
+    ensures wanted { as_wanted result ≡ wanted_with checked.now.not_null (name.now, structure_named name.now (inputs_of checked.now)) }
+    ensures found { lookup (same_name name.now) (inputs_of checked.now) ≡ Some result.structure.now }
+    ensures structure { IsStructure result.structure.now }
+{
+    // The structures of what is declared are structures.
+    let _nodes = checked.nodes();
+    match checked.structure(name) {
+        Some(structure) => Wanted {
+            name,
+            structure,
+            not_null: checked.not_null(name),
+        },
         None => unreachable!(),
     }
 }

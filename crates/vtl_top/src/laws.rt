@@ -25,13 +25,15 @@ ghost use Rattle.vtl_top.specs.Forms.{asked_step};
 ghost use Rattle.vtl_top.specs.Expected.{IsTextOf, Typed, fault_status, format_step, meant, outputs_of, run_step, text_step};
 ghost use Rattle.vtl_top.specs.Meant.{IsAccepted, IsFaulted, IsFormMeant, IsMeant, IsMistyped, IsTextMeant};
 ghost use Rattle.vtl_top.specs.Migrated.{IsMigrated, migrate_step};
+ghost use Rattle.vtl_top.specs.ReplayMeant.{IsReplayMeant};
+ghost use Rattle.vtl_top.specs.Replayed.{replay_step};
 ghost use Rattle.vtl_top.specs.SqlMeant.{IsExported, IsSqlFaulted, IsSqlMistyped};
 ghost use Rattle.vtl_top.specs.SqlRun.{engine_step, exports_of};
 ghost use Rattle.sql_check_parts.specs.Rules.{number_of};
 ghost use Rattle.sql_check_parts.specs.Statements.{Fault as Breach};
 ghost use Rattle.vtl_top.specs.Said.{Hears};
 ghost use Rattle.vtl_top.specs.Steps.{File, Held, Made, Name, Path, Text, status_of};
-ghost use Rattle.vtl_top.specs.Words.{Command, Engine, Migration, Run, RunsScript, Source, demo, engine, format, migrate, sql};
+ghost use Rattle.vtl_top.specs.Words.{Command, Engine, Migration, Replay, Run, RunsScript, Source, demo, engine, format, migrate, sql};
 ghost use Rattle.vtl_status.specs.declared.status.Status.{Status};
 
 use vtl_files::{Files, Sink};
@@ -140,6 +142,13 @@ pub fn runs_are_quiet<F: Files, O: Sink>()
 /// A `format` that is done has handed the canonical text of the held script to the sink, and written nothing.
 pub fn forms_are_said<F: Files, O: Sink>()
     ensures { (a b : F) (u v : O) (path : Path) (held : Held) → F.held a ≡ Some held → Ends F.Files O.Sink a b u v (Some (format path)) Status.Done → (form : Text) × IsFormMeant path held form × Adds (F.written a) (F.written b) [] × Hears O.Sink u v form }
+{}
+
+/// What `replay` gives over the held files is what the script means over the inputs as they stand behind the last edit, and
+/// the lines of its refreshes; and the other way round.
+pub fn replays_are_meant()
+    ensures only { (r : Replay) (held : Held) (made : Made) → (replay_step r).gives held (Ok made) → IsReplayMeant r held made }
+    ensures always { (r : Replay) (held : Held) (made : Made) → IsReplayMeant r held made → (replay_step r).gives held (Ok made) }
 {}
 
 /// What `migrate` gives over the held files is the text of version 2 of the structures file that they hold at the path.

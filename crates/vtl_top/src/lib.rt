@@ -14,6 +14,7 @@
 #![tactic(auto)]
 
 mod agreement;
+mod edits;
 mod form;
 mod inputs;
 mod laws;
@@ -24,6 +25,7 @@ mod output;
 mod points;
 mod reading;
 mod refusal;
+mod replay;
 mod results;
 mod run;
 mod sql_inputs;
@@ -34,13 +36,14 @@ mod typing;
 mod words;
 
 pub use agreement::{agreeing_calls_end_alike, interpreter_and_sql_agree};
+pub use edits::{Edit, read_edited, read_edits};
 pub use inputs::read_inputs;
 pub use laws::{
     calm_calls_are_complete, demonstrations_are_said, expected_is_determined, expected_is_there,
     exports_are_meant, faults_are_meant, forms_are_meant, forms_are_said, inputs_take_alike,
     migrations_are_meant, migrations_are_said, mistyped_is_first_fault, output_is_meant,
-    runs_are_quiet, sql_breaches_are_refused, sql_faults_are_meant, structures_have_identifiers,
-    texts_are_meant, texts_write_alike,
+    replays_are_meant, runs_are_quiet, sql_breaches_are_refused, sql_faults_are_meant,
+    structures_have_identifiers, texts_are_meant, texts_write_alike,
 };
 pub use points::Points;
 pub use run::read_typed;

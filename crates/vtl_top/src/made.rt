@@ -15,20 +15,21 @@ ghost use Rattle.vtl_top.specs.Expected.{typed_step};
 ghost use Rattle.vtl_top.specs.Forms.{IsMadeBy, asked_step, demonstration};
 ghost use Rattle.vtl_top.specs.MadeView.{IsMade, Names, made_view};
 ghost use Rattle.vtl_top.specs.OutputView.{NamesPath, outputs_view};
-ghost use Rattle.vtl_top.specs.RunView.{command_view, engine_view, migration_view, run_view, source_view};
+ghost use Rattle.vtl_top.specs.RunView.{command_view, engine_view, migration_view, replay_view, run_view, source_view};
 ghost use Rattle.vtl_top.specs.Informed.{HasRun, Informs, IsToldOf, TellsRun};
 ghost use Rattle.vtl_top.specs.Refusal.{SettlesBy};
 ghost use Rattle.vtl_top.specs.Steps.{only_text, status_of};
-ghost use Rattle.vtl_top.specs.Words.{engine, format, lineage, migrate, run, sql};
+ghost use Rattle.vtl_top.specs.Words.{engine, format, lineage, migrate, replay, run, sql};
 
 use crate::form::prepare_form;
 use crate::lineage::prepare_links;
 use crate::migrate::prepare_migration;
 use crate::output::Output;
 use crate::points::Points;
+use crate::replay::prepare_replay;
 use crate::run::{prepare, prepare_text};
 use crate::sql_run::prepare_exports;
-use crate::words::{Command, Engine, Migration, Run, Source};
+use crate::words::{Command, Engine, Migration, Replay, Run, Source};
 use std::alloc::Global;
 use vtl_backend::Backend;
 use vtl_demo::demonstrate;
@@ -48,8 +49,8 @@ pub struct Made {
     pub sink: Txt,
 }
 
-/// Makes all that a command gives out. It reads only. A run goes by the interpreter, a run in SQL by the back end, and the
-/// demonstration by both.
+/// Makes all that a command gives out. It reads only. A run and a replay go by the interpreter, a run in SQL by the back end,
+/// and the demonstration by both.
 pub fn make<B: Backend, F: Files>(
     alloc: Global,
     back: &mut B,
@@ -66,6 +67,7 @@ pub fn make<B: Backend, F: Files>(
         Command::SqlRun(run) => make_run(alloc, back, files, run),
         Command::Sql(source) => make_text(alloc, files, source),
         Command::Engine(engine) => make_exports(alloc, files, engine),
+        Command::Replay(replay) => make_replay(alloc, files, replay),
         Command::Lineage(source) => make_links(alloc, files, source),
         Command::Format(path) => make_form(alloc, files, *path),
         Command::Migrate(migration) => make_migration(alloc, files, migration),
@@ -108,6 +110,16 @@ fn make_exports<F: Files>(alloc: Global, files: &mut F, asked: &Engine<'_>) -> R
 {
     match prepare_exports(alloc, files, asked) {
         Ok(outputs) => made_of(alloc, outputs, Vec::new(alloc)),
+        Err(status) => Err(status),
+    }
+}
+
+fn make_replay<F: Files>(alloc: Global, files: &mut F, asked: &Replay<'_>) -> Result<Made, Status>
+    ensures takes { Takes F.Files files.old files.new (asked_step (Some (replay (replay_view asked.now)))) made_view result }
+    ensures named { IfOk result Names }
+{
+    match prepare_replay(alloc, files, asked) {
+        Ok((outputs, lines)) => made_of(alloc, outputs, lines.into_bytes()),
         Err(status) => Err(status),
     }
 }

@@ -66,7 +66,7 @@ fn make_output_at(
 }
 
 // The outputs of all tables, in order, in a folder.
-fn make_outputs(
+pub(crate) fn make_outputs(
     alloc: Global,
     folder: &str,
     checked: &Checked,

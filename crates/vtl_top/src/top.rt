@@ -35,6 +35,10 @@ use vtl_status::{Status, tell};
 /// - `sql SCRIPT STRUCTURES` hands such a text to `out`, whole on Done; it reads no data set.
 /// - `engine SQLFILE IN OUT` runs a text of the SQL dialect: it reads the CSV file of each INPUT, and writes that of each
 ///   EXPORT.
+/// - `replay SCRIPT STRUCTURES IN EDITS OUT` runs the script as `run` does, and again each time that an input is replaced:
+///   a line of the file EDITS is the name of an input, a space and the folder of its new file. Into OUT it writes the
+///   results over the inputs as they stand behind the last line, and to `out` a line for each run: the numbers of the
+///   statements that were run anew, or that there was a fault. A fault of any run but the last does not end it.
 /// - `lineage SCRIPT STRUCTURES` hands the links of the script to `out` as CSV, whole on Done: which components of data
 ///   sets each component of an output depends on. It reads no data set.
 /// - `format SCRIPT` hands the canonical text of the script to `out`, whole on Done; it reads nothing else.

@@ -3,8 +3,8 @@
 // What options chose is kept apart from the settings of a run, which come of it and of what the structures file
 // declares.
 ghost use Rattle.std.specs.Prelude.{◌≡◌, ◌∷◌, [], map, option_map, string_bytes};
-ghost use Rattle.vtl_top.specs.RunView.{command_view, engine_view, migration_view, run_view, setting_view, source_view};
-ghost use Rattle.vtl_top.specs.Words.{both_set, chosen_in, chosen_with, command_of, default_settings, engine_of, is_path, migration_of, one_set, path_of, points_of, rounding, rounding_in, run_of, scale, scale_in, setting_in, settings_for, source_of};
+ghost use Rattle.vtl_top.specs.RunView.{command_view, engine_view, migration_view, replay_view, run_view, setting_view, source_view};
+ghost use Rattle.vtl_top.specs.Words.{both_set, chosen_in, chosen_with, command_of, default_settings, engine_of, is_path, migration_of, one_set, path_of, points_of, replay_of, rounding, rounding_in, run_of, scale, scale_in, setting_in, settings_for, source_of};
 
 use crate::points::Points;
 use std::marker::Model;
@@ -97,6 +97,16 @@ pub struct Run<'a> {
     pub output: &'a str,
 }
 
+/// A script that is run, and run again each time that an input is replaced, as the edits file says.
+#[derive(Drop)]
+pub struct Replay<'a> {
+    pub source: Source<'a>,
+    pub input: &'a str,
+    /// The path of the edits file.
+    pub edits: &'a str,
+    pub output: &'a str,
+}
+
 /// An SQL file that is run, from the folder of its inputs into the folder of its exports.
 #[derive(Drop)]
 pub struct Engine<'a> {
@@ -116,6 +126,8 @@ pub enum Command<'a> {
     Sql(Source<'a>),
     /// An SQL file is run.
     Engine(Engine<'a>),
+    /// A script is run while its inputs are replaced.
+    Replay(Replay<'a>),
     /// The links of a script are said.
     Lineage(Source<'a>),
     /// The canonical text of the script at this path is said.
@@ -143,7 +155,8 @@ fn is_path(word: &str) -> bool
 
 /// The command that the words are, by its name: `run` or `sqlrun`, and SCRIPT STRUCTURES IN OUT, each a path that is not
 /// empty, and then the options `--scale D` and `--round R`, each at most once; `sql`, and SCRIPT STRUCTURES and such
-/// options; `engine`, and SQLFILE IN OUT; `lineage`, with the same words as `sql`; `format`, and SCRIPT;
+/// options; `engine`, and SQLFILE IN OUT; `replay`, and SCRIPT STRUCTURES IN EDITS OUT and such options; `lineage`, with
+/// the same words as `sql`; `format`, and SCRIPT;
 /// `migrate`, and STRUCTURES and such options; or `demo`, and the decimal of a number of points.
 pub fn command_of(words: &[String]) -> Option<Command<'_>>
     ensures { option_map command_view result ≡ command_of (map string_bytes words.now) }
@@ -178,6 +191,12 @@ fn named<'a>(name: &str, words: &'a [String]) -> Option<Command<'a>>
     if name == "engine" {
         return match engine_of(words) {
             Some(engine) => Some(Command::Engine(engine)),
+            None => None,
+        };
+    }
+    if name == "replay" {
+        return match replay_of(words) {
+            Some(replay) => Some(Command::Replay(replay)),
             None => None,
         };
     }
@@ -301,6 +320,46 @@ fn run_with<'a>(
         Some(source) => Some(Run {
             source,
             input,
+            output,
+        }),
+        None => None,
+    }
+}
+
+fn replay_of(words: &[String]) -> Option<Replay<'_>>
+    ensures { option_map replay_view result ≡ replay_of (map string_bytes words.now) }
+{
+    match words {
+        [script, structures, input, edits, output, options @ ..] => replay_with(
+            script.as_str(),
+            structures.as_str(),
+            input.as_str(),
+            edits.as_str(),
+            output.as_str(),
+            options,
+        ),
+        _ => None,
+    }
+}
+
+fn replay_with<'a>(
+    script: &'a str,
+    structures: &'a str,
+    input: &'a str,
+    edits: &'a str,
+    output: &'a str,
+    options: &[String],
+) -> Option<Replay<'a>>
+    ensures { option_map replay_view result ≡ replay_of (script.now ∷ structures.now ∷ input.now ∷ edits.now ∷ output.now ∷ map string_bytes options.now) }
+{
+    if !is_path(input) || !is_path(edits) || !is_path(output) {
+        return None;
+    }
+    match source_with(script, structures, options) {
+        Some(source) => Some(Replay {
+            source,
+            input,
+            edits,
             output,
         }),
         None => None,

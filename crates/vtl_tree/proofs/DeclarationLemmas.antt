@@ -2,7 +2,7 @@
 use Rattle.std.proofs.Common.{◌≡◌, ℕ, Bool, true, false, cond, not, ◌&&◌, ◌||◌, List, [], ◌∷◌, ◌++◌, length, Option, None, Some, option_map, unwrap_or, slice_get, zero, suc, Result, Ok, Err, subst, refl, sym, ap, ◌∙◌, append_assoc}
 use Rattle.std.specs.Cmp.Lexicographic.{nat_list_eq_equiv}
 use Rattle.std.specs.Prelude.{OnErr, OnOk}
-use Rattle.std.specs.List.{list_all, list_any}
+use Rattle.std.specs.List.{AllByRecursion, flat_map, list_all, list_any}
 use Rattle.std.specs.Map.{keys_of, lookup, set_value}
 use Rattle.std.specs.Option.{option_map_or}
 use Rattle.std.proofs.lemmas.Bool.{and_from, and_parts}
@@ -15,7 +15,7 @@ use Rattle.vtl_tree.specs.declared.structure.Component.{Component}
 use Rattle.vtl_tree.specs.declared.structure.Structure.{Structure}
 use Rattle.vtl_tree.specs.declared.structures.Declaration.{Declaration}
 use Rattle.vtl_tree.specs.Declarations.{AreDeclarations, Held, declared, is_declaration, lists_of, sets_of}
-use Rattle.vtl_tree.specs.NotNull.{are_not_null, is_no_identifier, not_null_of, with_list}
+use Rattle.vtl_tree.specs.NotNull.{HaveLists, are_not_null, is_no_identifier, not_null_of, with_list}
 use Rattle.vtl_tree.specs.Structure.{same_name}
 use Rattle.vtl_tree.specs.Structures.{AreStructures, Fits, components_of, has_name, is_declarable, is_declarable_entry, structure_of, with_component}
 use Rattle.vtl_tree.proofs.StructuresLemmas.{all_push, goes_on, keys_push, more_is_declarable}
@@ -109,6 +109,41 @@ list_fits xs name None h e = refl
 list_fits xs name (Some d) h e =
     ap (λ o. are_not_null (structure_of (option_map_or (λ s. s.components) o [])) d.not_null) (lookup_seen (same_name name) xs ∙ ap (option_map (λ y. y.structure)) e)
     ∙ (declaration_found (same_name name) xs d h e).1
+
+-- each name has the list that is held for it
+abbrev HaveOwn : Held → Held → Type 0
+HaveOwn all xs = AllByRecursion (λ x. not_null_of x.0 (lists_of all) ≡ x.1.not_null) xs
+
+found_own : (xs : Held) → all_apart same_name (keys_of xs) ≡ true → AllByRecursion (λ x. lookup (same_name x.0) xs ≡ Some x.1) xs
+found_own [] h = tt
+found_own (x ∷ xs) h =
+    let parts = and_parts (not (list_any (same_name x.0) (keys_of xs))) (all_apart same_name (keys_of xs)) h in
+    (ap (λ b. cond b (Some x.1) (lookup (same_name x.0) xs)) (nat_list_eq_equiv.refl x.0), behind xs (found_own xs parts.1) (not_false (list_any (same_name x.0) (keys_of xs)) parts.0))
+  where
+    behind : (ys : Held) → AllByRecursion (λ y. lookup (same_name y.0) xs ≡ Some y.1) ys → list_any (same_name x.0) (keys_of ys) ≡ false → AllByRecursion (λ y. cond (same_name y.0 x.0) (Some x.1) (lookup (same_name y.0) xs) ≡ Some y.1) ys
+    behind [] h f = tt
+    behind (y ∷ ys) h f =
+        let parts = or_none (same_name x.0 y.0) (list_any (same_name x.0) (keys_of ys)) f in
+        (ap (λ b. cond b (Some x.1) (lookup (same_name y.0) xs)) (nat_list_eq_equiv.symm y.0 x.0 ∙ parts.0) ∙ h.0, behind ys h.1 parts.1)
+
+own_lists : (all xs : Held) → all_apart same_name (keys_of all) ≡ true → AllByRecursion (λ x. lookup (same_name x.0) all ≡ Some x.1) xs → HaveOwn all xs
+own_lists all [] h own = tt
+own_lists all (x ∷ xs) h own = (list_found all x.0 h ∙ ap (λ o. option_map_or (λ d. d.not_null) o []) own.0, own_lists all xs h own.1)
+
+in_order : (all xs : Held) → HaveOwn all xs → lists_of xs ≡ flat_map (λ e. with_list e.0 (not_null_of e.0 (lists_of all))) (sets_of xs)
+in_order all [] own = refl
+in_order all (x ∷ xs) own = ap (λ ns. with_list x.0 ns ++ lists_of xs) (sym own.0) ∙ ap (λ ls. with_list x.0 (not_null_of x.0 (lists_of all)) ++ ls) (in_order all xs own.1)
+
+fit_own : (all xs : Held) → list_all is_declaration xs ≡ true → HaveOwn all xs → AllByRecursion (λ e. are_not_null e.1 (not_null_of e.0 (lists_of all)) ≡ true) (sets_of xs)
+fit_own all [] h own = tt
+fit_own all (x ∷ xs) h own =
+    let parts = and_parts (is_declaration x) (list_all is_declaration xs) h in
+    (ap (are_not_null x.1.structure) own.0 ∙ (and_parts (is_declarable x.1.structure) (are_not_null x.1.structure x.1.not_null) parts.0).1, fit_own all xs parts.1 own.1)
+
+pub have_lists : (xs : Held) → AreDeclarations xs → HaveLists (sets_of xs) (lists_of xs)
+have_lists xs h =
+    let own = own_lists xs xs h.distinct (found_own xs h.distinct) in
+    record { ordered = in_order xs xs own; fit = fit_own xs xs h.all own }
 
 -- ---- one more name
 

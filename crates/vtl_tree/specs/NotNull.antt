@@ -1,6 +1,6 @@
 -- Structures by name, and which of their components are never null.
-use Rattle.std.specs.Prelude.{ℕ, Bool, not, ◌&&◌, List, [], ◌∷◌, ◌++◌, unwrap_or, if◌then◌else◌}
-use Rattle.std.specs.List.{flat_map, list_all, list_any}
+use Rattle.std.specs.Prelude.{ℕ, ◌≡◌, Bool, true, not, ◌&&◌, List, [], ◌∷◌, ◌++◌, unwrap_or, if◌then◌else◌}
+use Rattle.std.specs.List.{AllByRecursion, flat_map, list_all, list_any}
 use Rattle.std.specs.Map.{lookup}
 use Rattle.vtl_lists.specs.Apart.{all_apart}
 use Rattle.vtl_tree.specs.declared.structure.Component.{Component}
@@ -45,3 +45,8 @@ longer_list dataset name ls other = if same_name dataset other then not_null_of 
 -- the lists of these data sets, in their order, once one more name stands last on the list of one of them
 abbrev pub with_name : List ℕ → List ℕ → Named → NotNull → NotNull
 with_name dataset name sets ls = flat_map (λ e. with_list e.0 (longer_list dataset name ls e.0)) sets
+
+-- the lists are those of the data sets, in their order, and each fits its structure
+pub record HaveLists (sets : Named) (ls : NotNull) : Type 0 where
+  pub ordered : ls ≡ flat_map (λ e. with_list e.0 (not_null_of e.0 ls)) sets
+  pub fit : AllByRecursion (λ e. are_not_null e.1 (not_null_of e.0 ls) ≡ true) sets

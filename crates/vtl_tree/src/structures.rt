@@ -7,7 +7,7 @@ ghost use Rattle.std.specs.List.{list_any};
 ghost use Rattle.std.specs.Option.{option_copied};
 ghost use Rattle.vtl_tree.specs.Structure.{names_of, same_name, same_role};
 ghost use Rattle.vtl_tree.specs.Structures.{AreStructures, components_of, has_name, is_declarable, structure_of, with_component, Fits};
-ghost use Rattle.vtl_tree.specs.NotNull.{are_not_null, no_sets, not_null_of, with_list, with_name};
+ghost use Rattle.vtl_tree.specs.NotNull.{HaveLists, are_not_null, no_sets, not_null_of, with_list, with_name};
 
 use crate::structure::{Component, Role, Structure};
 use std::alloc::{AllocError, Global};
@@ -182,7 +182,8 @@ impl Structures {
 
     /// The not-null lists that are not empty, each with its name. The names are shared. It fails only if memory runs out.
     pub fn share_lists(&self) -> Result<ByName<List<Txt>>, AllocError>
-        ensures { IfOk result (λ lists. lists ≡ self.now.not_null) }
+        ensures lists { IfOk result (λ lists. lists ≡ self.now.not_null) }
+        ensures fit { HaveLists self.now.sets self.now.not_null }
     {
         all_lists(self.alloc, &self.by_name)
     }

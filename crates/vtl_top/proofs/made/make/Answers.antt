@@ -1,9 +1,9 @@
 use Rattle.std.proofs.Common.{Ok, ap, sym}
 use Rattle.vtl_demo.specs.Said.{said}
 use Rattle.vtl_top.specs.MadeView.{made_view}
-use Rattle.vtl_top.specs.RunView.{command_view, engine_view, migration_view, run_view, source_view}
+use Rattle.vtl_top.specs.RunView.{command_view, engine_view, migration_view, replay_view, run_view, source_view}
 use Rattle.vtl_top.specs.Steps.{only_text}
-use Rattle.vtl_top.specs.Words.{demo, engine, format, lineage, migrate, run, sql, sqlrun}
+use Rattle.vtl_top.specs.Words.{demo, engine, format, lineage, migrate, replay, run, sql, sqlrun}
 use Rattle.vtl_top.proofs.MadeLemmas.{of_command}
 use Rattle.vtl_top.proofs.ReadScripts.{settled_given}
 use Rattle.vtl_top.proofs.made.make.Goals as goal
@@ -23,6 +23,10 @@ returns-in-Sql-clause-takes g c =
 pub returns-in-Engine-clause-takes : goal.returns-in-Engine-clause-takes
 returns-in-Engine-clause-takes g c =
     of_command g.F.Files c.args.files.now c.make_exports.new.files (engine (engine_view c.in-Engine.engine)) (command_view c.args.command.now) c.make_exports.result c.make_exports.ensures.takes (sym (ap command_view c.in-Engine.is))
+
+pub returns-in-Replay-clause-takes : goal.returns-in-Replay-clause-takes
+returns-in-Replay-clause-takes g c =
+    of_command g.F.Files c.args.files.now c.make_replay.new.files (replay (replay_view c.in-Replay.replay)) (command_view c.args.command.now) c.make_replay.result c.make_replay.ensures.takes (sym (ap command_view c.in-Replay.is))
 
 pub returns-in-Lineage-clause-takes : goal.returns-in-Lineage-clause-takes
 returns-in-Lineage-clause-takes g c =

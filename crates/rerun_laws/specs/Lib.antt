@@ -1,0 +1,5 @@
+pub mod Depends
+pub mod Given
+pub mod Parts
+pub mod Refreshes
+pub mod Values

@@ -1,0 +1,15 @@
+pub mod Making
+pub mod Meanings
+pub mod Names
+pub mod Numbers
+pub mod Places
+pub mod Putting
+pub mod Ready
+pub mod Replaced
+pub mod Replacing
+pub mod Results
+pub mod Sources
+pub mod States
+pub mod Steps
+pub mod Turns
+pub mod Outputs

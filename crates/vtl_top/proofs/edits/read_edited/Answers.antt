@@ -1,0 +1,1 @@
+use Rattle.vtl_top.proofs.edits.read_edited.Goals as goal

@@ -1,0 +1,1 @@
+use Rattle.vtl_top.proofs.replay.replay_made.Goals as goal
