@@ -45,7 +45,7 @@ pub(crate) fn replayed<B: Counted + Drop, F: Files>(
 }
 
 // Replaces inputs, one edit after the other, with a refresh behind each.
-fn replace_each<B: Counted, F: Files>(
+fn replace_each<B: Counted + Drop, F: Files>(
     alloc: Global,
     files: &mut F,
     session: &mut Session<B>,
@@ -63,7 +63,7 @@ fn replace_each<B: Counted, F: Files>(
 }
 
 // Refreshes a session, and says a line on it.
-fn refresh<B: Counted>(
+fn refresh<B: Counted + Drop>(
     alloc: Global,
     session: &mut Session<B>,
     out: &mut String,
@@ -95,7 +95,7 @@ fn push_ran(
 }
 
 // The outputs, each below its name; a session without outputs has a fault.
-fn push_outputs<B: Counted>(
+fn push_outputs<B: Counted + Drop>(
     alloc: Global,
     session: &Session<B>,
     out: &mut String,
