@@ -1,9 +1,9 @@
 #!/bin/sh
 # The edits that the gate leaves out. Each edit of edits/CRATE turns a line of that crate, and the check must refuse it.
 #   try.sh [CRATE ..]            tries those of these crates, or of all: some seconds to some minutes an edit
-#   try.sh --all FOLDER          tries those of all crates, one crate after the other: a line for each, and at the end what came
-#                                of all. FOLDER/log has what is done: a later call goes on behind it, and tries again a crate
-#                                that has changed, or one below it. FOLDER/copy has the files that are checked
+#   try.sh --all FOLDER [CRATE ..]  tries those of all crates, or of these, by the functions that they turn, as edits/tries.py says:
+#                                some seconds an edit, and two at a time (--jobs N behind FOLDER: N). FOLDER/log has what is done: a
+#                                later call goes on behind it, and tries again a crate that has changed, or one below it
 #   try.sh --reaches [CRATE ..]  asks only whether each reaches the prover, or is refused for its form: some seconds an edit
 #   try.sh --stands              asks only whether each can be applied, those in the gate too: seconds for all, and no prover
 top=$(CDPATH='' cd -- "$(dirname -- "$0")/.." && pwd) || exit 1
@@ -38,85 +38,6 @@ with_edits() {
     done
 }
 
-# A sum of all that the answers for a crate rest on: the kit, its edits, its files and those of all crates below it.
-sum_of() {
-    {
-        rt version
-        awk -v crate="$1" '
-            match($0, /^[a-z0-9_]+:/) { below[substr($0, 1, RLENGTH - 1)] = substr($0, RLENGTH + 1) }
-            function note(name,    names, count) {
-                if (name in noted || !(name in below)) return
-                noted[name]
-                for (count = split(below[name], names, " "); count > 0; count--) note(names[count])
-            }
-            END {
-                note(crate)
-                print "edits/" crate
-                for (name in noted) print "crates/" name
-            }' crates.txt | while read -r folder; do
-            find "$folder" \( -name out -o -name must-fail \) -prune -o -type f -print
-        done | LC_ALL=C sort | tr '\n' '\0' | xargs -0 cksum
-    } | cksum | tr ' ' '-'
-}
-
-# How many edits of a crate came to what, by the lines that were said of them: `CRATE SUM EDITS REFUSED LIMIT NAMES MISSED BAD
-# UNTRIED`. An edit of which nothing was said is not tried.
-counted() {
-    awk -v crate="$1" -v sum="$2" -v edits="$(find "edits/$1" -name '*.edit' | wc -l)" '
-        !/must-fail [a-z0-9_]+\/[^ ]+[.]edit: / { next }
-        /: refused, as it must be \(only by a limit/ { limit++; next }
-        /: refused, as it must be \(only because/ { names++; next }
-        /: refused, as it must be/ { refused++; next }
-        /: NOT REFUSED: / { missed++; next }
-        /: BAD EDIT: / { bad++ }
-        END {
-            untried = edits - refused - limit - names - missed - bad
-            print crate, sum, edits + 0, refused + 0, limit + 0, names + 0, missed + 0, bad + 0, untried
-        }' "$3"
-}
-
-# Counts in words.
-in_words() {
-    awk '{
-        text = ($3 == 1 ? "1 edit" : $3 " edits") ", " $4 " refused"
-        if ($5) text = text ", " $5 " by a limit of the prover alone"
-        if ($6) text = text ", " $6 " for a name that proofs cite alone"
-        if ($7) text = text ", " $7 " NOT REFUSED"
-        if ($8) text = text ", " $8 " BAD"
-        if ($9) text = text ", " $9 " NOT TRIED"
-        print $1 ": " text
-    }'
-}
-
-# Tries the edits of all crates, but for those of which the log says that it is done.
-all() {
-    mkdir -p "$1" && folder=$(CDPATH='' cd -- "$1" && pwd) || exit 1
-    case $folder/ in "$top"/crates/* | "$top"/edits/*) stop "$folder is a folder of this repository" ;; esac
-    touch "$folder/log" && : >"$folder/result" || exit 1
-    copied "$folder/copy"
-    for crate in $(crates_with_edits); do
-        sum=$(sum_of "$crate")
-        if ! grep "^$crate $sum " "$folder/log" >"$folder/counts"; then
-            with_edits "$folder/copy" "$crate"
-            (cd "$folder/copy" && rt must-fail "$crate") >"$folder/said" 2>&1
-            counted "$crate" "$sum" "$folder/said" >"$folder/counts"
-            # What was not tried is not done.
-            if grep ' 0$' "$folder/counts" >>"$folder/log"; then
-                sed -n '/: refused, as it must be\(: .*\)*$/d; /must-fail .*[.]edit: /s/^rt: /    /p' "$folder/said" >>"$folder/log"
-            else
-                tail -n 3 "$folder/said"
-            fi
-        fi
-        in_words <"$folder/counts"
-        cat "$folder/counts" >>"$folder/result"
-    done
-    awk '{ for (i = 3; i <= 9; i++) count[i] += $i }
-        END { printf "all -"; for (i = 3; i <= 9; i++) printf " %d", count[i]; print "" }' "$folder/result" >"$folder/counts"
-    in_words <"$folder/counts"
-    echo "$folder/log tells of each edit that was not refused for its meaning"
-    grep -q ' 0 0 0$' "$folder/counts"
-}
-
 # Whether the compiler takes a crate with an edit: none of its functions is proved.
 is_taken() {
     (cd "$copy/crates/$crate" && rt check --only '') >"$made/said" 2>&1
@@ -148,7 +69,7 @@ reaches() {
 
 # Whether each edit can be applied, and nothing else stands beside them.
 stands() {
-    find edits crates/*/must-fail -type f ! -name '*.edit' ! -name '*.md' ! -path edits/try.sh ! -path edits/stands.awk >"$made/odd"
+    find edits crates/*/must-fail -type f ! -name '*.edit' ! -name '*.md' ! -path edits/try.sh ! -path edits/tries.py ! -path edits/stands.awk >"$made/odd"
     for folder in edits/*/; do
         folder=${folder%/}
         grep -q "^${folder#edits/}:" crates.txt || echo "$folder" >>"$made/odd"
@@ -171,7 +92,7 @@ fi
 made=$(mktemp -d) || exit 1
 trap 'rm -rf "$made"' EXIT
 case $word:$# in
-    --all:1) all "$1" ;;
+    --all:[1-9]*) python3 edits/tries.py "$@" ;;
     --reaches:*) reaches "$@" ;;
     --stands:0) stands ;;
     :*)
@@ -179,5 +100,5 @@ case $word:$# in
         with_edits "$made" "$@"
         cd "$made" && rt must-fail "$@"
         ;;
-    *) stop 'try.sh [CRATE ..], --all FOLDER, --reaches [CRATE ..] or --stands' ;;
+    *) stop 'try.sh [CRATE ..], --all FOLDER [CRATE ..], --reaches [CRATE ..] or --stands' ;;
 esac
