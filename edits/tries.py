@@ -115,7 +115,7 @@ class Edit:
         text = read(path)
         line = text.count("\n", 0, text.find(old))
         at = [it for it in functions if it.file == file and it.first <= line <= it.last]
-        self.functions += [it.path for it in at[-1:]]
+        self.functions += at[-1:]
         if at:
             self.turned.add(at[-1].name)
         elif file.startswith("src/"):
@@ -127,7 +127,7 @@ class Edit:
         if not self.turned or not all(file.startswith("src/") for file, _, _ in self.pairs):
             return []
         names = re.compile(rf"\b({'|'.join(sorted(self.turned))})\b")
-        return [it.path for it in functions if it.path not in self.functions and names.search(it.text)][:MOST_CALLERS]
+        return [it for it in functions if it not in self.functions and names.search(it.text)][:MOST_CALLERS]
 
 
 class Applied:
@@ -162,14 +162,17 @@ def said(words, folder):
 
 def asked(edits, functions, folder):
     """What the check of functions says over some edits."""
-    paths = [word for path in dict.fromkeys(functions) for word in ("--only", path)]
+    paths = [word for path in dict.fromkeys(it.path for it in functions) for word in ("--only", path)]
     with Applied(edits, folder):
         return said(["rt", "check", "--jobs", "1", *paths], folder)
 
 
 def is_of(line, function):
-    """Whether what is said stands in the proof of a function."""
-    return re.search(rf"proofs/(\S*/)?{re.escape(function.replace('::', '/'))}/", line) is not None
+    """Whether what is said stands in a function or its proof."""
+    at = re.match(rf"(?:note: )?(?:\./)?{re.escape(function.file)}:(\d+):", line)
+    if at:
+        return function.first < int(at[1]) <= function.last + 1
+    return re.search(rf"proofs/(\S*/)?{re.escape(function.path.replace('::', '/'))}/", line) is not None
 
 
 def first(lines, pattern):
@@ -183,16 +186,16 @@ def answer_of(crate, functions, lines, is_alone):
             return None
         form = first(lines, r"\berror\[[\w-]+\]")
         return (BAD, form) if form else (LEFT, first(lines, AT_LIMIT) or first(lines, "error|fits"))
-    refused = [it for it in functions if first(lines, rf"^fn {crate}::{re.escape(it)}(\+\w+::\w+)?: not proved")]
-    told = [it for it in lines if re.match(r"(note: )?\S+:\d+:\d+: (error|.*: error)", it)]
+    refused = [it for it in functions if first(lines, rf"^fn {crate}::{re.escape(it.path)}(\+\w+::\w+)?: not proved")]
+    told = [it for it in lines if re.match(r"(note: )?\S+:\d+:\d+:", it) and (": error" in it or it.startswith("note: "))]
     own = [it for it in told if any(is_of(it, function) for function in refused)]
     meant = next((it for it in own or told * is_alone if not GONE.match(it)), "")
     if refused and meant:
-        return REFUSED, f"{refused[0]}: {meant}"
+        return REFUSED, f"{refused[0].path}: {meant}"
     if first(lines, AT_LIMIT) or refused and not is_alone:
         return (LIMIT, first(lines, AT_LIMIT)) if is_alone else None
     if refused:
-        return (NAMES, told[0]) if told else (LEFT, f"{refused[0]} is not proved")
+        return (NAMES, told[0]) if told else (LEFT, f"{refused[0].path} is not proved")
     return LEFT, "its functions are proved"
 
 
@@ -201,7 +204,7 @@ def groups(edits):
     made = []
     for edit in edits:
         for group in made:
-            if len(group) < AT_ONCE and not {path for it in group for path in it.functions} & set(edit.functions):
+            if len(group) < AT_ONCE and not {function for it in group for function in it.functions} & set(edit.functions):
                 group.append(edit)
                 break
         else:
@@ -213,7 +216,7 @@ def by_functions(crate, edits, folder):
     """What the checks of functions say of edits: pairs of an edit and its answer."""
     alone = []
     for group in groups([it for it in edits if it.functions]):
-        lines = asked(group, [path for it in group for path in it.functions], folder)
+        lines = asked(group, [function for it in group for function in it.functions], folder)
         for edit in group:
             answer = answer_of(crate, edit.functions, lines, len(group) == 1)
             if answer:
