@@ -186,7 +186,7 @@ def answer_of(crate, functions, lines, is_alone):
             return None
         form = first(lines, r"\berror\[[\w-]+\]")
         return (BAD, form) if form else (LEFT, first(lines, AT_LIMIT) or first(lines, "error|fits"))
-    refused = [it for it in functions if first(lines, rf"^fn {crate}::{re.escape(it.path)}(\+\w+::\w+)?: not proved")]
+    refused = [it for it in functions if first(lines, rf"^fn {crate}::{re.escape(it.path)}(\+\w+::\w+)?: (not proved|no proof)")]
     told = [it for it in lines if re.match(r"(note: )?\S+:\d+:\d+:", it) and (": error" in it or it.startswith("note: "))]
     own = [it for it in told if any(is_of(it, function) for function in refused)]
     meant = next((it for it in own or told * is_alone if not GONE.match(it)), "")
