@@ -1,3 +1,2 @@
 mod ClauseErrors
-pub mod ListLemmas
 pub mod OperandLemmas

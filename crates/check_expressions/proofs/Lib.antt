@@ -1,4 +1,2 @@
-pub mod Lengths
 pub mod PointLemmas
-pub mod StepErrors
 pub mod WalkLemmas

@@ -9,6 +9,7 @@ use Rattle.vtl_cell.specs.declared.kind.Kind.{Kind}
 use Rattle.vtl_cell.specs.declared.kind.Kind.TheVariants as k
 use Rattle.vtl_cell.specs.declared.operator.AggKind.{AggKind}
 use Rattle.vtl_lists.proofs.Aparts.{apart_parts}
+use Rattle.vtl_tuples.proofs.Lists.{filter_same}
 use Rattle.vtl_syntax.specs.Trees.{Exp}
 use Rattle.vtl_syntax.specs.declared.parts.Comp.{Comp}
 use Rattle.vtl_syntax.specs.declared.parts.GroupPart.{GroupPart}
@@ -44,16 +45,18 @@ use Rattle.vtl_tree.specs.Trees.{AggTree}
 use Rattle.vtl_tree.specs.declared.choices.Choice.TheVariants as choice
 use Rattle.vtl_tree.specs.declared.names.Wanted.TheVariants as wanted
 use Rattle.vtl_tree.specs.declared.specifications.AggItems.TheVariants as items
+use Rattle.vtl_tree.proofs.NotNullLemmas.{same_itself}
 use Rattle.vtl_meaning.proofs.AggregateShaped.{fits}
 use Rattle.check_groups.specs.Aggregates.{agg_kind, of_measure, outcome_of}
 use Rattle.check_clauses.specs.Targets.{call_in, is_aggregate, made_as, made_target, role_of, targets_in, with_made}
 use Rattle.check_operators.specs.Typed.{value}
 use Rattle.check_clauses.specs.declared.targets.Made.{Made}
 use Rattle.check_laws.specs.Gives.{Gives}
-use Rattle.vtl_meaning.proofs.FoundColumns.{IsFound, all-found, at-found, name-found, of-columns, same-refl, same-symm}
+use Rattle.vtl_meaning.proofs.FoundColumns.{IsFound, all-found, at-found, name-found, of-columns}
 use Rattle.vtl_meaning.proofs.Lists as lists
+use Rattle.vtl_meaning.proofs.Places.{same_name-sym}
 use Rattle.check_laws.proofs.Measured.{met-measures}
-use Rattle.check_laws.proofs.Shapes.{filter-same, shaped-gives}
+use Rattle.check_laws.proofs.Shapes.{shaped-gives}
 use Rattle.check_laws.proofs.Steps.{after, tested-then, then}
 
 -- ---- grouping identifiers by their names
@@ -64,7 +67,7 @@ none-among q name [] h = refl
 none-among q name (x ∷ xs) h = go (q x) (none-among q name xs h.1)
   where
     go : (b : Bool) → is_among name (names_of (filter q xs)) ≡ false → is_among name (names_of (cond b (x ∷ filter q xs) (filter q xs))) ≡ false
-    go true ih = ap (λ c. c || is_among name (names_of (filter q xs))) (same-symm x.name name ∙ h.0) ∙ ih
+    go true ih = ap (λ c. c || is_among name (names_of (filter q xs))) (same_name-sym x.name name ∙ h.0) ∙ ih
     go false ih = ih
 
 -- of components with distinct names those that pass are among the names of those that pass, and no other is
@@ -80,7 +83,7 @@ names-again q (x ∷ xs) h = (
     parts = apart_parts same_name x.name (names_of xs) h
 
     first : (b : Bool) → q x ≡ b → is_among x.name (names_of (cond (q x) (x ∷ filter q xs) (filter q xs))) ≡ q x
-    first true e = ap (λ b. is_among x.name (names_of (cond b (x ∷ filter q xs) (filter q xs)))) e ∙ ap (λ b. b || is_among x.name (names_of (filter q xs))) (same-refl x.name) ∙ sym e
+    first true e = ap (λ b. is_among x.name (names_of (cond b (x ∷ filter q xs) (filter q xs)))) e ∙ ap (λ b. b || is_among x.name (names_of (filter q xs))) (same_itself x.name) ∙ sym e
     first false e = ap (λ b. is_among x.name (names_of (cond b (x ∷ filter q xs) (filter q xs)))) e ∙ none-among q x.name xs parts.0 ∙ sym e
 
     other : (y : Component) (b : Bool) → same_name x.name y.name ≡ false → is_among y.name (names_of (cond b (x ∷ filter q xs) (filter q xs))) ≡ is_among y.name (names_of (filter q xs))
@@ -107,7 +110,7 @@ grouping-identifies (Some g) x = by g.kind
 -- the identifiers that a grouping chooses are those of their names
 grouping-again : (g : Option GroupPart) (xs : List Component) → all_apart same_name (names_of xs) ≡ true → chosen choice.By (grouping_of g xs) xs ≡ chosen (grouping_choice g) (grouping_names g) xs
 grouping-again g xs apart =
-    filter-same (is_chosen choice.By (grouping_of g xs)) q xs
+    filter_same (is_chosen choice.By (grouping_of g xs)) q xs
     (lists.weaker (λ x. is_among x.name (grouping_of g xs) ≡ q x) (λ x. is_chosen choice.By (grouping_of g xs) x ≡ q x) xs (λ x e. ap (λ b. is_identifier x && b) e ∙ grouping-identifies g x) (names-again q xs apart))
   where
     q : Component → Bool

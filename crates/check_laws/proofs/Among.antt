@@ -1,6 +1,7 @@
 -- Columns of one operand that stand among those of another.
 use Rattle.std.proofs.Common.{◌≡◌, ℕ, zero, suc, ◌+◌, true, cond, not, Bool, List, [], ◌∷◌, map, Some, None, refl, sym, ap, ◌∙◌, subst}
 use Rattle.std.specs.List.{AllByRecursion, filter}
+use Rattle.std.proofs.lemmas.Bool.{and_parts}
 use Rattle.vtl_cell.specs.declared.kind.Kind.{Kind}
 use Rattle.vtl_tree.specs.Structure.{columns_of, same_name}
 use Rattle.vtl_tree.specs.declared.structure.Component.{Component}
@@ -18,7 +19,6 @@ use Rattle.vtl_meaning.specs.Made.{AreAmong, IsColumnAt}
 use Rattle.vtl_meaning.specs.Shapes.{IsShaped}
 use Rattle.vtl_meaning.proofs.FoundColumns.{IsFound, all-found, at-place, found-filter, in-columns, into-columns}
 use Rattle.vtl_meaning.proofs.Lists as lists
-use Rattle.check_laws.proofs.Tests.{and-true}
 use Rattle.check_laws.proofs.Twins.{within-twins}
 
 -- the column of this name and kind stands where its name says
@@ -75,11 +75,11 @@ contained-identifiers a b e = within-identifiers b.components a.components e
 
 pub same-identifiers : (a b : Structure) → agree compared.Kinds role.Identifier a.components b.components ≡ true → AreAmong (identifiers_of b) (identifiers_of a) × AreAmong (identifiers_of a) (identifiers_of b)
 same-identifiers a b e =
-    let both = and-true (is_within compared.Kinds role.Identifier a.components b.components) (is_within compared.Kinds role.Identifier b.components a.components) e in
+    let both = and_parts (is_within compared.Kinds role.Identifier a.components b.components) (is_within compared.Kinds role.Identifier b.components a.components) e in
     (within-identifiers b.components a.components both.1, within-identifiers a.components b.components both.0)
 
 pub same-measures : (a b : Structure) → IsShaped b → agree compared.Kinds role.Measure a.components b.components ≡ true → AreAmong (measures_of a) (columns_of b)
 same-measures a b ib e =
     lists.weaker (HasTwin compared.Kinds b.components) (IsAmong (columns_of b)) (filter is_measure a.components)
     (λ x t. twin-at b.components x t (columns_of b) (into-columns b ib.well_formed x.name t.twin t.found))
-    (within-twins compared.Kinds role.Measure a.components b.components (and-true (is_within compared.Kinds role.Measure a.components b.components) (is_within compared.Kinds role.Measure b.components a.components) e).0)
+    (within-twins compared.Kinds role.Measure a.components b.components (and_parts (is_within compared.Kinds role.Measure a.components b.components) (is_within compared.Kinds role.Measure b.components a.components) e).0)

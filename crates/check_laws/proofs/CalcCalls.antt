@@ -1,6 +1,7 @@
 -- Analytic calls as targets of `calc`.
 use Rattle.std.proofs.Common.{◌≡◌, ℕ, Bool, true, false, cond, not, List, [], ◌∷◌, Option, Some, None, is_some, Err, refl}
 use Rattle.std.specs.Option.{IfSome}
+use Rattle.std.proofs.lemmas.Bool.{not-false}
 use Rattle.vtl_decimal.specs.Settings.{Settings}
 use Rattle.check_faults.specs.declared.rules.Rule.TheVariants as rule
 use Rattle.vtl_syntax.specs.Trees.{Exp}
@@ -27,7 +28,6 @@ use Rattle.check_laws.specs.Gives.{Gives}
 use Rattle.check_laws.proofs.Analyzed.{IsCallOver, component-call, rank-call}
 use Rattle.check_laws.proofs.GroupValues.{IsOperand}
 use Rattle.check_laws.proofs.Steps.{after, tested, tested-then, then}
-use Rattle.check_laws.proofs.Tests.{not-false}
 use Rattle.check_laws.proofs.Values.{IsNamedIn}
 use Rattle.check_laws.proofs.WindowParts.{AreParts, HasNames, IsOperatorFor, parts-give}
 

@@ -9,6 +9,8 @@ use Rattle.std.specs.Prelude.{unwrap_or}
 use Rattle.vtl_decimal.specs.Settings.{Settings}
 use Rattle.vtl_lists.specs.Apart.{all_apart}
 use Rattle.vtl_lists.proofs.Aparts.{apart_parts}
+use Rattle.vtl_lists.proofs.Filters.{filter_none, find-map, find_passes}
+use Rattle.vtl_tuples.proofs.Lists.{map_same}
 use Rattle.vtl_tree.specs.Structure.{columns_of, names_of, same_name, same_role}
 use Rattle.vtl_tree.specs.Structures.{structure_of}
 use Rattle.vtl_tree.specs.declared.structure.Component.{Component}
@@ -25,37 +27,24 @@ use Rattle.vtl_tree.specs.Names.{component_of}
 use Rattle.vtl_tree.specs.declared.targets.Target.{Target}
 use Rattle.vtl_tree.specs.Kinds.{exp_kind}
 use Rattle.vtl_tree.specs.Columns.{column_named}
+use Rattle.vtl_tree.proofs.NotNullLemmas.{same_itself}
 use Rattle.vtl_meaning.specs.Made.{IsCalculated, IsTyped}
 use Rattle.vtl_meaning.specs.Operators.{calculated_exp, target_named, value_exp}
 use Rattle.vtl_meaning.specs.Shapes.{IsShaped, calculated_components, target_of}
 use Rattle.check_laws.specs.Gives.{Gives}
-use Rattle.vtl_meaning.proofs.FoundColumns.{IsFound, all-found, of-columns, same-refl, same-true}
+use Rattle.vtl_meaning.proofs.FoundColumns.{IsFound, all-found, of-columns}
 use Rattle.check_laws.proofs.Expressions.{IsFor, for-map}
 use Rattle.vtl_meaning.proofs.Lists as lists
+use Rattle.vtl_meaning.proofs.AnalyticShaped.{identifiers_stay}
+use Rattle.vtl_meaning.proofs.Places.{same_name-is}
 use Rattle.check_laws.proofs.Measured.{found-columns}
-use Rattle.check_laws.proofs.Shapes.{filter-none, role-identifier, shaped-gives}
+use Rattle.check_laws.proofs.Shapes.{role-identifier, shaped-gives}
 
 -- ---- the items of a list by their names
-find-map : {X Y : Type 0} (f : X → Y) (p : Y → Bool) (xs : List X) → find p (map f xs) ≡ option_map f (find (λ x. p (f x)) xs)
-find-map f p [] = refl
-find-map f p (x ∷ xs) = go (p (f x)) (find-map f p xs)
-  where
-    go : (b : Bool) → find p (map f xs) ≡ option_map f (find (λ x. p (f x)) xs) → cond b (Some (f x)) (find p (map f xs)) ≡ option_map f (cond b (Some x) (find (λ x. p (f x)) xs))
-    go true ih = refl
-    go false ih = ih
-
-find-passes : {X : Type 0} (P : X → Type 0) (p : X → Bool) (xs : List X) (x : X) → AllByRecursion P xs → find p xs ≡ Some x → P x × (p x ≡ true)
-find-passes P p [] x h e = cc
-find-passes P p (y ∷ ys) x h e = go (p y) refl e (find-passes P p ys x h.1)
-  where
-    go : (b : Bool) → p y ≡ b → cond b (Some y) (find p ys) ≡ Some x → (find p ys ≡ Some x → P x × (p x ≡ true)) → P x × (p x ≡ true)
-    go true t e ih = let s : y ≡ x = cc in (subst P s h.0, ap p (sym s) ∙ t)
-    go false t e ih = ih e
-
 pub items-found : (items : List ItemTree) → all_apart same_name (map (λ i. i.target) items) ≡ true → AllByRecursion (λ i. target_named items i.target ≡ Some i) items
 items-found [] e = tt
 items-found (i ∷ items) e = (
-  ap (λ b. cond b (Some i) (target_named items i.target)) (same-refl i.target),
+  ap (λ b. cond b (Some i) (target_named items i.target)) (same_itself i.target),
   lists.joined (λ j. same_name i.target j.target ≡ false) (λ j. target_named items j.target ≡ Some j) (λ j. target_named (i ∷ items) j.target ≡ Some j) items
       (λ j no found. ap (λ b. cond b (Some i) (target_named items j.target)) no ∙ found) (lists.unmapped (λ n. same_name i.target n ≡ false) (λ i. i.target) items parts.0) (items-found items parts.1),
 )
@@ -72,22 +61,9 @@ pub record IsItemFor (p : Settings) (a : Structure) (target : ItemTree → Targe
   pub typed : IsTyped p (columns_of a) (value_exp i.value)
   pub free : is_identifier_name a.components i.target ≡ false
 
-map-same : {X Y : Type 0} (f g : X → Y) (xs : List X) → AllByRecursion (λ x. f x ≡ g x) xs → map f xs ≡ map g xs
-map-same f g [] h = refl
-map-same f g (x ∷ xs) h = ap (λ y. y ∷ map f xs) h.0 ∙ ap (λ l. g x ∷ l) (map-same f g xs h.1)
-
 find-same : {X : Type 0} (p q : X → Bool) (xs : List X) → ((x : X) → p x ≡ q x) → find p xs ≡ find q xs
 find-same p q [] e = refl
 find-same p q (x ∷ xs) e = ap (λ b. cond b (Some x) (find p xs)) (e x) ∙ ap (cond (q x) (Some x)) (find-same p q xs e)
-
--- identifiers that stay, beside components that do not become identifiers
-filter-mapped : (f : Component → Component) (xs : List Component) → AllByRecursion (λ x. (is_identifier x ≡ true → f x ≡ x) × (is_identifier x ≡ false → is_identifier (f x) ≡ false)) xs → filter is_identifier (map f xs) ≡ filter is_identifier xs
-filter-mapped f [] h = refl
-filter-mapped f (x ∷ xs) h = go (is_identifier x) refl (filter-mapped f xs h.1)
-  where
-    go : (b : Bool) → is_identifier x ≡ b → filter is_identifier (map f xs) ≡ filter is_identifier xs → cond (is_identifier (f x)) (f x ∷ filter is_identifier (map f xs)) (filter is_identifier (map f xs)) ≡ cond b (x ∷ filter is_identifier xs) (filter is_identifier xs)
-    go true e ih = ap (λ y. cond (is_identifier y) (y ∷ filter is_identifier (map f xs)) (filter is_identifier (map f xs))) (h.0.0 e) ∙ ap (λ b. cond b (x ∷ filter is_identifier (map f xs)) (filter is_identifier (map f xs))) e ∙ ap (λ l. x ∷ l) ih
-    go false e ih = ap (λ b. cond b (f x ∷ filter is_identifier (map f xs)) (filter is_identifier (map f xs))) (h.0.1 e) ∙ ih
 
 not-identifier : (y : Component) → (y.role ≡ role.Identifier → ⊥) → is_identifier y ≡ false
 not-identifier y h = go (is_identifier y) refl
@@ -109,7 +85,7 @@ calculated-fits p items target a ia apart names h =
             (lists.mapped Good (calculated ts) xs (lists.weaker (λ x. IsFor p (columns_of a) (column_named (columns_of a) x.name) x) (λ x. Good (calculated ts x)) xs good-old (found-columns p a ia)))
             (lists.mapped Good target_component (filter (is_new xs) ts) (lists.filtered (λ t. Good (target_component t)) (is_new xs) ts (lists.mapped (λ t. Good (target_component t)) target items (lists.joined (IsItemFor p a target) (λ i. target_named items i.target ≡ Some i) (λ i. Good (target_component (target i))) items good-new h (items-found items apart)))))));
         apart = apart;
-        shape = ap (λ l. calculated_components l xs) (map-same target (target_of xs) items (lists.weaker (IsItemFor p a target) (λ i. target i ≡ target_of xs i) items (λ i it. it.same) h));
+        shape = ap (λ l. calculated_components l xs) (map_same target (target_of xs) items (lists.weaker (IsItemFor p a target) (λ i. target i ≡ target_of xs i) items (λ i it. it.same) h));
       },
     ))
   where
@@ -138,7 +114,7 @@ calculated-fits p items target a ia apart names h =
     becomes x i e = ap (retargeted x) (targeted x ∙ ap (option_map target) e)
 
     item-at : (name : List ℕ) (i : ItemTree) → target_named items name ≡ Some i → IsItemFor p a target i × (same_name i.target name ≡ true)
-    item-at name i e = find-passes (IsItemFor p a target) (λ i. same_name i.target name) items i h e
+    item-at name i e = find_passes (IsItemFor p a target) (λ i. same_name i.target name) items i h e
 
     valued : (y : Component) (i : ItemTree) → target_named items y.name ≡ Some i → IsItemFor p a target i → y.kind ≡ (target i).kind → Good y
     valued y i e it k =
@@ -164,7 +140,7 @@ calculated-fits p items target a ia apart names h =
         go None e = refl
         go (Some i) e =
             let it = item-at x.name i e in
-            let at : component_of i.target xs ≡ Some x = ap (λ n. component_of n xs) (same-true i.target x.name it.1) ∙ found in
+            let at : component_of i.target xs ≡ Some x = ap (λ n. component_of n xs) (same_name-is i.target x.name it.1) ∙ found in
             absurd (false≢true (sym it.0.free ∙ ap (λ o. option_map_or is_identifier o false) at ∙ is))
 
     roles : (x : Component) → IsFound xs x → (is_identifier x ≡ true → calculated ts x ≡ x) × (is_identifier x ≡ false → is_identifier (calculated ts x) ≡ false)
@@ -185,6 +161,6 @@ calculated-fits p items target a ia apart names h =
     same : filter is_identifier (old ++ new) ≡ filter is_identifier xs
     same =
         filter-append is_identifier old new
-        ∙ ap (λ l. l ++ filter is_identifier new) (filter-mapped (calculated ts) xs (lists.weaker (IsFound xs) (λ x. (is_identifier x ≡ true → calculated ts x ≡ x) × (is_identifier x ≡ false → is_identifier (calculated ts x) ≡ false)) xs roles (all-found a ia.well_formed)))
-        ∙ ap (λ l. filter is_identifier xs ++ l) (filter-none is_identifier new measures-new)
+        ∙ ap (λ l. l ++ filter is_identifier new) (identifiers_stay (calculated ts) xs (lists.weaker (IsFound xs) (λ x. (is_identifier x ≡ true → calculated ts x ≡ x) × (is_identifier x ≡ false → is_identifier (calculated ts x) ≡ false)) xs roles (all-found a ia.well_formed)))
+        ∙ ap (λ l. filter is_identifier xs ++ l) (filter_none is_identifier new measures-new)
         ∙ append-nil (filter is_identifier xs)

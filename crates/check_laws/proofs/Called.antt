@@ -5,6 +5,7 @@ use Rattle.std.specs.List.{AllByRecursion}
 use Rattle.std.specs.Option.{IfSome}
 use Rattle.std.specs.Prelude.{option_to_list, unwrap_or}
 use Rattle.vtl_lists.specs.Results.{◌>>=◌}
+use Rattle.vtl_lists.proofs.Alls.{all_flat_map}
 use Rattle.vtl_syntax.specs.Depth.{exp_depth, option_depth, point_rule_depth, statement_depth}
 use Rattle.vtl_syntax.specs.Trees as tree
 use Rattle.vtl_syntax.specs.Trees.{Exp, PointRuleTree, StatementTree}
@@ -40,7 +41,7 @@ use Rattle.check_laws.specs.Called.{AreCalls, AreFew, HasFewRules, IsCallOver}
 use Rattle.check_laws.specs.Depths.{IsHeldUpTo, rule_exps}
 use Rattle.check_laws.specs.Gives.{Gives}
 use Rattle.check_laws.proofs.Conditions.{names-kept}
-use Rattle.check_laws.proofs.DepthBounds.{AreUpTo, IsTreeUpTo, IsUpTo, each-below, every-flat, option-up}
+use Rattle.check_laws.proofs.DepthBounds.{AreUpTo, IsTreeUpTo, IsUpTo, each-below, option-up}
 use Rattle.check_laws.proofs.DepthClauses.{condition-up}
 use Rattle.check_laws.proofs.DepthTyping.{deep}
 use Rattle.vtl_meaning.proofs.Lists as lists
@@ -131,7 +132,7 @@ rule-deep env at (tree.point_rule name antecedent holds error) d le =
 pub deep-kept : (d : ℕ) → AreKept (IsHeldUpTo d) (λ s. statement_depth s ≤ d) (AreDeep d)
 deep-kept d = record {
   typed = λ name variables rules b le env at. all-in-turn (λ r. point_rule_depth r ≤ d) (λ t. AreUpTo d (rule_exps t)) (λ done r. point_rule_typed env at r) (λ done r k. rule-deep env at r d k) [] rules tt (each-below point_rule_depth d rules le);
-  point = λ name variables rules b le a names ts o h. every-flat (IsUpTo d) rule_exps ts h;
+  point = λ name variables rules b le a names ts o h. all_flat_map (IsUpTo d) rule_exps ts h;
   checked = λ name item rules b le a v order m o. tt;
   made = λ name item rules b le a v order m i o. tt;
 }

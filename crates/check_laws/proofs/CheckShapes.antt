@@ -1,6 +1,6 @@
 -- The structures of checks by rules, of `check` and of hierarchies.
 use Rattle.std.proofs.Common.{◌≡◌, ℕ, Bool, true, false, not, cond, List, [], ◌∷◌, ◌++◌, length, map, Option, Some, None, refl, sym, ap, ◌∙◌, subst, true≢false, append_assoc, arith}
-use Rattle.std.proofs.lemmas.Bool.{eqb-true, false≢true}
+use Rattle.std.proofs.lemmas.Bool.{eqb-true, false≢true, and_parts, not-false, or_parts}
 use Rattle.std.proofs.lemmas.List.{map-append, map-id}
 use Rattle.std.specs.List.{AllByRecursion, list_all}
 use Rattle.std.specs.Option.{IfSome, option_to_list}
@@ -50,7 +50,6 @@ use Rattle.check_laws.proofs.Among.{among-mapped, mapped-among, own-identifiers,
 use Rattle.check_laws.proofs.Measured.{has-identifiers}
 use Rattle.check_laws.proofs.Shapes.{AreParts, identifier-roles, measure-roles, parts-columns, parts-identifiers, parts-measures, parts-others, shaped-gives}
 use Rattle.check_laws.proofs.Steps.{tested, tested-then, then}
-use Rattle.check_laws.proofs.Tests.{and-true, not-false, or-false}
 use Rattle.check_laws.proofs.Twins.{agreed-kinds, agreed-names, agreed-roles, maps-same}
 
 -- ---- one measure alone
@@ -74,7 +73,7 @@ pub only-measure : (kind : Kind) (a : Structure) → IsShaped a → nat_eq (leng
 only-measure kind a ia one met = single kind (measures a.components) one (meet-all kind a.components met) (lists.filtered (λ x. is_null_kind x.kind ≡ false) is_measure a.components ia.kinds)
 
 one-measure : (kind : Kind) (a : Structure) → IsShaped a → has_one_measure kind a.components ≡ true → IsOnly kind (measures_of a)
-one-measure kind a ia e = let both = and-true (nat_eq (length (measures a.components)) 1) (all_meet kind a.components) e in only-measure kind a ia both.0 both.1
+one-measure kind a ia e = let both = and_parts (nat_eq (length (measures a.components)) 1) (all_meet kind a.components) e in only-measure kind a ia both.0 both.1
 
 only-kind : (kind : Kind) (ms : List Component) → (o : IsOnly kind ms) → component_kinds ms ≡ o.measure.kind ∷ []
 only-kind kind ms o = ap component_kinds o.only
@@ -180,7 +179,7 @@ itemized-gives rules a ia = go (component_of rules.variable a.components) refl
   where
     items : (x : Component) → component_of rules.variable a.components ≡ Some x → is_of_items x ≡ true → IsColumnAt (place_of rules.variable (identifiers_of a)) rules.variable k.Text (identifiers_of a)
     items x e is =
-        let both = and-true (is_identifier x) (same_kind x.kind k.Text) is in
+        let both = and_parts (is_identifier x) (same_kind x.kind k.Text) is in
         subst (λ kind. IsColumnAt (place_of rules.variable (identifiers_of a)) rules.variable kind (identifiers_of a)) (text-kind x.kind both.1)
         (at-place rules.variable (identifiers_of a) x (found-filter is_identifier rules.variable a.components x e both.0))
 
@@ -276,7 +275,7 @@ check-fits p spec i a ia ii level = tested-then Q (check_tests a (option_to_list
 
     fits : ArePassed (check_tests a (option_to_list i)) → IsShaped (structure_of (ids ++ check_measures)) → IsChecked p spec i a (structure_of (ids ++ check_measures))
     fits passed s =
-        let tests = or-false (not (has_one_measure k.Bool a.components)) (not (list_all has_one_number (option_to_list i))) passed.1.0 in
+        let tests = or_parts (not (has_one_measure k.Bool a.components)) (not (list_all has_one_number (option_to_list i))) passed.1.0 in
         record {
           well_formed = s.well_formed;
           identifiers = has-identifiers ids check_measures (identifiers_of a) are (agreed-names (option_to_list i) a.components) (agreed-kinds (option_to_list i) a.components);

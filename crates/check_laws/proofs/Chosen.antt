@@ -1,6 +1,7 @@
 -- `if` on data sets.
 use Rattle.std.proofs.Common.{◌≡◌, true, ◌&&◌, not, List, [], ◌∷◌, ◌++◌, length, refl, sym, ap, ◌∙◌, subst}
 use Rattle.std.specs.Prelude.{nat_eq}
+use Rattle.std.proofs.lemmas.Bool.{and_parts, not-false}
 use Rattle.vtl_cell.specs.declared.kind.Kind.TheVariants as k
 use Rattle.vtl_tree.specs.Structure.{columns_of}
 use Rattle.vtl_tree.specs.Structures.{structure_of}
@@ -22,7 +23,6 @@ use Rattle.check_laws.proofs.CheckShapes.{boolean-kind, only-measure}
 use Rattle.check_laws.proofs.Measured.{has-identifiers}
 use Rattle.check_laws.proofs.Shapes.{AreParts, measure-roles, parts-columns, parts-identifiers, parts-measures, shaped-gives}
 use Rattle.check_laws.proofs.Steps.{tested-then}
-use Rattle.check_laws.proofs.Tests.{and-true, not-false}
 use Rattle.check_laws.proofs.Twins.{agreed-kinds, agreed-names, agreed-roles}
 
 pub chosen-fits : (t a b : Structure) → IsShaped t → IsShaped a → IsShaped b → Gives (λ s. IsShaped s × IsChoice t a b s) (if_form t a b)
@@ -46,8 +46,8 @@ chosen-fits t a b it ia ib =
 
     fits : ArePassed (if_tests t a b) → IsShaped (structure_of (ids ++ ms)) → IsChoice t a b (structure_of (ids ++ ms))
     fits passed s =
-        let one = and-true (nat_eq (length (measures t.components)) 1 && not (nat_eq (length (measures a.components)) 0)) (agree compared.Kinds role.Measure a.components b.components) (not-false (are_choices t a b) passed.1.1.0) in
-        let single = and-true (nat_eq (length (measures t.components)) 1) (not (nat_eq (length (measures a.components)) 0)) one.0 in
+        let one = and_parts (nat_eq (length (measures t.components)) 1 && not (nat_eq (length (measures a.components)) 0)) (agree compared.Kinds role.Measure a.components b.components) (not-false (are_choices t a b) passed.1.1.0) in
+        let single = and_parts (nat_eq (length (measures t.components)) 1) (not (nat_eq (length (measures a.components)) 0)) one.0 in
         let agreed = lists.all_pass (λ x. agree compared.Kinds role.Identifier t.components x.components) (a ∷ b ∷ []) (not-false (all_agree compared.Kinds role.Identifier t.components (a ∷ b ∷ [])) passed.1.0) in
         record {
           well_formed = s.well_formed;

@@ -3,6 +3,7 @@ use Rattle.std.proofs.Common.{◌≡◌, ℕ, Bool, true, false, cond, not, List
 use Rattle.std.specs.List.{AllByRecursion, list_any}
 use Rattle.std.specs.Option.{IfSome}
 use Rattle.std.specs.Prelude.{unwrap_or}
+use Rattle.std.proofs.lemmas.Bool.{not-false}
 use Rattle.vtl_decimal.specs.Settings.{Settings}
 use Rattle.vtl_lists.specs.Apart.{all_apart}
 use Rattle.vtl_cell.specs.Kinds.{is_of}
@@ -69,7 +70,6 @@ use Rattle.check_laws.proofs.Literals.{literal-as, valued-gives, kind-met}
 use Rattle.check_laws.proofs.Operators.{IsMadeWith}
 use Rattle.check_laws.proofs.Renamed.{renamed-fits}
 use Rattle.check_laws.proofs.Steps.{after, tested, then, weaker}
-use Rattle.check_laws.proofs.Tests.{not-false}
 use Rattle.check_laws.proofs.Turned.{pivot-fits, unpivot-fits}
 use Rattle.check_laws.proofs.Turns.{in-turn}
 

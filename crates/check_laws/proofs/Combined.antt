@@ -1,6 +1,6 @@
 -- Set operators and `exists_in`.
 use Rattle.std.proofs.Common.{◌≡◌, ℕ, Bool, true, false, cond, ◌||◌, not, ◌&&◌, List, [], ◌∷◌, ◌++◌, Some, refl, sym, ap, ◌∙◌, subst}
-use Rattle.std.proofs.lemmas.Bool.{false≢true}
+use Rattle.std.proofs.lemmas.Bool.{false≢true, not-false, or_parts}
 use Rattle.std.specs.List.{AllByRecursion, list_any}
 use Rattle.std.specs.Option.{option_map_or}
 use Rattle.vtl_tree.specs.Structure.{columns_of, names_of, same_name, same_role}
@@ -27,7 +27,6 @@ use Rattle.vtl_meaning.proofs.Lists as lists
 use Rattle.check_laws.proofs.Measured.{has-identifiers}
 use Rattle.check_laws.proofs.Shapes.{AreParts, measure-roles, parts-columns, parts-identifiers, parts-measures, parts-others, role-identifier, shaped-gives}
 use Rattle.check_laws.proofs.Steps.{tested-then}
-use Rattle.check_laws.proofs.Tests.{not-false, or-false}
 use Rattle.check_laws.proofs.Twins.{agreed-kind, agreed-kinds, agreed-name, agreed-names, agreed-roles}
 
 -- ---- set operators
@@ -133,7 +132,7 @@ exists-fits a b ib = tested-then Q (exists_tests a b) (λ u. shaped (ids ++ bool
       where
         peace : AllByRecursion (IsAtPeace b) (identifiers_of a)
         peace =
-            lists.both (λ x. is_at_odds b x ≡ false) (λ x. is_identifier x ≡ true) (identifiers_of a) (lists.any_fails (is_at_odds b) (identifiers_of a) (or-false (not (list_any (is_common b) (identifiers_of a))) (list_any (is_at_odds b) (identifiers_of a)) passed.0).1)
+            lists.both (λ x. is_at_odds b x ≡ false) (λ x. is_identifier x ≡ true) (identifiers_of a) (lists.any_fails (is_at_odds b) (identifiers_of a) (or_parts (not (list_any (is_common b) (identifiers_of a))) (list_any (is_at_odds b) (identifiers_of a)) passed.0).1)
             (lists.passing is_identifier a.components)
 
         one : (i : Component) → Common i × (has_identifier a i.name ≡ true) → IsAmong (identifiers_of a) i

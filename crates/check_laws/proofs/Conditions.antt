@@ -1,6 +1,6 @@
 -- Conditions that see the variables of a ruleset alone, and the rules that hold them.
 use Rattle.std.proofs.Common.{◌≡◌, ℕ, zero, suc, Bool, true, false, cond, not, List, [], ◌∷◌, map, Option, Some, None, Ok, refl}
-use Rattle.std.proofs.lemmas.Bool.{false≢true}
+use Rattle.std.proofs.lemmas.Bool.{false≢true, and_parts, not-false}
 use Rattle.std.specs.List.{AllByRecursion}
 use Rattle.std.specs.Option.{IfSome}
 use Rattle.vtl_lists.specs.Results.{◌>>=◌}
@@ -33,7 +33,6 @@ use Rattle.check_laws.proofs.Having.{IsCondition, condition-gives}
 use Rattle.check_laws.proofs.Sets.{IsLevel, level-gives}
 use Rattle.check_laws.proofs.Sound.{no-rulings, sound}
 use Rattle.check_laws.proofs.Steps.{after, both, tested, then}
-use Rattle.check_laws.proofs.Tests.{and-true, not-false}
 use Rattle.check_laws.proofs.Turns.{in-turn, kept-in-turn}
 
 -- ---- the columns that conditions see
@@ -57,7 +56,7 @@ mutual
 
   all-typed : (p : Settings) (names : List (List ℕ)) (xs : List Component) (es : CompExps) → all_see_names es ≡ true → AreTyped p (seen_columns names xs) es → AreTyped p xs es
   all-typed p names xs no_comp_exps s h = tt
-  all-typed p names xs (comp_exp e es) s h = let both = and-true (sees_names e) (all_see_names es) s in (seen-typed p names xs e both.0 h.0, all-typed p names xs es both.1 h.1)
+  all-typed p names xs (comp_exp e es) s h = let both = and_parts (sees_names e) (all_see_names es) s in (seen-typed p names xs e both.0 h.0, all-typed p names xs es both.1 h.1)
 
 -- ---- the names of rules
 -- a rule is typed under its name

@@ -1,11 +1,13 @@
 -- Expressions and nodes up to a depth.
 use Rattle.std.proofs.Common.{◌≤◌, ℕ, suc, Bool, true, false, cond, List, [], ◌∷◌, ◌++◌, length, max, Option, Some, None, Result, Ok, Err, sym, subst, arith}
-use Rattle.std.specs.List.{AllByRecursion, find, flat_map}
+use Rattle.std.specs.List.{AllByRecursion, flat_map}
 use Rattle.std.specs.Option.{IfSome, option_map_or}
 use Rattle.std.specs.Prelude.{option_to_list}
 use Rattle.vtl_cell.specs.declared.kind.Kind.{Kind}
 use Rattle.vtl_cell.specs.declared.operator.ScalarOp.{ScalarOp}
 use Rattle.vtl_lists.specs.Results.{◌>>=◌}
+use Rattle.vtl_lists.proofs.Alls.{all_flat_map}
+use Rattle.vtl_lists.proofs.Filters.{found_has}
 use Rattle.check_faults.specs.declared.rules.Rule.{Rule}
 use Rattle.vtl_syntax.specs.Depth.{deepest}
 use Rattle.vtl_tree.specs.CompExp.{CompExp, column, const, call, aggregate}
@@ -75,10 +77,6 @@ pub deepest-below : {X : Type 0} (depth : X → ℕ) (d : ℕ) (xs : List X) →
 deepest-below depth d [] h = omega arith
 deepest-below depth d (x ∷ xs) h = let here : depth x ≤ d = h.0 in let rest : deepest depth xs ≤ d = deepest-below depth d xs h.1 in omega arith
 
-pub every-flat : {X Y : Type 0} (P : Y → Type 0) (f : X → List Y) (xs : List X) → AllByRecursion (λ x. AllByRecursion P (f x)) xs → AllByRecursion P (flat_map f xs)
-every-flat P f [] h = tt
-every-flat P f (x ∷ xs) h = lists.appended P (f x) (flat_map f xs) h.0 (every-flat P f xs h.1)
-
 flat-every : {X Y : Type 0} (P : Y → Type 0) (f : X → List Y) (xs : List X) → AllByRecursion P (flat_map f xs) → AllByRecursion (λ x. AllByRecursion P (f x)) xs
 flat-every P f [] h = tt
 flat-every P f (x ∷ xs) h = (lists.front P (f x) (flat_map f xs) h, flat-every P f xs (lists.back P (f x) (flat_map f xs) h))
@@ -93,7 +91,7 @@ all-exps d b (nodes.node s form) h = exps-raised d (max d b) (held_exps form ++ 
 
 pub node-depth : (d b : ℕ) (n : NodeTree) → IsNodeUpTo (IsHeldUpTo b) d n → node_depth n ≤ max d b
 node-depth d b n h =
-    deepest-below comp_depth (max d b) (flat_map exps_in (nodes_in n)) (every-flat (IsUpTo (max d b)) exps_in (nodes_in n) (lists.weaker (IsOwnUpTo (IsHeldUpTo b) d) (λ n. AreUpTo (max d b) (exps_in n)) (nodes_in n) (all-exps d b) h.each))
+    deepest-below comp_depth (max d b) (flat_map exps_in (nodes_in n)) (all_flat_map (IsUpTo (max d b)) exps_in (nodes_in n) (lists.weaker (IsOwnUpTo (IsHeldUpTo b) d) (λ n. AreUpTo (max d b) (exps_in n)) (nodes_in n) (all-exps d b) h.each))
 
 -- each expression of a node and of its operands is at most as deep as the node
 pub node-below : (d : ℕ) (n : NodeTree) → node_depth n ≤ d → AreNodesUpTo d (nodes_in n)
@@ -166,20 +164,12 @@ pair-up d o a b s two = go (contains a b)
     go true = each a (column_named (columns_of a)) (column_behind (length (columns_of a)) (columns_of b)) (λ name. omega arith) (λ name. omega arith)
     go false = each b (column_behind (length (columns_of b)) (columns_of a)) (column_named (columns_of b)) (λ name. omega arith) (λ name. omega arith)
 
-found-up : {X : Type 0} (P : X → Type 0) (p : X → Bool) (xs : List X) → AllByRecursion P xs → IfSome (find p xs) P
-found-up P p [] h = tt
-found-up P p (x ∷ xs) h = go (p x) (found-up P p xs h.1)
-  where
-    go : (b : Bool) → IfSome (find p xs) P → IfSome (cond b (Some x) (find p xs)) P
-    go true ih = h.0
-    go false ih = ih
-
 value-up : (d : ℕ) (v : ValueTree) → 1 ≤ d → IsValueUpTo d v → IsUpTo d (value_exp v)
 value-up d (nodes.scalar e) some h = h
 value-up d (nodes.analytic windowed) some h = some
 
 pub calculated-up : (d : ℕ) (items : List ItemTree) (a s : Structure) → 1 ≤ d → AllByRecursion (IsItemUpTo d) items → AreUpTo d (calculated_exps items a s)
-calculated-up d items a s some h = lists.mapped (IsUpTo d) (calculated_exp items (columns_of a)) (columns_of s) (lists.every (λ y. IsUpTo d (calculated_exp items (columns_of a) y)) (columns_of s) (λ y. go y (target_named items y.name) (found-up (IsItemUpTo d) (λ i. same_name i.target y.name) items h)))
+calculated-up d items a s some h = lists.mapped (IsUpTo d) (calculated_exp items (columns_of a)) (columns_of s) (lists.every (λ y. IsUpTo d (calculated_exp items (columns_of a) y)) (columns_of s) (λ y. go y (target_named items y.name) (found_has (IsItemUpTo d) (λ i. same_name i.target y.name) items h)))
   where
     go : (y : Component) (o : Option ItemTree) → IfSome o (IsItemUpTo d) → IsUpTo d (option_map_or (λ i. value_exp i.value) o (column_named (columns_of a) y.name))
     go y None k = some
@@ -187,7 +177,7 @@ calculated-up d items a s some h = lists.mapped (IsUpTo d) (calculated_exp items
 
 -- ---- the expressions that a form holds
 pub items-up : (d : ℕ) (items : List ItemTree) → AllByRecursion (IsItemUpTo d) items → AreUpTo d (flat_map item_exps items)
-items-up d items h = every-flat (IsUpTo d) item_exps items (lists.weaker (IsItemUpTo d) (λ i. AreUpTo d (item_exps i)) items (λ i k. held i.value k) h)
+items-up d items h = all_flat_map (IsUpTo d) item_exps items (lists.weaker (IsItemUpTo d) (λ i. AreUpTo d (item_exps i)) items (λ i k. held i.value k) h)
   where
     held : (v : ValueTree) → IsValueUpTo d v → AreUpTo d (value_exps v)
     held (nodes.scalar e) k = (k, tt)

@@ -1,6 +1,6 @@
 -- Values over groups: aggregates of a component, and the component that their operand is.
 use Rattle.std.proofs.Common.{◌≡◌, ℕ, Bool, true, false, cond, not, ◌||◌, List, [], ◌∷◌, Option, Some, None, is_none, Result, Ok, Err, refl, sym, ap, ◌∙◌, subst, true≢false}
-use Rattle.std.proofs.lemmas.Bool.{false≢true}
+use Rattle.std.proofs.lemmas.Bool.{false≢true, or_parts}
 use Rattle.std.specs.Option.{IfSome, is_some, option_map}
 use Rattle.vtl_decimal.specs.Settings.{Settings}
 use Rattle.vtl_cell.specs.declared.kind.Kind.{Kind}
@@ -32,7 +32,6 @@ use Rattle.check_operators.specs.declared.places.Place.TheVariants as place
 use Rattle.check_laws.specs.Gives.{Gives}
 use Rattle.check_laws.specs.WellTyped.{IsTypedIn, IsWellTyped}
 use Rattle.check_laws.proofs.Steps.{after, anything, tested-then, then, weaker}
-use Rattle.check_laws.proofs.Tests.{or-false}
 use Rattle.check_laws.proofs.Values.{IsNamedIn, column-gives}
 
 -- ---- the operand
@@ -106,10 +105,10 @@ call-gives env i f component misused (Some kind) grouped h =
 pub value-call-gives : (env : Env) (at : Place) (f : AggregateName) (grouped : Bool) (e : MaybeExp) (v : CompExp) → IsOperand at e (value v) → Gives (IsWellTyped env at) (aggregate_value at f grouped e v)
 value-call-gives env place.Outside f grouped e v h = tt
 value-call-gives env (place.Inside i) f grouped e v h =
-    call-gives env i f (operand_name e v) ((grouped || is_none i.grouping) || is_none (operand_name e v)) (aggregate_kind f (exp_kind v)) (λ used. (or-false grouped (is_none i.grouping) (parts used).0).1) (λ used kind given. of-named kind given (is_component e) refl (parts used).1)
+    call-gives env i f (operand_name e v) ((grouped || is_none i.grouping) || is_none (operand_name e v)) (aggregate_kind f (exp_kind v)) (λ used. (or_parts grouped (is_none i.grouping) (parts used).0).1) (λ used kind given. of-named kind given (is_component e) refl (parts used).1)
   where
     parts : ((grouped || is_none i.grouping) || is_none (operand_name e v)) ≡ false → ((grouped || is_none i.grouping) ≡ false) × (is_none (operand_name e v) ≡ false)
-    parts used = or-false (grouped || is_none i.grouping) (is_none (operand_name e v)) used
+    parts used = or_parts (grouped || is_none i.grouping) (is_none (operand_name e v)) used
 
     by-name : (kind : Kind) → aggregate_kind f (exp_kind v) ≡ Some kind → (o : Option (List ℕ)) → IfSome o (λ name. IsNamedIn i.components name v) → is_none o ≡ false → Aggregates i.components (agg_kind f) o kind
     by-name kind given None named some = absurd (true≢false some)

@@ -1,6 +1,7 @@
 -- The condition of groups.
 use Rattle.std.proofs.Common.{◌≡◌, true, not, [], ◌∷◌, Some, Result, Ok, Err}
 use Rattle.std.specs.Option.{IfSome}
+use Rattle.std.proofs.lemmas.Bool.{not-false}
 use Rattle.vtl_lists.specs.Results.{◌>>=◌}
 use Rattle.vtl_cell.specs.ScalarKinds.{meets}
 use Rattle.vtl_decimal.specs.Settings.{Settings}
@@ -19,7 +20,6 @@ use Rattle.check_operators.specs.declared.places.Place.{Place}
 use Rattle.check_laws.specs.Gives.{Gives}
 use Rattle.check_laws.specs.WellTyped.{IsValueAt, IsWellTyped}
 use Rattle.check_laws.proofs.Steps.{tested, then}
-use Rattle.check_laws.proofs.Tests.{not-false}
 
 -- a condition at a place
 abbrev pub IsCondition : Settings → Place → CompExp → Type 0

@@ -1,6 +1,6 @@
 -- Joins: the reference, with which the operands go, and what the joined set has of each operand.
 use Rattle.std.proofs.Common.{◌≡◌, ℕ, Bool, true, false, cond, ◌||◌, not, List, [], ◌∷◌, ◌++◌, map, Option, Some, None, option_map, slice_get, refl, sym, ap, ◌∙◌, subst}
-use Rattle.std.proofs.lemmas.Bool.{false≢true}
+use Rattle.std.proofs.lemmas.Bool.{false≢true, and_parts, not-false, not-true}
 use Rattle.std.proofs.lemmas.List.{map-append}
 use Rattle.std.proofs.lemmas.List.Elements.{filter-append}
 use Rattle.std.proofs.lemmas.List.Folds.{find_at, list_all-map}
@@ -9,6 +9,7 @@ use Rattle.std.specs.List.{AllByRecursion, filter, find, list_all, list_any}
 use Rattle.vtl_lists.proofs.Aparts.{apart_parts}
 use Rattle.vtl_lists.specs.Apart.{all_apart}
 use Rattle.vtl_lists.specs.Results.{◌>>=◌}
+use Rattle.vtl_lists.proofs.Filters.{filter_all, found_passes}
 use Rattle.vtl_syntax.specs.declared.word_groups.JoinKind.{JoinKind}
 use Rattle.vtl_syntax.specs.declared.word_groups.JoinKind.TheVariants as join
 use Rattle.vtl_tree.specs.Structure.{names_of, of_role, same_name, same_role}
@@ -33,11 +34,10 @@ use Rattle.vtl_meaning.specs.Made.{AreAmong, GoTogether, HasIdentifiers, IsJoine
 use Rattle.vtl_meaning.specs.Shapes.{IsJoinedFrom, IsShaped}
 use Rattle.check_laws.specs.Gives.{Gives}
 use Rattle.check_laws.proofs.Among.{contained-identifiers, own-identifiers, same-identifiers}
-use Rattle.vtl_meaning.proofs.FoundColumns.{same-symm}
 use Rattle.vtl_meaning.proofs.Lists as lists
-use Rattle.check_laws.proofs.Shapes.{behind-identifiers, filter-all, filter-mapped, filter-within, front-identifiers, role-identifier, shaped-gives}
+use Rattle.vtl_meaning.proofs.Places.{same_name-sym}
+use Rattle.check_laws.proofs.Shapes.{behind-identifiers, filter-mapped, filter-within, front-identifiers, role-identifier, shaped-gives}
 use Rattle.check_laws.proofs.Steps.{after, tested, tested-then, then}
-use Rattle.check_laws.proofs.Tests.{and-true, not-false, not-true}
 use Rattle.check_laws.proofs.Twins.{agreed-kinds, agreed-names, agreed-roles, maps-same}
 
 abbrev pub aliases_of : List Operand → List (List ℕ)
@@ -52,14 +52,6 @@ find-mapped p q f (x ∷ xs) e = ap (λ b. cond b (Some (f x)) (find q (map f xs
     go : (b : Bool) → find q (map f xs) ≡ option_map f (find p xs) → cond b (Some (f x)) (find q (map f xs)) ≡ option_map f (cond b (Some x) (find p xs))
     go true ih = refl
     go false ih = ih
-
-found-passes : {X : Type 0} (p : X → Bool) (xs : List X) (y : X) → find p xs ≡ Some y → p y ≡ true
-found-passes p [] y e = cc
-found-passes p (x ∷ xs) y e = go (p x) refl e (found-passes p xs y)
-  where
-    go : (b : Bool) → p x ≡ b → cond b (Some x) (find p xs) ≡ Some y → (find p xs ≡ Some y → p y ≡ true) → p y ≡ true
-    go true h e ih = let s : x ≡ y = cc in ap p (sym s) ∙ h
-    go false h e ih = ih e
 
 -- the place of the reference among the structures
 reference-there : (kind : JoinKind) (os : List Operand) (r : Operand) → reference kind os ≡ Some r → slice_get (structures_of os) (reference_place kind (structures_of os)) ≡ Some r.structure
@@ -94,7 +86,7 @@ each-goes P test (o ∷ rest) r are apart e go itself others =
     first = subst (λ x. P x.structure) (sym same) (itself (subst (λ x. IsShaped x.structure) same are.0))
 
     other : (x : Operand) → same_name o.alias x.alias ≡ false → (same_name x.alias r.alias || test x) ≡ true → P x.structure
-    other x unlike goes = others x (ap (λ b. b || test x) (sym (ap (same_name x.alias) (ap (λ y. y.alias) (sym same)) ∙ same-symm x.alias o.alias ∙ unlike)) ∙ goes)
+    other x unlike goes = others x (ap (λ b. b || test x) (sym (ap (same_name x.alias) (ap (λ y. y.alias) (sym same)) ∙ same_name-sym x.alias o.alias ∙ unlike)) ∙ goes)
 
 module _ (listed : Option (List (List ℕ))) (os : List Operand) (r : Operand) (are : AllByRecursion (λ o. IsShaped o.structure) os) (apart : all_apart same_name (aliases_of os) ≡ true) where
   -- the operand's identifiers are among those of the reference, and in a full join those of the reference among the operand's too
@@ -107,22 +99,22 @@ module _ (listed : Option (List (List ℕ))) (os : List Operand) (r : Operand) (
   inner-together : reference join.Inner os ≡ Some r → AllByRecursion Within (structures_of os)
   inner-together e =
       lists.mapped Within (λ o. o.structure) os (lists.weaker (λ o. contains r.structure o.structure ≡ true) (λ o. Within o.structure) os (λ o c. contained-identifiers r.structure o.structure c)
-      (lists.all_pass (λ o. contains r.structure o.structure) os (found-passes (joins.contains_all os) os r e)))
+      (lists.all_pass (λ o. contains r.structure o.structure) os (found_passes (joins.contains_all os) os r e)))
 
   left-together : reference join.Left os ≡ Some r → all_go_with join.Left listed r os ≡ true → AllByRecursion Within (structures_of os)
   left-together e go = each-goes Within (goes_with join.Left listed r.structure) os r are apart e go (own-identifiers r.structure) one
     where
       within : (listed : Option (List (List ℕ))) (a : Structure) → agrees join.Left listed r.structure a ≡ true → Within a
       within None a h = (same-identifiers r.structure a h).0
-      within (Some names) a h = contained-identifiers r.structure a (and-true (contains r.structure a) (is_exactly names a.components) h).0
+      within (Some names) a h = contained-identifiers r.structure a (and_parts (contains r.structure a) (is_exactly names a.components) h).0
 
       one : (o : Operand) → goes_with join.Left listed r.structure o ≡ true → Within o.structure
-      one o h = within listed o.structure (and-true (agrees join.Left listed r.structure o.structure) (not (list_any (clashes r.structure.components) o.structure.components)) h).0
+      one o h = within listed o.structure (and_parts (agrees join.Left listed r.structure o.structure) (not (list_any (clashes r.structure.components) o.structure.components)) h).0
 
   full-together : reference join.Full os ≡ Some r → all_go_with join.Full None r os ≡ true → AllByRecursion Same (structures_of os)
   full-together e go =
       each-goes Same (goes_with join.Full None r.structure) os r are apart e go (λ is. (own-identifiers r.structure is, own-identifiers r.structure is))
-      (λ o h. same-identifiers r.structure o.structure (and-true (agrees join.Full None r.structure o.structure) (not (list_any (clashes r.structure.components) o.structure.components)) h).0)
+      (λ o h. same-identifiers r.structure o.structure (and_parts (agrees join.Full None r.structure o.structure) (not (list_any (clashes r.structure.components) o.structure.components)) h).0)
 
 -- ---- the components that the joined set has of each operand
 own-parts : (held : List (List ℕ)) (part : Bool) (os : List Operand) → AllByRecursion (λ x. is_part part x ≡ true) (all_own held part os)
@@ -182,7 +174,7 @@ has-reference held os r =
 cross-kinds : (held : List (List ℕ)) (os : List Operand) (r : Operand) → component_kinds (identifiers_of (joined_set true held os (Some r))) ≡ kinds_of_all identifiers_of (structures_of os)
 cross-kinds held os r =
     ap component_kinds (front-identifiers (all_own held true os) (all_own held false os) (front-roles true held os r) (no-identifiers held os))
-    ∙ ap component_kinds (sym (filter-all is_identifier (all_own held true os) (own-parts held true os)))
+    ∙ ap component_kinds (sym (filter_all is_identifier (all_own held true os) (own-parts held true os)))
     ∙ own-kinds held true role.Identifier os (λ x e. e)
 
 identifiers-together : (kind : JoinKind) (listed : Option (List (List ℕ))) (held : List (List ℕ)) (os : List Operand) (r : Operand) → AllByRecursion (λ o. IsShaped o.structure) os → all_apart same_name (aliases_of os) ≡ true → reference kind os ≡ Some r → go_with kind (taken kind listed) os (Some r) ≡ true

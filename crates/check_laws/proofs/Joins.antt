@@ -91,7 +91,7 @@ all-made : (env : Env) (os : List OperandTree) → AllByRecursion (IsOperand env
 all-made env [] h = tt
 all-made env (o ∷ os) h = (h.0, all-made env os h.1)
 
-same-operands : (os : List OperandTree) → made.operands_in (operands_of os) ≡ map shape_of os
+pub same-operands : (os : List OperandTree) → made.operands_in (operands_of os) ≡ map shape_of os
 same-operands [] = refl
 same-operands (o ∷ os) = ap (λ l. shape_of o ∷ l) (same-operands os)
 

@@ -1,6 +1,6 @@
 -- Clauses that leave some of the components: `keep`, `drop`, `sub`, and `a#m`.
 use Rattle.std.proofs.Common.{◌≡◌, ℕ, Bool, true, false, ◌||◌, not, List, [], ◌∷◌, ◌++◌, map, Option, Some, None, Ok, refl, sym, ap, ◌∙◌, subst}
-use Rattle.std.proofs.lemmas.Bool.{false≢true}
+use Rattle.std.proofs.lemmas.Bool.{false≢true, not-false}
 use Rattle.std.specs.List.{AllByRecursion, filter, list_any}
 use Rattle.std.specs.Option.{option_map_or}
 use Rattle.vtl_cell.specs.Kinds.{is_of}
@@ -24,11 +24,11 @@ use Rattle.vtl_meaning.specs.Made.{AreAmong, IsColumnAt, IsLeft, IsSub}
 use Rattle.vtl_meaning.specs.Shapes.{IsChosen, IsShaped, is_known}
 use Rattle.check_laws.specs.Gives.{Gives}
 use Rattle.check_laws.proofs.Among.{IsAmong, found-among, own-columns}
-use Rattle.vtl_meaning.proofs.FoundColumns.{HasName, IsFound, all-found, at-place, found-filter, has-itself, kind-found, of-columns, same-true}
+use Rattle.vtl_meaning.proofs.FoundColumns.{HasName, IsFound, all-found, at-place, found-filter, has-itself, kind-found, of-columns}
 use Rattle.vtl_meaning.proofs.Lists as lists
+use Rattle.vtl_meaning.proofs.Places.{same_name-is}
 use Rattle.check_laws.proofs.Shapes.{filter-within, shaped-gives}
 use Rattle.check_laws.proofs.Steps.{tested, then, weaker}
-use Rattle.check_laws.proofs.Tests.{not-false}
 
 -- ---- names of components
 -- this is the component of the name, and its role serves
@@ -79,7 +79,7 @@ not-among xs x found is (name ∷ names) h = go (same_name name x.name) refl (no
   where
     go : (b : Bool) → same_name name x.name ≡ b → is_among x.name names ≡ false → (b || is_among x.name names) ≡ false
     go true e ih =
-        let one : component_of x.name xs ≡ Some h.0.0 = ap (λ n. component_of n xs) (sym (same-true name x.name e)) ∙ h.0.1.0 in
+        let one : component_of x.name xs ≡ Some h.0.0 = ap (λ n. component_of n xs) (sym (same_name-is name x.name e)) ∙ h.0.1.0 in
         let two : Some x ≡ Some h.0.0 = sym found ∙ one in
         let same : x ≡ h.0.0 = cc in
         absurd (false≢true (ap not (sym (ap is_identifier (sym same) ∙ is)) ∙ h.0.1.1))

@@ -1,6 +1,6 @@
 -- Operands that have to be literals: as they are written, and as they are typed.
 use Rattle.std.proofs.Common.{◌≡◌, Bool, true, ◌&&◌, List, [], ◌∷◌, ◌++◌, Option, Some, None, option_map, Result, Ok, Err, refl, sym, ap, ◌∙◌, subst, append_assoc}
-use Rattle.std.proofs.lemmas.Bool.{false≢true}
+use Rattle.std.proofs.lemmas.Bool.{false≢true, and_parts}
 use Rattle.std.proofs.lemmas.List.{append-nil}
 use Rattle.std.specs.Prelude.{ℤ, pos}
 use Rattle.vtl_cell.specs.declared.cell.Cell.TheVariants as c
@@ -31,7 +31,6 @@ use Rattle.vtl_meaning.specs.Literals.{are_digits, are_literals, behind, first_p
 use Rattle.check_laws.specs.Gives.{Gives}
 use Rattle.check_laws.proofs.Operators.{AreFit, values_in}
 use Rattle.check_laws.proofs.Steps.{given, then, weaker}
-use Rattle.check_laws.proofs.Tests.{and-true}
 
 -- ---- one literal
 -- a value that passes
@@ -173,7 +172,7 @@ digits-fit sight at o asks es (z ∷ zs) h l = asks (comp_exps_of (values_in zs)
 substr-fits : (sight : Sight) (at : Place) (es : Exps) (zs : List TypedTree) → AreOf sight at es zs → (second_passes (lies_in sight.settings (pos 1) largest_place) es && third_passes (lies_in sight.settings (pos 0) largest_place) es) ≡ true → AreFit op.Substring zs
 substr-fits sight at es [] h l = refl
 substr-fits sight at es (z ∷ zs) h l =
-    let both = and-true (second_passes (lies_in sight.settings (pos 1) largest_place) es) (third_passes (lies_in sight.settings (pos 0) largest_place) es) l in
+    let both = and_parts (second_passes (lies_in sight.settings (pos 1) largest_place) es) (third_passes (lies_in sight.settings (pos 0) largest_place) es) l in
     places-fit sight at (pos 1) (pos 0) largest_place es (z ∷ zs) h both.0 both.1
 
 function-fits : (sight : Sight) (at : Place) (f : FunctionName) (es : Exps) (zs : List TypedTree) → AreOf sight at es zs → literals_fit sight.settings f es ≡ true → AreFit (of_function f) zs

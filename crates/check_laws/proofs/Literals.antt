@@ -1,12 +1,12 @@
 -- The values of literals.
-use Rattle.std.proofs.Common.{◌≡◌, ℕ, Bool, true, false, cond, not, ◌^◌, ◌-◌, ◌%◌, ◌/◌, ◌⊎◌, inl, inr, List, [], ◌∷◌, ◌++◌, Option, Some, None, option_map, option_and_then, Result, Ok, Err, refl, sym, subst, true≢false}
+use Rattle.std.proofs.Common.{◌≡◌, ℕ, Bool, true, false, cond, not, ◌^◌, ◌-◌, ◌⊎◌, inl, inr, List, [], ◌∷◌, ◌++◌, Option, Some, None, option_map, option_and_then, Result, Ok, Err, refl, sym, subst, true≢false}
 use Rattle.std.proofs.lemmas.Bool.{false≢true}
 use Rattle.std.proofs.lemmas.Option.{IfSome_then}
 use Rattle.std.specs.List.{AllByRecursion}
 use Rattle.std.specs.Option.{IfSome}
-use Rattle.std.specs.Prelude.{◌==◌, chars, encode_utf8_all, nat_lt, unsigned_abs, ℤ, neg_ℤ}
+use Rattle.std.specs.Prelude.{chars, encode_utf8_all, nat_lt, unsigned_abs, ℤ, neg_ℤ}
 use Rattle.std.specs.Result.{IsOk, result_ok}
-use Rattle.vtl_decimal.specs.Numeral.{Numeral, denominator, integer_of, number_spelled, numeral_of, numerator, signed}
+use Rattle.vtl_decimal.specs.Numeral.{number_spelled}
 use Rattle.vtl_decimal.specs.Range.{fit_integer, fit_number}
 use Rattle.vtl_decimal.specs.Settings.{Settings}
 use Rattle.vtl_decimal.specs.declared.number.Fault.{Fault}
@@ -40,6 +40,7 @@ use Rattle.vtl_time.specs.Periods.{read_period_of}
 use Rattle.vtl_meaning.specs.Made.{IsTyped}
 use Rattle.check_laws.specs.Gives.{Gives}
 use Rattle.vtl_meaning.proofs.Lists as lists
+use Rattle.vtl_rulings.proofs.HierarchyProfiles.{written_fits}
 use Rattle.check_laws.proofs.Steps.{after, then}
 
 -- ---- options
@@ -59,21 +60,6 @@ pub valued-gives : (P : Cell → Type 0) (o : Option Cell) → IfSome o P → Gi
 valued-gives P None h = tt
 valued-gives P (Some v) h = h
 
--- ---- integers in range
-fits : (s : ℕ) (n : ℤ) → IfSome (result_ok (fit_integer s n)) (λ m. IsOk (fit_integer s m))
-fits s n = go (nat_lt (unsigned_abs n) (10 ^ (18 - s))) refl
-  where
-    go : (b : Bool) → nat_lt (unsigned_abs n) (10 ^ (18 - s)) ≡ b → IfSome (result_ok {T = ℤ} {E = Fault} (cond b (Ok n) (Err Range))) (λ m. IsOk (fit_integer s m))
-    go true e = subst (λ b. IsOk {T = ℤ} {E = Fault} (cond b (Ok n) (Err Range))) (sym e) refl
-    go false e = tt
-
-pub integer-fits : (p : Settings) (digits : List ℕ) → IfSome (integer_written p digits) (λ n. IsOk (fit_integer p.scale n))
-integer-fits p digits = some-then (λ n. Unit {0}) (λ n. IsOk (fit_integer p.scale n)) (integer_of p.scale) (numeral_of (encode_utf8_all digits)) (some-each (λ n. Unit {0}) (numeral_of (encode_utf8_all digits)) (λ n. tt)) (λ n u. go n (numerator 0 n % denominator n == 0))
-  where
-    go : (n : Numeral) (b : Bool) → IfSome (cond b (result_ok (fit_integer p.scale (signed n.negative (numerator 0 n / denominator n)))) None) (λ n. IsOk (fit_integer p.scale n))
-    go n true = fits p.scale (signed n.negative (numerator 0 n / denominator n))
-    go n false = tt
-
 -- ---- constants and literals
 -- a value of the profile, of this kind, that is not null
 abbrev pub IsCell : Settings → Kind → Cell → Type 0
@@ -88,7 +74,7 @@ abbrev IsNumber : Settings → Kind → Cell → Type 0
 IsNumber p kind v = IsCell p kind v × (is_number v ≡ true)
 
 numeral-cell : (p : Settings) (n : Written) → IfSome (numeral_cell p n) (IsNumber p (numeral_kind n))
-numeral-cell p (numeral.Integer digits) = some-map (IsNumber p k.Int) c.Int (integer_written p digits) (IfSome_then (integer_written p digits) {P = λ n. IsOk (fit_integer p.scale n)} {Q = λ n. IsNumber p k.Int (c.Int n)} (integer-fits p digits) (λ n h. ((h, refl, refl), refl)))
+numeral-cell p (numeral.Integer digits) = some-map (IsNumber p k.Int) c.Int (integer_written p digits) (IfSome_then (integer_written p digits) {P = λ n. IsOk (fit_integer p.scale n)} {Q = λ n. IsNumber p k.Int (c.Int n)} (written_fits p digits) (λ n h. ((h, refl, refl), refl)))
 numeral-cell p (numeral.Decimal digits) = some-map (IsNumber p k.Num) c.Num (number_spelled p (encode_utf8_all digits)) (some-each (λ x. IsNumber p k.Num (c.Num x)) (number_spelled p (encode_utf8_all digits)) (λ x. ((tt, refl, refl), refl)))
 
 -- which numbers belong to a kind does not depend on the number

@@ -1,6 +1,6 @@
 -- Operators on the measures of one operand.
 use Rattle.std.proofs.Common.{◌≡◌, Bool, true, false, ◌&&◌, List, [], ◌∷◌, ◌++◌, length, map, Option, Some, None, is_none, refl, sym, ap, ◌∙◌, subst, true≢false, arith}
-use Rattle.std.proofs.lemmas.Bool.{eqb-true}
+use Rattle.std.proofs.lemmas.Bool.{eqb-true, not-false}
 use Rattle.std.proofs.lemmas.List.{map-append}
 use Rattle.std.specs.List.{AllByRecursion, filter}
 use Rattle.std.specs.Prelude.{nat_eq, unwrap_or}
@@ -34,9 +34,9 @@ use Rattle.check_laws.specs.Gives.{Gives}
 use Rattle.vtl_meaning.proofs.FoundColumns.{IsFound, in-columns}
 use Rattle.check_laws.proofs.Expressions.{IsFor, call-typed, for-append, for-map, named-for}
 use Rattle.vtl_meaning.proofs.Lists as lists
-use Rattle.check_laws.proofs.Shapes.{AreParts, all-identifiers, identifier-roles, parts-columns, parts-identifiers, parts-measures, shaped-gives}
+use Rattle.vtl_timing.proofs.FlowsKept.{all_identify}
+use Rattle.check_laws.proofs.Shapes.{AreParts, identifier-roles, parts-columns, parts-identifiers, parts-measures, shaped-gives}
 use Rattle.check_laws.proofs.Steps.{tested-then}
-use Rattle.check_laws.proofs.Tests.{not-false}
 
 -- ---- what an operator gives of measures
 -- the operator gives each measure, or a truth
@@ -127,7 +127,7 @@ pub measured-fits : (p : Settings) (m : MeasureTree) (a : Structure) (o : Outcom
     → Gives (λ s. IsShaped s × IsMeasured p m a s) (measured_form o (given_between m) literals choice.Except [] a.components)
 measured-fits p m a o literals is by same fit before after =
     tested-then Q (measured_tests o g literals a.components) (λ u. shaped (chosen choice.Except [] a.components ++ ms))
-    (λ passed. subst (λ ids. Gives Q (shaped (ids ++ ms))) (sym (all-identifiers a.components))
+    (λ passed. subst (λ ids. Gives Q (shaped (ids ++ ms))) (sym (all_identify a.components))
     (shaped-gives Q (ids ++ ms) (λ s. (
       s,
       record {

@@ -1,6 +1,7 @@
 -- Operators on the measures of two operands.
 use Rattle.std.proofs.Common.{◌≡◌, ℕ, Bool, true, false, cond, ◌||◌, not, List, [], ◌∷◌, ◌++◌, length, Some, None, is_none, refl, sym, ap, ◌∙◌, subst}
 use Rattle.std.specs.List.{AllByRecursion, filter}
+use Rattle.std.proofs.lemmas.Bool.{and_parts, not-false, or_parts}
 use Rattle.vtl_decimal.specs.Settings.{Settings}
 use Rattle.vtl_cell.specs.ScalarKinds.{kinds_of}
 use Rattle.vtl_cell.specs.declared.kind.Kind.{Kind}
@@ -34,7 +35,6 @@ use Rattle.vtl_meaning.proofs.Lists as lists
 use Rattle.check_laws.proofs.Measured.{IsGivenBy, for-given, for-parts, given-kind, given-roles, given_of, has-identifiers, met-measures}
 use Rattle.check_laws.proofs.Shapes.{AreParts, shaped-gives}
 use Rattle.check_laws.proofs.Steps.{tested-then}
-use Rattle.check_laws.proofs.Tests.{and-true, not-false, or-false}
 use Rattle.vtl_tree.proofs.Twins.{HasTwin}
 use Rattle.check_laws.proofs.Twins.{agreed-kind, agreed-kinds, agreed-name, agreed-names, agreed-roles, within-twins}
 
@@ -118,7 +118,7 @@ paired-fits p oc o a b ia ib by same fit =
     g = given_of_two o
 
     measure-tests : ArePassed (pair_tests oc g a b) → (not (agree compared.Names role.Measure a.components b.components) ≡ false) × (is_miscounted oc (length (measures a.components)) ≡ false)
-    measure-tests passed = or-false (not (agree compared.Names role.Measure a.components b.components)) (is_miscounted oc (length (measures a.components))) passed.1.1.0
+    measure-tests passed = or_parts (not (agree compared.Names role.Measure a.components b.components)) (is_miscounted oc (length (measures a.components))) passed.1.1.0
 
     ms : List Component
     ms = given_measures oc g (Some b.components) a.components
@@ -133,7 +133,7 @@ paired-fits p oc o a b ia ib by same fit =
         → AreFor p xs (for_measures (with_namesake o left right) (measures a.components) ms) ms
     for-ms passed xs left right l r =
         let tests = measure-tests passed in
-        let within = and-true (is_within compared.Names role.Measure a.components b.components) (is_within compared.Names role.Measure b.components a.components) (not-false (agree compared.Names role.Measure a.components b.components) tests.0) in
+        let within = and_parts (is_within compared.Names role.Measure a.components b.components) (is_within compared.Names role.Measure b.components a.components) (not-false (agree compared.Names role.Measure a.components b.components) tests.0) in
         for-given p xs oc o g (Some b.components) (with_namesake o left right) a.components by tests.1
         (lists.weaker (λ x. IsMatched o a b x (z x)) (λ x. IsFor p xs (with_namesake o left right x (z x)) (z x)) (measures a.components)
         (λ x m. matched-for p xs o a b left right x (z x) fit m (l x m.left) (r x.name m.other m.right))

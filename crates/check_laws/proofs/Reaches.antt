@@ -3,6 +3,7 @@ use Rattle.std.proofs.Common.{◌≡◌, ℕ, Bool, true, false, cond, ◌&&◌,
 use Rattle.std.specs.Int.RustNames.{int_le}
 use Rattle.std.specs.Option.{option_map_or}
 use Rattle.std.specs.Prelude.{ℤ, pos, negsuc}
+use Rattle.std.proofs.lemmas.Bool.{and_parts}
 use Rattle.vtl_lists.specs.Results.{◌>>=◌}
 use Rattle.vtl_decimal.specs.Settings.{Settings}
 use Rattle.vtl_cell.specs.declared.cell.Cell.{Cell}
@@ -37,7 +38,6 @@ use Rattle.check_groups.specs.declared.calls.Needed.TheVariants as needed
 use Rattle.vtl_meaning.specs.Reaches.{IsNear, is_near, is_near_bound, is_near_frame, is_near_operator, is_near_window}
 use Rattle.check_laws.specs.Gives.{Gives}
 use Rattle.check_laws.proofs.Steps.{after, then}
-use Rattle.check_laws.proofs.Tests.{and-true}
 use Rattle.check_operators.specs.Places.{columns_in}
 
 pub points-near : (o : Option ℤ) → Gives (λ n. is_near n ≡ true) (points_in o)
@@ -45,7 +45,7 @@ points-near None = tt
 points-near (Some (pos n)) = go (int_le (pos 0) (pos n) && int_le (pos n) longest_reach) refl
   where
     go : (b : Bool) → (int_le (pos 0) (pos n) && int_le (pos n) longest_reach) ≡ b → Gives (λ n. is_near n ≡ true) (cond b (Ok n) (Err rule.WrongLiteral))
-    go true e = (and-true (int_le (pos 0) (pos n)) (int_le (pos n) longest_reach) e).1
+    go true e = (and_parts (int_le (pos 0) (pos n)) (int_le (pos n) longest_reach) e).1
     go false e = tt
 points-near (Some (negsuc n)) = tt
 

@@ -1,6 +1,6 @@
 -- The nodes of typed scripts.
 use Rattle.std.proofs.Common.{◌≡◌, ℕ, suc, ◌+◌, Bool, true, false, cond, ◌&&◌, not, List, [], ◌∷◌, ◌++◌, length, Some, None, is_some, Result, Ok, Err, refl, sym, ap, ◌∙◌, subst, append_assoc}
-use Rattle.std.proofs.lemmas.Bool.{leb-true}
+use Rattle.std.proofs.lemmas.Bool.{leb-true, and_parts, not-true, or_parts}
 use Rattle.std.proofs.lemmas.List.{append-nil}
 use Rattle.std.specs.List.{AllByRecursion, list_all}
 use Rattle.std.specs.Map.{keys_of, lookup}
@@ -38,25 +38,24 @@ use Rattle.vtl_tree.specs.Nodes.{nodes_in}
 use Rattle.check_laws.specs.Scripts.{AreMadeFrom, AreReadFrom}
 use Rattle.check_laws.specs.SoundRulings.{AreAccepted, IsAccepted}
 use Rattle.check_laws.specs.WellTyped.{AreShaped, IsWellTyped}
-use Rattle.vtl_meaning.proofs.FoundColumns.{same-true}
 use Rattle.vtl_meaning.proofs.Lists as lists
+use Rattle.vtl_meaning.proofs.Places.{same_name-is}
 use Rattle.check_laws.proofs.Inner.{inner-shaped, made-shaped}
 use Rattle.check_laws.proofs.Over.{made_over, names_known}
 use Rattle.check_laws.proofs.Sets.{dataset-gives}
 use Rattle.check_laws.proofs.Sound.{sound}
 use Rattle.check_laws.proofs.SoundRulings.{rulings-of}
 use Rattle.check_laws.proofs.Steps.{after, tested, tested-then, then}
-use Rattle.check_laws.proofs.Tests.{and-true, not-true, or-false}
 
 -- ---- structures that are declared
 component-kind : (x : Component) → is_declarable_component x ≡ true → is_null_kind x.kind ≡ false
-component-kind x e = not-true (is_null_kind x.kind) (and-true (is_component_name x.name) (not (is_null_kind x.kind)) (and-true (is_component_name x.name && not (is_null_kind x.kind)) (codes_fit x) e).0).1
+component-kind x e = not-true (is_null_kind x.kind) (and_parts (is_component_name x.name) (not (is_null_kind x.kind)) (and_parts (is_component_name x.name && not (is_null_kind x.kind)) (codes_fit x) e).0).1
 
 declared-shaped : (s : Structure) → is_declarable s ≡ true → IsShaped s
 declared-shaped s e =
-    let three = and-true (nat_le 1 (length s.components) && nat_le (length s.components) most_components && all_apart same_name (names_of s.components)) (list_all is_declarable_component s.components) e in
-    let two = and-true (nat_le 1 (length s.components) && nat_le (length s.components) most_components) (all_apart same_name (names_of s.components)) three.0 in
-    let one = and-true (nat_le 1 (length s.components)) (nat_le (length s.components) most_components) two.0 in
+    let three = and_parts (nat_le 1 (length s.components) && nat_le (length s.components) most_components && all_apart same_name (names_of s.components)) (list_all is_declarable_component s.components) e in
+    let two = and_parts (nat_le 1 (length s.components) && nat_le (length s.components) most_components) (all_apart same_name (names_of s.components)) three.0 in
+    let one = and_parts (nat_le 1 (length s.components)) (nat_le (length s.components) most_components) two.0 in
     record {
       well_formed = record { some = leb-true 1 (length s.components) one.0; few = leb-true (length s.components) most_components one.1; distinct = two.1 };
       kinds = lists.weaker (λ x. is_declarable_component x ≡ true) (λ x. is_null_kind x.kind ≡ false) s.components component-kind (lists.all_pass is_declarable_component s.components three.1);
@@ -85,7 +84,7 @@ same-more : (known other : Named) (name : List ℕ) (s : Structure) → has_name
 same-more known other name s new same q = go (same_name q name) refl
   where
     go : (b : Bool) → same_name q name ≡ b → lookup (same_name q) (known ++ (name, s) ∷ []) ≡ cond b (Some s) (lookup (same_name q) other)
-    go true t = end-found (same_name q) known name s (ap (λ n. lookup (same_name n) known) (same-true q name t) ∙ not_found known name new) t
+    go true t = end-found (same_name q) known name s (ap (λ n. lookup (same_name n) known) (same_name-is q name t) ∙ not_found known name new) t
     go false t = end-passed (same_name q) known name s t ∙ same q
 
 made-same : (p : Settings) (known other : Named) (n : NodeTree) → AreSame known other → IsMade p known n → IsMade p other n
@@ -98,7 +97,7 @@ assigned-gives s before name e are accepted =
     tested-then Q ((rule.NameTaken, is_taken s name) ∷ []) (λ u. value_typed s e >>= λ n. ruled ((rule.TooManyNodes, is_too_much before (count n)) ∷ []) n)
     (λ passed. then (IsMade s.settings s.known) Q (value_typed s e) (λ n. ruled ((rule.TooManyNodes, is_too_much before (count n)) ∷ []) n)
     (then (IsWellTyped (env_at s) place.Outside) (IsMade s.settings s.known) (typed (sight_at s) place.Outside e) dataset_in (sound (sight_at s) are (rulings-of s.settings s.definitions accepted) place.Outside e) (dataset-gives (env_at s) place.Outside))
-    (λ n is. tested Q ((rule.TooManyNodes, is_too_much before (count n)) ∷ []) n (λ few. ((or-false (has_name name s.known) (is_defined name s.definitions) passed.0).0, is))))
+    (λ n is. tested Q ((rule.TooManyNodes, is_too_much before (count n)) ∷ []) n (λ few. ((or_parts (has_name name s.known) (is_defined name s.definitions) passed.0).0, is))))
   where
     Q : NodeTree → Type 0
     Q n = (has_name name s.known ≡ false) × IsMade s.settings s.known n

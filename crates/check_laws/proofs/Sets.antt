@@ -34,6 +34,7 @@ use Rattle.check_operators.specs.Typed.{TypedTree, value, dataset, components_in
 use Rattle.check_operators.specs.declared.places.Place.{Place}
 use Rattle.check_operators.specs.declared.places.Place.TheVariants as place
 use Rattle.vtl_rulings.specs.Shaped.{IsChecked}
+use Rattle.vtl_rulings.proofs.HierarchyProfiles.{written_fits}
 use Rattle.vtl_meaning.specs.Made.{AreCombined, IsCombined, IsExistence, IsLeft}
 use Rattle.vtl_scripts.specs.Made.{AreMade, IsMade, IsMadeMaybe, maybe_structure, node_structures}
 use Rattle.vtl_meaning.specs.Shapes.{IsChosen, IsShaped}
@@ -44,7 +45,6 @@ use Rattle.check_laws.proofs.Combined.{combined-fits, exists-fits}
 use Rattle.check_laws.proofs.Inner.{made-shaped}
 use Rattle.check_laws.proofs.Left.{member-fits}
 use Rattle.vtl_meaning.proofs.Lists as lists
-use Rattle.check_laws.proofs.Literals.{integer-fits}
 use Rattle.check_laws.proofs.Operators.{IsMadeWith, made-gives}
 use Rattle.check_laws.proofs.Steps.{then, weaker}
 use Rattle.check_laws.proofs.Turns.{all-in-turn}
@@ -119,7 +119,7 @@ IsLevel p level = IfSome level (λ n. IsOfProfile p (cell.Int n))
 
 pub level-gives : (p : Settings) (level : Option (List ℕ)) → Gives (IsLevel p) (level_typed p level)
 level-gives p None = tt
-level-gives p (Some digits) = go (integer_written p digits) (integer-fits p digits)
+level-gives p (Some digits) = go (integer_written p digits) (written_fits p digits)
   where
     go : (n : Option ℤ) → IsLevel p n → Gives (IsLevel p) (level_read n)
     go None h = tt

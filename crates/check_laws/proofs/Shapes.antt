@@ -1,12 +1,13 @@
 -- The structures that forms give.
-use Rattle.std.proofs.Common.{◌≡◌, ℕ, Bool, true, false, cond, not, ◌&&◌, List, [], ◌∷◌, ◌++◌, length, map, Result, refl, sym, ap, ◌∙◌}
-use Rattle.std.proofs.lemmas.Bool.{false≢true}
+use Rattle.std.proofs.Common.{◌≡◌, ℕ, Bool, true, false, cond, not, List, [], ◌∷◌, ◌++◌, length, map, Result, refl, sym, ap, ◌∙◌}
+use Rattle.std.proofs.lemmas.Bool.{false≢true, and_parts, not-false, or_parts}
 use Rattle.std.proofs.lemmas.List.{append-nil}
 use Rattle.std.proofs.lemmas.List.Elements.{filter-append}
 use Rattle.std.specs.List.{AllByRecursion, filter}
 use Rattle.std.specs.Prelude.{nat_eq, nat_lt}
 use Rattle.vtl_lists.specs.Apart.{all_apart}
 use Rattle.vtl_lists.specs.Results.{◌>>=◌}
+use Rattle.vtl_lists.proofs.Filters.{filter_all, filter_none}
 use Rattle.check_faults.specs.declared.rules.Rule.{Rule}
 use Rattle.vtl_tree.specs.Structure.{columns_of, most_components, names_of, of_role, same_name, same_role}
 use Rattle.vtl_tree.specs.Structures.{is_null_kind, structure_of}
@@ -24,13 +25,13 @@ use Rattle.vtl_meaning.specs.Shapes.{IsShaped}
 use Rattle.check_laws.specs.Gives.{ArePassed, Gives}
 use Rattle.vtl_meaning.proofs.Lists as lists
 use Rattle.check_laws.proofs.Steps.{after, tested}
-use Rattle.check_laws.proofs.Tests.{and-true, below, nonzero, not-false, or-false}
+use Rattle.check_laws.proofs.Tests.{below, nonzero}
 
 pub shaped-gives : (P : Structure → Type 0) (xs : List Component) → (IsShaped (structure_of xs) → P (structure_of xs)) → Gives P (shaped xs)
 shaped-gives P xs f = tested P (result_tests xs) (structure_of xs) (λ passed. f (is passed))
   where
     is : ArePassed (result_tests xs) → IsShaped (structure_of xs)
-    is passed = let counts = or-false (nat_eq (length xs) 0) (nat_lt most_components (length xs)) passed.1.0 in
+    is passed = let counts = or_parts (nat_eq (length xs) 0) (nat_lt most_components (length xs)) passed.1.0 in
         record {
           well_formed = record {
             some = nonzero (length xs) counts.0;
@@ -45,19 +46,6 @@ pub any-shaped : {A : Type 0} (r : Result A Rule) (f : A → List Component) →
 any-shaped r f = after IsShaped r (λ x. shaped (f x)) (λ x. shaped-gives IsShaped (f x) (λ is. is))
 
 -- ---- filters
-pub filter-all : {X : Type 0} (p : X → Bool) (xs : List X) → AllByRecursion (λ x. p x ≡ true) xs → filter p xs ≡ xs
-filter-all p [] h = refl
-filter-all p (x ∷ xs) h = ap (λ b. cond b (x ∷ filter p xs) (filter p xs)) h.0 ∙ ap (λ l. x ∷ l) (filter-all p xs h.1)
-
-pub filter-none : {X : Type 0} (p : X → Bool) (xs : List X) → AllByRecursion (λ x. p x ≡ false) xs → filter p xs ≡ []
-filter-none p [] h = refl
-filter-none p (x ∷ xs) h = ap (λ b. cond b (x ∷ filter p xs) (filter p xs)) h.0 ∙ filter-none p xs h.1
-
--- two tests that agree on the items of a list
-pub filter-same : {X : Type 0} (p q : X → Bool) (xs : List X) → AllByRecursion (λ x. p x ≡ q x) xs → filter p xs ≡ filter q xs
-filter-same p q [] h = refl
-filter-same p q (x ∷ xs) h = ap (λ b. cond b (x ∷ filter p xs) (filter p xs)) h.0 ∙ ap (λ l. cond (q x) (x ∷ l) l) (filter-same p q xs h.1)
-
 -- a test behind a weaker one
 pub filter-within : {X : Type 0} (p q : X → Bool) (xs : List X) → AllByRecursion (λ x. p x ≡ true → q x ≡ true) xs → filter p (filter q xs) ≡ filter p xs
 filter-within p q [] h = refl
@@ -82,15 +70,15 @@ filter-mapped p f (x ∷ xs) e = ap (λ b. cond b (f x ∷ filter p (map f xs)) 
 pub front-identifiers : (ids others : List Component) → AllByRecursion (λ x. x.role ≡ role.Identifier) ids → AllByRecursion (λ x. is_identifier x ≡ false) others → identifiers_of (structure_of (ids ++ others)) ≡ ids
 front-identifiers ids others first rest =
     filter-append is_identifier ids others
-    ∙ ap (λ l. l ++ filter is_identifier others) (filter-all is_identifier ids (lists.weaker (λ x. x.role ≡ role.Identifier) (λ x. is_identifier x ≡ true) ids (λ x e. ap (λ r. same_role r role.Identifier) e) first))
-    ∙ ap (λ l. ids ++ l) (filter-none is_identifier others rest)
+    ∙ ap (λ l. l ++ filter is_identifier others) (filter_all is_identifier ids (lists.weaker (λ x. x.role ≡ role.Identifier) (λ x. is_identifier x ≡ true) ids (λ x e. ap (λ r. same_role r role.Identifier) e) first))
+    ∙ ap (λ l. ids ++ l) (filter_none is_identifier others rest)
     ∙ append-nil ids
 
 -- the components of another role are all behind them
 pub behind-identifiers : (r : Role) (ids others : List Component) → same_role role.Identifier r ≡ false → AllByRecursion (λ x. x.role ≡ role.Identifier) ids → of_role r (structure_of (ids ++ others)) ≡ filter (λ x. same_role x.role r) others
 behind-identifiers r ids others unlike first =
     filter-append (λ x. same_role x.role r) ids others
-    ∙ ap (λ l. l ++ filter (λ x. same_role x.role r) others) (filter-none (λ x. same_role x.role r) ids (lists.weaker (λ x. x.role ≡ role.Identifier) (λ x. same_role x.role r ≡ false) ids (λ x e. ap (λ q. same_role q r) e ∙ unlike) first))
+    ∙ ap (λ l. l ++ filter (λ x. same_role x.role r) others) (filter_none (λ x. same_role x.role r) ids (lists.weaker (λ x. x.role ≡ role.Identifier) (λ x. same_role x.role r ≡ false) ids (λ x e. ap (λ q. same_role q r) e ∙ unlike) first))
 
 -- ---- identifiers and then measures
 pub record AreParts (ids ms : List Component) : Type 0 where
@@ -101,13 +89,13 @@ pub parts-identifiers : (ids ms : List Component) → AreParts ids ms → identi
 parts-identifiers ids ms are = front-identifiers ids ms are.identifiers (lists.weaker (λ x. x.role ≡ role.Measure) (λ x. is_identifier x ≡ false) ms (λ x e. ap (λ r. same_role r role.Identifier) e) are.measures)
 
 pub parts-measures : (ids ms : List Component) → AreParts ids ms → measures_of (structure_of (ids ++ ms)) ≡ ms
-parts-measures ids ms are = behind-identifiers role.Measure ids ms refl are.identifiers ∙ filter-all is_measure ms (lists.weaker (λ x. x.role ≡ role.Measure) (λ x. is_measure x ≡ true) ms (λ x e. ap (λ r. same_role r role.Measure) e) are.measures)
+parts-measures ids ms are = behind-identifiers role.Measure ids ms refl are.identifiers ∙ filter_all is_measure ms (lists.weaker (λ x. x.role ≡ role.Measure) (λ x. is_measure x ≡ true) ms (λ x e. ap (λ r. same_role r role.Measure) e) are.measures)
 
 abbrev pub is_attribute : Component → Bool
 is_attribute x = same_role x.role role.Attribute
 
 pub parts-attributes : (ids ms : List Component) → AreParts ids ms → of_role role.Attribute (structure_of (ids ++ ms)) ≡ []
-parts-attributes ids ms are = behind-identifiers role.Attribute ids ms refl are.identifiers ∙ filter-none is_attribute ms (lists.weaker (λ x. x.role ≡ role.Measure) (λ x. is_attribute x ≡ false) ms (λ x e. ap (λ r. same_role r role.Attribute) e) are.measures)
+parts-attributes ids ms are = behind-identifiers role.Attribute ids ms refl are.identifiers ∙ filter_none is_attribute ms (lists.weaker (λ x. x.role ≡ role.Measure) (λ x. is_attribute x ≡ false) ms (λ x e. ap (λ r. same_role r role.Attribute) e) are.measures)
 
 pub parts-columns : (ids ms : List Component) → AreParts ids ms → columns_of (structure_of (ids ++ ms)) ≡ ids ++ ms
 parts-columns ids ms are =
@@ -123,13 +111,6 @@ pub parts-others : (ids ms : List Component) → AreParts ids ms → others_of (
 parts-others ids ms are = ap (λ l. l ++ of_role role.Attribute (structure_of (ids ++ ms))) (parts-measures ids ms are) ∙ ap (λ l. ms ++ l) (parts-attributes ids ms are) ∙ append-nil ms
 
 -- ---- all identifiers of an operand
-pub all-identifiers : (xs : List Component) → chosen choice.Except [] xs ≡ filter is_identifier xs
-all-identifiers xs = filter-same (is_chosen choice.Except []) is_identifier xs (lists.every (λ x. is_chosen choice.Except [] x ≡ is_identifier x) xs (λ x. and-yes (is_identifier x)))
-  where
-    and-yes : (b : Bool) → (b && true) ≡ b
-    and-yes true = refl
-    and-yes false = refl
-
 pub role-identifier : (x : Component) → is_identifier x ≡ true → x.role ≡ role.Identifier
 role-identifier x e = go x.role e
   where
@@ -148,7 +129,7 @@ role-measure x e = go x.role e
 
 -- identifiers that a choice leaves
 pub chosen-roles : (names : List (List ℕ)) (xs : List Component) → AllByRecursion (λ x. x.role ≡ role.Identifier) (chosen choice.Except names xs)
-chosen-roles names xs = lists.weaker (λ x. is_chosen choice.Except names x ≡ true) (λ x. x.role ≡ role.Identifier) (chosen choice.Except names xs) (λ x e. role-identifier x (and-true (is_identifier x) (not (is_among x.name names)) e).0) (lists.passing (is_chosen choice.Except names) xs)
+chosen-roles names xs = lists.weaker (λ x. is_chosen choice.Except names x ≡ true) (λ x. x.role ≡ role.Identifier) (chosen choice.Except names xs) (λ x e. role-identifier x (and_parts (is_identifier x) (not (is_among x.name names)) e).0) (lists.passing (is_chosen choice.Except names) xs)
 
 pub identifier-roles : (xs : List Component) → AllByRecursion (λ x. x.role ≡ role.Identifier) (filter is_identifier xs)
 identifier-roles xs = lists.weaker (λ x. Unit {0} × (is_identifier x ≡ true)) (λ x. x.role ≡ role.Identifier) (filter is_identifier xs) (λ x k. role-identifier x k.1) (lists.kept (λ x. Unit {0}) is_identifier xs (lists.every (λ x. Unit {0}) xs (λ x. tt)))

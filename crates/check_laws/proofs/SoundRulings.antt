@@ -1,12 +1,14 @@
 -- Calls of accepted definitions are sound.
-use Rattle.std.proofs.Common.{◌≡◌, ℕ, suc, ◌+◌, Bool, true, false, cond, ◌||◌, ◌&&◌, not, List, [], ◌∷◌, map, Option, Some, None, Ok, refl, sym, ap, ◌∙◌, arith}
+use Rattle.std.proofs.Common.{◌≡◌, ℕ, suc, ◌+◌, Bool, true, false, cond, ◌&&◌, not, List, [], ◌∷◌, map, Option, Some, None, Ok, refl, sym, ap, ◌∙◌, arith}
 use Rattle.std.specs.List.{AllByRecursion, list_all, list_any}
 use Rattle.std.specs.Map.{lookup}
 use Rattle.std.specs.Option.{IfSome}
 use Rattle.std.specs.Prelude.{unwrap_or}
+use Rattle.std.proofs.lemmas.Bool.{not-false}
 use Rattle.vtl_decimal.specs.Settings.{Settings}
 use Rattle.vtl_lists.specs.Apart.{all_apart}
 use Rattle.vtl_lists.specs.Results.{◌>>=◌}
+use Rattle.vtl_lists.proofs.Filters.{list_any-map}
 use Rattle.vtl_syntax.specs.Trees as tree
 use Rattle.vtl_syntax.specs.Trees.{StatementTree}
 use Rattle.vtl_syntax.specs.declared.parts.Comp.{Comp}
@@ -53,16 +55,11 @@ use Rattle.check_laws.proofs.Operators.{IsMadeWith, made-gives}
 use Rattle.check_laws.proofs.Ordered.{placed-gives}
 use Rattle.check_laws.proofs.Sets.{dataset-gives}
 use Rattle.check_laws.proofs.Steps.{after, given, passed, tested, tested-then, then, under, weaker}
-use Rattle.check_laws.proofs.Tests.{not-false}
 
 -- ---- rules with identifiers
-any-mapped : {X Y : Type 0} (p : Y → Bool) (f : X → Y) (xs : List X) → list_any p (map f xs) ≡ list_any (λ x. p (f x)) xs
-any-mapped p f [] = refl
-any-mapped p f (x ∷ xs) = ap (λ b. p (f x) || b) (any-mapped p f xs)
-
 apart-mapped : {X Y : Type 0} (same : Y → Y → Bool) (f : X → Y) (xs : List X) → all_apart same (map f xs) ≡ all_apart (λ x y. same (f x) (f y)) xs
 apart-mapped same f [] = refl
-apart-mapped same f (x ∷ xs) = ap (λ b. not b && all_apart same (map f xs)) (any-mapped (same (f x)) f xs) ∙ ap (λ b. not (list_any (λ y. same (f x) (f y)) xs) && b) (apart-mapped same f xs)
+apart-mapped same f (x ∷ xs) = ap (λ b. not b && all_apart same (map f xs)) (list_any-map (same (f x)) f xs) ∙ ap (λ b. not (list_any (λ y. same (f x) (f y)) xs) && b) (apart-mapped same f xs)
 
 ids-named : {R : Type 0} (name : R → Option (List ℕ)) (i : ℕ) (rs : List R) → map (λ x. x.0) (with_ids name i rs) ≡ identifiers_from i (map name rs)
 ids-named name i [] = refl

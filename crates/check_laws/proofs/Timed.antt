@@ -1,6 +1,6 @@
 -- Time operators.
 use Rattle.std.proofs.Common.{◌≡◌, ℕ, zero, suc, ◌≤◌, Bool, true, false, not, ◌&&◌, cond, List, [], ◌∷◌, length, Option, Some, None, Ok, refl, sym, ap, ◌∙◌, subst, true≢false, arith, pos}
-use Rattle.std.proofs.lemmas.Bool.{eqb-true, false≢true}
+use Rattle.std.proofs.lemmas.Bool.{eqb-true, false≢true, not-false}
 use Rattle.std.specs.List.{AllByRecursion, filter}
 use Rattle.std.specs.Prelude.{is_none, nat_eq, unsigned_abs, unwrap_or}
 use Rattle.vtl_decimal.specs.Settings.{Settings}
@@ -51,7 +51,6 @@ use Rattle.check_laws.proofs.Reaches.{points-near}
 use Rattle.check_laws.proofs.Sets.{dataset-gives}
 use Rattle.check_laws.proofs.Shapes.{filter-within, shaped-gives}
 use Rattle.check_laws.proofs.Steps.{tested, tested-then, then, weaker}
-use Rattle.check_laws.proofs.Tests.{not-false}
 
 -- ---- what is written behind the operand
 signed-abs : (negative : Bool) (n : ℕ) → unsigned_abs (signed negative n) ≡ n

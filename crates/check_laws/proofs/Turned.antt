@@ -3,6 +3,7 @@ use Rattle.std.proofs.Common.{◌≡◌, ℕ, true, not, List, [], ◌∷◌, �
 use Rattle.std.specs.List.{list_all}
 use Rattle.std.specs.Option.{option_and_then, option_map_or}
 use Rattle.std.specs.Prelude.{nat_eq}
+use Rattle.std.proofs.lemmas.Bool.{not-false, or_parts}
 use Rattle.vtl_cell.specs.Kinds.{same_kind}
 use Rattle.vtl_lists.specs.Results.{◌>>=◌}
 use Rattle.vtl_cell.specs.declared.kind.Kind.{Kind}
@@ -31,10 +32,10 @@ use Rattle.check_laws.specs.Gives.{ArePassed, Gives}
 use Rattle.vtl_meaning.proofs.FoundColumns.{at-place, found-filter, into-columns, kind-found}
 use Rattle.check_laws.proofs.Left.{IsNamed, known-gives}
 use Rattle.vtl_meaning.proofs.Lists as lists
+use Rattle.vtl_timing.proofs.FlowsKept.{all_identify}
 use Rattle.check_laws.proofs.Measured.{has-identifiers}
-use Rattle.check_laws.proofs.Shapes.{AreParts, all-identifiers, chosen-roles, identifier-roles, parts-others, shaped-gives}
+use Rattle.check_laws.proofs.Shapes.{AreParts, chosen-roles, identifier-roles, parts-others, shaped-gives}
 use Rattle.check_laws.proofs.Steps.{tested-then, then}
-use Rattle.check_laws.proofs.Tests.{not-false, or-false}
 
 -- a component that is found stands at its name with its kind
 named-at : (name : List ℕ) (xs : List Component) (x : Component) → component_of name xs ≡ Some x → IsColumnAt (place_of name xs) name (kind_named name xs) xs
@@ -110,7 +111,7 @@ unpivot-fits id m a =
     ids = identifiers_of a ++ names_column id ms ∷ []
 
     split : chosen choice.Except [] a.components ++ names_column id ms ∷ value ∷ [] ≡ ids ++ value ∷ []
-    split = ap (λ l. l ++ names_column id ms ∷ value ∷ []) (all-identifiers a.components) ∙ sym (append_assoc (identifiers_of a) (names_column id ms ∷ []) (value ∷ []))
+    split = ap (λ l. l ++ names_column id ms ∷ value ∷ []) (all_identify a.components) ∙ sym (append_assoc (identifiers_of a) (names_column id ms ∷ []) (value ∷ []))
 
     are : AreParts ids (value ∷ [])
     are = record { identifiers = lists.appended (λ x. x.role ≡ role.Identifier) (identifiers_of a) (names_column id ms ∷ []) (identifier-roles a.components) (refl, tt); measures = (refl, tt) }
@@ -121,6 +122,6 @@ unpivot-fits id m a =
       identifiers = has-identifiers ids (value ∷ []) ids are refl refl;
       measured = ap component_kinds (parts-others ids (value ∷ []) are);
       alike = lists.weaker (λ x. same_kind (first_kind ms) x.kind ≡ true) (λ x. x.kind ≡ first_kind ms) ms (λ x e. sym (kinds-same (first_kind ms) x.kind e))
-          (lists.all_pass (λ x. same_kind (first_kind ms) x.kind) ms (not-false (list_all (λ x. same_kind (first_kind ms) x.kind) ms) (or-false (nat_eq (length ms) 0) (not (list_all (λ x. same_kind (first_kind ms) x.kind) ms)) passed.0).1));
+          (lists.all_pass (λ x. same_kind (first_kind ms) x.kind) ms (not-false (list_all (λ x. same_kind (first_kind ms) x.kind) ms) (or_parts (nat_eq (length ms) 0) (not (list_all (λ x. same_kind (first_kind ms) x.kind) ms)) passed.0).1));
       shape = sym split;
     }

@@ -11,6 +11,7 @@ use Rattle.vtl_tree.specs.Operands.{agreed, agreed_identifiers, is_coded_alike, 
 use Rattle.vtl_tree.specs.declared.operands.Compared.{Compared}
 use Rattle.vtl_tree.proofs.Twins.{HasTwin, there-twin}
 use Rattle.vtl_meaning.proofs.Lists as lists
+use Rattle.vtl_meaning.proofs.SetsFolds.{agreed_role}
 use Rattle.check_laws.proofs.Shapes.{identifier-roles}
 
 pub within-twins : (c : Compared) (r : Role) (xs ys : List Component) → is_within c r xs ys ≡ true → AllByRecursion (HasTwin c ys) (filter (λ x. same_role x.role r) xs)
@@ -31,13 +32,6 @@ agreed-kind others x = go (list_all (λ s. is_coded_alike x s.components) others
     go true = refl
     go false = refl
 
-pub agreed-role : (others : List Structure) (x : Component) → (agreed others x).role ≡ x.role
-agreed-role others x = go (list_all (λ s. is_coded_alike x s.components) others)
-  where
-    go : (b : Bool) → (cond b x (record x { codes = None })).role ≡ x.role
-    go true = refl
-    go false = refl
-
 pub maps-same : {X Y : Type 0} (f : X → X) (g : X → Y) (xs : List X) → ((x : X) → g (f x) ≡ g x) → map g (map f xs) ≡ map g xs
 maps-same f g [] e = refl
 maps-same f g (x ∷ xs) e = ap (λ y. y ∷ map g (map f xs)) (e x) ∙ ap (λ l. g x ∷ l) (maps-same f g xs e)
@@ -49,4 +43,4 @@ pub agreed-kinds : (others : List Structure) (xs : List Component) → map (λ x
 agreed-kinds others xs = maps-same (agreed others) (λ x. x.kind) (filter is_identifier xs) (agreed-kind others)
 
 pub agreed-roles : (others : List Structure) (xs : List Component) → AllByRecursion (λ x. x.role ≡ role.Identifier) (agreed_identifiers others xs)
-agreed-roles others xs = lists.mapped (λ x. x.role ≡ role.Identifier) (agreed others) (filter is_identifier xs) (lists.weaker (λ x. x.role ≡ role.Identifier) (λ x. (agreed others x).role ≡ role.Identifier) (filter is_identifier xs) (λ x e. agreed-role others x ∙ e) (identifier-roles xs))
+agreed-roles others xs = lists.mapped (λ x. x.role ≡ role.Identifier) (agreed others) (filter is_identifier xs) (lists.weaker (λ x. x.role ≡ role.Identifier) (λ x. (agreed others x).role ≡ role.Identifier) (filter is_identifier xs) (λ x e. agreed_role others x ∙ e) (identifier-roles xs))

@@ -3,6 +3,7 @@ use Rattle.std.proofs.Common.{◌≡◌, ℕ, suc, ◌+◌, Bool, true, false, c
 use Rattle.std.specs.List.{AllByRecursion}
 use Rattle.std.specs.Map.{lookup}
 use Rattle.std.specs.Option.{option_map_or}
+use Rattle.std.proofs.lemmas.Bool.{not-false}
 use Rattle.vtl_decimal.specs.Settings.{Settings}
 use Rattle.vtl_cell.specs.ScalarKinds.{kinds_of}
 use Rattle.vtl_cell.specs.declared.kind.Kind.{Kind}
@@ -38,11 +39,11 @@ use Rattle.vtl_scripts.specs.Made.{IsMade}
 use Rattle.vtl_meaning.specs.Shapes.{IsShaped}
 use Rattle.check_laws.specs.Gives.{Gives}
 use Rattle.check_laws.specs.WellTyped.{AreShaped, IsTypedIn, IsValueAt, IsWellTyped}
-use Rattle.vtl_meaning.proofs.FoundColumns.{among-any, same-true}
+use Rattle.vtl_meaning.proofs.FoundColumns.{among-any}
+use Rattle.vtl_meaning.proofs.Places.{same_name-is}
 use Rattle.check_laws.proofs.Expressions.{call-in, call-typed, over-each}
 use Rattle.check_laws.proofs.Literals.{constant-gives}
 use Rattle.check_laws.proofs.Steps.{after, tested, tested-then, then, weaker}
-use Rattle.check_laws.proofs.Tests.{not-false}
 
 -- what has no components holds at each place
 pub at-any : (p : Settings) (at : Place) (r : Result CompExp Rule) → Gives (IsTyped p []) r → Gives (IsValueAt p at) r
@@ -80,7 +81,7 @@ column-from name [] n = tt
 column-from name (x ∷ xs) n = go (same_name x.name name) refl (column-from name xs (suc n))
   where
     go : (b : Bool) → same_name x.name name ≡ b → Gives (IsBehind (suc n) name (place_of name xs) (kind_named name xs) xs) (column_from name (suc n) xs) → Gives (IsBehind n name (cond (not b) (1 + place_of name xs) 0) (option_map_or (λ x. x.kind) (cond b (Some x) (component_of name xs)) k.Null) (x ∷ xs)) (cond b (Ok (column n x.name x.kind)) (column_from name (suc n) xs))
-    go true h ih = let named : x.name ≡ name = same-true x.name name h in let first : n ≡ n + 0 = omega arith in (cc, (named, refl))
+    go true h ih = let named : x.name ≡ name = same_name-is x.name name h in let first : n ≡ n + 0 = omega arith in (cc, (named, refl))
     go false h ih =
         weaker (IsBehind (suc n) name (place_of name xs) (kind_named name xs) xs) (IsBehind n name (1 + place_of name xs) (kind_named name xs) (x ∷ xs)) (column_from name (suc n) xs)
         (λ e is. let next : suc n + place_of name xs ≡ n + (1 + place_of name xs) = omega arith in let more : suc (place_of name xs) ≡ 1 + place_of name xs = omega arith in (is.0 ∙ ap (λ m. column m name (kind_named name xs)) next, subst (λ m. IsColumnAt m name (kind_named name xs) (x ∷ xs)) more is.1)) ih

@@ -1,6 +1,6 @@
 -- The parts of analytic calls: the names of a window are columns, and an operator takes the kinds of its operand.
 use Rattle.std.proofs.Common.{◌≡◌, ℕ, Bool, true, false, cond, not, ◌||◌, List, [], ◌∷◌, Option, Some, None, Ok, refl, sym, ap, ◌∙◌, subst}
-use Rattle.std.proofs.lemmas.Bool.{false≢true}
+use Rattle.std.proofs.lemmas.Bool.{false≢true, not-false}
 use Rattle.std.specs.List.{AllByRecursion, list_any}
 use Rattle.std.specs.Option.{IfSome}
 use Rattle.vtl_cell.specs.Kinds.{is_null, is_of, kind_of}
@@ -54,7 +54,6 @@ use Rattle.vtl_meaning.proofs.Lists as lists
 use Rattle.check_laws.proofs.Literals.{IsCell, literal-cell, valued-gives}
 use Rattle.check_laws.proofs.Reaches.{AreNearParts, parts-near}
 use Rattle.check_laws.proofs.Steps.{after, both, tested, tested-then, then, weaker}
-use Rattle.check_laws.proofs.Tests.{not-false}
 use Rattle.check_laws.proofs.Turns.{in-turn}
 use Rattle.check_operators.specs.Places.{columns_at, columns_in}
 

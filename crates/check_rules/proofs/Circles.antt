@@ -12,6 +12,7 @@ use Rattle.check_rules.specs.Found.{Has}
 use Rattle.check_rules.specs.Order.{DependsOn, IsMadeOf, Placed, directly, is_awaited, is_left, is_ready, left_behind, next_behind, order_behind, order_of, through}
 use Rattle.check_rules.specs.RuleItems.{defines}
 use Rattle.vtl_tree.specs.RuleItems.{is_equation, left_item, right_items}
+use Rattle.vtl_tree.proofs.NotNullLemmas.{same_itself}
 use Rattle.check_rules.specs.Running.{number}
 use Rattle.check_rules.proofs.Counts.{one_less, place_is}
 use Rattle.check_rules.proofs.Lists.{all_fails, any_at, one_fails, one_passes}
@@ -20,9 +21,6 @@ use Rattle.check_rules.proofs.Runs.{one_rule, rule_at, still_left}
 -- ---- names
 same-true : (a b : List ℕ) → same_name a b ≡ true → a ≡ b
 same-true a b e = (bytes_decides a b).0 e
-
-same-refl : (a : List ℕ) → same_name a a ≡ true
-same-refl a = nat_list_eq_equiv.refl a
 
 never : false ≡ true → ⊥
 never e = cc
@@ -140,7 +138,7 @@ module _ (rules : List HierRule) where
         let at = place_is 0 rules g.0 f.1 g.1 in
         let waits = none_found (is_ready (left_behind rules done)) (left_behind rules done) f.0 f.1 stuck f.2 in
         let z = one_fails (λ item. not (is_awaited (left_behind rules done) item)) (right_items f.1.1) waits in
-        (z.1, (g.0, f.1.1, at.1, f.3, any_at (same_name z.1) (right_items f.1.1) z.0 z.1 z.2 (same-refl z.1)), not-false (is_awaited (left_behind rules done) z.1) z.3)
+        (z.1, (g.0, f.1.1, at.1, f.3, any_at (same_name z.1) (right_items f.1.1) z.0 z.1 z.2 (same_itself z.1)), not-false (is_awaited (left_behind rules done) z.1) z.3)
 
     -- the items that are awaited are among the items that are computed
     is_computed : (y : List ℕ) → is_awaited (left_behind rules done) y ≡ true → Has (map (λ x. left_item x.1) (left_behind rules done)) y
@@ -227,7 +225,7 @@ module _ (rules : List HierRule) where
         let g = kept_at (is_left done) (enumerate_from 0 rules) 0 f.0 f.1 in
         let y : List ℕ = left_item f.0.1 in
         let eq : is_equation f.0.1 ≡ true = (and_parts (not (list_any (nat_eq f.0.0) done)) (is_equation f.0.1) g.2).1 in
-        let here : is_awaited (left_behind rules done) y ≡ true = any_at (λ x. defines y x.1) (left_behind rules done) 0 f.0 f.1 (and_from (is_equation f.0.1) (same_name y (left_item f.0.1)) eq (same-refl y)) in
+        let here : is_awaited (left_behind rules done) y ≡ true = any_at (λ x. defines y x.1) (left_behind rules done) 0 f.0 f.1 (and_from (is_equation f.0.1) (same_name y (left_item f.0.1)) eq (same_itself y)) in
         let names : List (List ℕ) = map (λ x. left_item x.1) (left_behind rules done) in
         walk (length names) names (y ∷ []) y (omega arith) here (λ s h. inr (alone y s h)) (λ u h. inr (is_computed u h))
       where

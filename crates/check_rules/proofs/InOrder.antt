@@ -6,6 +6,7 @@ use Rattle.std.proofs.lemmas.Bool.{and_parts, eq-eqb, ne_eqb}
 use Rattle.vtl_lists.specs.Options.{given}
 use Rattle.vtl_lists.specs.Perm.{Perm, empty, keep, cross, chain}
 use Rattle.vtl_lists.proofs.Perms.{AllByRecursion-Perm, Perm-map, Perm-same, Perm-sym}
+use Rattle.vtl_lists.proofs.Filters.{nothing_left}
 use Rattle.vtl_syntax.specs.declared.statements.HierRule.{HierRule}
 use Rattle.vtl_tree.specs.RuleItems.{definitions, is_equation, right_items}
 use Rattle.check_rules.specs.InOrder.{AreOrdered, IsFree, IsOrder, rules_at}
@@ -16,10 +17,6 @@ use Rattle.check_rules.proofs.Counts.{place_is}
 use Rattle.check_rules.proofs.Runs.{still_left}
 
 -- ---- lists
-nothing : {X : Type 0} (xs : List X) → length xs ≡ 0 → xs ≡ []
-nothing [] e = refl
-nothing (x ∷ xs) e = absurd (omega (arith, e))
-
 module _ {X : Type 0} (kept : ℕ × X → Bool) (place : ℕ) where
   abbrev others : ℕ × X → Bool
   others x = cond (nat_eq x.0 place) false (kept x)
@@ -124,7 +121,7 @@ module _ (rules : List HierRule) where
       record {
         more = [];
         behind = sym same ∙ sym (append-nil done);
-        all = Perm-same [] (left done) (sym (ap (map (λ (x : Placed). x.1)) (nothing (left_behind rules done) many)));
+        all = Perm-same [] (left done) (sym (ap (map (λ (x : Placed). x.1)) (nothing_left (left_behind rules done) many)));
         ordered = tt;
       }
   rest_behind (suc n) done order many e = go (next_behind rules done) refl e (λ d m h. rest_behind n d order m h)

@@ -8,7 +8,7 @@ use Rattle.std.proofs.Math.Nat.{mod-lt, one-le-pow}
 use Rattle.std.proofs.lemmas.Fmt.{IsAscii-decimal}
 use Rattle.std.proofs.lemmas.Str.{IsUtf8-from_ascii, chars-IsAscii}
 use Rattle.vtl_decimal.specs.Written.{behind_point, last_digits, number_text, shortest_digits}
-use Rattle.vtl_decimal.proofs.WritingLemmas.{length-last_digits}
+use Rattle.vtl_decimal.proofs.WritingLemmas.{length-last_digits, shortest_digits-none, shortest_digits-suc}
 use Rattle.vtl_decimal.specs.Settings.{Settings}
 use Rattle.expressions_to_sql.specs.Constants.{decimal_text, some_digit}
 use Rattle.expressions_to_sql.proofs.WrittenNumbers.{number_ascii}
@@ -22,18 +22,10 @@ integer_ascii n h = IsAscii-decimal (unsigned_abs n) h
 
 -- ---- numbers
 
-digits_none : (n : ℕ) → shortest_digits 0 n ≡ []
-unfolding shortest_digits
-digits_none n = refl
-
-digits_suc : (w n : ℕ) → shortest_digits (suc w) n ≡ cond (n % 10 == 0) (shortest_digits w (n / 10)) (last_digits (suc w) n)
-unfolding shortest_digits
-digits_suc w n = refl
-
 -- without a rest there are no digits behind the point
 no_rest : (w : ℕ) → shortest_digits w 0 ≡ []
-no_rest zero = digits_none 0
-no_rest (suc w) = digits_suc w 0 ∙ no_rest w
+no_rest zero = shortest_digits-none 0
+no_rest (suc w) = shortest_digits-suc w 0 ∙ no_rest w
 
 -- with one there are some
 some_rest : (w n : ℕ) → 0 < n → n < 10 ^ w → 0 < length (shortest_digits w n)
@@ -44,10 +36,10 @@ some_rest (suc w) n h i = go (n % 10 == 0) refl (some_rest w (n / 10))
     go true e ih =
         let none : n % 10 ≡ 0 = eqb-true (n % 10) 0 e in
         let power : 10 ^ suc w ≡ 10 ^ w * 10 = pow-suc 10 w in
-        let same : shortest_digits (suc w) n ≡ shortest_digits w (n / 10) = digits_suc w n ∙ ap (λ b. cond b (shortest_digits w (n / 10)) (last_digits (suc w) n)) e in
+        let same : shortest_digits (suc w) n ≡ shortest_digits w (n / 10) = shortest_digits-suc w n ∙ ap (λ b. cond b (shortest_digits w (n / 10)) (last_digits (suc w) n)) e in
         subst (λ ds. 0 < length ds) (sym same) (ih (omega (arith, h, none)) (omega (arith, i, power)))
     go false e ih =
-        let same : shortest_digits (suc w) n ≡ last_digits (suc w) n = digits_suc w n ∙ ap (λ b. cond b (shortest_digits w (n / 10)) (last_digits (suc w) n)) e in
+        let same : shortest_digits (suc w) n ≡ last_digits (suc w) n = shortest_digits-suc w n ∙ ap (λ b. cond b (shortest_digits w (n / 10)) (last_digits (suc w) n)) e in
         subst (λ ds. 0 < length ds) (sym same) (omega (arith, length-last_digits (suc w) n))
 
 with_point : (q ds : List ℕ) → 0 < length ds → (q ++ behind_point ds) ++ [] ≡ q ++ 46 ∷ some_digit ds

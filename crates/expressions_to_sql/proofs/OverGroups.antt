@@ -2,9 +2,8 @@
 use Rattle.std.proofs.Common.{◌≡◌, ℕ, ◌+◌, ◌≤◌, Bool, true, false, cond, not, ◌&&◌, ◌||◌, List, [], ◌∷◌, map, Option, Some, None, Ok, refl, sym, ap, subst, ◌∙◌}
 use Rattle.std.specs.Prelude.{is_some}
 use Rattle.std.specs.List.{position_or_len}
-use Rattle.std.specs.Cmp.{IsTotalOrder, on_total, then_total}
 use Rattle.std.specs.Ordering.{eq_by_cmp}
-use Rattle.std.proofs.lemmas.Cmp.{eq_by_cmp_equiv, nat_list_cmp_total, nat_list_eq_equiv}
+use Rattle.std.proofs.lemmas.Cmp.{eq_by_cmp_equiv, nat_list_eq_equiv}
 use Rattle.std.proofs.lemmas.Slice.Eq.{bytes_eq-Decides}
 use Rattle.vtl_cell.specs.Groups as cells
 use Rattle.vtl_cell.specs.Outcome.{Outcome, after, faults_by, unless}
@@ -25,8 +24,8 @@ use Rattle.sql_tree.specs.Trees.{Text}
 use Rattle.sql_check_laws.specs.Fits.{Fits}
 use Rattle.sql_check_parts.specs.Expressions.{site}
 use Rattle.sql_check_parts.specs.Kinds.{kind_in}
-use Rattle.sql_check_parts.specs.Scopes.{ColumnName, Grouping, Scope, Tables, column_name, column_order, found, grouping_of, is_among, is_grouped_by, or_null}
-use Rattle.sql_check_parts.proofs.Grouped.{is_column_among, is_in_group}
+use Rattle.sql_check_parts.specs.Scopes.{Grouping, Scope, Tables, column_name, column_order, found, grouping_of, is_among, is_grouped_by, or_null}
+use Rattle.sql_check_parts.proofs.Grouped.{is_column_among, is_in_group, total}
 use Rattle.sql_meaning.specs.Outcomes.{all_values}
 use Rattle.sql_meaning.specs.Tables.{Base}
 use Rattle.sql_meaning.specs.Values.{at_groups, place_in, same_column, value}
@@ -50,9 +49,6 @@ one_source alias name other = ap (λ b. b && same_text name other) (nat_list_eq_
 key_place : (alias name : Text) (names : List Text) → position_or_len (same_column (sql.column_of alias name)) (group_columns alias names) ≡ position_or_len (same_text name) names
 key_place alias name [] = refl
 key_place alias name (n ∷ names) = λ i. cond (not (one_source alias name n i)) (1 + key_place alias name names i) 0
-
-total : IsTotalOrder column_order
-total = then_total (on_total (λ (c : ColumnName). c.0) nat_list_cmp_total) (on_total (λ (c : ColumnName). c.1) nat_list_cmp_total)
 
 -- a grouping identifier is a column of GROUP BY
 grouped : (alias name : Text) (names : List Text) → is_among name names ≡ true → is_grouped_by (grouping_of (group_columns alias names)) (sql.column_of alias name) ≡ true

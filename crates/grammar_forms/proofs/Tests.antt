@@ -2,11 +2,8 @@
 use Rattle.std.proofs.Common.{◌≡◌, ℕ, Bool, true, false, List, [], ◌∷◌, ◌++◌, refl, subst}
 use borrow.Author.Tests.{eqb-true}
 use Rattle.std.specs.Prelude.{nat_eq, if◌then◌else◌}
+use Rattle.std.proofs.lemmas.Bool.{false_from_ne_true}
 use Rattle.grammar_forms.specs.Forms.{has, apart, among}
-
-pub decided : (b : Bool) → (b ≡ true → ⊥) → b ≡ false
-decided true h = absurd (h refl)
-decided false h = refl
 
 pub clash : (b : Bool) → b ≡ true → b ≡ false → ⊥
 clash true e f = cc
@@ -32,10 +29,10 @@ has-right [] ys n h = h
 has-right (x ∷ xs) ys n h = skip-all (nat_eq x n) (has (xs ++ ys) n) (has-right xs ys n h)
 
 pub lacks-left : (xs ys : List ℕ) (n : ℕ) → has (xs ++ ys) n ≡ false → has xs n ≡ false
-lacks-left xs ys n h = decided (has xs n) (λ e. clash (has (xs ++ ys) n) (has-left xs ys n e) h)
+lacks-left xs ys n h = false_from_ne_true (has xs n) (λ e. clash (has (xs ++ ys) n) (has-left xs ys n e) h)
 
 pub lacks-right : (xs ys : List ℕ) (n : ℕ) → has (xs ++ ys) n ≡ false → has ys n ≡ false
-lacks-right xs ys n h = decided (has ys n) (λ e. clash (has (xs ++ ys) n) (has-right xs ys n e) h)
+lacks-right xs ys n h = false_from_ne_true (has ys n) (λ e. clash (has (xs ++ ys) n) (has-right xs ys n e) h)
 
 -- the first of a list is the one, or another is
 at_head : (b : Bool) (x n : ℕ) (xs : List ℕ) (P : ℕ → Type 0) → nat_eq x n ≡ b → P x → (has xs n ≡ true → P n) → (if b then true else has xs n) ≡ true → P n
@@ -56,14 +53,14 @@ apart-lacks [] ys n a h = cc
 apart-lacks (x ∷ xs) ys n a h = let p = head_out (has ys x) (apart xs ys) a in at_head (nat_eq x n) x n xs (λ m. has ys m ≡ false) refl p.0 (apart-lacks xs ys n p.1) h
 
 pub apart-lacks' : (xs ys : List ℕ) (n : ℕ) → apart xs ys ≡ true → has ys n ≡ true → has xs n ≡ false
-apart-lacks' xs ys n a h = decided (has xs n) (λ e. clash (has ys n) h (apart-lacks xs ys n a e))
+apart-lacks' xs ys n a h = false_from_ne_true (has xs n) (λ e. clash (has ys n) h (apart-lacks xs ys n a e))
 
 pub among-has : (xs ys : List ℕ) (n : ℕ) → among xs ys ≡ true → has xs n ≡ true → has ys n ≡ true
 among-has [] ys n a h = cc
 among-has (x ∷ xs) ys n a h = let p = head_in (has ys x) (among xs ys) a in at_head (nat_eq x n) x n xs (λ m. has ys m ≡ true) refl p.0 (among-has xs ys n p.1) h
 
 pub among-lacks : (xs ys : List ℕ) (n : ℕ) → among xs ys ≡ true → has ys n ≡ false → has xs n ≡ false
-among-lacks xs ys n a h = decided (has xs n) (λ e. clash (has ys n) (among-has xs ys n a e) h)
+among-lacks xs ys n a h = false_from_ne_true (has xs n) (λ e. clash (has ys n) (among-has xs ys n a e) h)
 
 either_out : (b x : Bool) → (if b then true else x) ≡ false → (b ≡ false) × (x ≡ false)
 either_out true x h = cc

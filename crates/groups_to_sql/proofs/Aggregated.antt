@@ -4,6 +4,7 @@ use Rattle.std.specs.Prelude.{IfOk, is_some, option_and_then}
 use Rattle.std.specs.List.{AllByRecursion, filter}
 use Rattle.std.specs.Option.{IfSome, option_map_or}
 use Rattle.std.proofs.lemmas.List.{map-append}
+use Rattle.vtl_lists.proofs.Alls.{all_more}
 use Rattle.grammar_forms.specs.Written.{Each}
 use Rattle.vtl_cell.specs.Conversion.{as_kind}
 use Rattle.vtl_cell.specs.Kinds.{is_of}
@@ -41,7 +42,7 @@ use Rattle.vtl_meaning.proofs.GroupLooks.{all_points, one_key}
 use Rattle.vtl_meaning.proofs.GroupPoints.{kept_are, point_is}
 use Rattle.expressions_to_sql.proofs.OverGroups.{group_fits, group_formed, group_kind, group_value_is}
 use Rattle.vtl_meaning.proofs.OwnColumns.{columns_apart, own_among}
-use Rattle.vtl_meaning.proofs.Places.{all_more, columns_split, identifiers_apart}
+use Rattle.vtl_meaning.proofs.Places.{columns_split, identifiers_apart}
 use Rattle.vtl_meaning.proofs.ValueKinds.{point_parts}
 use Rattle.sql_tree.specs.Formed.{IsColumn, IsExp, IsMaybeExp, IsName, exp_depth}
 use Rattle.sql_tree.specs.Trees.{Exp, SelectTree, Text}

@@ -21,6 +21,7 @@ use Rattle.vtl_cell.specs.declared.kind.Kind.TheVariants as k
 use Rattle.vtl_cell.specs.declared.operator.AggKind.TheVariants as agg
 use Rattle.vtl_cell.specs.declared.operator.ScalarOp.TheVariants as op
 use Rattle.vtl_lists.proofs.Sorts.{AllByRecursion-filter}
+use Rattle.vtl_lists.proofs.Alls.{all_more}
 use Rattle.vtl_rows.specs.Tables.{cells_at}
 use Rattle.vtl_tree.specs.DataSet.{IsDataSet, is_point}
 use Rattle.vtl_tree.specs.Structure.{columns_of, names_of, same_name}
@@ -38,9 +39,10 @@ use Rattle.vtl_meaning.specs.Turned.{coded_value, codes_of, is_coded, other_iden
 use Rattle.vtl_meaning.proofs.GroupLooks.{all_points, one_key}
 use Rattle.vtl_meaning.proofs.JoinParts.{found_is}
 use Rattle.vtl_meaning.proofs.OwnColumns.{columns_apart, own_among}
-use Rattle.vtl_meaning.proofs.Places.{all_more, columns_split, identifiers_apart}
+use Rattle.vtl_meaning.proofs.Places.{columns_split, identifiers_apart}
 use Rattle.vtl_meaning.proofs.TurnedKept.{keys_typed, others_among}
 use Rattle.vtl_meaning.proofs.ValueKinds.{cell_is_of, null_is_of}
+use Rattle.vtl_meaning.proofs.LookUps.{named_cells}
 use Rattle.sql_tree.specs.Formed.{IsMaybeExp, IsName}
 use Rattle.sql_tree.specs.Trees.{Text, binary}
 use Rattle.sql_tree.specs.declared.parts.Column.{Column}
@@ -62,7 +64,7 @@ use Rattle.selects_to_sql.specs.Runs.{IsTable, printable_depth}
 use Rattle.groups_to_sql.specs.Turned.{coded_item, kept_groups, pivot_query, pivot_select, pivoted_items, text_constant, where_coded}
 use Rattle.selects_to_sql.specs.Groups.{grouped_as}
 use Rattle.selects_to_sql.specs.Items.{first_column}
-use Rattle.selects_to_sql.proofs.Coded.{all_there, case_of, cells_named, greatest_coded, truth_of}
+use Rattle.selects_to_sql.proofs.Coded.{all_there, case_of, greatest_coded, truth_of}
 use Rattle.selects_to_sql.proofs.Conjunctions.{equal_cells}
 use Rattle.selects_to_sql.proofs.Exact.{IsExactly}
 use Rattle.selects_to_sql.proofs.Expressions.{Translates}
@@ -274,7 +276,7 @@ module _ (p : Settings) (law : Translates p) (before : Data) (name : Text) (a s 
 
   kept_for : (zs : List Component) → kept_keys (at_groups b scope (group_columns first_alias (names_of zs))) (rows_with (places_in xs zs) d) (kept_groups zs) (keys_by (places_in xs zs) d) ≡ each_once same_row (map (values_in a zs) d)
   kept_for [] = ap (λ o. cond (is_true o) ([] ∷ []) []) (truth_is p law before xs (columns_apart a set.well_formed) na [] [] (rows_with [] d []) ∙ ap (λ l. Ok (truth_of l)) (all_points d)) ∙ one_kept d
-  kept_for (z ∷ zs) = ap (each_once same_row) (map_each (cells_at (places_in xs (z ∷ zs))) (values_in a (z ∷ zs)) (cells_named xs (z ∷ zs)) d)
+  kept_for (z ∷ zs) = ap (each_once same_row) (map_each (cells_at (places_in xs (z ∷ zs))) (values_in a (z ∷ zs)) (named_cells xs (z ∷ zs)) d)
 
   quiet_for : (zs : List Component) → having_fault (at_groups b scope (group_columns first_alias (names_of zs))) (rows_with (places_in xs zs) d) (kept_groups zs) (keys_by (places_in xs zs) d) ≡ None
   quiet_for [] = ap (λ o. join (fault_in o) None) (truth_is p law before xs (columns_apart a set.well_formed) na [] [] (rows_with [] d []))

@@ -5,6 +5,7 @@ use Rattle.std.specs.List.{AllByRecursion, filter}
 use Rattle.std.specs.Option.{is_none}
 use Rattle.vtl_lists.specs.Apart.{all_apart}
 use Rattle.vtl_lists.proofs.Aparts.{apart_parts}
+use Rattle.vtl_lists.proofs.Alls.{all_append}
 use Rattle.vtl_tree.specs.Structure.{IsStructure, names_of, same_name}
 use Rattle.vtl_tree.specs.declared.structure.Component.{Component}
 use Rattle.vtl_tree.specs.declared.structure.Structure.{Structure}
@@ -17,7 +18,8 @@ use Rattle.vtl_meaning.specs.Shapes.{target_of, tree_kind}
 use Rattle.vtl_tree.specs.Trees as nodes
 use Rattle.vtl_tree.specs.Trees.{ItemTree}
 use Rattle.vtl_tree.specs.declared.targets.Target.{Target}
-use Rattle.vtl_meaning.proofs.Places.{all_append, same_name-is, same_name-refl}
+use Rattle.vtl_tree.proofs.NotNullLemmas.{same_itself}
+use Rattle.vtl_meaning.proofs.Places.{same_name-is}
 
 module _ (xs : List Component) where
   -- the target of the column's name, where there is one, has values of its kind
@@ -92,7 +94,7 @@ module _ (xs : List Component) where
           one false f = refl
 
       itself : IsOfTarget (i ∷ items) (target_component (target_of xs i))
-      itself = λ j f. ap (λ z. tree_kind xs z.value) (one (same_name i.target i.target) (same_name-refl i.target) j f)
+      itself = λ j f. ap (λ z. tree_kind xs z.value) (one (same_name i.target i.target) (same_itself i.target) j f)
         where
           one : (b : Bool) → b ≡ true → (j : ItemTree) → cond b (Some i) (item_named items i.target) ≡ Some j → j ≡ i
           one true t j f = cc

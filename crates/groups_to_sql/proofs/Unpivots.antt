@@ -14,6 +14,7 @@ use Rattle.vtl_cell.specs.declared.cell.Cell.TheVariants as c
 use Rattle.vtl_cell.specs.declared.kind.Kind.TheVariants as k
 use Rattle.vtl_lists.proofs.Perms.{Perm-same}
 use Rattle.vtl_lists.proofs.Sorts.{AllByRecursion-filter}
+use Rattle.vtl_lists.proofs.Alls.{all_back, all_both, all_more}
 use Rattle.vtl_cell.specs.Literals.{is_null_kind}
 use Rattle.vtl_tree.specs.DataSet.{IsDataSet}
 use Rattle.vtl_tree.specs.Structure.{columns_of}
@@ -28,9 +29,8 @@ use Rattle.vtl_meaning.specs.Made.{AreAmong, IsColumnAt, IsUnpivoted}
 use Rattle.vtl_meaning.specs.Points.{with_points}
 use Rattle.vtl_meaning.specs.Turned.{named_point, unpivot_of, unpivoted_points}
 use Rattle.vtl_meaning.proofs.Agreements.{own_values}
-use Rattle.vtl_meaning.proofs.Kept.{both_all}
 use Rattle.vtl_meaning.proofs.OwnColumns.{among_front, columns_apart, own_identifiers, own_measures}
-use Rattle.vtl_meaning.proofs.Places.{all_back, all_more, columns_split}
+use Rattle.vtl_meaning.proofs.Places.{columns_split}
 use Rattle.vtl_meaning.proofs.TurnedKept.{filter_map_drawn}
 use Rattle.sql_tree.specs.Formed.{IsName}
 use Rattle.sql_tree.specs.Trees.{Text}
@@ -195,7 +195,7 @@ module _ (p : Settings) (law : Translates p) (before : Data) (name : Text) (a s 
       (Perm-same _ _ (sym (flat_map_each (unpivoted_points a) (λ r. flat_map (drawn r) (measures_of a)) (λ r. filter_map_drawn (λ x. named_point a r x.name (here r x)) (measures_of a)) d))))
 
   pub unpivot_means : Means p before (unpivot_query p a s name) s (Ok (unpivot_of (with_points a d)))
-  unpivot_means = go (measures_of a) refl (both_all (λ x. IsColumnAt (place_of x.name xs) x.name x.kind xs) (λ x. x.kind ≡ first_kind (measures_of a)) (λ x. GivesRows p before s (unpivoted_select p a s name x) (Ok (rows_of x))) measure_gives (measures_of a) (own_measures a set.well_formed) i.alike)
+  unpivot_means = go (measures_of a) refl (all_both (λ x. IsColumnAt (place_of x.name xs) x.name x.kind xs) (λ x. x.kind ≡ first_kind (measures_of a)) (λ x. GivesRows p before s (unpivoted_select p a s name x) (Ok (rows_of x))) measure_gives (measures_of a) (own_measures a set.well_formed) i.alike)
     where
       go : (ms : List Component) → measures_of a ≡ ms → AllByRecursion (λ x. GivesRows p before s (unpivoted_select p a s name x) (Ok (rows_of x))) ms → Means p before (map (unpivoted_select p a s name) ms) s (Ok (unpivot_of (with_points a d)))
       go [] e h =

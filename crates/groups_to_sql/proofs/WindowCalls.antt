@@ -27,6 +27,7 @@ use Rattle.vtl_cell.specs.declared.kind.Kind.TheVariants as k
 use Rattle.vtl_cell.specs.declared.operator.AggKind.TheVariants as agg
 use Rattle.vtl_decimal.specs.declared.number.Fault.TheVariants.{Range}
 use Rattle.vtl_lists.proofs.Sorts.{AllByRecursion-filter}
+use Rattle.vtl_lists.proofs.Alls.{all_append, all_front, all_more}
 use Rattle.vtl_cell.specs.AggregateKinds.{number_of, sum_kind}
 use Rattle.vtl_cell.specs.Literals.{integer_written, longest_reach}
 use Rattle.vtl_tree.specs.DataSet.{IsDataSet, is_point}
@@ -66,7 +67,7 @@ use Rattle.sql_tree.specs.declared.windows.Window.{Window}
 use Rattle.sql_tree.specs.declared.windows.WindowKey.{WindowKey}
 use Rattle.expressions_to_sql.proofs.FormedConstants.{literal_formed}
 use Rattle.vtl_meaning.proofs.OwnColumns.{columns_apart, own_columns}
-use Rattle.vtl_meaning.proofs.Places.{all_append, all_front, all_more, columns_split}
+use Rattle.vtl_meaning.proofs.Places.{columns_split}
 use Rattle.expressions_to_sql.proofs.WrittenConstants.{integer_there, literal_is, member_kind}
 use Rattle.selects_to_sql.specs.Writable.{HaveNames}
 use Rattle.selects_to_sql.specs.Queries.{first_alias, of_one}

@@ -16,11 +16,13 @@ use Rattle.vtl_lists.specs.Sorting.{Rises, le_by}
 use Rattle.vtl_cell.specs.declared.cell.Cell.{Cell}
 use Rattle.vtl_lists.proofs.Aparts.{apart_parts}
 use Rattle.vtl_cell.proofs.Keys.{by_keys_total, window_order}
-use Rattle.vtl_cell.proofs.Orders.{cell_cmp_total}
+use Rattle.vtl_cell.proofs.Orders.{cell_cmp_total, then_ties}
 use Rattle.vtl_lists.proofs.Perms.{AllByRecursion-Perm, Perm-sym}
 use Rattle.vtl_cell.proofs.Rows.{row_cmp-ties, row_cmp_total, same_row-is, same_row-refl, same_row-sym}
 use Rattle.vtl_lists.proofs.Sorts.{AllByRecursion-filter, Perm-sorted_by, Rises-sorted_by, sorted_is}
+use Rattle.vtl_lists.proofs.Alls.{all_filtered}
 use Rattle.vtl_rows.specs.Tables.{cells_at}
+use Rattle.vtl_rows.proofs.AllColumns.{keys_append}
 use Rattle.vtl_tree.specs.DataSet.{is_point}
 use Rattle.vtl_tree.specs.Structure.{IsStructure, columns_of, key_width, same_name}
 use Rattle.vtl_tree.specs.declared.structure.Component.{Component}
@@ -33,7 +35,7 @@ use Rattle.vtl_tree.specs.declared.calls.OrderKey.{OrderKey}
 use Rattle.vtl_tree.specs.declared.calls.Window.{Window}
 use Rattle.sql_meaning.specs.Windows.{place_within, told_apart}
 use Rattle.vtl_meaning.proofs.Lists as lists
-use Rattle.vtl_meaning.proofs.Places.{all_filtered, key_cells, key_within, same_name-is}
+use Rattle.vtl_meaning.proofs.Places.{key_cells, key_within, same_name-is}
 use Rattle.groups_to_sql.specs.Windowed.{is_listed, key_names}
 
 -- ---- comparisons
@@ -42,10 +44,6 @@ regrouped : (s t u : Ordering) → ordering_then (ordering_then s t) u ≡ order
 regrouped Less t u = refl
 regrouped Equal t u = refl
 regrouped Greater t u = refl
-
-keys_append : (ks more : List Key) (q r : Row) → by_keys (ks ++ more) q r ≡ ordering_then (by_keys ks q r) (by_keys more q r)
-keys_append [] more q r = refl
-keys_append (k ∷ ks) more q r = ap (ordering_then (key_cmp k q r)) (keys_append ks more q r) ∙ sym (regrouped (key_cmp k q r) (by_keys ks q r) (by_keys more q r))
 
 rising_cells : (places : List ℕ) (q r : Row) → by_keys (map rising places) q r ≡ row_cmp (cells_at places q) (cells_at places r)
 rising_cells [] q r = refl
@@ -64,15 +62,10 @@ first_of_all (suc n) (x ∷ q) (y ∷ r) = go (cell_cmp x y) (first_of_all n q r
     go Equal ih = ih
     go Greater ih = refl
 
-own_tie : (o : Ordering) → o ≡ ordering_reverse o → o ≡ Equal
+pub own_tie : (o : Ordering) → o ≡ ordering_reverse o → o ≡ Equal
 own_tie Less e = cc
 own_tie Equal e = refl
 own_tie Greater e = cc
-
-then_ties : (s t : Ordering) → ordering_then s t ≡ Equal → (s ≡ Equal) × (t ≡ Equal)
-then_ties Less t e = cc
-then_ties Equal t e = (refl, e)
-then_ties Greater t e = cc
 
 cell_ties : (x : Cell) → cell_cmp x x ≡ Equal
 cell_ties x = own_tie (cell_cmp x x) (cell_cmp_total.antisymm x x)

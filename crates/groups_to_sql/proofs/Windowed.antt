@@ -1,20 +1,19 @@
--- An analytic operator is a select with a window for each call.
-use Rattle.std.proofs.Common.{◌≡◌, ℕ, Bool, true, false, cond, List, [], ◌∷◌, map, take, Option, Some, None, Ok, refl, ap, sym, ◌∙◌, subst, arith, true≢false}
-use Rattle.std.specs.Prelude.{IfOk, is_some, option_and_then, option_map}
+-- An analytic operator is a select with a window for all_each call.
+use Rattle.std.proofs.Common.{◌≡◌, ℕ, Bool, true, false, cond, List, [], ◌∷◌, map, Option, Some, None, Ok, refl, ap, sym, ◌∙◌, subst, arith}
+use Rattle.std.specs.Prelude.{IfOk, is_some, option_map}
 use Rattle.std.specs.List.{AllByRecursion}
 use Rattle.std.specs.Option.{option_map_or}
-use Rattle.vtl_lists.specs.Apart.{all_apart}
 use Rattle.vtl_cell.specs.Conversion.{as_kind}
 use Rattle.vtl_cell.specs.Kinds.{is_of}
 use Rattle.vtl_cell.specs.Outcome.{Outcome, after}
 use Rattle.vtl_cell.specs.Profile.{IsOfProfile}
-use Rattle.vtl_cell.specs.Row.{Row, column_of, same_key, same_row}
+use Rattle.vtl_cell.specs.Row.{Row, column_of}
 use Rattle.vtl_decimal.specs.Settings.{Settings}
 use Rattle.vtl_cell.specs.declared.cell.Cell.{Cell}
 use Rattle.vtl_cell.specs.declared.kind.Kind.{Kind}
 use Rattle.vtl_cell.specs.declared.kind.Kind.TheVariants as k
-use Rattle.vtl_lists.proofs.Aparts.{apart_more, apart_parts}
-use Rattle.vtl_cell.proofs.Rows.{same_row-is, same_row-refl}
+use Rattle.vtl_lists.proofs.Alls.{all_append, all_each, all_front, all_more}
+use Rattle.vtl_lists.proofs.Tests.{then_some}
 use Rattle.vtl_tree.specs.CompExp.{CompExp}
 use Rattle.vtl_tree.specs.DataSet.{IsDataSet, is_point}
 use Rattle.vtl_tree.specs.Environment.{DataSet}
@@ -50,8 +49,9 @@ use Rattle.vtl_tree.specs.declared.calls.AnalyticOp.TheVariants as op
 use Rattle.vtl_meaning.proofs.FoundColumns.{at-place, in-columns, of-columns}
 use Rattle.vtl_meaning.proofs.Lists as lists
 use Rattle.vtl_meaning.proofs.OwnColumns.{columns_apart}
-use Rattle.vtl_meaning.proofs.Places.{all_append, all_front, all_more, columns_split, each}
+use Rattle.vtl_meaning.proofs.Places.{columns_split}
 use Rattle.vtl_meaning.proofs.ValueKinds.{cell_is_of, value_is_of}
+use Rattle.vtl_meaning.proofs.WindowPlaces.{rows_apart}
 use Rattle.sql_tree.specs.Formed.{IsName}
 use Rattle.sql_tree.specs.Trees.{Exp, ItemTree as Item, Text, column, expression}
 use Rattle.sql_tree.specs.declared.parts.Source.{Source}
@@ -92,28 +92,9 @@ find_passes P name (j ∷ items) h i e = go (same_name j.target name) e (find_pa
     go true t ih = let s : j ≡ i = cc in subst P s h.0
     go false t ih = ih t
 
-then_some : {A B : Type 0} (o : Option A) (f : A → Option B) (y : B) → option_and_then f o ≡ Some y → (x : A) × (o ≡ Some x) × (f x ≡ Some y)
-then_some None f y e = cc
-then_some (Some x) f y e = (x, refl, e)
-
 if_some : {A : Type 0} (b : Bool) (x y : A) → cond b (Some x) None ≡ Some y → (b ≡ true) × (x ≡ y)
 if_some true x y e = let same : x ≡ y = cc in (refl, same)
 if_some false x y e = cc
-
--- points whose keys are apart are apart
-rows_apart : (n : ℕ) (d : List Row) → all_apart (same_key n) d ≡ true → all_apart same_row d ≡ true
-rows_apart n [] e = refl
-rows_apart n (r ∷ d) e =
-    let parts = apart_parts (same_key n) r d e in
-    apart_more same_row r d (each_apart d parts.0) (rows_apart n d parts.1)
-  where
-    one : (q : Row) → same_key n r q ≡ false → (b : Bool) → same_row r q ≡ b → b ≡ false
-    one q h true f = absurd (true≢false (sym (same_row-refl (take n r)) ∙ ap (same_key n r) (same_row-is r q f) ∙ h))
-    one q h false f = refl
-
-    each_apart : (qs : List Row) → AllByRecursion (λ q. same_key n r q ≡ false) qs → AllByRecursion (λ q. same_row r q ≡ false) qs
-    each_apart [] all = tt
-    each_apart (q ∷ qs) all = (one q all.0 (same_row r q) refl, each_apart qs all.1)
 
 -- what makes a column is ready where all targets are
 ready : (p : Settings) (a s : Structure) (spec : AnalyticTree) → AreValuesOver p (columns_of a) spec → AreNear spec → CallsCanBeWritten spec → (y : Component) (v : ValueTree) → value_for spec y ≡ Some v → IsReady p (columns_of a) v
@@ -137,7 +118,7 @@ abbrev IsKinded : AnalyticTree → Component → Type 0
 IsKinded spec y = (e : CompExp) → value_for spec y ≡ Some (nodes.scalar e) → exp_kind e ≡ y.kind
 
 kinded : (spec : AnalyticTree) (a s : Structure) → IsStructure s → s.components ≡ analyzed_components spec a.components → AllByRecursion (IsKinded spec) s.components
-kinded (nodes.of_measures o w) a s formed shape = each (IsKinded (nodes.of_measures o w)) (λ y e f. none y e (is_measure y) f) s.components
+kinded (nodes.of_measures o w) a s formed shape = all_each (IsKinded (nodes.of_measures o w)) (λ y e f. none y e (is_measure y) f) s.components
   where
     none : (y : Component) (e : CompExp) (b : Bool) → cond b (Some (measure_call o w y.name)) None ≡ Some (nodes.scalar e) → exp_kind e ≡ y.kind
     none y e true f = cc

@@ -3,6 +3,7 @@ use Rattle.std.proofs.Common.{◌≡◌, ◌<◌, ◌+◌, ℕ, Bool, true, fals
 use Rattle.std.proofs.lemmas.List.{length-map, map-append}
 use Rattle.std.proofs.lemmas.List.Elements.{filter-append}
 use Rattle.std.specs.List.{AllByRecursion, filter}
+use Rattle.vtl_lists.proofs.Alls.{all_more}
 use Rattle.vtl_decimal.specs.Settings.{Settings}
 use Rattle.vtl_cell.specs.declared.cell.Cell.TheVariants as c
 use Rattle.vtl_cell.specs.declared.operator.ScalarOp.TheVariants as op
@@ -21,8 +22,9 @@ use Rattle.vtl_tree.specs.declared.structure.Role.{Role}
 use Rattle.vtl_tree.specs.declared.structure.Role.TheVariants as role
 use Rattle.vtl_tree.specs.declared.structure.Structure.{Structure}
 use Rattle.vtl_meaning.specs.Turned.{other_identifiers}
-use Rattle.vtl_meaning.proofs.Places.{IsIdentifier, all_more, are_identifiers, identifier_role, same_name-sym}
+use Rattle.vtl_meaning.proofs.Places.{IsIdentifier, are_identifiers, identifier_role, same_name-sym}
 use Rattle.vtl_meaning.proofs.TurnedKept.{others_are, others_identify}
+use Rattle.vtl_meaning.proofs.JoinPartners.{all_pass}
 use Rattle.vtl_rulings.specs.HierarchyChecks.{Ruled, SidedRule, sided_rules}
 use Rattle.sql_tree.specs.Trees as tree
 use Rattle.sql_tree.specs.Trees.{Exp, JoinTree, Text}
@@ -32,7 +34,7 @@ use Rattle.expressions_to_sql.specs.ToSql.{Naming, column_of, to_sql}
 use Rattle.joins_to_sql.specs.JoinItems.{column_from}
 use Rattle.joins_to_sql.specs.Joins.{joins_on, many_at, of_many, placed_at, placed_from, width_of}
 use Rattle.joins_to_sql.proofs.JoinForms.{IsWithin, own_identifiers, own_measures}
-use Rattle.joins_to_sql.proofs.KeyColumns.{keep_all, keep_none, key_identifiers}
+use Rattle.joins_to_sql.proofs.KeyColumns.{keep_none, key_identifiers}
 use Rattle.joins_to_sql.proofs.ManySources.{of_first, of_later}
 use Rattle.selects_to_sql.specs.Queries.{alias_of, condition_for, items_as, select_as, source_as}
 use Rattle.rules_to_sql.specs.Items.{text_as}
@@ -67,13 +69,13 @@ module _ (h : Ruled) (a : Structure) where
   none_of r e = all_more IsIdentifier (λ y. same_role y.role r ≡ false) (λ y i. ap (λ q. same_role q r) (identifier_role y.role i) ∙ e) others (others_identify h.id a)
 
   items_identify : identifiers_of t ≡ others
-  items_identify = filter-append (λ y. same_role y.role role.Identifier) others behind ∙ ap (λ l. l ++ []) (keep_all (λ y. same_role y.role role.Identifier) others (others_identify h.id a)) ∙ append-nil others
+  items_identify = filter-append (λ y. same_role y.role role.Identifier) others behind ∙ ap (λ l. l ++ []) (all_pass (λ y. same_role y.role role.Identifier) others (others_identify h.id a)) ∙ append-nil others
 
   items_measure : measures_of t ≡ behind
   items_measure = filter-append (λ y. same_role y.role role.Measure) others behind ∙ ap (λ l. l ++ behind) (keep_none (λ y. same_role y.role role.Measure) others (none_of role.Measure refl))
 
   combined_identify : identifiers_of combined ≡ others
-  combined_identify = key_identifiers (identifiers_of (others_structure h a)) (are_identifiers (others_structure h a)) ∙ keep_all (λ y. same_role y.role role.Identifier) others (others_identify h.id a)
+  combined_identify = key_identifiers (identifiers_of (others_structure h a)) (are_identifiers (others_structure h a)) ∙ all_pass (λ y. same_role y.role role.Identifier) others (others_identify h.id a)
 
   own : AllByRecursion (IsWithin (columns_of t)) others
   own = subst (AllByRecursion (IsWithin (columns_of t))) items_identify (own_identifiers t)

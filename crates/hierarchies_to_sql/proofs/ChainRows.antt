@@ -1,4 +1,4 @@
--- The rows of the combinations beside tables of items show, at each combination, what the tables hold of the items.
+-- The rows of the combinations beside tables of items show, at all_each combination, what the tables hold of the items.
 use Rattle.std.proofs.Common.{◌≡◌, ◌<◌, ◌+◌, ◌^◌, ℕ, zero, suc, Bool, true, false, List, [], ◌∷◌, ◌++◌, length, map, Option, Some, None, Ok, refl, sym, ap, ◌∙◌, subst, arith}
 use Rattle.std.specs.Prelude.{option_map}
 use Rattle.std.specs.List.{AllByRecursion, find, flat_map}
@@ -6,6 +6,7 @@ use Rattle.std.specs.Option.{IfSome, option_map_or, option_to_list}
 use Rattle.std.proofs.lemmas.List.{get_or-append-add, length-map}
 use Rattle.std.proofs.lemmas.List.Concat.{flat_map_single}
 use Rattle.std.proofs.lemmas.List.Folds.{flat_map-map}
+use Rattle.vtl_lists.proofs.Alls.{all_both, all_each}
 use Rattle.vtl_decimal.specs.Settings.{Settings}
 use Rattle.vtl_cell.specs.Kinds.{is_of}
 use Rattle.vtl_cell.specs.Literals.{is_null_kind}
@@ -32,10 +33,10 @@ use Rattle.vtl_meaning.specs.Points.{each_point, point_of, with_points}
 use Rattle.vtl_meaning.proofs.JoinAgreements.{covers, key_only}
 use Rattle.vtl_meaning.proofs.JoinKept.{key_is}
 use Rattle.vtl_meaning.proofs.JoinParts.{found_is}
-use Rattle.vtl_meaning.proofs.Kept.{both_all, column_within}
+use Rattle.vtl_meaning.proofs.Kept.{column_within}
 use Rattle.vtl_meaning.proofs.LookUps.{named_cells}
 use Rattle.vtl_meaning.proofs.OwnColumns.{own_among, own_identifiers}
-use Rattle.vtl_meaning.proofs.Places.{all_of_map, each, point_length}
+use Rattle.vtl_meaning.proofs.Places.{all_of_map, point_length}
 use Rattle.vtl_meaning.proofs.TurnedKept.{others_identify}
 use Rattle.vtl_meaning.proofs.ValueKinds.{IsOf}
 use Rattle.vtl_rulings.specs.HierarchyChecks.{Ruled}
@@ -141,15 +142,15 @@ module _ (h : Ruled) (a : Structure) (is : IsSided h a) where
     ItemsAt row (x ∷ xs) (g ∷ gs) known = (find (has_key h a is row) known.0.rows ≡ option_map (item_row row) (g row)) × IfSome (g row) (IsOf h.kind) × ItemsAt row xs gs known.1
 
     all_items : (xs : List Text) (gs : List (Row → Found)) (known : AllKnown now combinations xs gs) → AllByRecursion (λ row. ItemsAt row xs gs known) combinations
-    all_items [] [] known = each (λ row. Unit {0}) (λ row. tt) combinations
+    all_items [] [] known = all_each (λ row. Unit {0}) (λ row. tt) combinations
     all_items [] (g ∷ gs) known = absurd known
     all_items (x ∷ xs) [] known = absurd known
     all_items (x ∷ xs) (g ∷ gs) known =
         let Finds : Row → Type 0 = λ row. find (has_key h a is row) known.0.rows ≡ option_map (item_row row) (g row) in
         let Kinds : Row → Type 0 = λ row. IfSome (g row) (IsOf h.kind) in
         let Rest : Row → Type 0 = λ row. ItemsAt row xs gs known.1 in
-        both_all Finds (λ row. Kinds row × Rest row) (λ row. ItemsAt row (x ∷ xs) (g ∷ gs) known) (λ row i j. (i, j.0, j.1)) combinations known.0.item.at
-        (both_all Kinds Rest (λ row. Kinds row × Rest row) (λ row i j. (i, j)) combinations known.0.item.kinds (all_items xs gs known.1))
+        all_both Finds (λ row. Kinds row × Rest row) (λ row. ItemsAt row (x ∷ xs) (g ∷ gs) known) (λ row i j. (i, j.0, j.1)) combinations known.0.item.at
+        (all_both Kinds Rest (λ row. Kinds row × Rest row) (λ row i j. (i, j)) combinations known.0.item.kinds (all_items xs gs known.1))
 
   module _ (p : Settings) (law : Translates p) (now : Data) (na : HaveNames (columns_of a)) (kinds : AllByRecursion (λ y. is_null_kind y.kind ≡ false) (identifiers_of a)) (qs : List Row) (x : Text) (here : IsHeld now x (with_points (keys h a is) qs)) (typed : AllByRecursion IsLead qs)
       (xs : List Text) (gs : List (Row → Found)) (known : AllKnown now (map combination qs) xs gs) (few : 1 + length xs < 2 ^ 64) where
@@ -297,7 +298,7 @@ module _ (h : Ruled) (a : Structure) (is : IsSided h a) where
         ∙ ap (λ l. column_of place q ∷ l) (lead_cells q lead ys all.1)
 
     pub facts : AllByRecursion (λ q. IsLead q × ItemsAt now rows (combination q) xs gs known) qs
-    facts = both_all IsLead (λ q. ItemsAt now rows (combination q) xs gs known) (λ q. IsLead q × ItemsAt now rows (combination q) xs gs known) (λ q i j. (i, j)) qs typed (all_of_map combination (λ row. ItemsAt now rows row xs gs known) qs (all_items now rows xs gs known))
+    facts = all_both IsLead (λ q. ItemsAt now rows (combination q) xs gs known) (λ q. IsLead q × ItemsAt now rows (combination q) xs gs known) (λ q i j. (i, j)) qs typed (all_of_map combination (λ row. ItemsAt now rows row xs gs known) qs (all_items now rows xs gs known))
 
     -- ---- the select
 

@@ -1,6 +1,6 @@
 -- The tables of `check_hierarchy` mean it.
 use Rattle.std.proofs.Common.{◌≡◌, ◌≤◌, ◌<◌, ◌+◌, ◌^◌, ℕ, suc, Bool, true, false, ◌||◌, List, [], ◌∷◌, ◌++◌, length, map, Option, Ok, Err, refl, sym, ap, ◌∙◌, subst, arith, append_assoc, length-append}
-use Rattle.std.specs.List.{AllByRecursion, cons_option, filter_map, flat_map, list_any}
+use Rattle.std.specs.List.{AllByRecursion, filter_map, flat_map, list_any}
 use Rattle.std.proofs.lemmas.List.{length-map}
 use Rattle.vtl_decimal.specs.Settings.{Settings}
 use Rattle.vtl_decimal.specs.declared.number.Fault.{Fault}
@@ -12,6 +12,9 @@ use Rattle.vtl_cell.specs.Row.{Row}
 use Rattle.vtl_cell.specs.declared.cell.Cell.TheVariants as c
 use Rattle.vtl_lists.specs.Perm.{Perm, chain}
 use Rattle.vtl_lists.proofs.Perms.{AllByRecursion-Perm, Perm-flat_map_each, Perm-same, Perm-sym}
+use Rattle.vtl_lists.proofs.Alls.{all_append, all_back, all_flat_map, all_front, all_more}
+use Rattle.vtl_lists.proofs.Sorts.{AllByRecursion-map}
+use Rattle.vtl_lists.proofs.Filters.{filter_map-map}
 use Rattle.vtl_syntax.specs.declared.statements.HierRule.{HierRule}
 use Rattle.vtl_syntax.specs.declared.word_groups.CheckOut.{CheckOut}
 use Rattle.vtl_syntax.specs.declared.word_groups.Mode.{Mode}
@@ -26,16 +29,18 @@ use Rattle.vtl_tree.specs.Structure.{columns_of, same_name}
 use Rattle.vtl_tree.specs.declared.structure.Component.{Component}
 use Rattle.vtl_tree.specs.declared.structure.Structure.{Structure}
 use Rattle.vtl_tree.proofs.Faults.{Same_unless, faults_by-Perm}
+use Rattle.vtl_tree.proofs.NotNullLemmas.{same_itself}
 use Rattle.vtl_tuples.specs.Keys.{TellsApart, each_once}
 use Rattle.vtl_tuples.proofs.Lists.{map-map}
 use Rattle.vtl_tuples.proofs.Onces.{alike, among_once}
 use Rattle.vtl_meaning.specs.Made.{HasIdentifiers}
 use Rattle.vtl_meaning.specs.Points.{with_points}
 use Rattle.vtl_meaning.proofs.JoinKept.{once_hold}
-use Rattle.vtl_meaning.proofs.Places.{all_append, all_back, all_front, all_map, all_more, all_of_map, columns_split, same_name-is, same_name-refl}
+use Rattle.vtl_meaning.proofs.Places.{all_of_map, columns_split, same_name-is}
 use Rattle.vtl_rulings.specs.HierarchyChecks.{Ruled, SidedRule, check_fault, check_hierarchy_of, check_point, combinations, items_at, only_name, sided_rules}
 use Rattle.vtl_rulings.specs.HierarchyShapes.{IsHierarchyChecked}
 use Rattle.vtl_rulings.proofs.Orders.{Perm-filter_map, faults_each}
+use Rattle.vtl_rulings.proofs.HierarchyProfiles.{level_fits}
 use Rattle.sql_tree.specs.Trees.{QueryTree, Text}
 use Rattle.sql_meaning.specs.Scripts.{Data}
 use Rattle.sql_meaning.specs.Selects.{appended}
@@ -64,7 +69,6 @@ use Rattle.hierarchies_to_sql.specs.Writable.{CanBeSided, most_items}
 use Rattle.hierarchies_to_sql.proofs.ChainRows.{IsLead, combination}
 use Rattle.hierarchies_to_sql.proofs.ItemColumns.{IsSided, keys, t}
 use Rattle.hierarchies_to_sql.proofs.KeptRows.{faults_mapped}
-use Rattle.hierarchies_to_sql.proofs.Levels.{level_fits}
 use Rattle.hierarchies_to_sql.proofs.RuleSelects.{TablesKnow, columns, rule_gives}
 use Rattle.hierarchies_to_sql.proofs.SideColumns.{ids_for, ids_written, leaves_count, leaves_typed}
 use Rattle.hierarchies_to_sql.proofs.SideTables.{CanBeItems, Holds, all_keys, all_keys_typed, item_sets, keys_are, sided_give, tables_known}
@@ -73,7 +77,7 @@ use Rattle.hierarchies_to_sql.proofs.TypedSides.{AreLeaves, IsLeaf, parts_for, p
 -- ---- items of rules
 
 pub names_apart : TellsApart same_name
-names_apart = record { is = same_name-is; self = same_name-refl }
+names_apart = record { is = same_name-is; self = same_itself }
 
 holds_more : (item name : List ℕ) (items : List (List ℕ)) → Holds items name → Holds (item ∷ items) name
 holds_more item name items e = go (same_name item name)
@@ -85,7 +89,7 @@ holds_more item name items e = go (same_name item name)
 own_items : (items : List (List ℕ)) → AllByRecursion (Holds items) items
 own_items [] = tt
 own_items (item ∷ items) = (
-  ap (λ b. b || list_any (λ i. same_name i item) items) (same_name-refl item),
+  ap (λ b. b || list_any (λ i. same_name i item) items) (same_itself item),
   all_more (Holds items) (Holds (item ∷ items)) (λ name e. holds_more item name items e) items (own_items items),
 )
 
@@ -95,10 +99,6 @@ once_items items = all_more (Holds items) (Holds (each_once same_name items)) (�
 pub all_of_each : {X Y : Type 0} (P : Y → Type 0) (f : X → List Y) (xs : List X) → AllByRecursion P (flat_map f xs) → AllByRecursion (λ x. AllByRecursion P (f x)) xs
 all_of_each P f [] all = tt
 all_of_each P f (x ∷ xs) all = (all_front P (f x) (flat_map f xs) all, all_of_each P f xs (all_back P (f x) (flat_map f xs) all))
-
-pub all_from_each : {X Y : Type 0} (P : Y → Type 0) (f : X → List Y) (xs : List X) → AllByRecursion (λ x. AllByRecursion P (f x)) xs → AllByRecursion P (flat_map f xs)
-all_from_each P f [] all = tt
-all_from_each P f (x ∷ xs) all = all_append P (f x) (flat_map f xs) all.0 (all_from_each P f xs all.1)
 
 -- what holds of items holds of them each once
 pub all_once : (P : List ℕ → Type 0) (items : List (List ℕ)) → AllByRecursion P items → AllByRecursion P (each_once same_name items)
@@ -110,17 +110,13 @@ items_there rules = all_of_each (Holds (checked_items rules)) items_of rules (on
 
 -- ---- lists
 
-pub filter_mapped : {X Y Z : Type 0} (f : Y → Option Z) (g : X → Y) (xs : List X) → filter_map f (map g xs) ≡ filter_map (λ x. f (g x)) xs
-filter_mapped f g [] = refl
-filter_mapped f g (x ∷ xs) = ap (cons_option (f (g x))) (filter_mapped f g xs)
-
 -- the operand's identifiers have kinds, since those of the result have
 pub operand_kinds : (a s : Structure) (more : List Component) → HasIdentifiers s (identifiers_of a ++ more) → AreGiven (columns_of s) → AllByRecursion (λ y. is_null_kind y.kind ≡ false) (identifiers_of a)
 operand_kinds a s more i given =
     let ids = identifiers_of s in
     let theirs : AllByRecursion (λ y. is_null_kind y.kind ≡ false) ids = all_front (λ y. is_null_kind y.kind ≡ false) ids (others_of s) (subst (AllByRecursion (λ y. is_null_kind y.kind ≡ false)) (columns_split s) given.kinds) in
     all_front (λ y. is_null_kind y.kind ≡ false) (identifiers_of a) more
-    (all_of_map (λ y. y.kind) (λ q. is_null_kind q ≡ false) (identifiers_of a ++ more) (subst (AllByRecursion (λ q. is_null_kind q ≡ false)) i.1 (all_map (λ y. y.kind) (λ q. is_null_kind q ≡ false) ids theirs)))
+    (all_of_map (λ y. y.kind) (λ q. is_null_kind q ≡ false) (identifiers_of a ++ more) (subst (AllByRecursion (λ q. is_null_kind q ≡ false)) i.1 (AllByRecursion-map (λ y. y.kind) (λ q. is_null_kind q ≡ false) ids theirs)))
 
 -- ---- the select of each rule
 
@@ -218,7 +214,7 @@ module _ (p : Settings) (law : Translates p) (h : Ruled) (a s : Structure) (is :
         let shown : SidedRule → List Row = λ rule. filter_map (point_at rule) rows in
         Same_unless (faults_by fault all) (faults_by faults all) (flat_map points all) (flat_map shown all)
         (faults_each fault faults (λ rule. sym (faults_mapped (fault_at rule) at qs) ∙ faults_by-Perm (fault_at rule) same) all)
-        (Perm-flat_map_each points shown (λ rule. chain (Perm-same (points rule) (filter_map (point_at rule) (map at qs)) (sym (filter_mapped (point_at rule) at qs))) (Perm-filter_map (point_at rule) (map at qs) rows same)) all)
+        (Perm-flat_map_each points shown (λ rule. chain (Perm-same (points rule) (filter_map (point_at rule) (map at qs)) (sym (filter_map-map (point_at rule) at qs))) (Perm-filter_map (point_at rule) (map at qs) rows same)) all)
 
   -- ---- the tables
 
@@ -228,7 +224,7 @@ module _ (p : Settings) (law : Translates p) (h : Ruled) (a s : Structure) (is :
   items_written : (rules : List HierRule) → AllByRecursion (CanBeSided p) rules → CanBeItems (items rules)
   items_written rules all =
       let P : List ℕ → Type 0 = λ item. IsHeldCell (c.Text item) in
-      all_once P (flat_map items_of rules) (all_from_each P items_of rules (all_more (CanBeSided p) (λ r. AllByRecursion P (items_of r)) (λ r i. i.items) rules all))
+      all_once P (flat_map items_of rules) (all_flat_map P items_of rules (all_more (CanBeSided p) (λ r. AllByRecursion P (items_of r)) (λ r i. i.items) rules all))
 
   module _ (rule : HierRule) (rules : List HierRule) (i : IsHierarchyChecked o h (rule ∷ rules) a s) (written : AllByRecursion (CanBeSided p) (rule ∷ rules)) (few_rules : length (rule ∷ rules) < 2 ^ 64) where
     abbrev all : List HierRule

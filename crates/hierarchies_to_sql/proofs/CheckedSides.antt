@@ -33,15 +33,10 @@ use Rattle.vtl_rulings.specs.Outputs.{code_cell, errors_at, is_false, is_shown, 
 use Rattle.vtl_rulings.specs.Sides.{comparison_op, difference, holds, left_side, right_side, rule_errors}
 use Rattle.vtl_rulings.proofs.Checked.{parts_mapped}
 use Rattle.rules_to_sql.specs.Conditions.{error_exps, error_exps_at}
-use Rattle.rules_to_sql.proofs.ErrorExps.{errors_are, errors_at_are, errors_at_fault, errors_sure}
+use Rattle.rules_to_sql.proofs.ErrorExps.{errors_are, errors_at_are, errors_at_fault, errors_sure, same_twice}
 use Rattle.hierarchies_to_sql.specs.SideExps as exps
 use Rattle.hierarchies_to_sql.specs.SideExps.{Leaf, appears_exp, check_parts, check_where, difference_exp, failing_where, fails_exp, fails_of, holds_exp, left_exp, level_of, right_exp, rights_of}
 use Rattle.hierarchies_to_sql.proofs.SideExps.{AllShow, Appears, IsSure, appears_is, counted_is, difference_is, holds_is, less_by, right_is}
-
-same_twice : (f : Option Fault) → join f f ≡ f
-same_twice None = refl
-same_twice (Some DivZero) = refl
-same_twice (Some Range) = refl
 
 -- a fault that adds nothing to one adds nothing to that one and another
 absorbed : (f g h : Option Fault) → join f h ≡ f → join f (join g h) ≡ join f g

@@ -16,6 +16,7 @@ use Rattle.vtl_cell.specs.declared.kind.Kind.TheVariants as k
 use Rattle.vtl_cell.proofs.Rows.{same_row-refl, same_row-sym}
 use Rattle.vtl_lists.specs.Apart.{all_apart}
 use Rattle.vtl_lists.proofs.Aparts.{apart_parts}
+use Rattle.vtl_lists.proofs.Alls.{all_append, all_both, all_more}
 use Rattle.vtl_syntax.specs.declared.statements.HierRule.{HierRule}
 use Rattle.vtl_syntax.specs.declared.word_groups.Mode.{Mode}
 use Rattle.vtl_tree.specs.Columns.{columns_named, identifiers_of, place_of}
@@ -31,8 +32,6 @@ use Rattle.vtl_tuples.proofs.Lists.{map-map}
 use Rattle.vtl_meaning.specs.Made.{AreFor, IsColumnAt}
 use Rattle.vtl_meaning.specs.Points.{cell_or_null, each_point, point_fault, point_of, with_points}
 use Rattle.vtl_meaning.proofs.Drawn.{AreDrawn, AtMostOne, drawn_all, drawn_apart}
-use Rattle.vtl_meaning.proofs.Kept.{both_all}
-use Rattle.vtl_meaning.proofs.Places.{all_append, all_more}
 use Rattle.vtl_meaning.proofs.TurnedKept.{filter_map_drawn}
 use Rattle.vtl_meaning.proofs.ValueKinds.{IsOf}
 use Rattle.vtl_rulings.specs.Hierarchies.{computed}
@@ -112,7 +111,7 @@ module _ (h : Ruled) (a : Structure) (is : IsSided h a) (found : Row → Found) 
   found_own (j ∷ rows) e all =
       let parts = apart_parts same_row j rows e in
       let Finds : Row → Type 0 = λ row. find (has_key h a is row) (found_rows rows) ≡ one row in
-      (head (found j) all.0.1 (nothing j rows parts.0 all.1), both_all (λ row. same_row j row ≡ false) Finds (λ row. find (has_key h a is row) (found_rows (j ∷ rows)) ≡ one row) (λ row f g. later row (found j) all.0.1 f ∙ g) rows parts.0 (found_own rows parts.1 all.1))
+      (head (found j) all.0.1 (nothing j rows parts.0 all.1), all_both (λ row. same_row j row ≡ false) Finds (λ row. find (has_key h a is row) (found_rows (j ∷ rows)) ≡ one row) (λ row f g. later row (found j) all.0.1 f ∙ g) rows parts.0 (found_own rows parts.1 all.1))
     where
       head : (o : Found) → IfSome o (IsOf h.kind) → find (has_key h a is j) (found_rows rows) ≡ None → find (has_key h a is j) (cons_option (option_map (item_row j) o) (found_rows rows)) ≡ option_map (item_row j) o
       head None i none = none
@@ -124,7 +123,7 @@ module _ (h : Ruled) (a : Structure) (is : IsSided h a) (found : Row → Found) 
 
   pub found_table : (rows : List Row) → all_apart same_row rows ≡ true → AllByRecursion (λ row. is_point ks row ≡ true) rows → AllByRecursion (λ row. IfSome (found row) (IsOf h.kind)) rows → IsItemTable h a is found (found_rows rows) rows
   found_table rows apart typed kinds =
-      let all = both_all (λ row. is_point ks row ≡ true) (λ row. IfSome (found row) (IsOf h.kind)) Fits (λ row i j. (i, j)) rows typed kinds in
+      let all = all_both (λ row. is_point ks row ≡ true) (λ row. IfSome (found row) (IsOf h.kind)) Fits (λ row i j. (i, j)) rows typed kinds in
       record {
         set = subst (IsDataSet T) (sym (filter_map_drawn one rows)) (record {
           well_formed = item_is_structure h a is;

@@ -18,6 +18,7 @@ use Rattle.vtl_lists.specs.Perm.{Perm, chain, empty}
 use Rattle.vtl_lists.proofs.Aparts.{all_apart-Perm, apart_parts, none_is}
 use Rattle.vtl_lists.proofs.Perms.{AllByRecursion-Perm, Perm-append, Perm-map, Perm-same, Perm-sym}
 use Rattle.vtl_lists.proofs.Sorts.{AllByRecursion-filter}
+use Rattle.vtl_lists.proofs.Alls.{all_append, all_both, all_each, all_flat_map, all_more}
 use Rattle.vtl_cell.proofs.Rows.{same_row-sym}
 use Rattle.vtl_syntax.specs.declared.statements.HierRule.{HierRule}
 use Rattle.vtl_syntax.specs.declared.word_groups.HierInput.{HierInput}
@@ -36,6 +37,7 @@ use Rattle.vtl_tree.specs.Structure.{IsStructure, columns_of, same_name}
 use Rattle.vtl_tree.specs.declared.structure.Component.{Component}
 use Rattle.vtl_tree.specs.declared.structure.Structure.{Structure}
 use Rattle.vtl_tree.proofs.Faults.{faults_by-Perm}
+use Rattle.vtl_tree.proofs.NotNullLemmas.{same_itself}
 use Rattle.vtl_tuples.specs.Keys.{each_once}
 use Rattle.vtl_tuples.proofs.Lists.{filter_nothing}
 use Rattle.vtl_tuples.proofs.Onces.{once_apart}
@@ -44,9 +46,8 @@ use Rattle.vtl_meaning.specs.Made.{AreAmong, HasIdentifiers, IsAlternative, IsCo
 use Rattle.vtl_meaning.specs.Orders.{SameOperands}
 use Rattle.vtl_meaning.specs.Points.{cell_or_null, each_point, point_of, with_points}
 use Rattle.vtl_meaning.specs.Turned.{other_identifiers}
-use Rattle.vtl_meaning.proofs.Kept.{both_all}
 use Rattle.vtl_meaning.proofs.OwnColumns.{among_front, columns_apart}
-use Rattle.vtl_meaning.proofs.Places.{all_append, all_more, columns_split, each, same_name-is, same_name-refl, same_name-sym}
+use Rattle.vtl_meaning.proofs.Places.{columns_split, same_name-is, same_name-sym}
 use Rattle.vtl_meaning.proofs.ValueKinds.{IsOf, null_is_of}
 use Rattle.vtl_rulings.specs.Hierarchies.{defines, hierarchy_of, items_of, made_at, made_fault, made_point, made_points}
 use Rattle.vtl_rulings.specs.HierarchyChecks.{Ruled, combinations, items_at, key_at, only_name}
@@ -81,7 +82,7 @@ use Rattle.hierarchies_to_sql.specs.ItemTables.{Tables, tables_by}
 use Rattle.hierarchies_to_sql.specs.SideExps.{holds_never}
 use Rattle.hierarchies_to_sql.specs.Writable.{CanBeSided}
 use Rattle.hierarchies_to_sql.proofs.ChainRows.{IsLead, combination}
-use Rattle.hierarchies_to_sql.proofs.CheckTables.{all_from_each, all_of_each, all_once, once_items, operand_kinds}
+use Rattle.hierarchies_to_sql.proofs.CheckTables.{all_of_each, all_once, once_items, operand_kinds}
 use Rattle.hierarchies_to_sql.proofs.ComputedRules.{found_rows, found_table}
 use Rattle.hierarchies_to_sql.proofs.ItemColumns.{IsSided, keys, others, t}
 use Rattle.hierarchies_to_sql.proofs.ItemTables.{Knows, item_row}
@@ -201,7 +202,7 @@ module _ (p : Settings) (law : Translates p) (h : Ruled) (a s : Structure) (is :
   -- ---- what rules compute fits the measure
 
   fits : (rows : List Row) (r : HierRule) → AllByRecursion (λ k. IfSome (found r k) (IsOf h.kind)) rows
-  fits rows r = each (λ k. IfSome (found r k) (IsOf h.kind)) (λ k. go (makes r k) (made_holds p h.kind (IsOf h.kind) (kinds_kept p h.kind is.itemized.numeric) m i defs (items_at h A k) (items_are h a d is.itemized set k) r)) rows
+  fits rows r = all_each (λ k. IfSome (found r k) (IsOf h.kind)) (λ k. go (makes r k) (made_holds p h.kind (IsOf h.kind) (kinds_kept p h.kind is.itemized.numeric) m i defs (items_at h A k) (items_are h a d is.itemized set k) r)) rows
     where
       go : (o : Option (Outcome Cell)) → IfSome o (λ v. IfOk v (IsOf h.kind)) → IfSome (option_map cell_or_null o) (IsOf h.kind)
       go None e = tt
@@ -250,7 +251,7 @@ module _ (p : Settings) (law : Translates p) (h : Ruled) (a s : Structure) (is :
       rows_typed = AllByRecursion-Perm (λ k. is_point ks k ≡ true) (Perm-sym rows_turned) (combinations_typed h.id a d set)
 
       operand_fit : (name : List ℕ) → AllByRecursion (λ k. IfSome (items_at h A k name) (IsOf h.kind)) rows
-      operand_fit name = each (λ k. IfSome (items_at h A k name) (IsOf h.kind)) (λ k. items_are h a d is.itemized set k name) rows
+      operand_fit name = all_each (λ k. IfSome (items_at h A k name) (IsOf h.kind)) (λ k. items_are h a d is.itemized set k name) rows
 
       abbrev tables : Tables
       tables = tables_by given ys
@@ -275,8 +276,8 @@ module _ (p : Settings) (law : Translates p) (h : Ruled) (a s : Structure) (is :
           let ready : IsReady p law h a is na kinds d qs typed m i rules rows_apart rows_typed (fits rows) operand_fit result word given x now (λ k. items_at h A k) tables order = record {
             here = here;
             rights = all_more (λ q. AllByRecursion There (right_items q)) (λ q. AllByRecursion (λ y. IsFree order y → Knows h a is now (tables y) (found_of (λ k. items_at h A k) y) rows) (right_items q)) (λ q e. rights_known (right_items q) e) order rights_there;
-            lefts = each (λ q. is_among (left_item q) given ≡ true → Knows h a is now (tables (left_item q)) (found_of (items_at h A) (left_item q)) rows) (λ q e. table_there (left_item q) e) order;
-            same = each (λ k. made_in_run p m h.kind i (items_at h A k) (items_at h A k) order ≡ map (λ r. makes r k) order) (λ k. made_in_order p m h.kind i (items_at h A k) defs order ordered same apart) rows;
+            lefts = all_each (λ q. is_among (left_item q) given ≡ true → Knows h a is now (tables (left_item q)) (found_of (items_at h A) (left_item q)) rows) (λ q e. table_there (left_item q) e) order;
+            same = all_each (λ k. made_in_run p m h.kind i (items_at h A k) (items_at h A k) order ≡ map (λ r. makes r k) order) (λ k. made_in_order p m h.kind i (items_at h A k) defs order ordered same apart) rows;
           } in
           sources_turned p now result n (run_tables p result h m i a x given tables order n) (run_at rows order) (run_at combos order) (same_runs rows combos rows_turned order)
           (run_gives p law h a is na kinds d qs typed m i rules rows_apart rows_typed (fits rows) operand_fit result word given x order order_sided ordered order_apart wanted now n (λ k. items_at h A k) tables ready earlier few)
@@ -296,7 +297,7 @@ module _ (p : Settings) (law : Translates p) (h : Ruled) (a s : Structure) (is :
     given_written : CanBeItems given
     given_written =
         let P : List ℕ → Type 0 = λ item. IsHeldCell (c.Text item) in
-        AllByRecursion-filter P (is_given i defs) (each_once same_name (flat_map right_items defs)) (all_once P (flat_map right_items defs) (all_from_each P right_items defs (all_more (CanBeSided p) (λ r. AllByRecursion P (right_items r)) (λ r e. e.items.1) defs sided_rules)))
+        AllByRecursion-filter P (is_given i defs) (each_once same_name (flat_map right_items defs)) (all_once P (flat_map right_items defs) (all_flat_map P right_items defs (all_more (CanBeSided p) (λ r. AllByRecursion P (right_items r)) (λ r e. e.items.1) defs sided_rules)))
 
     ordered_give : (now : Data) (names : List Text) (n : ℕ) → AreThere now names (A ∷ []) → AreEarlier result n now → n + length (ordered_tables p result h m i a given order names n).tables < 2 ^ 64 → SourcesGive p now result n (ordered_tables p result h m i a given order names n) (run_at combos order)
     ordered_give now names n there earlier few =
@@ -310,7 +311,7 @@ module _ (p : Settings) (law : Translates p) (h : Ruled) (a s : Structure) (is :
 
     -- ---- the last query
 
-    -- the table of each rule
+    -- the table of all_each rule
     abbrev Stands : Data → Tables → HierRule → Type 0
     Stands later tables q = StandsAs later (tables (left_item q)) T (set_over combos q).points
 
@@ -321,8 +322,8 @@ module _ (p : Settings) (law : Translates p) (h : Ruled) (a s : Structure) (is :
         let parts = apart_parts one_item r rs e in
         let rest = tables_by (map left_item rs) xs in
         let tables = tables_by (left_item r ∷ map left_item rs) (x ∷ xs) in (
-          subst (λ z. StandsAs later z T (set_over combos r).points) (sym (ap (λ b. cond b x (rest (left_item r))) (same_name-refl (left_item r)))) there.0,
-          both_all (λ q. one_item r q ≡ false) (Stands later rest) (Stands later tables) (λ q f g. subst (λ z. StandsAs later z T (set_over combos q).points) (sym (ap (λ b. cond b x (rest (left_item q))) f)) g) rs parts.0 (by_left later rs xs there.1 parts.1),
+          subst (λ z. StandsAs later z T (set_over combos r).points) (sym (ap (λ b. cond b x (rest (left_item r))) (same_itself (left_item r)))) there.0,
+          all_both (λ q. one_item r q ≡ false) (Stands later rest) (Stands later tables) (λ q f g. subst (λ z. StandsAs later z T (set_over combos q).points) (sym (ap (λ b. cond b x (rest (left_item q))) f)) g) rs parts.0 (by_left later rs xs there.1 parts.1),
         )
 
     -- what is shown of it
@@ -377,7 +378,7 @@ module _ (p : Settings) (law : Translates p) (h : Ruled) (a s : Structure) (is :
     query_means made_well r rs e later (x ∷ xs) there =
         let tables = tables_by (map left_item order) xs in
         let stands = AllByRecursion-Perm (Stands later tables) same (by_left later order xs there.1 order_apart) in
-        let all = both_all (Stands later tables) (CanBeSided p) (λ q. Stands later tables q × CanBeSided p q) (λ q f g. (f, g)) defs stands sided_rules in
+        let all = all_both (Stands later tables) (CanBeSided p) (λ q. Stands later tables q × CanBeSided p q) (λ q f g. (f, g)) defs stands sided_rules in
         subst (λ l. Means p later (all_points_query p h a s tables (r ∷ rs)) s (Ok (flat_map (λ q. filter_map (made_point p h m i rules A q) combos) l))) (sym e)
         (shown_mean made_well later tables r rs (subst (AllByRecursion (λ q. Stands later tables q × CanBeSided p q)) e all))
 

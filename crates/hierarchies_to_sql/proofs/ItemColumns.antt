@@ -5,7 +5,9 @@ use Rattle.std.proofs.lemmas.List.{length-map, map-append}
 use Rattle.std.proofs.lemmas.List.Elements.{filter-append}
 use Rattle.vtl_lists.specs.Apart.{all_apart}
 use Rattle.vtl_lists.proofs.Aparts.{all_apart-filter, apart_parts}
-use Rattle.vtl_lists.proofs.Sorts.{AllByRecursion-filter}
+use Rattle.vtl_lists.proofs.Sorts.{AllByRecursion-filter, AllByRecursion-map}
+use Rattle.vtl_lists.proofs.Alls.{all_append, all_back, all_filtered, all_front, all_more}
+use Rattle.vtl_lists.proofs.Filters.{filter_no_more}
 use Rattle.vtl_cell.specs.Literals.{is_null_kind}
 use Rattle.vtl_cell.specs.declared.kind.Kind.{Kind}
 use Rattle.vtl_cell.specs.declared.kind.Kind.TheVariants as k
@@ -17,21 +19,22 @@ use Rattle.vtl_tree.specs.declared.structure.Component.{Component}
 use Rattle.vtl_tree.specs.declared.structure.Role.{Role}
 use Rattle.vtl_tree.specs.declared.structure.Role.TheVariants as role
 use Rattle.vtl_tree.specs.declared.structure.Structure.{Structure}
+use Rattle.vtl_tree.proofs.NotNullLemmas.{same_itself}
 use Rattle.vtl_meaning.specs.Made.{IsColumnAt, attributes_of}
 use Rattle.vtl_meaning.specs.Turned.{other_identifiers}
 use Rattle.vtl_meaning.proofs.JoinKept.{apart_append, apart_map}
 use Rattle.vtl_meaning.proofs.OwnColumns.{columns_apart}
-use Rattle.vtl_meaning.proofs.Places.{IsIdentifier, all_append, all_back, all_filtered, all_front, all_map, all_more, all_of_map, are_identifiers, columns_split, identifier_role, identifiers_apart, place_here, place_later, same_name-refl, same_name-sym}
+use Rattle.vtl_meaning.proofs.Places.{IsIdentifier, all_of_map, are_identifiers, columns_split, identifier_role, identifiers_apart, place_here, place_later, same_name-sym}
 use Rattle.vtl_meaning.proofs.TurnedKept.{others_are, others_identify}
+use Rattle.vtl_meaning.proofs.JoinPartners.{all_pass}
 use Rattle.vtl_rulings.specs.HierarchyChecks.{Ruled, only_name}
 use Rattle.vtl_rulings.specs.HierarchyShapes.{IsItemized, IsNumeric}
 use Rattle.sql_tree.specs.Formed.{IsName}
 use Rattle.joins_to_sql.specs.FullJoins.{or_spare}
 use Rattle.joins_to_sql.specs.Joins.{width_of}
-use Rattle.joins_to_sql.proofs.KeyColumns.{keep_all, keep_none, key_columns, key_identifiers, keys_are_structure, keys_given}
+use Rattle.joins_to_sql.proofs.KeyColumns.{keep_none, key_columns, key_identifiers, keys_are_structure, keys_given}
 use Rattle.selects_to_sql.specs.Writable.{HaveNames}
 use Rattle.selects_to_sql.proofs.Givens.{AreGiven, columns_count}
-use Rattle.selects_to_sql.proofs.Identifiers.{fewer}
 use Rattle.selects_to_sql.proofs.Sources.{AreApart}
 use Rattle.hierarchies_to_sql.specs.ItemTables.{combinations_structure, item_structure, others_structure, there}
 
@@ -62,8 +65,8 @@ one_less : (id : List ℕ) (place : ℕ) (kind : Kind) (xs : List Component) →
 one_less id place kind [] i = absurd i
 one_less id zero kind (x ∷ xs) i =
     let left = filter (λ y. not (is_among y.name (id ∷ []))) xs in
-    let same : same_name id x.name ≡ true = ap (same_name id) i.0 ∙ same_name-refl id in
-    let few = fewer (λ y. not (is_among y.name (id ∷ []))) xs in
+    let same : same_name id x.name ≡ true = ap (same_name id) i.0 ∙ same_itself id in
+    let few = filter_no_more (λ y. not (is_among y.name (id ∷ []))) xs in
     let size = ap (λ b. length (cond (not (b || false)) (x ∷ left) left)) same in
     omega (arith, few, size)
 one_less id (suc place) kind (x ∷ xs) i = go (not (is_among x.name (id ∷ []))) (one_less id place kind xs i)
@@ -160,7 +163,7 @@ module _ (h : Ruled) (a : Structure) (is : IsSided h a) where
   none_of r e = all_more IsIdentifier (λ y. same_role y.role r ≡ false) (λ y i. ap (λ q. same_role q r) (identifier_role y.role i) ∙ e) others identify
 
   pub item_identifiers : identifiers_of t ≡ others
-  item_identifiers = filter-append (λ y. same_role y.role role.Identifier) others behind ∙ ap (λ l. l ++ []) (keep_all (λ y. same_role y.role role.Identifier) others identify) ∙ append-nil others
+  item_identifiers = filter-append (λ y. same_role y.role role.Identifier) others behind ∙ ap (λ l. l ++ []) (all_pass (λ y. same_role y.role role.Identifier) others identify) ∙ append-nil others
 
   pub item_measures : measures_of t ≡ behind
   item_measures = filter-append (λ y. same_role y.role role.Measure) others behind ∙ ap (λ l. l ++ behind) (keep_none (λ y. same_role y.role role.Measure) others (none_of role.Measure refl))
@@ -181,14 +184,14 @@ module _ (h : Ruled) (a : Structure) (is : IsSided h a) where
   pub measure_place : place_of h.measure (columns_of t) ≡ length others
   measure_place =
       let one = place_behind h.measure others behind (of_others (λ y. same_name y.name h.measure ≡ false) not_measure) in
-      let here = place_here h.measure (made h.measure role.Measure h.kind) (there h ∷ []) (same_name-refl h.measure) in
+      let here = place_here h.measure (made h.measure role.Measure h.kind) (there h ∷ []) (same_itself h.measure) in
       ap (place_of h.measure) item_columns ∙ omega (arith, one, here)
 
   pub there_place : place_of h.id (columns_of t) ≡ length others + 1
   there_place =
       let one = place_behind h.id others behind others_named in
       let later = place_later h.id (made h.measure role.Measure h.kind) (there h ∷ []) measure_named in
-      let here = place_here h.id (there h) [] (same_name-refl h.id) in
+      let here = place_here h.id (there h) [] (same_itself h.id) in
       ap (place_of h.id) item_columns ∙ omega (arith, one, later, here)
 
   -- ---- structures
@@ -209,7 +212,7 @@ module _ (h : Ruled) (a : Structure) (is : IsSided h a) where
       let size = length-append others behind in
       let low = fewer_others in
       let front : AllByRecursion (λ m. AllByRecursion (λ n. same_name m n ≡ false) (names_of behind)) (names_of others) =
-      all_map (λ y. y.name) (λ m. AllByRecursion (λ n. same_name m n ≡ false) (names_of behind)) others
+      AllByRecursion-map (λ y. y.name) (λ m. AllByRecursion (λ n. same_name m n ≡ false) (names_of behind)) others
       (both_named others (of_others (λ y. same_name y.name h.measure ≡ false) not_measure) others_named) in
       let last : all_apart same_name (names_of behind) ≡ true = ap (λ b. not (b || false) && true) measure_named in
       record {
@@ -223,7 +226,7 @@ module _ (h : Ruled) (a : Structure) (is : IsSided h a) where
       both_named (y ∷ ys) m n = ((m.0, (n.0, tt)), both_named ys m.1 n.1)
 
   pub own_others : identifiers_of (others_structure h a) ≡ others
-  own_others = keep_all (λ y. same_role y.role role.Identifier) others identify
+  own_others = all_pass (λ y. same_role y.role role.Identifier) others identify
 
   pub keys_identifiers : identifiers_of keys ≡ others
   keys_identifiers = key_identifiers (identifiers_of (others_structure h a)) (are_identifiers (others_structure h a)) ∙ own_others

@@ -1,4 +1,4 @@
--- The table of an item stands for the item's points of the operand: at each combination it has what the operand has of the item.
+-- The table of an item stands for the item's points of the operand: at all_each combination it has what the operand has of the item.
 use Rattle.std.proofs.Common.{◌≡◌, ℕ, Bool, true, false, ◌&&◌, cond, List, [], ◌∷◌, ◌++◌, map, take, Some, None, Ok, refl, sym, ap, ◌∙◌, subst, arith}
 use Rattle.std.specs.Prelude.{option_map}
 use Rattle.std.specs.List.{AllByRecursion, filter, find}
@@ -21,6 +21,7 @@ use Rattle.vtl_lists.specs.Perm.{Perm}
 use Rattle.vtl_lists.proofs.Aparts.{all_apart-filter}
 use Rattle.vtl_lists.proofs.Perms.{Perm-sym}
 use Rattle.vtl_lists.proofs.Sorts.{AllByRecursion-filter}
+use Rattle.vtl_lists.proofs.Alls.{all_append, all_both, all_each, all_filtered, all_more}
 use Rattle.vtl_tree.specs.Clauses.{filter_of}
 use Rattle.vtl_tree.specs.Columns.{columns_named, identifiers_of, others_of, place_of}
 use Rattle.vtl_tree.specs.CompExp.{CompExp}
@@ -41,10 +42,10 @@ use Rattle.vtl_meaning.proofs.Agreements.{own_values}
 use Rattle.vtl_meaning.proofs.Drawn.{drawn_all, drawn_apart, map_drawn}
 use Rattle.vtl_meaning.proofs.JoinAgreements.{covers, key_only}
 use Rattle.vtl_meaning.proofs.JoinOrders.{find_respects}
-use Rattle.vtl_meaning.proofs.Kept.{alike_cells, both_all, columns_point}
+use Rattle.vtl_meaning.proofs.Kept.{alike_cells, columns_point}
 use Rattle.vtl_meaning.proofs.LookUps.{named_cells}
 use Rattle.vtl_meaning.proofs.OwnColumns.{among_front, columns_apart, own_identifiers}
-use Rattle.vtl_meaning.proofs.Places.{all_append, all_filtered, all_more, columns_split, each, key_cells, key_of_joined, key_within, point_append}
+use Rattle.vtl_meaning.proofs.Places.{columns_split, key_cells, key_of_joined, key_within, point_append}
 use Rattle.vtl_meaning.proofs.TurnedKept.{other_key_is, others_among, others_are}
 use Rattle.vtl_meaning.proofs.TurnedOrders.{alike_others}
 use Rattle.vtl_meaning.proofs.ValueKinds.{IsOf, cell_is_of, point_from}
@@ -98,7 +99,7 @@ module _ (h : Ruled) (a : Structure) (is : IsSided h a) where
   pub key_values : (row : Row) (v : Cell) → is_point ks row ≡ true → IsOf h.kind v → values_in (t h a is) (identifiers_of (t h a is)) (item_row row v) ≡ row
   key_values row v i j = own_values (t h a is) (item_row row v) (item_is_structure h a is) (item_point row v i j) ∙ key_front row v i
 
-  -- a data set with what is found of an item at each of these combinations
+  -- a data set with what is found of an item at all_each of these combinations
   pub record IsItemTable (found : Row → Found) (rows combinations : List Row) : Type 0 where
     pub set : IsDataSet (t h a is) rows
     pub at : AllByRecursion (λ row. find (has_key row) rows ≡ option_map (item_row row) (found row)) combinations
@@ -159,7 +160,7 @@ module _ (h : Ruled) (a : Structure) (is : IsSided h a) where
     cell_is : (r : Row) → P r → IsOf h.kind (cell r)
     cell_is r i = cell_is_of (place_of h.measure xs) h.measure h.kind xs r is.itemized.measured i
 
-    -- ---- each combination once
+    -- ---- all_each combination once
 
     abbrev Draws : Row → Row → Type 0
     Draws r q = P r × (has r ≡ true) × (q ≡ item_of r)
@@ -177,7 +178,7 @@ module _ (h : Ruled) (a : Structure) (is : IsSided h a) where
         ap (same_row (take (key_width a) r)) (sym same) ∙ same_row-refl (take (key_width a) r)
 
     drawn : AllByRecursion (λ r. Draws r (item_of r)) (filter has d)
-    drawn = both_all P (λ r. has r ≡ true) (λ r. Draws r (item_of r)) (λ r i e. (i, e, refl)) (filter has d) (AllByRecursion-filter P has d set.typed) (all_filtered has d)
+    drawn = all_both P (λ r. has r ≡ true) (λ r. Draws r (item_of r)) (λ r i e. (i, e, refl)) (filter has d) (AllByRecursion-filter P has d set.typed) (all_filtered has d)
 
     pub items_set : IsDataSet (t h a is) item_points
     items_set =
@@ -212,8 +213,8 @@ module _ (h : Ruled) (a : Structure) (is : IsSided h a) where
     pub items_known : (combinations : List Row) → IsItemTable given item_points combinations
     items_known combinations = record {
       set = items_set;
-      at = each (λ row. find (has_key row) item_points ≡ option_map (item_row row) (given row)) (λ row. found_in row d set.typed) combinations;
-      kinds = each (λ row. IfSome (given row) (IsOf h.kind)) (λ row. items_are h a d is.itemized set row item) combinations;
+      at = all_each (λ row. find (has_key row) item_points ≡ option_map (item_row row) (given row)) (λ row. found_in row d set.typed) combinations;
+      kinds = all_each (λ row. IfSome (given row) (IsOf h.kind)) (λ row. items_are h a d is.itemized set row item) combinations;
     }
 
     -- ---- its query

@@ -8,12 +8,11 @@ use Rattle.vtl_cell.specs.Outcome.{Outcome, after, fault_in, faults_by, join, un
 use Rattle.vtl_cell.specs.Outcomes.{is_true}
 use Rattle.vtl_cell.specs.Row.{Row}
 use Rattle.vtl_lists.proofs.Sorts.{AllByRecursion-filter}
+use Rattle.vtl_lists.proofs.Alls.{all_both, all_filtered, all_more}
 use Rattle.vtl_tree.specs.CompExp.{CompExp}
 use Rattle.vtl_tree.specs.Value.{value}
 use Rattle.vtl_tuples.proofs.Lists.{filter-map, filter_same, map-map}
 use Rattle.vtl_meaning.specs.Points.{each_point, point_fault, point_of}
-use Rattle.vtl_meaning.proofs.Kept.{both_all}
-use Rattle.vtl_meaning.proofs.Places.{all_filtered, all_more}
 use Rattle.joins_to_sql.specs.Joins.{where_of}
 use Rattle.rules_to_sql.proofs.Lists.{faults_same, no_faults, shown_points}
 
@@ -59,7 +58,7 @@ module _ {X : Type 0} (p : Settings) (condition : Option CompExp) (es : List Com
   left_by : (e : CompExp) (xs : List X) (o : Option Fault) → faults_by w xs ≡ o → AllByRecursion (Told (Some e)) xs → unless o (filter (λ r. is_true (value p e r)) (map row xs)) ≡ unless o (map row (filter t xs))
   left_by e xs None none all =
       ap Ok (filter-map (λ r. is_true (value p e r)) row xs
-      ∙ ap (map row) (filter_same (λ x. is_true (value p e (row x))) t xs (both_all (Told (Some e)) (λ x. w x ≡ None) (λ x. is_true (value p e (row x)) ≡ t x) (λ x h i. h.1 i) xs all (all_none w xs none))))
+      ∙ ap (map row) (filter_same (λ x. is_true (value p e (row x))) t xs (all_both (Told (Some e)) (λ x. w x ≡ None) (λ x. is_true (value p e (row x)) ≡ t x) (λ x h i. h.1 i) xs all (all_none w xs none))))
   left_by e xs (Some z) none all = refl
 
   where_is : (o : Option CompExp) (xs : List X) → AllByRecursion (Told o) xs → where_of p o (map row xs) ≡ unless (faults_by w xs) (map row (filter t xs))
@@ -82,7 +81,7 @@ module _ {X : Type 0} (p : Settings) (condition : Option CompExp) (es : List Com
   IsKept x = IsSure x × (t x ≡ true)
 
   kept_all : (xs : List X) → AllByRecursion IsSure xs → AllByRecursion IsKept (filter t xs)
-  kept_all xs all = both_all IsSure (λ x. t x ≡ true) IsKept (λ x h e. (h, e)) (filter t xs) (AllByRecursion-filter IsSure t xs all) (all_filtered t xs)
+  kept_all xs all = all_both IsSure (λ x. t x ≡ true) IsKept (λ x h e. (h, e)) (filter t xs) (AllByRecursion-filter IsSure t xs all) (all_filtered t xs)
 
   faults_made : (xs : List X) → AllByRecursion IsSure xs → faults_by (point_fault p es) (map row (filter t xs)) ≡ faults_by (λ x. cond (t x) (f x) None) xs
   faults_made xs all = faults_mapped (point_fault p es) row (filter t xs) ∙ faults_same IsKept (λ x. point_fault p es (row x)) f (λ x h. h.0.0.fault h.0.1 h.1) (filter t xs) (kept_all xs all) ∙ faults_where t f xs
@@ -100,7 +99,7 @@ module _ {X : Type 0} (p : Settings) (condition : Option CompExp) (es : List Com
   kept_rows xs all = ap (λ m. after m (each_point p es)) (where_is condition xs (all_more IsMade (Told condition) (λ x h. h.told) xs all)) ∙ go (faults_by w xs) refl
     where
       go : (o : Option Fault) → faults_by w xs ≡ o → after (unless o (map row (filter t xs))) (each_point p es) ≡ after (unless o xs) result
-      go None e = each_made xs (both_all IsMade (λ x. w x ≡ None) IsSure (λ x h i. (h, i)) xs all (all_none w xs e))
+      go None e = each_made xs (all_both IsMade (λ x. w x ≡ None) IsSure (λ x h i. (h, i)) xs all (all_none w xs e))
       go (Some z) e = refl
 
   -- a condition without a fault

@@ -1,7 +1,6 @@
 pub mod SideExps
 pub mod CheckedSides
 pub mod TypedSides
-pub mod Levels
 pub mod ItemColumns
 pub mod ItemTables
 pub mod KeptRows

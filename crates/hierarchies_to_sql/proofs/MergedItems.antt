@@ -3,6 +3,8 @@ use Rattle.std.proofs.Common.{◌≡◌, ◌<◌, ◌+◌, ◌^◌, ℕ, Bool, t
 use Rattle.std.specs.Prelude.{option_map}
 use Rattle.std.specs.List.{AllByRecursion, filter_map, flat_map}
 use Rattle.std.specs.Option.{IfSome, option_map_or}
+use Rattle.vtl_lists.proofs.Alls.{all_append, all_more}
+use Rattle.vtl_lists.proofs.Filters.{filter_map-map}
 use Rattle.vtl_decimal.specs.Settings.{Settings}
 use Rattle.vtl_decimal.specs.declared.number.Fault.{Fault}
 use Rattle.vtl_cell.specs.Kinds.{is_null}
@@ -23,7 +25,6 @@ use Rattle.vtl_tree.specs.declared.structure.Component.{Component}
 use Rattle.vtl_tree.specs.declared.structure.Structure.{Structure}
 use Rattle.vtl_meaning.specs.Made.{AreFor, IsColumnAt}
 use Rattle.vtl_meaning.specs.Points.{cell_or_null, each_point, point_fault, point_of, with_points}
-use Rattle.vtl_meaning.proofs.Places.{all_append, all_more}
 use Rattle.vtl_meaning.proofs.ValueKinds.{IsOf}
 use Rattle.vtl_rulings.specs.Hierarchies.{taken}
 use Rattle.vtl_rulings.specs.HierarchyChecks.{Ruled}
@@ -43,7 +44,6 @@ use Rattle.hierarchies_to_sql.specs.ComputedTables.{merged_exps, merged_query, o
 use Rattle.hierarchies_to_sql.specs.ItemTables.{leaf_at, structures_for}
 use Rattle.hierarchies_to_sql.specs.SideExps.{Leaf}
 use Rattle.hierarchies_to_sql.proofs.ChainRows.{AllKnown, IsLead, ItemsAt, all_columns, beside_give, combination, facts, first, items_show, lead_cells, row_of}
-use Rattle.hierarchies_to_sql.proofs.CheckTables.{filter_mapped}
 use Rattle.hierarchies_to_sql.proofs.ComputedRules.{found_rows}
 use Rattle.hierarchies_to_sql.proofs.ItemColumns.{IsSided, behind, item_columns, item_given, keys, others, t}
 use Rattle.hierarchies_to_sql.proofs.ItemTables.{item_row}
@@ -174,7 +174,7 @@ module _ (p : Settings) (law : Translates p) (now : Data) (h : Ruled) (a : Struc
       ∙ ap (λ u. unless (faults_by u qs) (filter_map (λ q. cond (kept q) (Some (point q)) None) qs)) (same_functions (λ q. cond (kept q) None None) (λ q. None) (λ q. nothing (kept q)))
       ∙ ap (λ o. unless o (filter_map (λ q. cond (kept q) (Some (point q)) None) qs)) (no_faults qs)
       ∙ ap (λ u. Ok (filter_map u qs)) (same_functions (λ q. cond (kept q) (Some (point q)) None) (λ q. option_map (item_row (at q)) (of_both (f (at q)) (g (at q)))) (λ q. both_rows (at q) (f (at q)) (g (at q))))
-      ∙ ap Ok (sym (filter_mapped (λ k. option_map (item_row k) (of_both (f k) (g k))) at qs))
+      ∙ ap Ok (sym (filter_map-map (λ k. option_map (item_row k) (of_both (f k) (g k))) at qs))
     where
       none : Option Fault
       none = None

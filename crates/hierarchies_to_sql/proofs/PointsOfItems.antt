@@ -2,6 +2,7 @@
 use Rattle.std.proofs.Common.{◌≡◌, ◌+◌, ℕ, Bool, true, false, cond, List, [], ◌∷◌, ◌++◌, length, map, None, Ok, refl, sym, ap, ◌∙◌, subst, arith}
 use Rattle.std.specs.List.{AllByRecursion}
 use Rattle.std.proofs.lemmas.List.{get_or-append-add, get_or_append_left}
+use Rattle.vtl_lists.proofs.Alls.{all_append, all_each}
 use Rattle.vtl_decimal.specs.Settings.{Settings}
 use Rattle.vtl_cell.specs.Held.{IsHeld as IsHeldCell}
 use Rattle.vtl_cell.specs.Literals.{is_null_kind}
@@ -23,7 +24,7 @@ use Rattle.vtl_meaning.specs.Made.{AreFor, HasIdentifiers, IsColumnAt, IsTyped, 
 use Rattle.vtl_meaning.specs.Points.{cell_or_null, each_point, point_fault, point_of}
 use Rattle.vtl_meaning.proofs.Kept.{column_front, column_within, place_front}
 use Rattle.vtl_meaning.proofs.OwnColumns.{columns_apart}
-use Rattle.vtl_meaning.proofs.Places.{all_append, each, point_length}
+use Rattle.vtl_meaning.proofs.Places.{point_length}
 use Rattle.vtl_rulings.specs.HierarchyChecks.{Ruled, key_at, key_cell}
 use Rattle.sql_tree.specs.Formed.{IsName}
 use Rattle.sql_tree.specs.Trees.{Text}
@@ -153,5 +154,5 @@ module _ (p : Settings) (h : Ruled) (a : Structure) (is : IsSided h a) (item : L
       let w = item_is_structure h a is in
       let nt = item_named h a is na kinds in
       gives_same p now s (select_of p of_one es s (source_as first_alias name) [] None) (each_point p es rows) (Ok (map (point_of p es) rows))
-      (each_sure p (λ r. Unit {0}) es (λ r u. quiet r) rows (each (λ r. Unit {0}) (λ r. tt) rows))
+      (each_sure p (λ r. Unit {0}) es (λ r u. quiet r) rows (all_each (λ r. Unit {0}) (λ r. tt) rows))
       (rows_give p law now name T rows table named w nt es s (exps_for s i others) (exps_written writable) given None tt tt (Ok rows) (ap Ok (rows_there p law now name T rows table named w nt)) typed)

@@ -1,6 +1,7 @@
 -- The select of a rule of `check_hierarchy` gives the points of the rule at all combinations, or its fault.
 use Rattle.std.proofs.Common.{◌≡◌, ◌<◌, ◌+◌, ◌^◌, ℕ, Bool, true, false, ◌&&◌, cond, List, [], ◌∷◌, ◌++◌, length, map, Option, Some, None, Ok, refl, sym, ap, ◌∙◌, subst}
 use Rattle.std.specs.List.{AllByRecursion, filter_map}
+use Rattle.vtl_lists.proofs.Alls.{all_more}
 use Rattle.vtl_decimal.specs.Settings.{Settings}
 use Rattle.vtl_decimal.specs.declared.number.Fault.{Fault}
 use Rattle.vtl_cell.specs.Literals.{is_null_kind}
@@ -27,7 +28,6 @@ use Rattle.vtl_tuples.proofs.Lists.{map-map}
 use Rattle.vtl_meaning.specs.LookUps.{value_named}
 use Rattle.vtl_meaning.specs.Made.{AreFor}
 use Rattle.vtl_meaning.specs.Points.{cell_or_null, each_point, point_fault, point_of, with_points}
-use Rattle.vtl_meaning.proofs.Places.{all_more}
 use Rattle.vtl_rulings.specs.HierarchyChecks.{Ruled, SidedRule, check_cells, check_fault, check_point, is_checked, items_at, key_at, key_cell}
 use Rattle.vtl_rulings.specs.HierarchyShapes.{IsNumeric}
 use Rattle.vtl_rulings.specs.Modes.{Found, Items}

@@ -1,4 +1,4 @@
--- The tables of rules that are run in an order stand for what each rule computes, or the first that has a fault has it.
+-- The tables of rules that are run in an order stand for what all_each rule computes, or the first that has a fault has it.
 use Rattle.std.proofs.Common.{◌≡◌, ◌<◌, ◌+◌, ◌^◌, ℕ, Bool, true, false, cond, List, [], ◌∷◌, ◌++◌, length, map, Option, Some, None, Ok, Err, refl, sym, ap, ◌∙◌, subst, arith, append_assoc, length-append}
 use Rattle.std.specs.Prelude.{option_map}
 use Rattle.std.specs.List.{AllByRecursion, cons_option, filter_map, find}
@@ -12,6 +12,8 @@ use Rattle.vtl_cell.specs.declared.cell.Cell.{Cell}
 use Rattle.vtl_lists.specs.Apart.{all_apart}
 use Rattle.vtl_lists.proofs.Aparts.{apart_parts}
 use Rattle.vtl_lists.proofs.Perms.{Perm-refl}
+use Rattle.vtl_lists.proofs.Alls.{all_both, all_each, all_more}
+use Rattle.vtl_lists.proofs.Filters.{filter_map-map}
 use Rattle.vtl_syntax.specs.declared.statements.HierRule.{HierRule}
 use Rattle.vtl_syntax.specs.declared.word_groups.HierInput.{HierInput}
 use Rattle.vtl_syntax.specs.declared.word_groups.HierInput.TheVariants as input
@@ -26,8 +28,7 @@ use Rattle.vtl_tree.specs.RuleItems.{left_item, right_items}
 use Rattle.vtl_tree.specs.Structure.{columns_of, same_name}
 use Rattle.vtl_tree.specs.declared.structure.Structure.{Structure}
 use Rattle.vtl_meaning.specs.Points.{cell_or_null, with_points}
-use Rattle.vtl_meaning.proofs.Kept.{both_all}
-use Rattle.vtl_meaning.proofs.Places.{all_more, all_of_map, each, same_name-is}
+use Rattle.vtl_meaning.proofs.Places.{all_of_map, same_name-is}
 use Rattle.vtl_meaning.proofs.ValueKinds.{IsOf}
 use Rattle.vtl_rulings.specs.Hierarchies.{computed, made_at, taken}
 use Rattle.vtl_rulings.specs.HierarchyChecks.{Ruled, items_at}
@@ -51,7 +52,6 @@ use Rattle.hierarchies_to_sql.specs.ItemTables.{Tables, with_table}
 use Rattle.hierarchies_to_sql.specs.RuleSelects.{computed_query}
 use Rattle.hierarchies_to_sql.specs.Writable.{CanBeSided}
 use Rattle.hierarchies_to_sql.proofs.ChainRows.{AllKnown, IsLead, combination}
-use Rattle.hierarchies_to_sql.proofs.CheckTables.{filter_mapped}
 use Rattle.hierarchies_to_sql.proofs.ComputedRules.{computed_exactly, found_rows, found_table}
 use Rattle.hierarchies_to_sql.proofs.ItemColumns.{IsSided, keys, others, t}
 use Rattle.hierarchies_to_sql.proofs.ItemTables.{Knows, has_key, item_row, knows_by, knows_still}
@@ -98,7 +98,7 @@ module _ (p : Settings) (law : Translates p) (h : Ruled) (a : Structure) (is : I
 
   module _ (apart : all_apart same_row rows ≡ true) (points : AllByRecursion (λ k. is_point (others h a is) k ≡ true) rows) (fit : (r : HierRule) → AllByRecursion (λ k. IfSome (found_made r k) (IsOf h.kind)) rows) (operand_fit : (name : List ℕ) → AllByRecursion (λ k. IfSome (items_at h A k name) (IsOf h.kind)) rows) (result : Text) (word : is_word result ≡ true) (given : List (List ℕ)) (x : Text) where
     two_fit : (r : HierRule) → AllByRecursion (λ k. IfSome (of_both (found_made r k) (items_at h A k (left_item r))) (IsOf h.kind)) rows
-    two_fit r = both_all (λ k. IfSome (found_made r k) (IsOf h.kind)) (λ k. IfSome (items_at h A k (left_item r)) (IsOf h.kind)) (λ k. IfSome (of_both (found_made r k) (items_at h A k (left_item r))) (IsOf h.kind)) (λ k u v. both_fit h.kind (found_made r k) (items_at h A k (left_item r)) u v) rows (fit r) (operand_fit (left_item r))
+    two_fit r = all_both (λ k. IfSome (found_made r k) (IsOf h.kind)) (λ k. IfSome (items_at h A k (left_item r)) (IsOf h.kind)) (λ k. IfSome (of_both (found_made r k) (items_at h A k (left_item r))) (IsOf h.kind)) (λ k u v. both_fit h.kind (found_made r k) (items_at h A k (left_item r)) u v) rows (fit r) (operand_fit (left_item r))
 
     -- an item that is asked of the operand too
     abbrev pub IsWanted : HierInput → List ℕ → Type 0
@@ -127,8 +127,8 @@ module _ (p : Settings) (law : Translates p) (h : Ruled) (a : Structure) (is : I
       table = e.table;
       item = record {
         set = e.item.set;
-        at = both_all (λ k. f k ≡ g k) (λ k. find (has_key h a is k) e.rows ≡ option_map (item_row k) (f k)) (λ k. find (has_key h a is k) e.rows ≡ option_map (item_row k) (g k)) (λ k u v. v ∙ ap (option_map (item_row k)) u) rows same e.item.at;
-        kinds = both_all (λ k. f k ≡ g k) (λ k. IfSome (f k) (IsOf h.kind)) (λ k. IfSome (g k) (IsOf h.kind)) (λ k u v. subst (λ o. IfSome o (IsOf h.kind)) u v) rows same e.item.kinds;
+        at = all_both (λ k. f k ≡ g k) (λ k. find (has_key h a is k) e.rows ≡ option_map (item_row k) (f k)) (λ k. find (has_key h a is k) e.rows ≡ option_map (item_row k) (g k)) (λ k u v. v ∙ ap (option_map (item_row k)) u) rows same e.item.at;
+        kinds = all_both (λ k. f k ≡ g k) (λ k. IfSome (f k) (IsOf h.kind)) (λ k. IfSome (g k) (IsOf h.kind)) (λ k u v. subst (λ o. IfSome o (IsOf h.kind)) u v) rows same e.item.kinds;
       };
     }
 
@@ -156,7 +156,7 @@ module _ (p : Settings) (law : Translates p) (h : Ruled) (a : Structure) (is : I
         (ap (λ f. unless f (filter_map old_row qs))
         (faults_same (λ q. computed p m h.kind (items (at q)) r ≡ makes r (at q)) old_fault (λ q. fault (at q)) (λ q e. ap (λ o. option_map_or fault_in o None) e) qs own ∙ sym (faults_mapped fault at qs))
         ∙ ap (unless (rule_fault r))
-        (filter_map_same old_row (λ q. row (at q)) qs (all_more (λ q. computed p m h.kind (items (at q)) r ≡ makes r (at q)) (λ q. old_row q ≡ row (at q)) (λ q e. ap (option_map (λ v. item_row (at q) (cell_or_null v))) e ∙ two_maps (at q) (makes r (at q))) qs own) ∙ sym (filter_mapped row at qs)))
+        (filter_map_same old_row (λ q. row (at q)) qs (all_more (λ q. computed p m h.kind (items (at q)) r ≡ makes r (at q)) (λ q. old_row q ≡ row (at q)) (λ q e. ap (option_map (λ v. item_row (at q) (cell_or_null v))) e ∙ two_maps (at q) (makes r (at q))) qs own) ∙ sym (filter_map-map row at qs)))
         (computed_exactly p law now h a is na kinds qs x ready.here typed tables m items r sided known)
       where
         two_maps : (k : Row) (o : Option (Outcome Cell)) → option_map (λ v. item_row k (cell_or_null v)) o ≡ option_map (item_row k) (option_map cell_or_null o)
@@ -189,7 +189,7 @@ module _ (p : Settings) (law : Translates p) (h : Ruled) (a : Structure) (is : I
               (told (subst (IsWanted i) (sym same) wanted))
           go false e =
               knows_same later (tables y) (found_of items y) (found_of (next_items items r) y)
-              (each (λ k. items k y ≡ next_items items r k y) (λ k. sym (ap (λ b. cond b (taken i (items_at h A k l) (computed p m h.kind (items k) r)) (items k y)) e)) rows)
+              (all_each (λ k. items k y ≡ next_items items r k y) (λ k. sym (ap (λ b. cond b (taken i (items_at h A k l) (computed p m h.kind (items k) r)) (items k y)) e)) rows)
               (knows_still h a is now more (tables y) (found_of items y) rows (known (e, free)))
 
       items_later : (names : List (List ℕ)) → AllByRecursion (IsWanted i) names → AllByRecursion (λ y. IsFree (r ∷ rs) y → Holds now (tables y) (found_of items y)) names → AllByRecursion (λ y. IsFree rs y → Holds later (with_table l name tables y) (found_of (next_items items r) y)) names
@@ -275,7 +275,7 @@ module _ (p : Settings) (law : Translates p) (h : Ruled) (a : Structure) (is : I
             (λ again there soon counted.
             let told : IsWanted i own_item → Holds (beyond ++ again) merged_name (becomes r) =
             λ w. knows_same (beyond ++ again) merged_name (λ k. of_both (found_made r k) (operand k)) (becomes r)
-            (each (λ k. of_both (found_made r k) (operand k) ≡ becomes r k) (λ k. sym (taken_is (operand k) (makes r k)) ∙ ap (λ j. taken j (operand k) (makes r k)) e) rows)
+            (all_each (λ k. of_both (found_made r k) (operand k) ≡ becomes r k) (λ k. sym (taken_is (operand k) (makes r k)) ∙ ap (λ j. taken j (operand k) (makes r k)) e) rows)
             (knows_by h a is (beyond ++ again) merged_name (λ k. of_both (found_made r k) (operand k)) merged_rows rows there.0 (found_table h a is (λ k. of_both (found_made r k) (operand k)) rows apart points (two_fit r))) in
             let back : now ++ (more ++ again) ≡ beyond ++ again = sym (append_assoc now more again) in
             give (beyond ++ again) (n + 1) (next_items items r) (with_table own_item merged_name tables)
@@ -285,8 +285,8 @@ module _ (p : Settings) (law : Translates p) (h : Ruled) (a : Structure) (is : I
         rest_gives : (j : HierInput) → j ≡ i → n + length (rest_of j tables r rs made n).tables < 2 ^ 64 → SourcesGive p beyond result n (rest_of j tables r rs made n) (run_of rs)
         rest_gives input.Dataset e few =
             plainly (tables own_item)
-            (λ w. knows_same beyond (tables own_item) operand (becomes r) (each (λ k. operand k ≡ becomes r k) (λ k. ap (λ j. taken j (operand k) (makes r k)) e) rows) (asked (subst (λ j. IsWanted j own_item) (sym e) w))) few
-        rest_gives input.Rule e few = plainly made (λ w. knows_same beyond made (found_made r) (becomes r) (each (λ k. found_made r k ≡ becomes r k) (λ k. ap (λ j. taken j (operand k) (makes r k)) e) rows) own) few
+            (λ w. knows_same beyond (tables own_item) operand (becomes r) (all_each (λ k. operand k ≡ becomes r k) (λ k. ap (λ j. taken j (operand k) (makes r k)) e) rows) (asked (subst (λ j. IsWanted j own_item) (sym e) w))) few
+        rest_gives input.Rule e few = plainly made (λ w. knows_same beyond made (found_made r) (becomes r) (all_each (λ k. found_made r k ≡ becomes r k) (λ k. ap (λ j. taken j (operand k) (makes r k)) e) rows) own) few
         rest_gives input.RulePriority e few = go (is_among own_item given) refl few
           where
             taken_by : Bool → Sources

@@ -4,7 +4,6 @@ use Rattle.std.specs.List.{AllByRecursion, filter}
 use Rattle.vtl_decimal.specs.Settings.{Settings}
 use Rattle.vtl_cell.specs.Held.{IsHeld}
 use Rattle.vtl_cell.specs.declared.cell.Cell.TheVariants as c
-use Rattle.vtl_cell.specs.declared.kind.Kind.{Kind}
 use Rattle.vtl_cell.specs.declared.kind.Kind.TheVariants as k
 use Rattle.vtl_tree.specs.Columns.{column_behind, column_named, columns_named, identifiers_of, kind_named, place_of}
 use Rattle.vtl_tree.specs.CompExp.{const}
@@ -19,6 +18,7 @@ use Rattle.vtl_meaning.proofs.OwnColumns.{own_among, own_identifiers, own_measur
 use Rattle.vtl_meaning.proofs.Places.{same_name-is, same_name-sym}
 use Rattle.vtl_meaning.proofs.TurnedKept.{others_are}
 use Rattle.vtl_rulings.specs.HierarchyChecks.{Ruled}
+use Rattle.vtl_rulings.proofs.HierarchyKeys.{one_kind}
 use Rattle.sql_tree.specs.Trees.{Text}
 use Rattle.joins_to_sql.specs.Joins.{placed_from, width_of}
 use Rattle.joins_to_sql.proofs.JoinedColumns.{ArePlaced, IsPlaced, OfKinds, column_kinds, placed_all}
@@ -29,11 +29,6 @@ use Rattle.hierarchies_to_sql.specs.ItemTables.{key_exp, leaf_at, structures_for
 use Rattle.hierarchies_to_sql.proofs.ChainRows.{all_columns, first, source_columns}
 use Rattle.hierarchies_to_sql.proofs.TypedSides.{IsLeaf}
 use Rattle.hierarchies_to_sql.proofs.ItemColumns.{IsSided, behind, item_is_structure, item_measures, keys, keys_identifiers, keys_well, others, others_apart, t}
-
-same_kind_at : (place : ℕ) (name : List ℕ) (a b : Kind) (xs : List Component) → IsColumnAt place name a xs → IsColumnAt place name b xs → a ≡ b
-same_kind_at place name a b [] i j = absurd i
-same_kind_at zero name a b (x ∷ xs) i j = sym i.1 ∙ j.1
-same_kind_at (suc place) name a b (x ∷ xs) i j = same_kind_at place name a b xs i j
 
 -- what holds of the items that pass holds of each that does
 passing : {X : Type 0} (P : X → Type 0) (t : X → Bool) (xs : List X) → AllByRecursion P (filter t xs) → AllByRecursion (λ x. t x ≡ true → P x) xs
@@ -104,7 +99,7 @@ module _ (p : Settings) (h : Ruled) (a : Structure) (is : IsSided h a) where
   is_id : (y : Component) → IsColumnAt (place_of y.name ids) y.name y.kind ids → (not (is_among y.name (h.id ∷ [])) ≡ true → IsKept y) → IsId y
   is_id y own other = record {
     kept = λ e. other (ap (λ b. not (b || false)) (same_name-sym h.id y.name ∙ e));
-    coded = λ e. same_kind_at (place_of h.id ids) h.id k.Text y.kind ids is.itemized.coded (subst (λ n. IsColumnAt (place_of n ids) n y.kind ids) (same_name-is y.name h.id e) own);
+    coded = λ e. one_kind (place_of h.id ids) h.id k.Text y.kind ids is.itemized.coded (subst (λ n. IsColumnAt (place_of n ids) n y.kind ids) (same_name-is y.name h.id e) own);
   }
 
   pub are_ids : AllByRecursion IsId ids

@@ -2,6 +2,7 @@
 use Rattle.std.proofs.Common.{◌≡◌, ℕ, ℤ, pos, Bool, true, false, not, cond, fold, ◌&&◌, ◌||◌, List, [], ◌∷◌, map, Option, Some, None, Ok, Err, refl, sym, ap, ◌∙◌, subst}
 use Rattle.std.specs.List.{AllByRecursion, list_all, list_any, zip}
 use Rattle.std.specs.Option.{option_map_or}
+use Rattle.vtl_lists.proofs.Tests.{or_false}
 use Rattle.vtl_decimal.specs.Settings.{Settings}
 use Rattle.vtl_decimal.specs.Range.{fit_number}
 use Rattle.vtl_decimal.specs.declared.number.Fault.{Fault}
@@ -47,14 +48,6 @@ or_grouped false b d = refl
 and_grouped : (a b d : Bool) → ((a && b) && d) ≡ (a && (b && d))
 and_grouped true b d = refl
 and_grouped false b d = refl
-
-or_last : (a : Bool) → (a || false) ≡ a
-or_last true = refl
-or_last false = refl
-
-and_last : (a : Bool) → (a && true) ≡ a
-and_last true = refl
-and_last false = refl
 
 module _ (p : Settings) (kind : Kind) (numeric : IsNumeric kind) (r : Row) where
   -- what stands for an item at a row
@@ -159,7 +152,7 @@ module _ (p : Settings) (kind : Kind) (numeric : IsNumeric kind) (r : Row) where
   -- a condition for each of several items
   module _ (f : Leaf → CompExp) (t : Found → Bool) (one : (l : Leaf) (x : Found) → Shows l x → IsSure (f l) (t x)) where
     any_from : (e : CompExp) (a : Bool) (ls : List Leaf) (xs : List Found) → IsSure e a → AllShow ls xs → IsSure (fold either e (map f ls)) (a || list_any t xs)
-    any_from e a [] [] s all = subst (IsSure e) (sym (or_last a)) s
+    any_from e a [] [] s all = subst (IsSure e) (sym (or_false a)) s
     any_from e a [] (x ∷ xs) s all = absurd all
     any_from e a (l ∷ ls) [] s all = absurd all
     any_from e a (l ∷ ls) (x ∷ xs) s all = subst (IsSure (fold either (either e (f l)) (map f ls))) (or_grouped a (t x) (list_any t xs)) (any_from (either e (f l)) (a || t x) ls xs (or_sure e (f l) a (t x) s (one l x all.0)) all.1)

@@ -8,6 +8,8 @@ use Rattle.vtl_cell.specs.Row.{Row, same_row}
 use Rattle.vtl_cell.specs.declared.cell.Cell.TheVariants as c
 use Rattle.vtl_lists.specs.Perm.{Perm, chain}
 use Rattle.vtl_lists.proofs.Perms.{Perm-filter, Perm-map, Perm-same}
+use Rattle.vtl_lists.proofs.Sorts.{AllByRecursion-map}
+use Rattle.vtl_lists.proofs.Alls.{all_more}
 use Rattle.vtl_rows.specs.Tables.{cells_at}
 use Rattle.vtl_text.specs.Words.{is_word}
 use Rattle.vtl_tree.specs.Columns.{identifiers_of, places_in}
@@ -22,14 +24,15 @@ use Rattle.vtl_meaning.specs.Agreement.{values_in}
 use Rattle.vtl_meaning.specs.Joined.{keys_in}
 use Rattle.vtl_meaning.specs.Made.{AreAmong}
 use Rattle.vtl_meaning.specs.Points.{with_points}
-use Rattle.vtl_meaning.proofs.Places.{all_map, all_more, same_name-is}
+use Rattle.vtl_meaning.proofs.Places.{same_name-is}
 use Rattle.vtl_meaning.proofs.TurnedKept.{other_key_is, others_among}
+use Rattle.vtl_meaning.proofs.JoinOrders.{keys_respect}
 use Rattle.vtl_rulings.specs.HierarchyChecks.{Ruled, combinations, items_at}
 use Rattle.vtl_rulings.proofs.HierarchyKeys.{combinations_typed}
 use Rattle.sql_tree.specs.Trees.{Text}
 use Rattle.sql_meaning.specs.Scripts.{Data}
 use Rattle.joins_to_sql.specs.FullJoins.{keys_query, once_query, or_spare}
-use Rattle.joins_to_sql.proofs.FullMeans.{beside_there, keys_respect, keys_stand, once_means}
+use Rattle.joins_to_sql.proofs.FullMeans.{beside_there, keys_stand, once_means}
 use Rattle.joins_to_sql.proofs.HeldOperands.{IsHeld}
 use Rattle.joins_to_sql.proofs.KeyColumns.{keyed, keyed_cells, keyed_point, once_keyed}
 use Rattle.joins_to_sql.proofs.KeyTables.{keys_exactly}
@@ -90,15 +93,15 @@ module _ (h : Ruled) (a : Structure) (is : IsSided h a) (d : List Row) (set : Is
   keys_typed : AllByRecursion (λ q. is_point (columns_of K) q ≡ true) key_rows
   keys_typed =
       subst (λ ys. AllByRecursion (λ q. is_point ys q ≡ true) key_rows) (sym (keys_columns h a is))
-      (all_map (keyed ks) (λ q. is_point (or_spare ks) q ≡ true) (map (values_in a ks) d)
-      (all_map (values_in a ks) (λ k. is_point (or_spare ks) (keyed ks k) ≡ true) d
+      (AllByRecursion-map (keyed ks) (λ q. is_point (or_spare ks) q ≡ true) (map (values_in a ks) d)
+      (AllByRecursion-map (values_in a ks) (λ k. is_point (or_spare ks) (keyed ks k) ≡ true) d
       (all_more (λ r. is_point (columns_of a) r ≡ true) (λ r. is_point (or_spare ks) (keyed ks (values_in a ks r)) ≡ true) (λ r i. keyed_point ks (values_in a ks r) (other_key_is h.id a r is.well i)) d set.typed)))
 
   pub all_keys_typed : AllByRecursion (λ q. is_point (first h a is) q ≡ true) all_keys.points
   all_keys_typed =
       subst (AllByRecursion (λ q. is_point (columns_of K) q ≡ true)) (sym keys_once)
       (subst (λ ys. AllByRecursion (λ q. is_point ys q ≡ true) (map (keyed ks) (combinations h.id A))) (sym (keys_columns h a is))
-      (all_map (keyed ks) (λ q. is_point (or_spare ks) q ≡ true) (combinations h.id A) (all_more (λ k. is_point ks k ≡ true) (λ k. is_point (or_spare ks) (keyed ks k) ≡ true) (λ k i. keyed_point ks k i) (combinations h.id A) (combinations_typed h.id a d set))))
+      (AllByRecursion-map (keyed ks) (λ q. is_point (or_spare ks) q ≡ true) (combinations h.id A) (all_more (λ k. is_point ks k ≡ true) (λ k. is_point (or_spare ks) (keyed ks k) ≡ true) (λ k i. keyed_point ks k i) (combinations h.id A) (combinations_typed h.id a d set))))
 
   key_back : (k : Row) → is_point ks k ≡ true → combination h a is (keyed ks k) ≡ k
   key_back k i = ap (λ ys. cells_at (places_in ys ks) (keyed ks k)) (keys_columns h a is) ∙ keyed_cells ks k (others_apart h a is) i

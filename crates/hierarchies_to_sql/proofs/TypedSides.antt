@@ -1,10 +1,7 @@
 -- The expressions of the sides of a rule are typed, and can be written.
-use Rattle.std.proofs.Common.{◌≡◌, ◌≤◌, ◌+◌, ◌-◌, ℕ, suc, pos, true, false, fold, List, [], ◌∷◌, length, map, Option, Some, None, refl, sym, ap, ◌∙◌, arith}
-use Rattle.std.specs.Prelude.{IsOk}
+use Rattle.std.proofs.Common.{◌≡◌, ◌≤◌, ◌+◌, ◌-◌, ℕ, suc, true, false, fold, List, [], ◌∷◌, length, map, Option, Some, None, refl, sym, ap, ◌∙◌, arith}
 use Rattle.std.specs.List.{AllByRecursion}
 use Rattle.std.specs.Option.{IfSome}
-use Rattle.std.proofs.Math.Nat.{one-le-pow}
-use Rattle.vtl_decimal.specs.Range.{fit_integer}
 use Rattle.vtl_decimal.specs.Settings.{Settings}
 use Rattle.vtl_cell.specs.Held.{IsHeld}
 use Rattle.vtl_cell.specs.Profile.{IsOfProfile}
@@ -35,6 +32,7 @@ use Rattle.vtl_rulings.specs.HierarchyShapes.{IsNumeric}
 use Rattle.vtl_rulings.specs.Modes.{zero_of}
 use Rattle.vtl_rulings.specs.Sides.{comparison_op, sign_op}
 use Rattle.vtl_rulings.proofs.Checked.{parts_hold}
+use Rattle.vtl_rulings.proofs.HierarchyProfiles.{zero_profile}
 use Rattle.expressions_to_sql.specs.Held.{HoldsValues}
 use Rattle.selects_to_sql.specs.Queries.{both, conjunction, equal, holds_always}
 use Rattle.vtl_lists.proofs.Balances.{balanced_within, below_power}
@@ -95,13 +93,6 @@ zero_kind k.Bool n = absurd n
 zero_kind k.Text n = absurd n
 zero_kind k.Day n = absurd n
 zero_kind k.Period n = absurd n
-
-zero_fits : (p : Settings) → IsOk (fit_integer p.scale (pos 0))
-zero_fits p = grind (arith, one-le-pow (18 - p.scale) 10 (omega arith))
-
-zero_typed : (p : Settings) (q : Kind) → IsOfProfile p (zero_of q)
-zero_typed p k.Int = zero_fits p
-zero_typed p other = tt
 
 zero_held : (q : Kind) → IsHeld (zero_of q)
 zero_held k.Int = omega arith
@@ -189,7 +180,7 @@ module _ (p : Settings) (xs : List Component) where
     Of n e = IsSound kind n e
 
     zero_sound : Of 1 (const (zero_of kind))
-    zero_sound = record { typed = zero_typed p kind; kind = zero_kind kind numeric; holds = zero_held kind; low = omega arith }
+    zero_sound = record { typed = zero_profile p kind; kind = zero_kind kind numeric; holds = zero_held kind; low = omega arith }
 
     -- ---- modes
 
@@ -203,7 +194,7 @@ module _ (p : Settings) (xs : List Component) where
                 ∙ ap (λ q. common_kind (q ∷ exp_kind (const (zero_of kind)) ∷ [])) s.value.kind
                 ∙ ap (λ q. common_kind (kind ∷ q ∷ [])) (zero_kind kind numeric)
                 ∙ (own_kinds kind numeric).2,
-            (s.there.typed, (s.value.typed, (zero_typed p kind, tt))),
+            (s.there.typed, (s.value.typed, (zero_profile p kind, tt))),
             refl,
           );
           kind = refl;
@@ -234,7 +225,7 @@ module _ (p : Settings) (xs : List Component) where
             ap (λ q. kinds_of op.Equal (q ∷ exp_kind (const (zero_of kind)) ∷ [])) s.value.kind
                 ∙ ap (λ q. kinds_of op.Equal (kind ∷ q ∷ [])) (zero_kind kind numeric)
                 ∙ compare_kinds kind numeric comparison.Equal,
-            (s.value.typed, (zero_typed p kind, tt)),
+            (s.value.typed, (zero_profile p kind, tt)),
             refl,
           );
           kind = refl;

@@ -14,12 +14,12 @@ use Rattle.vtl_tree.specs.Value.{value}
 use Rattle.vtl_tree.specs.declared.structure.Component.{Component}
 use Rattle.vtl_tree.specs.declared.structure.Structure.{Structure}
 use Rattle.std.proofs.lemmas.List.Folds.{flat_map-map}
+use Rattle.vtl_lists.proofs.Alls.{all_more}
 use Rattle.vtl_tuples.proofs.Lists.{flat_map_each}
 use Rattle.vtl_meaning.specs.Joined.{structures_of}
 use Rattle.vtl_meaning.specs.Made.{AreFor}
 use Rattle.vtl_meaning.specs.Points.{each_point, point_of}
 use Rattle.vtl_meaning.proofs.OwnColumns.{columns_apart}
-use Rattle.vtl_meaning.proofs.Places.{all_more}
 use Rattle.sql_tree.specs.Formed.{IsMaybeExp}
 use Rattle.sql_tree.specs.Trees.{Exp, JoinTree, SelectTree, Text}
 use Rattle.sql_tree.specs.declared.word_groups.JoinKind.{JoinKind}

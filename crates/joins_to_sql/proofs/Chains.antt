@@ -4,6 +4,7 @@ use Rattle.std.specs.Prelude.{fold, is_some, option_map}
 use Rattle.std.specs.List.{AllByRecursion, filter, find, flat_map}
 use Rattle.std.specs.Option.{option_to_list}
 use Rattle.std.proofs.lemmas.List.{length-map, map-append}
+use Rattle.vtl_lists.proofs.Alls.{all_append, all_more}
 use Rattle.grammar_forms.specs.Written.{Each}
 use Rattle.vtl_decimal.specs.declared.number.Fault.{Fault}
 use Rattle.vtl_cell.specs.Outcome.{fault_in, faults_by, join}
@@ -26,7 +27,7 @@ use Rattle.vtl_meaning.specs.Joined.{structures_of}
 use Rattle.vtl_meaning.specs.Made.{IsTyped}
 use Rattle.vtl_meaning.proofs.JoinParts.{found_is}
 use Rattle.vtl_meaning.proofs.OwnColumns.{columns_apart}
-use Rattle.vtl_meaning.proofs.Places.{all_append, all_more, point_append, point_length}
+use Rattle.vtl_meaning.proofs.Places.{point_append, point_length}
 use Rattle.sql_tree.specs.Formed.{IsJoin, IsName}
 use Rattle.sql_tree.specs.Trees.{Exp, JoinTree, Text, on}
 use Rattle.sql_tree.specs.declared.word_groups.JoinKind.{JoinKind}

@@ -5,6 +5,8 @@ use Rattle.std.specs.List.{AllByRecursion, flat_map}
 use Rattle.std.proofs.lemmas.Grind.{flat_map-append}
 use Rattle.std.proofs.lemmas.List.{get_or_append_left, get_or-append-add, length-map}
 use Rattle.std.proofs.lemmas.List.Folds.{flat_map-map}
+use Rattle.vtl_lists.proofs.Sorts.{AllByRecursion-map}
+use Rattle.vtl_lists.proofs.Alls.{all_more}
 use Rattle.grammar_forms.specs.Written.{Each}
 use Rattle.vtl_cell.specs.Outcome.{Outcome, after}
 use Rattle.vtl_cell.specs.Row.{Row, column_of}
@@ -27,7 +29,7 @@ use Rattle.vtl_meaning.specs.Points.{each_point, point_of}
 use Rattle.vtl_meaning.proofs.Agreements.{own_values}
 use Rattle.vtl_meaning.proofs.JoinKept.{IsCombination, IsOperandPoint, combinations_are}
 use Rattle.vtl_meaning.proofs.JoinParts.{AreSets}
-use Rattle.vtl_meaning.proofs.Places.{all_map, all_more, all_of_map, point_append, point_length}
+use Rattle.vtl_meaning.proofs.Places.{all_of_map, point_append, point_length}
 use Rattle.sql_tree.specs.Formed.{IsJoin, IsMaybeExp}
 use Rattle.sql_tree.specs.Trees.{Exp, SelectTree, Text}
 use Rattle.sql_check_laws.specs.Fits.{IsMaybeCondition}
@@ -204,7 +206,7 @@ module _ (p : Settings) (law : Translates p) (before : Data) (d : DataSet) (ds :
   made : AreFor p (all_loose columns) es (columns_of s)
   made =
       let same = from_structures 0 ss in
-      let well : AreWell all = all_of_map (λ o. o.structure) IsStructure all (subst (AllByRecursion IsStructure) (sym same) (all_map (λ e. e.structure) IsStructure (d ∷ ds) (all_more (λ e. IsDataSet e.structure e.points) (λ e. IsStructure e.structure) (λ e h. h.well_formed) (d ∷ ds) sets))) in
+      let well : AreWell all = all_of_map (λ o. o.structure) IsStructure all (subst (AllByRecursion IsStructure) (sym same) (AllByRecursion-map (λ e. e.structure) IsStructure (d ∷ ds) (all_more (λ e. IsDataSet e.structure e.points) (λ e. IsStructure e.structure) (λ e h. h.well_formed) (d ∷ ds) sets))) in
       let there : ArePlaced columns all = subst (λ ys. ArePlaced ys all) (flat_map-map columns_of (λ e. e.structure) (d ∷ ds) ∙ sym (flat_map-map (λ ys. ys) (λ e. columns_of e.structure) (d ∷ ds))) (placed_all [] 0 ss refl) in
       joined_for p columns s all all well well there there (ids ∙ ap (kinds_of_all identifiers_of) (sym same)) (measures ∙ ap (kinds_of_all measures_of) (sym same)) (attributes ∙ ap (kinds_of_all attributes_of) (sym same))
 
@@ -229,7 +231,7 @@ module _ (p : Settings) (law : Translates p) (before : Data) (d : DataSet) (ds :
 
   all_typed : AllByRecursion (IsPointOf (all_loose columns)) (map row_with ts)
   all_typed =
-      all_map row_with (IsPointOf (all_loose columns)) ts
+      AllByRecursion-map row_with (IsPointOf (all_loose columns)) ts
       (all_more (IsCombination ss) (λ t. IsPointOf (all_loose columns) (row_with t))
       (λ t h.
       let same : flat_map columns_of (map (λ y. y.structure) t) ≡ columns = ap (flat_map columns_of) h.structures ∙ flat_map-map columns_of (λ e. e.structure) (d ∷ ds) ∙ sym (flat_map-map (λ ys. ys) (λ e. columns_of e.structure) (d ∷ ds)) in

@@ -9,6 +9,8 @@ use Rattle.vtl_lists.specs.Perm.{Perm, chain}
 use Rattle.vtl_cell.specs.Row.{Row, same_row}
 use Rattle.vtl_decimal.specs.Settings.{Settings}
 use Rattle.vtl_lists.proofs.Perms.{Perm-map, Perm-same}
+use Rattle.vtl_lists.proofs.Sorts.{AllByRecursion-map}
+use Rattle.vtl_lists.proofs.Alls.{all_more}
 use Rattle.vtl_rows.specs.Tables.{cells_at}
 use Rattle.vtl_tree.specs.CompExp.{CompExp}
 use Rattle.vtl_tree.specs.DataSet.{IsDataSet, is_point}
@@ -27,7 +29,8 @@ use Rattle.vtl_meaning.proofs.JoinAgreements.{covers, key_only, own_names}
 use Rattle.vtl_meaning.proofs.JoinParts.{AreSets, found_is}
 use Rattle.vtl_meaning.proofs.LookUps.{named_cells}
 use Rattle.vtl_meaning.proofs.OwnColumns.{own_identifiers}
-use Rattle.vtl_meaning.proofs.Places.{all_map, all_more, all_of_map, are_identifiers, identifiers_apart, point_length}
+use Rattle.vtl_meaning.proofs.Places.{all_of_map, are_identifiers, identifiers_apart, point_length}
+use Rattle.vtl_meaning.proofs.JoinPartners.{all_pass}
 use Rattle.sql_tree.specs.Trees.{JoinTree, QueryTree, Text, on}
 use Rattle.sql_tree.specs.declared.word_groups.JoinKind.{JoinKind}
 use Rattle.sql_tree.specs.declared.word_groups.JoinKind.TheVariants as joining
@@ -47,7 +50,7 @@ use Rattle.joins_to_sql.proofs.HeldOperands.{AreHeld, IsHeld}
 use Rattle.selects_to_sql.proofs.Identifiers.{few_identifiers, identifiers_there}
 use Rattle.joins_to_sql.proofs.JoinedColumns.{AllShown, ArePlaced, AreWell, first_placed, joined_plain, placed_all, plain_written}
 use Rattle.joins_to_sql.proofs.JoinedRows.{IsFound, first_shown, founds, from_structures, joined_for, joined_values, left_extended, parts_found, shown_from, with_parts}
-use Rattle.joins_to_sql.proofs.KeyColumns.{keep_all, key_columns, key_identifiers, key_is_structure, keyed, keyed_cells}
+use Rattle.joins_to_sql.proofs.KeyColumns.{key_columns, key_identifiers, key_is_structure, keyed, keyed_cells}
 use Rattle.joins_to_sql.proofs.ShownColumns.{joined_columns}
 use Rattle.selects_to_sql.proofs.Loose.{all_loose}
 use Rattle.selects_to_sql.proofs.OneOperand.{same_functions}
@@ -68,7 +71,7 @@ has_all : (r a : Structure) → AreAmong (identifiers_of r) (identifiers_of a) �
 has_all r a back =
     let ids = identifiers_of r in
     ap (filter (λ i. has_identifier a i.name)) (key_identifiers ids (are_identifiers r))
-    ∙ keep_all (λ i. has_identifier a i.name) ids (all_more (λ i. has_identifier r i.name ≡ true) (λ i. has_identifier a i.name ≡ true) (λ i h. covers a r back i.name h) ids (own_names r))
+    ∙ all_pass (λ i. has_identifier a i.name) ids (all_more (λ i. has_identifier r i.name ≡ true) (λ i. has_identifier a i.name ≡ true) (λ i h. covers a r back i.name h) ids (own_names r))
 
 same_joins : (p : Settings) (kind : JoinKind) (at : Naming) (first : List Component) (f g : Structure → List Component) (i n : ℕ) (ss : List Structure) (xs : List Text) → AllByRecursion (λ a. f a ≡ g a) ss
     → joins_on p kind at first f i (placed_from n ss) xs ≡ joins_on p kind at first g i (placed_from n ss) xs
@@ -177,7 +180,7 @@ module _ (p : Settings) (law : Translates p) (before : Data) (r : Structure) (w 
   made : AreFor p (all_loose columns) es (columns_of s)
   made =
       let same = from_structures (width_of t) ss in
-      let wells : AreWell all = all_of_map (λ o. o.structure) IsStructure all (subst (AllByRecursion IsStructure) (sym same) (all_map (λ d. d.structure) IsStructure ds (all_more (λ d. IsDataSet d.structure d.points) (λ d. IsStructure d.structure) (λ d h. h.well_formed) ds sets))) in
+      let wells : AreWell all = all_of_map (λ o. o.structure) IsStructure all (subst (AllByRecursion IsStructure) (sym same) (AllByRecursion-map (λ d. d.structure) IsStructure ds (all_more (λ d. IsDataSet d.structure d.points) (λ d. IsStructure d.structure) (λ d h. h.well_formed) ds sets))) in
       joined_for p columns s lead all (well, tt) wells placed.0 placed.1 (i.1 ∙ ap component_kinds (sym own_ids) ∙ sym (append-nil (component_kinds (identifiers_of t))))
       (measures ∙ ap (kinds_of_all measures_of) (sym same)) (attributes ∙ ap (kinds_of_all attributes_of) (sym same))
 

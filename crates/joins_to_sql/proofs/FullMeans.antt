@@ -3,11 +3,13 @@ use Rattle.std.proofs.Common.{◌≡◌, ◌<◌, ◌+◌, ◌^◌, ℕ, true, L
 use Rattle.std.specs.List.{AllByRecursion, flat_map}
 use Rattle.std.proofs.lemmas.List.{length-map}
 use Rattle.vtl_cell.specs.Outcome.{Outcome, after}
-use Rattle.vtl_lists.specs.Perm.{Perm, empty, chain}
+use Rattle.vtl_lists.specs.Perm.{Perm, chain}
 use Rattle.vtl_cell.specs.Row.{Row, same_row}
 use Rattle.vtl_decimal.specs.Settings.{Settings}
 use Rattle.vtl_text.specs.Words.{is_word}
-use Rattle.vtl_lists.proofs.Perms.{AllByRecursion-Perm, Perm-append, Perm-map, Perm-same, Perm-sym}
+use Rattle.vtl_lists.proofs.Perms.{AllByRecursion-Perm, Perm-map, Perm-same, Perm-sym}
+use Rattle.vtl_lists.proofs.Alls.{all_append, all_more}
+use Rattle.vtl_lists.proofs.Sorts.{AllByRecursion-map}
 use Rattle.vtl_syntax.specs.declared.word_groups.JoinKind.TheVariants as join
 use Rattle.vtl_rows.specs.Tables.{cells_at}
 use Rattle.vtl_tree.specs.CompExp.{CompExp}
@@ -25,9 +27,9 @@ use Rattle.vtl_meaning.specs.Made.{GoTogether, HasIdentifiers, IsJoined, attribu
 use Rattle.vtl_meaning.specs.Orders.{SameOperands}
 use Rattle.vtl_meaning.specs.Points.{with_points}
 use Rattle.vtl_meaning.proofs.JoinKept.{HaveThem, all_keys_are, have_them, key_is, once_hold}
-use Rattle.vtl_meaning.proofs.JoinOrders.{join_order, once_respects, rows_apart}
+use Rattle.vtl_meaning.proofs.JoinOrders.{join_order, once_respects, rows_apart, keys_respect}
 use Rattle.vtl_meaning.proofs.JoinParts.{AreSets}
-use Rattle.vtl_meaning.proofs.Places.{all_append, all_map, all_more, all_of_map, are_identifiers}
+use Rattle.vtl_meaning.proofs.Places.{all_of_map, are_identifiers}
 use Rattle.sql_tree.specs.Trees.{QueryTree, Text}
 use Rattle.sql_meaning.specs.Scripts.{Data, NamedFault}
 use Rattle.selects_to_sql.specs.Writable.{HaveNames}
@@ -50,15 +52,6 @@ use Rattle.joins_to_sql.proofs.OnceRows.{once_exactly}
 use Rattle.joins_to_sql.proofs.ShownColumns.{where_respects}
 use Rattle.selects_to_sql.proofs.Running.{columns_there, run_stops}
 use Rattle.selects_to_sql.proofs.Selects.{IsTest}
-
--- ---- the order of operands' points
-
-pub keys_respect : (ids : List Component) (ds es : List DataSet) → SameOperands ds es → Perm (flat_map (keys_in ids) ds) (flat_map (keys_in ids) es)
-keys_respect ids [] [] same = empty
-keys_respect ids [] (e ∷ es) same = absurd same
-keys_respect ids (d ∷ ds) [] same = absurd same
-keys_respect ids (d ∷ ds) (e ∷ es) same =
-    Perm-append (chain (Perm-map (values_in d.structure ids) same.1) (Perm-same (map (values_in d.structure ids) e.points) (keys_in ids e) (ap (λ a. map (values_in a ids) e.points) same.0))) (keys_respect ids ds es same.2)
 
 -- ---- the last name
 
@@ -95,7 +88,7 @@ tuples_typed a [] all them = tt
 tuples_typed a (d ∷ ds) all them =
     let ids = identifiers_of a in
     all_append (λ k. is_point ids k ≡ true) (keys_in ids d) (flat_map (keys_in ids) ds)
-    (all_map (values_in d.structure ids) (λ k. is_point ids k ≡ true) d.points (all_more (λ q. is_point (columns_of d.structure) q ≡ true) (λ q. is_point ids (values_in d.structure ids q) ≡ true) (λ q h. key_is ids d.structure q (are_identifiers a) them.0 h) d.points all.0.typed))
+    (AllByRecursion-map (values_in d.structure ids) (λ k. is_point ids k ≡ true) d.points (all_more (λ q. is_point (columns_of d.structure) q ≡ true) (λ q. is_point ids (values_in d.structure ids q) ≡ true) (λ q h. key_is ids d.structure q (are_identifiers a) them.0 h) d.points all.0.typed))
     (tuples_typed a ds all.1 them.1)
 
 -- ---- the tables of identifiers, whatever operands they are of
@@ -192,7 +185,7 @@ module _ (p : Settings) (law : Translates p) (s : Structure) (given : AreGiven (
   keys_typed : AllByRecursion (λ q. is_point (columns_of t) q ≡ true) keys
   keys_typed =
       subst (λ ys. AllByRecursion (λ q. is_point ys q ≡ true) keys) (sym (key_columns ids (are_identifiers a)))
-      (all_map (keyed ids) (λ q. is_point (or_spare ids) q ≡ true) tuples (all_more (λ k. is_point ids k ≡ true) (λ k. is_point (or_spare ids) (keyed ids k) ≡ true) (λ k h. keyed_point ids k h) tuples (tuples_typed a ds sets (have_them a ds (same_in ds are)))))
+      (AllByRecursion-map (keyed ids) (λ q. is_point (or_spare ids) q ≡ true) tuples (all_more (λ k. is_point ids k ≡ true) (λ k. is_point (or_spare ids) (keyed ids k) ≡ true) (λ k h. keyed_point ids k h) tuples (tuples_typed a ds sets (have_them a ds (same_in ds are)))))
 
   once_typed : AllByRecursion (λ q. is_point (columns_of t) q ≡ true) (each_once same_row keys)
   once_typed = once_hold (λ q. is_point (columns_of t) q ≡ true) same_row keys keys_typed

@@ -11,8 +11,8 @@ use Rattle.vtl_tree.specs.declared.structure.Component.{Component}
 use Rattle.vtl_tree.specs.declared.structure.Structure.{Structure}
 use Rattle.vtl_tree.specs.Names.{is_among}
 use Rattle.vtl_tree.specs.Columns.{common_identifiers, has_identifier, column_behind, identifiers_of, measures_of, place_of}
+use Rattle.vtl_tree.proofs.NotNullLemmas.{same_itself}
 use Rattle.vtl_meaning.specs.Made.{attributes_of}
-use Rattle.vtl_meaning.proofs.Places.{same_name-refl}
 use Rattle.sql_tree.specs.Trees as tree
 use Rattle.sql_tree.specs.Trees.{Text}
 use Rattle.sql_tree.specs.declared.word_groups.JoinKind.{JoinKind}
@@ -42,7 +42,7 @@ place_in name (x ∷ front) y rest e = go (same_name x.name name) (place_in name
 all_within : (front ys back : List Component) → AllByRecursion (IsWithin (front ++ (ys ++ back))) ys
 all_within front [] back = tt
 all_within front (y ∷ ys) back = (
-  place_in y.name front y (ys ++ back) (same_name-refl y.name),
+  place_in y.name front y (ys ++ back) (same_itself y.name),
   subst (λ l. AllByRecursion (IsWithin l) ys) (append_assoc front (y ∷ []) (ys ++ back)) (all_within (front ++ y ∷ []) ys back),
 )
 

@@ -3,6 +3,7 @@ use Rattle.std.proofs.Common.{◌≡◌, ◌<◌, ◌+◌, ℕ, zero, suc, List,
 use Rattle.std.specs.Prelude.{slice_get}
 use Rattle.std.specs.List.{AllByRecursion, flat_map}
 use Rattle.std.proofs.lemmas.List.{map-append}
+use Rattle.vtl_lists.proofs.Alls.{all_append}
 use Rattle.vtl_cell.specs.Outcome.{fault_in, faults_by, join, unless}
 use Rattle.vtl_cell.specs.Row.{Row, column_of}
 use Rattle.vtl_decimal.specs.Settings.{Settings}
@@ -19,8 +20,9 @@ use Rattle.vtl_meaning.specs.Joined.{Part, values_or_nulls}
 use Rattle.vtl_meaning.specs.Made.{AreAmong, AreFor, IsColumnAt, IsTyped, attributes_of, component_kinds, kinds_of_all}
 use Rattle.vtl_meaning.specs.Points.{each_point, point_fault, point_of}
 use Rattle.vtl_meaning.proofs.Kept.{column_front, column_within}
-use Rattle.vtl_meaning.proofs.OwnColumns.{among_front, columns_apart, own_columns, own_identifiers, own_measures}
-use Rattle.vtl_meaning.proofs.Places.{all_append, all_back, columns_split}
+use Rattle.vtl_meaning.proofs.OwnColumns.{among_front, columns_apart, own_identifiers, own_measures}
+use Rattle.vtl_meaning.proofs.Places.{columns_split}
+use Rattle.vtl_meaning.proofs.JoinParts.{own_attributes}
 use Rattle.sql_meaning.specs.From.{nulls}
 use Rattle.selects_to_sql.specs.Writable.{AllCanBeWritten, CanBeWritten}
 use Rattle.joins_to_sql.specs.Joins.{Placed, columns_at, columns_in, joined_exps, placed_at, placed_around, placed_from, width_of, without}
@@ -98,9 +100,6 @@ for_kinds p xs (f ∷ fs) (k ∷ ks) (y ∷ ys) e h =
 -- some columns of each structure
 pub record IsPart (f : Structure → List Component) : Type 0 where
   pub among : (a : Structure) → IsStructure a → AreAmong (f a) (columns_of a)
-
-pub own_attributes : (a : Structure) → IsStructure a → AreAmong (attributes_of a) (columns_of a)
-own_attributes a w = all_back (λ y. IsColumnAt (place_of y.name (columns_of a)) y.name y.kind (columns_of a)) (identifiers_of a ++ measures_of a) (attributes_of a) (own_columns a w)
 
 pub are_identifiers_part : IsPart identifiers_of
 are_identifiers_part = record { among = λ a w. subst (AreAmong (identifiers_of a)) (sym (columns_split a)) (among_front (identifiers_of a) (identifiers_of a) _ (own_identifiers a w)) }

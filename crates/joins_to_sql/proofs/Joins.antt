@@ -4,6 +4,7 @@ use Rattle.std.specs.List.{AllByRecursion}
 use Rattle.std.proofs.lemmas.List.{length-map}
 use Rattle.vtl_cell.specs.Outcome.{Outcome, after}
 use Rattle.vtl_lists.specs.Perm.{Perm}
+use Rattle.vtl_lists.proofs.Sorts.{AllByRecursion-map}
 use Rattle.vtl_decimal.specs.Settings.{Settings}
 use Rattle.vtl_text.specs.Words.{is_word}
 use Rattle.vtl_syntax.specs.declared.word_groups.JoinKind.{JoinKind}
@@ -17,7 +18,7 @@ use Rattle.vtl_meaning.specs.Made.{IsJoined}
 use Rattle.vtl_meaning.proofs.JoinKept.{IsReference, join_with, reference_is}
 use Rattle.vtl_meaning.proofs.JoinOrders.{join_order}
 use Rattle.vtl_meaning.proofs.JoinParts.{AreSets}
-use Rattle.vtl_meaning.proofs.Places.{all_map, all_of_map}
+use Rattle.vtl_meaning.proofs.Places.{all_of_map}
 use Rattle.sql_tree.specs.Trees.{QueryTree, Text}
 use Rattle.sql_tree.specs.declared.word_groups.JoinKind.TheVariants as joining
 use Rattle.sql_meaning.specs.Scripts.{Data}
@@ -76,7 +77,7 @@ module _ (p : Settings) (law : Translates p) (before : Data) (s : Structure) (gi
       let same = it.1.structures in
       let own : IsJoined kind (structures_of es) s = subst (λ ss. IsJoined kind ss s) (sym same) i in
       let r = reference_is kind es s own it.1.sets in
-      let names : AllNamed es = all_of_map (λ d. d.structure) (λ a. HaveNames (columns_of a)) es (subst (AllByRecursion (λ a. HaveNames (columns_of a))) (sym same) (all_map (λ d. d.structure) (λ a. HaveNames (columns_of a)) ds named)) in
+      let names : AllNamed es = all_of_map (λ d. d.structure) (λ a. HaveNames (columns_of a)) es (subst (AllByRecursion (λ a. HaveNames (columns_of a))) (sym same) (AllByRecursion-map (λ d. d.structure) (λ a. HaveNames (columns_of a)) ds named)) in
       let size = length-map es (λ d. d.structure) in
       let ours = length-map ds (λ d. d.structure) in
       let many = ap length same in

@@ -1,6 +1,8 @@
 -- The columns of a table of identifiers.
 use Rattle.std.proofs.Common.{◌≡◌, ◌≤◌, Bool, true, false, cond, not, List, [], ◌∷◌, ◌++◌, length, map, refl, ap, sym, ◌∙◌, subst, arith, append-nil}
 use Rattle.std.specs.List.{AllByRecursion, filter}
+use Rattle.vtl_lists.proofs.Alls.{all_front, all_more}
+use Rattle.vtl_lists.proofs.Sorts.{AllByRecursion-map}
 use Rattle.vtl_cell.specs.Row.{Row, same_row}
 use Rattle.vtl_cell.specs.declared.cell.Cell.TheVariants as c
 use Rattle.vtl_rows.specs.Tables.{cells_at}
@@ -14,7 +16,8 @@ use Rattle.vtl_tuples.specs.Keys.{each_once}
 use Rattle.vtl_tuples.proofs.Lists.{filter_each, filter-map}
 use Rattle.vtl_tree.specs.Columns.{identifiers_of, others_of, places_in}
 use Rattle.vtl_meaning.specs.Made.{HasIdentifiers}
-use Rattle.vtl_meaning.proofs.Places.{IsIdentifier, all_front, all_map, all_more, all_of_map, are_identifiers, columns_split, identifier_role, identifiers_apart}
+use Rattle.vtl_meaning.proofs.Places.{IsIdentifier, all_of_map, are_identifiers, columns_split, identifier_role, identifiers_apart}
+use Rattle.vtl_meaning.proofs.JoinPartners.{all_pass}
 use Rattle.sql_lexer.specs.Spelling.{is_name}
 use Rattle.sql_tree.specs.Formed.{IsName}
 use Rattle.selects_to_sql.specs.Writable.{HaveNames}
@@ -26,10 +29,6 @@ use Rattle.selects_to_sql.proofs.Sources.{AreApart}
 use lib.Utf8.{encode}
 
 -- ---- identifiers alone
-
-pub keep_all : (t : Component → Bool) (xs : List Component) → AllByRecursion (λ x. t x ≡ true) xs → filter t xs ≡ xs
-keep_all t [] all = refl
-keep_all t (x ∷ xs) all = ap (λ b. cond b (x ∷ filter t xs) (filter t xs)) all.0 ∙ ap (λ l. x ∷ l) (keep_all t xs all.1)
 
 pub keep_none : (t : Component → Bool) (xs : List Component) → AllByRecursion (λ x. t x ≡ false) xs → filter t xs ≡ []
 keep_none t [] all = refl
@@ -47,7 +46,7 @@ key_columns (x ∷ xs) all =
     let ids = x ∷ xs in
     let measures = keep_none (λ y. same_role y.role role.Measure) ids (all_more IsIdentifier (λ y. same_role y.role role.Measure ≡ false) (λ y h. ap (λ r. same_role r role.Measure) (identifier_role y.role h)) ids all) in
     let attributes = keep_none (λ y. same_role y.role role.Attribute) ids (all_more IsIdentifier (λ y. same_role y.role role.Attribute ≡ false) (λ y h. ap (λ r. same_role r role.Attribute) (identifier_role y.role h)) ids all) in
-    ap (λ l. (l ++ filter (λ y. same_role y.role role.Measure) ids) ++ filter (λ y. same_role y.role role.Attribute) ids) (keep_all (λ y. same_role y.role role.Identifier) ids all)
+    ap (λ l. (l ++ filter (λ y. same_role y.role role.Measure) ids) ++ filter (λ y. same_role y.role role.Attribute) ids) (all_pass (λ y. same_role y.role role.Identifier) ids all)
     ∙ ap (λ l. (ids ++ l) ++ filter (λ y. same_role y.role role.Attribute) ids) measures
     ∙ ap (λ l. (ids ++ []) ++ l) attributes
     ∙ append-nil (ids ++ [])
@@ -55,7 +54,7 @@ key_columns (x ∷ xs) all =
 
 pub key_identifiers : (ids : List Component) → AllIdentifiers ids → identifiers_of (with_them ids) ≡ ids
 key_identifiers [] all = refl
-key_identifiers (x ∷ xs) all = keep_all (λ y. same_role y.role role.Identifier) (x ∷ xs) all
+key_identifiers (x ∷ xs) all = all_pass (λ y. same_role y.role role.Identifier) (x ∷ xs) all
 
 spare_is_name : IsName spare.name
 unfolding is_name encode
@@ -94,7 +93,7 @@ keys_are_structure r low apart = record {
 pub key_is_structure : (r : Structure) → IsStructure r → IsStructure (key_structure r)
 key_is_structure r w = keys_are_structure r (few_identifiers r w) (identifiers_apart r w)
 
-identifiers_named : (r : Structure) → HaveNames (columns_of r) → HaveNames (identifiers_of r)
+pub identifiers_named : (r : Structure) → HaveNames (columns_of r) → HaveNames (identifiers_of r)
 identifiers_named r n = all_front (λ x. IsName x.name) (identifiers_of r) (others_of r) (subst HaveNames (columns_split r) n)
 
 -- its columns can be those of a table
@@ -114,7 +113,7 @@ pub key_given : (r s : Structure) → IsStructure r → HaveNames (columns_of r)
 key_given r s w n i given =
     let ids = identifiers_of r in
     let theirs : AllByRecursion (λ y. is_null_kind y.kind ≡ false) (identifiers_of s) = all_front (λ y. is_null_kind y.kind ≡ false) (identifiers_of s) (others_of s) (subst (AllByRecursion (λ y. is_null_kind y.kind ≡ false)) (columns_split s) given.kinds) in
-    let kinds : AllByRecursion (λ y. is_null_kind y.kind ≡ false) ids = all_of_map (λ y. y.kind) (λ q. is_null_kind q ≡ false) ids (subst (AllByRecursion (λ q. is_null_kind q ≡ false)) i.1 (all_map (λ y. y.kind) (λ q. is_null_kind q ≡ false) (identifiers_of s) theirs)) in
+    let kinds : AllByRecursion (λ y. is_null_kind y.kind ≡ false) ids = all_of_map (λ y. y.kind) (λ q. is_null_kind q ≡ false) ids (subst (AllByRecursion (λ q. is_null_kind q ≡ false)) i.1 (AllByRecursion-map (λ y. y.kind) (λ q. is_null_kind q ≡ false) (identifiers_of s) theirs)) in
     keys_given r (few_identifiers r w) (identifiers_apart r w) (identifiers_named r n) kinds
 
 -- ---- its rows

@@ -9,8 +9,8 @@ use Rattle.vtl_text.specs.Texts.{same_text}
 use Rattle.vtl_text.specs.Words.{is_word}
 use Rattle.vtl_cell.specs.declared.kind.Kind.{Kind}
 use Rattle.vtl_tree.specs.declared.structure.Component.{Component}
+use Rattle.vtl_tree.proofs.NotNullLemmas.{same_itself}
 use Rattle.vtl_meaning.specs.Made.{IsColumnAt}
-use Rattle.vtl_meaning.proofs.Places.{same_name-refl}
 use Rattle.sql_tree.specs.Formed.{IsName}
 use Rattle.sql_tree.specs.declared.parts.Column.{Column}
 use Rattle.sql_check_parts.specs.Scopes.{Scope, found, is_among, numbered, placed_from, row_of, value_among}
@@ -88,7 +88,7 @@ found_later : {V : Type 0} (i : ℕ) (vs : List (List ℕ × V)) (rest : List (L
 found_later i vs rest c e = ap (λ b. option_and_then (λ named. value_among named c.name) (cond b (Some vs) (lookup (same_text c.source) rest))) e
 
 found_here : {V : Type 0} (i : ℕ) (vs : List (List ℕ × V)) (rest : List (List ℕ × List (List ℕ × V))) (name : List ℕ) → found ((alias_of i, vs) ∷ rest) (column_of (alias_of i) name) ≡ value_among vs name
-found_here i vs rest name = ap (λ b. option_and_then (λ named. value_among named name) (cond b (Some vs) (lookup (same_text (alias_of i)) rest))) (same_name-refl (alias_of i))
+found_here i vs rest name = ap (λ b. option_and_then (λ named. value_among named name) (cond b (Some vs) (lookup (same_text (alias_of i)) rest))) (same_itself (alias_of i))
 
 abbrev pub AllApart : List (List Component) → Type 0
 AllApart yss = AllByRecursion AreApart yss

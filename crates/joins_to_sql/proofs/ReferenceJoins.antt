@@ -8,7 +8,9 @@ use Rattle.std.proofs.lemmas.List.Concat.{flat_map_single}
 use Rattle.std.proofs.lemmas.List.Folds.{flat_map-map}
 use Rattle.vtl_cell.specs.Row.{Row, same_row}
 use Rattle.vtl_decimal.specs.Settings.{Settings}
-use Rattle.vtl_lists.proofs.Sorts.{AllByRecursion-filter}
+use Rattle.vtl_lists.proofs.Sorts.{AllByRecursion-filter, AllByRecursion-map}
+use Rattle.vtl_lists.proofs.Alls.{all_both, all_more}
+use Rattle.vtl_lists.proofs.Filters.{filter_no_more as fewer}
 use Rattle.vtl_rows.specs.Tables.{cells_at}
 use Rattle.vtl_tree.specs.CompExp.{CompExp}
 use Rattle.vtl_tree.specs.DataSet.{IsDataSet, is_point}
@@ -26,10 +28,9 @@ use Rattle.vtl_meaning.proofs.Agreements.{own_values}
 use Rattle.vtl_meaning.proofs.JoinAgreements.{agreeing_only, agreeing_own, covers}
 use Rattle.vtl_meaning.proofs.JoinKept.{made_of_passing}
 use Rattle.vtl_meaning.proofs.JoinParts.{AreSets, found_is}
-use Rattle.vtl_meaning.proofs.Kept.{both_all}
 use Rattle.vtl_meaning.proofs.LookUps.{named_cells}
 use Rattle.vtl_meaning.proofs.OwnColumns.{own_identifiers}
-use Rattle.vtl_meaning.proofs.Places.{all_map, all_more, all_of_map, point_length}
+use Rattle.vtl_meaning.proofs.Places.{all_of_map, point_length}
 use Rattle.sql_tree.specs.Trees.{Text}
 use Rattle.sql_tree.specs.declared.word_groups.JoinKind.{JoinKind}
 use Rattle.sql_tree.specs.declared.word_groups.JoinKind.TheVariants as joining
@@ -43,7 +44,7 @@ use Rattle.selects_to_sql.proofs.Exact.{IsExactly}
 use Rattle.selects_to_sql.proofs.Expressions.{Translates}
 use Rattle.selects_to_sql.proofs.Givens.{AreGiven}
 use Rattle.joins_to_sql.proofs.HeldOperands.{AreHeld, IsHeld}
-use Rattle.selects_to_sql.proofs.Identifiers.{few_identifiers, fewer, identifiers_there}
+use Rattle.selects_to_sql.proofs.Identifiers.{few_identifiers, identifiers_there}
 use Rattle.joins_to_sql.proofs.JoinedColumns.{AllShown, ArePlaced, AreWell, Shows, around_all, first_placed, joined_plain, plain_written}
 use Rattle.joins_to_sql.proofs.JoinedRows.{IsFound, all_there, around_structures, first_shown, founds, inner_extended, joined_for, joined_values, left_extended, parts_found, shown_around, with_parts}
 use Rattle.joins_to_sql.proofs.ShownColumns.{joined_columns}
@@ -205,7 +206,7 @@ module _ (p : Settings) (law : Translates p) (before : Data) (ds : List DataSet)
         subst (λ ys. ArePlaced ys ids × ArePlaced ys all) same ((lead, tt), around_all a i first (width_of a) ss refl (slice_map (λ d. d.structure) i ds r there) lead)
 
     well : AreWell all
-    well = all_of_map (λ o. o.structure) IsStructure all (subst (AllByRecursion IsStructure) (sym (around_structures i (width_of a) ss)) (all_map (λ d. d.structure) IsStructure ds (all_more (λ d. IsDataSet d.structure d.points) (λ d. IsStructure d.structure) (λ d h. h.well_formed) ds sets)))
+    well = all_of_map (λ o. o.structure) IsStructure all (subst (AllByRecursion IsStructure) (sym (around_structures i (width_of a) ss)) (AllByRecursion-map (λ d. d.structure) IsStructure ds (all_more (λ d. IsDataSet d.structure d.points) (λ d. IsStructure d.structure) (λ d h. h.well_formed) ds sets)))
 
     made : AreFor p (all_loose columns) es (columns_of s)
     made =
@@ -237,7 +238,7 @@ module _ (p : Settings) (law : Translates p) (before : Data) (ds : List DataSet)
 
     all_own : AllByRecursion IsOwn r.points
     all_own =
-        both_all (λ q. is_point first q ≡ true) (λ q. first_agreeing a r q ≡ Some q) IsOwn (λ q h g. record { typed = h; itself = g }) r.points set.typed (agreeing_own r set)
+        all_both (λ q. is_point first q ≡ true) (λ q. first_agreeing a r q ≡ Some q) IsOwn (λ q h g. record { typed = h; itself = g }) r.points set.typed (agreeing_own r set)
 
     abbrev row_of : Row → Row
     row_of q = with_parts q (founds (found_at q) others)

@@ -12,6 +12,7 @@ use Rattle.vtl_cell.specs.declared.kind.Kind.{Kind}
 use Rattle.vtl_cell.specs.declared.kind.Kind.TheVariants as k
 use Rattle.vtl_lists.proofs.Sorts.{AllByRecursion-filter}
 use Rattle.vtl_lists.specs.Perm.{Perm}
+use Rattle.vtl_lists.proofs.Alls.{all_append}
 use Rattle.vtl_tree.specs.Clauses.{filter_of}
 use Rattle.vtl_tree.specs.Columns.{column_behind, identifiers_of, measures_of}
 use Rattle.vtl_tree.specs.CompExp.{CompExp, column, const, call, aggregate}
@@ -22,7 +23,6 @@ use Rattle.vtl_tree.specs.declared.structure.Structure.{Structure}
 use Rattle.vtl_meaning.specs.Made.{AreFor, IsColumnAt, attributes_of}
 use Rattle.vtl_meaning.specs.Points.{each_point, point_of}
 use Rattle.vtl_meaning.proofs.Orders.{filtered_respects}
-use Rattle.vtl_meaning.proofs.Places.{all_append}
 use Rattle.sql_tree.specs.Formed.{IsMaybeExp}
 use Rattle.sql_tree.specs.Trees.{Exp, SelectTree, Text}
 use Rattle.sql_check_laws.specs.Fits.{IsMaybeCondition}

@@ -8,6 +8,7 @@ use Rattle.std.proofs.Common.{◌≡◌, Bool, true, ◌&&◌, List, [], ◌∷�
 use Rattle.std.proofs.lemmas.List.{map-append}
 use Rattle.std.specs.List.{AllByRecursion, filter}
 use Rattle.std.specs.Option.{option_map_or}
+use Rattle.vtl_lists.proofs.Alls.{all_more}
 use Rattle.vtl_cell.specs.Order.{same_cell}
 use Rattle.vtl_cell.specs.Outcome.{fault_in, faults_by}
 use Rattle.vtl_cell.specs.Outcomes.{is_true}
@@ -15,7 +16,6 @@ use Rattle.vtl_cell.specs.Row.{Row}
 use Rattle.vtl_decimal.specs.Settings.{Settings}
 use Rattle.vtl_meaning.proofs.Kept.{calculated_split, columns_point, key_widths}
 use Rattle.vtl_meaning.proofs.OwnColumns.{column_any}
-use Rattle.vtl_meaning.proofs.Places.{all_more}
 use Rattle.vtl_meaning.specs.Made.{HasIdentifiers, IsCalculated, IsColumnAt, IsMeasured, IsRenamed, IsSub}
 use Rattle.vtl_meaning.specs.Operators.{calculated_exp, calculated_of, for_measures, has_values, left_of, measured_of, sub_of, target_named, value_exp, with_measure}
 use Rattle.vtl_meaning.specs.Points.{cell_or_null, each_point, point_fault, point_of, with_points}

@@ -1,16 +1,19 @@
 -- Rows that are made column by column: identifiers first, then the others.
 use Rattle.lineage_laws.proofs.Rows.{agree_append, agree_key, agree_map, agree_map_all, same_identifier, same_named}
 use Rattle.lineage_laws.specs.Agree.{Agree, IsKnown, Known, Together}
-use Rattle.std.proofs.Common.{◌≡◌, ℕ, Bool, true, false, ◌||◌, List, [], ◌∷◌, ◌++◌, length, map, take, refl, sym, ap, ◌∙◌, subst, arith}
+use Rattle.std.proofs.Common.{◌≡◌, ℕ, true, ◌||◌, List, [], ◌∷◌, ◌++◌, length, map, take, refl, sym, ap, ◌∙◌, subst, arith}
 use Rattle.std.specs.List.{AllByRecursion, list_any}
 use Rattle.std.specs.Prelude.{Ok, Option}
+use Rattle.std.proofs.lemmas.Bool.{or_right}
+use Rattle.vtl_lists.proofs.Sorts.{AllByRecursion-map}
+use Rattle.vtl_lists.proofs.Alls.{all_more}
 use Rattle.vtl_cell.specs.Outcome.{unless}
 use Rattle.vtl_cell.specs.Row.{Row}
 use Rattle.vtl_decimal.specs.declared.number.Fault.{Fault}
 use Rattle.vtl_meaning.proofs.Kept.{shown_split, unless_ok}
 use Rattle.vtl_meaning.proofs.LookUps.{named_cells}
 use Rattle.vtl_meaning.proofs.OwnColumns.{column_any}
-use Rattle.vtl_meaning.proofs.Places.{all_map, all_more, all_of_map, key_width_same, same_name-refl}
+use Rattle.vtl_meaning.proofs.Places.{all_of_map, key_width_same}
 use Rattle.vtl_meaning.specs.LookUps.{value_named, values_named}
 use Rattle.vtl_meaning.specs.Made.{AreAmong, HasIdentifiers, IsColumnAt}
 use Rattle.vtl_rows.specs.Tables.{cells_at}
@@ -18,6 +21,7 @@ use Rattle.vtl_tree.specs.Columns.{identifiers_of, others_of, place_of, places_i
 use Rattle.vtl_tree.specs.Structure.{columns_of, key_width, names_of, same_name}
 use Rattle.vtl_tree.specs.declared.structure.Component.{Component}
 use Rattle.vtl_tree.specs.declared.structure.Structure.{Structure}
+use Rattle.vtl_tree.proofs.NotNullLemmas.{same_itself}
 use Rattle.vtl_sources.specs.Links.{Pairs}
 use Rattle.vtl_sources.specs.Sources.{sources}
 use Rattle.lineage_laws.specs.Over.{Operand, columns_from, no_pairs, source_named}
@@ -37,16 +41,12 @@ const_map c (x ∷ xs) (y ∷ ys) e = ap (λ l. c ∷ l) (const_map c xs ys (ome
 abbrev pub IsIdentifierOf : Structure → List ℕ → Type 0
 IsIdentifierOf a name = list_any (λ x. same_name x.name name) (identifiers_of a) ≡ true
 
-or_right : (b c : Bool) → c ≡ true → (b || c) ≡ true
-or_right true c e = refl
-or_right false c e = e
-
 own_any : (xs zs : List Component) → ((n : List ℕ) → list_any (λ x. same_name x.name n) xs ≡ true → list_any (λ x. same_name x.name n) zs ≡ true) → AllByRecursion (λ y. list_any (λ x. same_name x.name y.name) zs ≡ true) xs
 own_any [] zs h = tt
-own_any (x ∷ xs) zs h = (h x.name (ap (λ b. b || list_any (λ y. same_name y.name x.name) xs) (same_name-refl x.name)), own_any xs zs (λ n e. h n (or_right (same_name x.name n) (list_any (λ y. same_name y.name n) xs) e)))
+own_any (x ∷ xs) zs h = (h x.name (ap (λ b. b || list_any (λ y. same_name y.name x.name) xs) (same_itself x.name)), own_any xs zs (λ n e. h n (or_right (same_name x.name n) (list_any (λ y. same_name y.name n) xs) e)))
 
 pub named_alike : (P : List ℕ → Type 0) (xs ys : List Component) → names_of ys ≡ names_of xs → AllByRecursion (λ x. P x.name) xs → AllByRecursion (λ y. P y.name) ys
-named_alike P xs ys e all = all_of_map (λ y. y.name) P ys (subst (λ ns. AllByRecursion P ns) (sym e) (all_map (λ x. x.name) P xs all))
+named_alike P xs ys e all = all_of_map (λ y. y.name) P ys (subst (λ ns. AllByRecursion P ns) (sym e) (AllByRecursion-map (λ x. x.name) P xs all))
 
 pub own_identifier_names : (a : Structure) → AllByRecursion (λ y. IsIdentifierOf a y.name) (identifiers_of a)
 own_identifier_names a = own_any (identifiers_of a) (identifiers_of a) (λ n e. e)

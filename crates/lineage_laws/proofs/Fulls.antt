@@ -7,9 +7,9 @@ use Rattle.lineage_laws.specs.Agree.{Agree, Agreeing, IsKnown, Known, Together, 
 use Rattle.std.proofs.Common.{◌≡◌, List, [], ◌∷◌, ◌++◌, length, map, Option, Some, refl, sym, ap, ◌∙◌, subst, append_assoc}
 use Rattle.std.proofs.lemmas.List.{length-map, map-append}
 use Rattle.std.specs.List.{AllByRecursion, flat_map}
+use Rattle.vtl_lists.proofs.Alls.{all_more}
 use Rattle.vtl_cell.specs.Row.{Row, same_row}
 use Rattle.vtl_cell.specs.declared.kind.Kind.{Kind}
-use Rattle.vtl_meaning.proofs.Places.{all_more}
 use Rattle.vtl_meaning.specs.Agreement.{OperandPoint, key_of, operand_point, operand_points, values_in}
 use Rattle.vtl_meaning.specs.Joined.{all_keys, attributes_in, cross_tuples, crossed, keys_in, measures_in, present, tuple_at, tuple_point, values_or_nulls}
 use Rattle.vtl_meaning.specs.LookUps.{value_named}

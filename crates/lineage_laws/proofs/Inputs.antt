@@ -17,9 +17,10 @@ use Rattle.vtl_decimal.specs.declared.number.Fault.{Fault}
 use Rattle.vtl_lists.proofs.Aparts.{all_apart-Perm}
 use Rattle.vtl_lists.proofs.Perms.{AllByRecursion-Perm, Perm-map, Perm-refl, Perm-same, Perm-sym}
 use Rattle.vtl_lists.specs.Perm.{Perm, chain, cross, empty, keep}
+use Rattle.vtl_lists.proofs.Alls.{all_back, all_from_filtered, all_front, all_with}
 use Rattle.vtl_meaning.proofs.LookUps.{named_cells}
 use Rattle.vtl_meaning.proofs.OwnColumns.{columns_apart}
-use Rattle.vtl_meaning.proofs.Places.{IsIdentifier, all_back, all_front, are_identifiers, columns_split, first_cells, point_length, same_name-sym}
+use Rattle.vtl_meaning.proofs.Places.{IsIdentifier, are_identifiers, columns_split, first_cells, point_length, same_name-sym}
 use Rattle.vtl_meaning.specs.LookUps.{value_named, values_named}
 use Rattle.vtl_meaning.specs.Orders.{SameData}
 use Rattle.vtl_meaning.specs.Points.{with_points}
@@ -72,18 +73,6 @@ all_values : (xs ys : List Component) (r q : Row) → values_named xs ys r ≡ v
 all_values xs [] r q e = tt
 all_values xs (y ∷ ys) r q e = ((let here : value_named xs r y.name ≡ value_named xs q y.name = cc in here), all_values xs ys r q (let there : values_named xs ys r ≡ values_named xs ys q = cc in there))
 
-all_of_filter : {X : Type 0} (P : X → Type 0) (t : X → Bool) (xs : List X) → AllByRecursion P (filter t xs) → AllByRecursion (λ x. t x ≡ true → P x) xs
-all_of_filter P t [] h = tt
-all_of_filter P t (x ∷ xs) h = go (t x) refl h (all_of_filter P t xs)
-  where
-    go : (b : Bool) → t x ≡ b → AllByRecursion P (cond b (x ∷ filter t xs) (filter t xs)) → (AllByRecursion P (filter t xs) → AllByRecursion (λ z. t z ≡ true → P z) xs) → AllByRecursion (λ z. t z ≡ true → P z) (x ∷ xs)
-    go true e k ih = ((λ i. k.0), ih k.1)
-    go false e k ih = ((λ i. absurd (true≢false (sym i ∙ e))), ih k)
-
-both : {X : Type 0} (P Q : X → Type 0) (xs : List X) → AllByRecursion P xs → AllByRecursion Q xs → AllByRecursion (λ x. P x × Q x) xs
-both P Q [] h k = tt
-both P Q (x ∷ xs) h k = ((h.0, k.0), both P Q xs h.1 k.1)
-
 -- a point is its values
 whole_row : (s : Structure) (r : Row) → IsStructure s → is_point (columns_of s) r ≡ true → values_named (columns_of s) (identifiers_of s) r ++ values_named (columns_of s) (others_of s) r ≡ r
 whole_row s r w h =
@@ -106,8 +95,8 @@ row_agrees known name s r q w h k e =
     let ids = identifiers_of s in
     let zs = others_of s in
     let P : Component → Type 0 = λ y. value_named xs r y.name ≡ value_named xs q y.name in
-    let all : AllByRecursion (λ y. is_kept known name y ≡ true → P y) (ids ++ zs) = subst (λ l. AllByRecursion (λ y. is_kept known name y ≡ true → P y) l) (columns_split s) (all_of_filter P (is_kept known name) xs (all_values xs (filter (is_kept known name) xs) r q e)) in
-    let first = both (λ y. is_kept known name y ≡ true → P y) IsIdentifier ids (all_front (λ y. is_kept known name y ≡ true → P y) ids zs all) (are_identifiers s) in
+    let all : AllByRecursion (λ y. is_kept known name y ≡ true → P y) (ids ++ zs) = subst (λ l. AllByRecursion (λ y. is_kept known name y ≡ true → P y) l) (columns_split s) (all_from_filtered P (is_kept known name) xs (all_values xs (filter (is_kept known name) xs) r q e)) in
+    let first = all_with (λ y. is_kept known name y ≡ true → P y) IsIdentifier ids (all_front (λ y. is_kept known name y ≡ true → P y) ids zs all) (are_identifiers s) in
     let second = all_back (λ y. is_kept known name y ≡ true → P y) ids zs all in
     subst (λ z. Agree known (columns_from s (input_sources name s)) z q) (whole_row s r w h) (subst (λ z. Agree known (columns_from s (input_sources name s)) (values_named xs ids r ++ values_named xs zs r) z) (whole_row s q w k)
     (agree_append known (map (λ x. no_pairs) ids) (values_named xs ids r) (values_named xs ids q) (input_sources name s).others (values_named xs zs r) (values_named xs zs q)

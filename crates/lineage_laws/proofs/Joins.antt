@@ -10,7 +10,7 @@ use Rattle.std.specs.Prelude.{is_some}
 use Rattle.vtl_cell.specs.Row.{Row, same_key, same_row}
 use Rattle.vtl_cell.specs.declared.cell.Cell.TheVariants as c
 use Rattle.vtl_lists.proofs.Sorts.{AllByRecursion-filter}
-use Rattle.vtl_meaning.proofs.Places.{all_filtered, all_more}
+use Rattle.vtl_lists.proofs.Alls.{all_filtered, all_more}
 use Rattle.vtl_meaning.specs.Agreement.{agree_in, first_agreeing, key_of}
 use Rattle.vtl_meaning.specs.Joined.{Tuple, attributes_in, inner_tuples, is_whole, joined_of, left_tuples, measures_in, part_of, tuple_beside, tuple_point, values_or_nulls}
 use Rattle.vtl_meaning.specs.Made.{AreAmong, HasIdentifiers}

@@ -3,7 +3,6 @@ pub mod Rows
 pub mod Values
 pub mod Columns
 pub mod Clauses
-pub mod Namesakes
 pub mod Pairs
 pub mod Joins
 pub mod Fulls

@@ -18,7 +18,7 @@ use Rattle.std.specs.List.{AllByRecursion}
 use Rattle.std.specs.Map.{lookup}
 use Rattle.std.specs.Option.{option_map_or}
 use Rattle.std.specs.Prelude.{slice_get}
-use Rattle.vtl_cell.specs.Outcome.{Outcome, after}
+use Rattle.vtl_cell.specs.Outcome.{after}
 use Rattle.vtl_cell.specs.Row.{Row}
 use Rattle.vtl_decimal.specs.Settings.{Settings}
 use Rattle.vtl_meaning.proofs.JoinKept.{join_with}
@@ -38,7 +38,7 @@ use Rattle.vtl_meaning.specs.Points.{with_points}
 use Rattle.vtl_meaning.specs.Sets.{difference_of, existence_of, intersection_of, symmetric_difference_of, union_of}
 use Rattle.vtl_timing.specs.Timed.{timed_of}
 use Rattle.vtl_meaning.specs.Turned.{pivot_of, unpivot_of}
-use Rattle.vtl_scripts.proofs.ScriptsKept.{first_ok, node_kept}
+use Rattle.vtl_scripts.proofs.ScriptsKept.{first_ok, node_kept, operand_ok}
 use Rattle.vtl_scripts.specs.Made.{AreMade, AreMadeOperands, IsMade, IsMadeForm, IsMadeMaybe, node_structures, operands_in}
 use Rattle.vtl_scripts.specs.Meaning.{AreDataSets, form_value, maybe_value, node_value, nodes_value, operands_value, with_operand}
 use Rattle.vtl_syntax.specs.declared.word_groups.JoinKind.{JoinKind}
@@ -55,10 +55,6 @@ use Rattle.vtl_tree.specs.Trees as nodes
 use Rattle.vtl_tree.specs.declared.structure.Component.{Component}
 use Rattle.vtl_tree.specs.declared.structure.Structure.{Structure}
 use Rattle.lineage_laws.specs.Over.{Operand, Past, columns_from, form_lineage, found_named, lineage, maybe_lineage, measure_sources, namesakes, no_pairs, nodes_lineage, of_check, of_join, of_left, of_measured, of_points, of_set, operand_of, operands_lineage, points_of_all, source_at, source_named, with_measure}
-
--- what a node's data set gives, where it has one
-operand_ok : (a : NodeTree) (m : Outcome (List Row)) (f : DataSet → Outcome (List Row)) (out : List Row) → with_operand a m f ≡ Ok out → (points : List Row) × (m ≡ Ok points) × (f (with_points (structure_of a) points) ≡ Ok out)
-operand_ok a m f out e = after_ok m (λ points. f (with_points (structure_of a) points)) out e
 
 -- ---- several operands
 firsts_are : (l : List Twin) → structures_of (map first_of l) ≡ map structure_in l

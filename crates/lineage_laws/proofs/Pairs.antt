@@ -1,13 +1,14 @@
 -- Forms on two and three data sets whose points are paired: operators on two data sets, and `if`.
 use Rattle.lineage_laws.proofs.Columns.{IsIdentifierOf, agree_front_cells, agree_ids, agree_joined, agree_named, among_identifiers, both_ok, kept_identifiers, same_values}
-use Rattle.lineage_laws.proofs.Namesakes.{namesake_values, value_behind, value_in_front}
 use Rattle.lineage_laws.proofs.Rows.{known_parts, same_at, same_key, same_named}
 use Rattle.lineage_laws.proofs.Togethers.{both_list, both_map, found_both, together_flat, together_map, together_with}
 use Rattle.lineage_laws.specs.Agree.{Agree, Agreeing, Both, IsKnown, Known, Together, cell, neither, no_cells, none, and}
-use Rattle.std.proofs.Common.{◌≡◌, ℕ, ◌≤◌, Bool, true, false, cond, ◌||◌, List, [], ◌∷◌, ◌++◌, length, map, take, Ok, refl, sym, ap, ◌∙◌, subst, arith, length-append, true≢false}
+use Rattle.std.proofs.Common.{◌≡◌, ℕ, ◌≤◌, Bool, true, false, cond, ◌||◌, List, [], ◌∷◌, ◌++◌, length, map, take, Ok, refl, sym, ap, ◌∙◌, subst, arith, length-append}
 use Rattle.std.proofs.lemmas.List.{length-map, map-append, take-append-le}
 use Rattle.std.specs.List.{AllByRecursion, list_any}
 use Rattle.std.specs.Prelude.{option_map}
+use Rattle.vtl_lists.proofs.Alls.{all_filtered, all_more}
+use Rattle.vtl_lists.proofs.Tests.{or_second}
 use Rattle.vtl_cell.specs.Outcome.{faults_by}
 use Rattle.vtl_cell.specs.Outcomes.{is_true}
 use Rattle.vtl_cell.specs.Row.{Row, same_row}
@@ -16,8 +17,8 @@ use Rattle.vtl_cell.specs.declared.operator.ScalarOp.{ScalarOp}
 use Rattle.vtl_decimal.specs.Settings.{Settings}
 use Rattle.vtl_meaning.proofs.Agreements.{common_of_contained}
 use Rattle.vtl_meaning.proofs.Kept.{columns_point, for_back}
-use Rattle.vtl_meaning.proofs.LookUps.{named_cells}
-use Rattle.vtl_meaning.proofs.Places.{all_filtered, all_more, columns_split, key_cells, key_within}
+use Rattle.vtl_meaning.proofs.LookUps.{named_cells, namesake_values, value_behind, value_in_front}
+use Rattle.vtl_meaning.proofs.Places.{columns_split, key_cells, key_within}
 use Rattle.vtl_meaning.specs.LookUps.{paired_at, result_at, value_named, values_for, values_named}
 use Rattle.vtl_meaning.specs.Made.{AreAmong, AreFor, HasIdentifiers, IsChoice, IsPaired}
 use Rattle.vtl_meaning.specs.Operators.{choice_of, for_measures, is_first_chosen, joined_point, pair_of, taken_at, taken_from, with_namesake}
@@ -120,10 +121,6 @@ agree_values known k f g h [] [] = no_cells
 agree_values known k f g h [] (y ∷ ys) = no_cells
 agree_values known k f g h (x ∷ xs) [] = no_cells
 agree_values known k f g h (x ∷ xs) (y ∷ ys) = cell (h x y) (agree_values known k f g h xs ys)
-
-or_second : (x y : Bool) → (x || y) ≡ true → x ≡ false → y ≡ true
-or_second true y h e = absurd (true≢false e)
-or_second false y h e = h
 
 module _ (known : Known) (p : Settings) (o : ScalarOp) (a b : Operand) (pa : IsKnown known a.sources.points) (pb : IsKnown known b.sources.points) (d t e f : List Row)
     (da : IsDataSet a.structure d) (ta : IsDataSet a.structure t) (eb : IsDataSet b.structure e) (fb : IsDataSet b.structure f)

@@ -31,7 +31,6 @@ use Rattle.vtl_tree.specs.declared.rules.HierRules.{HierRules}
 use Rattle.vtl_tree.specs.declared.specifications.CheckSpec.{CheckSpec}
 use Rattle.vtl_tree.specs.declared.structure.Component.{Component}
 use Rattle.vtl_tree.specs.declared.structure.Role.TheVariants as role
-use Rattle.vtl_tree.specs.declared.structure.Role.{Role}
 use Rattle.vtl_tree.specs.declared.structure.Structure.{Structure}
 use Rattle.vtl_tuples.specs.Keys.{each_once}
 use Rattle.vtl_meaning.proofs.Kept.{shown_split}
@@ -46,6 +45,7 @@ use Rattle.vtl_meaning.specs.Operators.{left_of}
 use Rattle.vtl_meaning.specs.Points.{cell_or_null, with_points}
 use Rattle.vtl_meaning.specs.Sets.{united}
 use Rattle.vtl_meaning.specs.Turned.{is_coded, other_identifiers}
+use Rattle.vtl_meaning.proofs.AnalyticShaped.{no_measure}
 use Rattle.vtl_rulings.specs.Hierarchies.{computed, hierarchy_of, items_of}
 use Rattle.vtl_rulings.specs.HierarchyChecks.{Ruled, SidedRule, check_cells, check_fault, check_hierarchy_of, combinations, is_checked, items_at, key_at, only_name, ruled_by, sided_rules}
 use Rattle.vtl_rulings.specs.HierarchyShapes.{IsItemized}
@@ -348,11 +348,6 @@ module _ (known : Known) where
 -- ---- the components of a hierarchy that are no identifiers are the operand's measures
 abbrev is_measure_role : Component → Bool
 is_measure_role x = same_role x.role role.Measure
-
-no_measure : (r : Role) → same_role r role.Identifier ≡ true → same_role r role.Measure ≡ false
-no_measure role.Identifier e = refl
-no_measure role.Measure e = cc
-no_measure role.Attribute e = cc
 
 past_identifiers : (id : List ℕ) (xs ys : List Component) → AllByRecursion IsIdentifier xs → filter is_measure_role (without_codes id xs ++ ys) ≡ filter is_measure_role ys
 past_identifiers id [] ys all = refl

@@ -12,6 +12,7 @@ use Rattle.std.specs.Option.{option_map_or}
 use Rattle.std.specs.Ordering.{is_le, is_lt}
 use Rattle.std.specs.Prelude.{if◌then◌else◌}
 use Rattle.vtl_lists.proofs.Sorts.{AllByRecursion-filter}
+use Rattle.vtl_lists.proofs.Alls.{all_both}
 use Rattle.vtl_decimal.specs.Settings.{Settings}
 use Rattle.vtl_cell.specs.Groups.{group_value}
 use Rattle.vtl_cell.specs.Kinds.{is_null}
@@ -40,7 +41,7 @@ use Rattle.vtl_tree.specs.declared.calls.TimeOp.TheVariants as times
 use Rattle.vtl_tree.specs.declared.structure.Component.{Component}
 use Rattle.vtl_tree.specs.declared.structure.Role.TheVariants as role
 use Rattle.vtl_tree.specs.declared.structure.Structure.{Structure}
-use Rattle.vtl_meaning.proofs.Kept.{both_all, ok_is}
+use Rattle.vtl_meaning.proofs.Kept.{ok_is}
 use Rattle.vtl_meaning.proofs.LookUps.{named_cells}
 use Rattle.vtl_meaning.proofs.Places.{columns_split}
 use Rattle.vtl_meaning.specs.Aggregates.{Made, group_fault as point_fault}
@@ -191,7 +192,7 @@ module _ (known : Known) (a : Operand) where
 
         all_free : AllByRecursion IsFree (identifiers_of s)
         all_free =
-            both_all (λ y. IsIdentifierOf a.structure y.name) (λ y. is_measure y ≡ false) IsFree (λ y x z. (x, z)) (identifiers_of s)
+            all_both (λ y. IsIdentifierOf a.structure y.name) (λ y. is_measure y ≡ false) IsFree (λ y x z. (x, z)) (identifiers_of s)
             (subst (AllByRecursion (λ y. IsIdentifierOf a.structure y.name)) (sym (identify a.structure s w.operand w.numbers w.shape)) (own_identifier_names a.structure)) (free a.structure s w.operand w.numbers w.shape)
 
         stays : (value : Component → Row → Outcome Cell) (y : Component) (r : Row) → is_measure y ≡ false → by_measure value a.structure y r ≡ Ok (value_named xs r y.name)

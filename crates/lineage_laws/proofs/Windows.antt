@@ -12,7 +12,7 @@ use Rattle.std.specs.Option.{option_map_or}
 use Rattle.std.specs.Ordering.{flip_args, is_lt, on, ordering_reverse, ordering_then}
 use Rattle.std.specs.declared.cmp.Ordering.{Ordering}
 use Rattle.std.specs.declared.cmp.Ordering.TheVariants.{Less, Equal, Greater}
-use Rattle.vtl_cell.proofs.Orders.{cell_cmp-ties}
+use Rattle.vtl_cell.proofs.Orders.{cell_cmp-ties, then_ties}
 use Rattle.vtl_cell.proofs.Rows.{row_cmp_total, same_row-refl}
 use Rattle.vtl_cell.specs.Conversion.{as_kind}
 use Rattle.vtl_cell.specs.Frames.{first_cell, lag_of, last_cell, lead_of}
@@ -30,8 +30,8 @@ use Rattle.vtl_decimal.specs.Settings.{Settings}
 use Rattle.vtl_lists.proofs.Aparts.{all_apart-filter, apart_parts}
 use Rattle.vtl_lists.specs.Apart.{all_apart}
 use Rattle.vtl_lists.specs.Sorting.{le_by}
-use Rattle.vtl_meaning.proofs.Kept.{both_all}
-use Rattle.vtl_meaning.proofs.Places.{all_more, columns_split, key_cells, key_within}
+use Rattle.vtl_lists.proofs.Alls.{all_both, all_more}
+use Rattle.vtl_meaning.proofs.Places.{columns_split, key_cells, key_within}
 use Rattle.vtl_meaning.specs.Aggregates as groups
 use Rattle.vtl_meaning.specs.AnalyticShapes.{IsAnalyzed}
 use Rattle.vtl_meaning.specs.Analytics.{analytic_of, made_of, tree_value, value_for}
@@ -68,16 +68,11 @@ by_keys_same (x ∷ keys) r q u v h k = λ i. ordering_then (one x.falling i) (b
     one true = λ i. cell_cmp (k.0 i) (h.0 i)
     one false = λ i. cell_cmp (h.0 i) (k.0 i)
 
-tie_parts : (x y : Ordering) → ordering_then x y ≡ Equal → (x ≡ Equal) × (y ≡ Equal)
-tie_parts Equal y e = (refl, e)
-tie_parts Less y e = cc
-tie_parts Greater y e = cc
-
 ties_at : (keys : List Key) (places : List ℕ) (r q : Row) → by_keys (keys ++ map rising places) r q ≡ Equal → cells_at places r ≡ cells_at places q
-ties_at (x ∷ keys) places r q e = ties_at keys places r q (tie_parts (key_cmp x r q) (by_keys (keys ++ map rising places) r q) e).1
+ties_at (x ∷ keys) places r q e = ties_at keys places r q (then_ties (key_cmp x r q) (by_keys (keys ++ map rising places) r q) e).1
 ties_at [] [] r q e = refl
 ties_at [] (i ∷ places) r q e =
-    let parts = tie_parts (key_cmp (rising i) r q) (by_keys (map rising places) r q) e in
+    let parts = then_ties (key_cmp (rising i) r q) (by_keys (map rising places) r q) e in
     λ j. cell_cmp-ties (column_of i r) (column_of i q) parts.0 j ∷ ties_at [] places r q parts.1 j
 
 own_tie : (o : Ordering) → o ≡ ordering_reverse o → o ≡ Equal
@@ -105,7 +100,7 @@ module _ (n : ℕ) where
       let parts = apart_parts (same_key n) x xs e in
       let other : (r : Row) → same_key n x r ≡ false → Alone n r x = λ r h k. absurd (true≢false (sym (ap (same_row (take n x)) (sym k) ∙ same_row-refl (take n x)) ∙ h)) in (
         ((λ k. refl), all_more (λ z. same_key n x z ≡ false) (Alone n x) (apart_alone x) xs parts.0),
-        both_all (λ r. same_key n x r ≡ false) (λ r. AllByRecursion (Alone n r) xs) (λ r. AllByRecursion (Alone n r) (x ∷ xs)) (λ r h k. (other r h, k)) xs parts.0 (alone_in xs parts.1),
+        all_both (λ r. same_key n x r ≡ false) (λ r. AllByRecursion (Alone n r) xs) (λ r. AllByRecursion (Alone n r) (x ∷ xs)) (λ r h k. (other r h, k)) xs parts.0 (alone_in xs parts.1),
       )
 
 -- ---- the stand of a point
@@ -283,7 +278,7 @@ module _ (known : Known) (p : Settings) (a : Operand) where
         let Q = Agree known (columns_from s (of_made a spec s)) in
         let split : (f : Component → Cell) → map f (columns_of s) ≡ map f ys ++ map f zs = λ f. ap (map f) (columns_split s) ∙ map-append f ys zs in
         let free : AllByRecursion (λ y. IsIdentifierOf a.structure y.name × (value_for spec y ≡ None)) ys =
-        both_all (λ y. IsIdentifierOf a.structure y.name) (λ y. value_for spec y ≡ None) (λ y. IsIdentifierOf a.structure y.name × (value_for spec y ≡ None)) (λ y x z. (x, z)) ys (subst (λ us. AllByRecursion (λ y. IsIdentifierOf a.structure y.name) us) (sym i.identifiers) (own_identifier_names a.structure)) i.free in
+        all_both (λ y. IsIdentifierOf a.structure y.name) (λ y. value_for spec y ≡ None) (λ y. IsIdentifierOf a.structure y.name × (value_for spec y ≡ None)) (λ y x z. (x, z)) ys (subst (λ us. AllByRecursion (λ y. IsIdentifierOf a.structure y.name) us) (sym i.identifiers) (own_identifier_names a.structure)) i.free in
         both_ok Q (faults_by (groups.group_fault one (columns_of s)) d) (faults_by (groups.group_fault two (columns_of s)) t) (map (points.point_of one (columns_of s)) d) out (map (points.point_of two (columns_of s)) t) other
         (together_map Apart Q (points.point_of one (columns_of s)) (points.point_of two (columns_of s))
         (λ r q g.

@@ -1,15 +1,8 @@
 -- One turn of a loop over the items of a list. The number of turns that are left is the number of tokens less the turns that were taken.
-use Rattle.std.proofs.Common.{◌≡◌, ℕ, zero, suc, ◌<◌, List, [], ◌∷◌, ◌++◌, length, None, Some, refl, ap, arith}
+use Rattle.std.proofs.Common.{◌≡◌, ℕ, zero, suc, ◌<◌, List, [], ◌∷◌, ◌++◌, None, Some, refl, arith}
 use Rattle.vtl_lexer.specs.declared.token.Sign.TheVariants as sign
-use Rattle.vtl_lexer.specs.declared.token.Token.{Token}
-use Rattle.vtl_grammar.specs.Faults.{kinds}
 use Rattle.vtl_grammar.specs.Grammar.{Tokens}
 use Rattle.vtl_grammar.specs.Reading.{Reads, after_sign, more_items}
-
-pub kinds-length : (ts : List Token) → length (kinds ts) ≡ length ts
-unfolding kinds
-kinds-length [] = refl
-kinds-length (t ∷ ts) = ap suc (kinds-length ts)
 
 pub more_items-ends : {A : Type 0} (item : Reads A) (n : ℕ) (items : List A) (ts : Tokens) → after_sign sign.Comma ts ≡ None → more_items item n items ts ≡ Some (items, ts)
 more_items-ends item zero items ts e = refl

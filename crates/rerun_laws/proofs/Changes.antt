@@ -4,6 +4,7 @@ use Rattle.std.proofs.lemmas.Bool.{eq-eqb}
 use Rattle.std.proofs.lemmas.Option.{same_Some}
 use Rattle.std.specs.List.{AllByRecursion, list_any}
 use Rattle.std.specs.Cmp.Lexicographic.{nat_list_eq_equiv}
+use Rattle.vtl_lists.proofs.Alls.{all_more}
 use Rattle.vtl_decimal.specs.Settings.{Settings}
 use Rattle.vtl_cell.specs.Outcome.{Outcome}
 use Rattle.vtl_tree.specs.Environment.{DataSet, Environment, data_of}
@@ -17,7 +18,6 @@ use Rattle.vtl_backend.specs.Statements.{statements_of, with_nodes}
 use Rattle.rerun_laws.specs.Depends.{dependents, dependents_of, is_one, reads_one}
 use Rattle.rerun_laws.specs.Values.{AreSameBut, values, with_value}
 use Rattle.rerun_laws.proofs.NamesRead.{data_set_same}
-use Rattle.rerun_laws.proofs.InputsRead.{all_so}
 
 -- the data sets are the same but for those of some names
 abbrev IsSameBut : List (List ℕ) → Environment → Environment → Type 0
@@ -68,7 +68,7 @@ pub changed_only : (p : Settings) (ss : List Statement) (names : List (List ℕ)
 changed_only p [] names env other same = tt
 changed_only p (s ∷ rest) names env other same =
     one_changed p s rest names env other same (data_set_of p env s.node) (data_set_of p other s.node) (reads_one names s.node)
-    (λ e. data_set_same p env other s.node (all_so (λ q. list_any (same_name q) names ≡ false) (λ q. data_of q env ≡ data_of q other) same (names_in s.node) (none_read names (names_in s.node) e)))
+    (λ e. data_set_same p env other s.node (all_more (λ q. list_any (same_name q) names ≡ false) (λ q. data_of q env ≡ data_of q other) same (names_in s.node) (none_read names (names_in s.node) e)))
     (λ more. changed_only p rest (s.result ∷ names) (with_value s (data_set_of p env s.node) env) (with_value s (data_set_of p other s.node) other) more)
     (λ more. changed_only p rest names (with_value s (data_set_of p env s.node) env) (with_value s (data_set_of p other s.node) other) more)
 

@@ -7,6 +7,7 @@ use Rattle.std.specs.Cmp.Lexicographic.{bytes_decides, nat_list_eq_equiv}
 use Rattle.std.proofs.lemmas.Option.{same_Some}
 use Rattle.vtl_lists.specs.Perm.{Perm}
 use Rattle.vtl_lists.proofs.Perms.{AllByRecursion-Perm, Perm-sym}
+use Rattle.vtl_lists.proofs.Alls.{all_append, all_both, all_front, all_more}
 use Rattle.vtl_cell.specs.Profile.{IsOfProfile}
 use Rattle.vtl_cell.specs.Outcome.{Outcome}
 use Rattle.vtl_decimal.specs.Settings.{Settings}
@@ -34,7 +35,7 @@ use Rattle.vtl_backend.specs.Statements.{statements_of, with_nodes}
 use Rattle.vtl_backend.specs.Tables.{Shows}
 use Rattle.rerun_laws.specs.Given.{AreGiven, IsShown}
 use Rattle.rerun_laws.proofs.NamesRead.{data_set_same}
-use Rattle.rerun_laws.proofs.InputsRead.{all_both, all_front, all_so, found_among, known_of_data, read_all, read_there}
+use Rattle.rerun_laws.proofs.InputsRead.{found_among, known_of_data, read_all, read_there}
 use Rattle.check_laws.proofs.Over.{made_over}
 use Rattle.check_laws.proofs.Scripts.{script-made}
 use Rattle.vtl_scripts.proofs.ScriptsOrders.{meaning_respects}
@@ -83,11 +84,6 @@ name_declared declared env tables name alike shown = go (data_of name env) (tabl
     go (Some d) None there shown = absurd shown
     go None (Some t) there shown = absurd shown
     go None None there shown = absurd shown
-
--- both of two lists of facts
-all_with : {X : Type 0} (P Q R : X → Type 0) → ((x : X) → P x → Q x → R x) → (xs : List X) → AllByRecursion P xs → AllByRecursion Q xs → AllByRecursion R xs
-all_with P Q R f [] h k = tt
-all_with P Q R f (x ∷ xs) h k = (f x h.0 k.0, all_with P Q R f xs h.1 k.1)
 
 -- ---- the data sets of the environment that are read, in the order of the inputs
 restricted : Environment → List ℕ × Structure → List ℕ × DataSet
@@ -153,7 +149,7 @@ module _ (part : TypedScript) (s : Statement) (env : Environment) (tables : Name
 
   -- names of the one node
   of_part : (P : List ℕ → Type 0) → AllByRecursion P (names_in s.node) → AllByRecursion P (names_of (nodes_of part))
-  of_part P h = subst (λ ns. AllByRecursion P (names_of ns)) (sym made.1) (all_both P (names_in s.node) [] h tt)
+  of_part P h = subst (λ ns. AllByRecursion P (names_of ns)) (sym made.1) (all_append P (names_in s.node) [] h tt)
 
   in_part : (P : List ℕ → Type 0) → AllByRecursion P (names_of (nodes_of part)) → AllByRecursion P (names_in s.node)
   in_part P h = all_front P (names_in s.node) [] (subst (λ ns. AllByRecursion P (names_of ns)) made.1 h)
@@ -162,7 +158,7 @@ module _ (part : TypedScript) (s : Statement) (env : Environment) (tables : Name
   all_read =
       read_all (IsRead env tables) part.declared [] (names_of (nodes_of part)) tt
       (of_part (λ name. (t : Structure) → lookup (same_name name) part.declared ≡ Some t → IsRead env tables (name, t))
-      (all_with (λ name. lookup (same_name name) part.declared ≡ lookup (same_name name) (known_in env)) (λ name. IsShown (data_of name env) (table_of name tables)) (λ name. (t : Structure) → lookup (same_name name) part.declared ≡ Some t → IsRead env tables (name, t))
+      (all_both (λ name. lookup (same_name name) part.declared ≡ lookup (same_name name) (known_in env)) (λ name. IsShown (data_of name env) (table_of name tables)) (λ name. (t : Structure) → lookup (same_name name) part.declared ≡ Some t → IsRead env tables (name, t))
       (name_read part.declared env tables) (names_in s.node) alike given))
 
   pub tables_given : AreInputs part tables
@@ -173,10 +169,10 @@ module _ (part : TypedScript) (s : Statement) (env : Environment) (tables : Name
 
   known_there : AllByRecursion (λ name. has_name name (inputs_of part) ≡ true) (names_in s.node)
   known_there =
-      all_with (λ name. (t : Structure) → lookup (same_name name) part.declared ≡ Some t → has_name name (inputs_of part) ≡ true) (λ name. (t : Structure) × (lookup (same_name name) part.declared ≡ Some t)) (λ name. has_name name (inputs_of part) ≡ true)
+      all_both (λ name. (t : Structure) → lookup (same_name name) part.declared ≡ Some t → has_name name (inputs_of part) ≡ true) (λ name. (t : Structure) × (lookup (same_name name) part.declared ≡ Some t)) (λ name. has_name name (inputs_of part) ≡ true)
       (λ name there is. there is.0 is.1) (names_in s.node)
       (in_part (λ name. (t : Structure) → lookup (same_name name) part.declared ≡ Some t → has_name name (inputs_of part) ≡ true) (read_there part.declared [] (names_of (nodes_of part))))
-      (all_with (λ name. lookup (same_name name) part.declared ≡ lookup (same_name name) (known_in env)) (λ name. IsShown (data_of name env) (table_of name tables)) (λ name. (t : Structure) × (lookup (same_name name) part.declared ≡ Some t))
+      (all_both (λ name. lookup (same_name name) part.declared ≡ lookup (same_name name) (known_in env)) (λ name. IsShown (data_of name env) (table_of name tables)) (λ name. (t : Structure) × (lookup (same_name name) part.declared ≡ Some t))
       (name_declared part.declared env tables) (names_in s.node) alike given)
 
   within : Environment
@@ -184,12 +180,12 @@ module _ (part : TypedScript) (s : Statement) (env : Environment) (tables : Name
 
   same_data : AllByRecursion (λ name. data_of name env ≡ data_of name within) (names_in s.node)
   unfolding within
-  same_data = all_so (λ name. has_name name (inputs_of part) ≡ true) (λ name. data_of name env ≡ data_of name (map (restricted env) (inputs_of part))) (λ name has. same_found env tables name (inputs_of part) all_read has) (names_in s.node) known_there
+  same_data = all_more (λ name. has_name name (inputs_of part) ≡ true) (λ name. data_of name env ≡ data_of name (map (restricted env) (inputs_of part))) (λ name has. same_found env tables name (inputs_of part) all_read has) (names_in s.node) known_there
 
   made_within : IsMade part.settings (known_in within) s.node
   made_within =
       made_over part.settings part.declared (known_in within) s.node
-      (all_with (λ name. lookup (same_name name) part.declared ≡ lookup (same_name name) (known_in env)) (λ name. data_of name env ≡ data_of name within) (λ name. lookup (same_name name) part.declared ≡ lookup (same_name name) (known_in within))
+      (all_both (λ name. lookup (same_name name) part.declared ≡ lookup (same_name name) (known_in env)) (λ name. data_of name env ≡ data_of name within) (λ name. lookup (same_name name) part.declared ≡ lookup (same_name name) (known_in within))
       (λ name k d. k ∙ known_of_data name env ∙ ap (option_map (λ (x : DataSet). x.structure)) d ∙ sym (known_of_data name within)) (names_in s.node) alike same_data)
       made.0
 

@@ -6,6 +6,8 @@ use Rattle.std.specs.Option.{option_map}
 use Rattle.std.specs.Cmp.Lexicographic.{bytes_decides, nat_list_eq_equiv}
 use Rattle.std.proofs.lemmas.List.Folds.{list_any-append}
 use Rattle.std.proofs.lemmas.Option.{same_Some}
+use Rattle.std.proofs.lemmas.Bool.{or_right}
+use Rattle.vtl_lists.proofs.Alls.{all_append, all_more}
 use Rattle.vtl_rows.specs.Named.{NamedTables}
 use Rattle.vtl_tree.specs.Environment.{DataSet, Environment, data_of, known_in}
 use Rattle.vtl_tree.specs.Structure.{same_name}
@@ -17,23 +19,6 @@ use Rattle.vtl_check.specs.Names.{names_of}
 use Rattle.vtl_check.specs.Uses.{read_behind, reads, with_declared, with_new}
 use Rattle.vtl_backend.specs.Inputs.{input_of}
 use Rattle.check_laws.specs.Scripts.{AreKnownAlike}
-
--- ---- lists
-pub all_both : {X : Type 0} (P : X → Type 0) (xs ys : List X) → AllByRecursion P xs → AllByRecursion P ys → AllByRecursion P (xs ++ ys)
-all_both P [] ys h k = k
-all_both P (x ∷ xs) ys h k = (h.0, all_both P xs ys h.1 k)
-
-pub all_front : {X : Type 0} (P : X → Type 0) (xs ys : List X) → AllByRecursion P (xs ++ ys) → AllByRecursion P xs
-all_front P [] ys h = tt
-all_front P (x ∷ xs) ys h = (h.0, all_front P xs ys h.1)
-
-pub all_back : {X : Type 0} (P : X → Type 0) (xs ys : List X) → AllByRecursion P (xs ++ ys) → AllByRecursion P ys
-all_back P [] ys h = h
-all_back P (x ∷ xs) ys h = all_back P xs ys h.1
-
-pub all_so : {X : Type 0} (P Q : X → Type 0) → ((x : X) → P x → Q x) → (xs : List X) → AllByRecursion P xs → AllByRecursion Q xs
-all_so P Q f [] h = tt
-all_so P Q f (x ∷ xs) h = (f x h.0, all_so P Q f xs h.1)
 
 -- ---- environments
 -- what is known of a data set is its structure
@@ -70,7 +55,7 @@ read_all P declared known (name ∷ names) k h = read_all P declared (with_decla
       where
         new : (b : Bool) → AllByRecursion P (cond b known (known ++ (name, s) ∷ []))
         new true = k
-        new false = all_both P known ((name, s) ∷ []) k (h.0 s e, tt)
+        new false = all_append P known ((name, s) ∷ []) k (h.0 s e, tt)
 
 -- a name of one more entry
 has_more : (name new : List ℕ) (s : Structure) (known : Named) → has_name name (known ++ (new, s) ∷ []) ≡ (has_name name known || same_name name new)
@@ -94,17 +79,13 @@ stays_behind : (declared known : Named) (names : List (List ℕ)) (name : List �
 stays_behind declared known [] name h = h
 stays_behind declared known (x ∷ xs) name h = stays_behind declared (with_declared known x (lookup (same_name x) declared)) xs name (stays name x known (lookup (same_name x) declared) h)
 
-or_true : (b c : Bool) → c ≡ true → (b || c) ≡ true
-or_true true c h = refl
-or_true false c h = h
-
 -- a declared name that is read is there
 there_now : (known : Named) (name : List ℕ) (s : Structure) → has_name name (with_new known name s) ≡ true
 there_now known name s = go (has_name name known) refl
   where
     go : (b : Bool) → has_name name known ≡ b → has_name name (cond b known (known ++ (name, s) ∷ [])) ≡ true
     go true e = e
-    go false e = has_more name name s known ∙ or_true (has_name name known) (same_name name name) ((bytes_decides name name).1 refl)
+    go false e = has_more name name s known ∙ or_right (has_name name known) (same_name name name) ((bytes_decides name name).1 refl)
 
 pub read_there : (declared known : Named) (names : List (List ℕ)) → AllByRecursion (λ name. (s : Structure) → lookup (same_name name) declared ≡ Some s → has_name name (read_behind declared known names) ≡ true) names
 read_there declared known [] = tt
@@ -123,14 +104,14 @@ found_declared declared (e ∷ es) name h has = go (same_name name e.0) refl (fo
     go true is ih has = sym (ap (λ q. lookup (same_name q) declared) ((bytes_decides name e.0).0 is) ∙ h.0)
     go false is ih has = ih has
 
-all_declared : (declared : Named) (names : List (List ℕ)) → AllByRecursion (λ name. (s : Structure) → lookup (same_name name) declared ≡ Some s → lookup (same_name name) declared ≡ Some s) names
+pub all_declared : (declared : Named) (names : List (List ℕ)) → AllByRecursion (λ name. (s : Structure) → lookup (same_name name) declared ≡ Some s → lookup (same_name name) declared ≡ Some s) names
 all_declared declared [] = tt
 all_declared declared (name ∷ names) = (λ s e. e, all_declared declared names)
 
 -- the names that expressions read have the same structures among all that are declared and among those that are read
 pub reads_same : (declared : Named) (ns : List NodeTree) → AreKnownAlike declared (reads declared ns) (names_of ns)
 reads_same declared ns =
-    all_so (λ name. (s : Structure) → lookup (same_name name) declared ≡ Some s → has_name name (reads declared ns) ≡ true) (λ name. lookup (same_name name) declared ≡ lookup (same_name name) (reads declared ns))
+    all_more (λ name. (s : Structure) → lookup (same_name name) declared ≡ Some s → has_name name (reads declared ns) ≡ true) (λ name. lookup (same_name name) declared ≡ lookup (same_name name) (reads declared ns))
     (λ name there. at name there (has_name name (reads declared ns)) refl) (names_of ns) (read_there declared [] (names_of ns))
   where
     entries : AllByRecursion (λ e. lookup (same_name e.0) declared ≡ Some e.1) (reads declared ns)

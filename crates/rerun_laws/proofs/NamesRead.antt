@@ -2,6 +2,7 @@
 use Rattle.std.proofs.Common.{◌≡◌, ℕ, List, [], ◌++◌, Option, Some, Ok, refl, ap, subst, ◌∙◌}
 use Rattle.std.specs.List.{AllByRecursion}
 use Rattle.std.specs.Option.{option_map_or}
+use Rattle.vtl_lists.proofs.Alls.{all_back, all_front, all_more}
 use Rattle.vtl_decimal.specs.Settings.{Settings}
 use Rattle.vtl_cell.specs.Outcome.{Outcome, after}
 use Rattle.vtl_cell.specs.Row.{Row}
@@ -24,7 +25,6 @@ use Rattle.vtl_rulings.specs.Hierarchies.{hierarchy_of}
 use Rattle.vtl_rulings.specs.HierarchyChecks.{check_hierarchy_of, ruled_by}
 use Rattle.vtl_rulings.specs.PointChecks.{check_of, datapoint_of}
 use Rattle.vtl_timing.specs.Timed.{timed_of}
-use Rattle.rerun_laws.proofs.InputsRead.{all_back, all_front, all_so}
 use Rattle.vtl_scripts.specs.Meaning.{data_set_of, form_value, maybe_value, node_value, nodes_value, operands_value, with_first, with_operand}
 
 -- ---- names have the same points
@@ -110,4 +110,4 @@ mutual
 pub data_set_same : (p : Settings) (e f : Environment) (n : NodeTree) → AllByRecursion (λ name. data_of name e ≡ data_of name f) (names_in n) → data_set_of p e n ≡ data_set_of p f n
 data_set_same p e f n h =
     ap (λ (r : Outcome (List Row)). after r (λ points. Ok (with_points (structure_of n) points)))
-    (node_same p e f n (all_so (λ name. data_of name e ≡ data_of name f) (λ name. points_named name e ≡ points_named name f) (λ name same. ap (λ (o : Option DataSet). option_map_or (λ d. d.points) o []) same) (names_in n) h))
+    (node_same p e f n (all_more (λ name. data_of name e ≡ data_of name f) (λ name. points_named name e ≡ points_named name f) (λ name same. ap (λ (o : Option DataSet). option_map_or (λ d. d.points) o []) same) (names_in n) h))

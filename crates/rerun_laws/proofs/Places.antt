@@ -4,6 +4,7 @@ use Rattle.std.proofs.lemmas.Bool.{eq-eqb, le-ltb, lt-ltb, ne_eqb}
 use Rattle.std.proofs.lemmas.Option.{same_Some}
 use Rattle.std.specs.Map.{lookup}
 use Rattle.std.specs.Cmp.Lexicographic.{bytes_decides}
+use Rattle.vtl_lists.proofs.Alls.{all_back, all_front, all_more}
 use Rattle.vtl_decimal.specs.Settings.{Settings}
 use Rattle.vtl_syntax.specs.Trees as tree
 use Rattle.vtl_syntax.specs.Trees.{ScriptTree, StatementTree}
@@ -26,7 +27,7 @@ use Rattle.vtl_backend.specs.Statements.{statements_of, with_nodes}
 use Rattle.rerun_laws.specs.Parts.{IsPart, definitions_in, known_before, nodes_at, part_tree, persistent}
 use Rattle.rerun_laws.specs.Values.{alone, behind, known_behind}
 use Rattle.rerun_laws.proofs.DataSets.{known_there}
-use Rattle.rerun_laws.proofs.InputsRead.{all_back, all_front, all_so, known_inputs, reads_same}
+use Rattle.rerun_laws.proofs.InputsRead.{known_inputs, reads_same}
 use Rattle.check_laws.proofs.Over.{made_over}
 use Rattle.check_laws.proofs.Scripts.{script-made}
 
@@ -158,7 +159,7 @@ alike_more known other new s alike free name = go (lookup (same_name name) known
 -- the same front of both
 front_more : (known other : Named) (new : List ℕ) (s : Structure) (names : List (List ℕ)) → AreKnownAlike known other names → AreKnownAlike ((new, s) ∷ known) ((new, s) ∷ other) names
 front_more known other new s names h =
-    all_so (λ name. lookup (same_name name) known ≡ lookup (same_name name) other) (λ name. lookup (same_name name) ((new, s) ∷ known) ≡ lookup (same_name name) ((new, s) ∷ other)) (λ name same. ap (cond (same_name name new) (Some s)) same) names h
+    all_more (λ name. lookup (same_name name) known ≡ lookup (same_name name) other) (λ name. lookup (same_name name) ((new, s) ∷ known) ≡ lookup (same_name name) ((new, s) ∷ other)) (λ name same. ap (cond (same_name name new) (Some s)) same) names h
 
 -- what is known before a transformation is what is known behind the statements before it: `among` has the results in front, over what is
 -- declared, and `read` over what is read alone
@@ -171,7 +172,7 @@ known_alike p first (x ∷ ts) (n ∷ ns) zero t s known among read rise made al
     subst (λ (y : Statement). AreKnownAlike (known_before t.number known (x ∷ ts) (n ∷ ns)) read (names_in y.node)) (same_Some _ _ q)
     (subst (λ y. AreKnownAlike (known_before y.number known (x ∷ ts) (n ∷ ns)) read (names_in n)) (same_Some _ _ e)
     (subst (λ b. AreKnownAlike (cond b (known_before x.number (known ++ (x.name, structure_of n) ∷ []) ts ns) known) read (names_in n)) (sym (le-ltb x.number x.number (omega arith)))
-    (all_so (λ name. lookup (same_name name) among ≡ lookup (same_name name) read) (λ name. lookup (same_name name) known ≡ lookup (same_name name) read) (λ name k. alike name ∙ k) (names_in n)
+    (all_more (λ name. lookup (same_name name) among ≡ lookup (same_name name) read) (λ name. lookup (same_name name) known ≡ lookup (same_name name) read) (λ name k. alike name ∙ k) (names_in n)
     (all_front (λ name. lookup (same_name name) among ≡ lookup (same_name name) read) (names_in n) (names_of ns) same))))
 known_alike p first (x ∷ ts) (n ∷ ns) (suc i) t s known among read rise made alike same e q =
     let later : suc x.number ≤ t.number = number_from (suc x.number) ts i t rise.1 e in

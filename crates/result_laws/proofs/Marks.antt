@@ -4,12 +4,13 @@ use Rattle.std.proofs.lemmas.Bool.{and_from, false≢true}
 use Rattle.std.proofs.lemmas.List.Folds.{list_any-append}
 use Rattle.std.specs.List.{AllByRecursion, filter, list_any}
 use Rattle.std.specs.Prelude.{find, slice_get}
+use Rattle.vtl_lists.proofs.Tests.{or_true}
 use Rattle.vtl_text.specs.Words.{is_name}
 use Rattle.vtl_syntax.specs.declared.word_groups.JoinKind.{JoinKind}
 use Rattle.vtl_syntax.specs.declared.word_groups.JoinKind.TheVariants as join
 use Rattle.vtl_tree.specs.Structure.{same_name}
 use Rattle.vtl_tree.specs.declared.structure.Component.{Component}
-use Rattle.vtl_meaning.proofs.Places.{same_name-is, same_name-refl}
+use Rattle.vtl_meaning.proofs.Places.{same_name-is}
 use Rattle.vtl_tree.specs.Joins.{all_own, contains_all, held_names, is_cross, is_held, is_marked, is_part, is_shared, joined, joined_components, joined_identifiers, joined_name, last_renamings, marked, own, own_renamings, reference, structures_of}
 use Rattle.vtl_tree.specs.Joins as joins
 use Rattle.vtl_tree.specs.declared.joins.Operand.{Operand}
@@ -17,6 +18,7 @@ use Rattle.vtl_tree.specs.Choices.{is_identifier}
 use Rattle.vtl_tree.specs.ClauseShapes.{new_name, renamed}
 use Rattle.vtl_tree.specs.Names.{component_of}
 use Rattle.vtl_tree.specs.declared.renaming.Renaming.{Renaming}
+use Rattle.vtl_tree.proofs.NotNullLemmas.{same_itself}
 use Rattle.check_clauses.specs.JoinOperands.{is_left}
 use Rattle.vtl_meaning.proofs.Lists as lists
 use Rattle.result_laws.proofs.Components.{ArePlain, IsFrom, IsMarked, IsGivenName, IsPlain, agreed_named, all_weaker, column_name, plain}
@@ -26,10 +28,6 @@ use Rattle.result_laws.proofs.Words.{AreRenamings, IsColumnName, name_word, word
 -- operands outside of joins, with names as aliases
 abbrev pub IsOperandPlain : Operand → Type 0
 IsOperandPlain o = ArePlain [] o.structure.components × (is_name o.alias ≡ true)
-
-or_true : (b : Bool) → (b || true) ≡ true
-or_true true = refl
-or_true false = refl
 
 module _ (kind : JoinKind) (held : List (List ℕ)) where
   abbrev IsGivenBack : List ℕ → List Renaming → Component → Type 0
@@ -44,7 +42,7 @@ module _ (kind : JoinKind) (held : List (List ℕ)) where
       rs = own_renamings kind held alias xs
 
       first : (b : Bool) → b ≡ true → IsFrom (map (joins.plain held alias) (cond b (x ∷ filter (is_marked kind held) xs) (filter (is_marked kind held) xs))) (joined_name held alias x.name)
-      first true m = ap (λ b. b || list_any (λ r. same_name r.from (joined_name held alias x.name)) rs) (same_name-refl (joined_name held alias x.name))
+      first true m = ap (λ b. b || list_any (λ r. same_name r.from (joined_name held alias x.name)) rs) (same_itself (joined_name held alias x.name))
       first false m = absurd (false≢true m)
 
       later : (b : Bool) (name : List ℕ) → IsFrom rs name → IsFrom (map (joins.plain held alias) (cond b (x ∷ filter (is_marked kind held) xs) (filter (is_marked kind held) xs))) name
@@ -159,7 +157,7 @@ new_column (r ∷ pairs) name named h = go (same_name r.from name) refl h (new_c
 -- each component is found by its name
 all_there : (xs : List Component) → AllByRecursion (λ x. is_some (component_of x.name xs) ≡ true) xs
 all_there [] = tt
-all_there (x ∷ xs) = (ap (λ b. is_some (cond b (Some x) (component_of x.name xs))) (same_name-refl x.name), lists.weaker (λ z. is_some (component_of z.name xs) ≡ true) (λ z. is_some (component_of z.name (x ∷ xs)) ≡ true) xs (λ z h. go (same_name x.name z.name) z h) (all_there xs))
+all_there (x ∷ xs) = (ap (λ b. is_some (cond b (Some x) (component_of x.name xs))) (same_itself x.name), lists.weaker (λ z. is_some (component_of z.name xs) ≡ true) (λ z. is_some (component_of z.name (x ∷ xs)) ≡ true) xs (λ z h. go (same_name x.name z.name) z h) (all_there xs))
   where
     go : (b : Bool) (z : Component) → is_some (component_of z.name xs) ≡ true → is_some (cond b (Some x) (component_of z.name xs)) ≡ true
     go true z h = refl

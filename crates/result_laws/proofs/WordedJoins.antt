@@ -1,6 +1,6 @@
 -- The words of joins: those of their operands, whose aliases are names, and those of their bodies. At its end a body gives back the
 -- names of its operands.
-use Rattle.std.proofs.Common.{◌≡◌, ℕ, inr, true, false, List, [], ◌∷◌, ◌++◌, map, Option, Some, None, Result, Ok, refl, sym, ap}
+use Rattle.std.proofs.Common.{◌≡◌, ℕ, inr, true, false, List, [], ◌∷◌, ◌++◌, Option, Some, None, Result, Ok, refl, sym, ap}
 use Rattle.std.proofs.lemmas.Bool.{false≢true}
 use Rattle.std.specs.List.{AllByRecursion, filter}
 use Rattle.std.specs.Option.{IfSome}
@@ -15,7 +15,6 @@ use Rattle.vtl_syntax.specs.declared.parts.Comp.TheVariants as comp
 use Rattle.vtl_syntax.specs.declared.parts.Keeping.{Keeping}
 use Rattle.vtl_syntax.specs.declared.parts.RenamePart.{RenamePart}
 use Rattle.vtl_syntax.specs.declared.word_groups.JoinKind.{JoinKind}
-use Rattle.vtl_scripts.specs.Made as made
 use Rattle.vtl_tree.specs.Trees as nodes
 use Rattle.vtl_tree.specs.Trees.{NodeTree, OperandTree, operands_of}
 use Rattle.vtl_tree.specs.Joins.{held_names, last_renamings}
@@ -26,7 +25,7 @@ use Rattle.vtl_tree.specs.Names.{is_among}
 use Rattle.vtl_tree.specs.declared.renaming.Renaming.{Renaming}
 use Rattle.check_shapes.specs.Clauses.{rename_form}
 use Rattle.check_clauses.specs.Clauses.{filter_form, renamed_of}
-use Rattle.check_clauses.specs.JoinOperands.{PartTyped, alias_of, aliases_in, is_left, joined_node, joined_of, last_naming, left_names, new_alias, operand_in, operands_in, own_alias, shape_of, using_names, with_part}
+use Rattle.check_clauses.specs.JoinOperands.{PartTyped, alias_of, aliases_in, is_left, joined_node, joined_of, last_naming, left_names, new_alias, operand_in, operands_in, own_alias, using_names, with_part}
 use Rattle.check_operators.specs.Places.{at_points}
 use Rattle.check_operators.specs.Typed.{TypedTree, components_in, dataset_in}
 use Rattle.check_expressions.specs.Rulings.{Sight}
@@ -36,6 +35,7 @@ use Rattle.check_operators.specs.declared.places.Place.TheVariants as place
 use Rattle.check_laws.specs.Gives.{Gives}
 use Rattle.vtl_meaning.proofs.Lists as lists
 use Rattle.check_laws.proofs.Steps.{after, tested, then}
+use Rattle.check_laws.proofs.Joins.{same-operands}
 use Rattle.result_laws.proofs.WordedClauses.{clause_at, filter_at, keeping_at, renaming_at, targets_at}
 use Rattle.result_laws.proofs.WordedOperators.{dataset_in_worded, tree_step}
 use Rattle.result_laws.proofs.Words.{IsAt, IsTreeWorded, IsWorded, OperandsHaveWords, from_outside}
@@ -77,10 +77,6 @@ all_words : (p : Settings) (os : List OperandTree) → AllByRecursion (IsOperand
 all_words p [] h = tt
 all_words p (o ∷ os) h = (h.0.0, h.0.1, all_words p os h.1)
 
-same_operands : (os : List OperandTree) → made.operands_in (operands_of os) ≡ map shape_of os
-same_operands [] = refl
-same_operands (o ∷ os) = ap (λ l. shape_of o ∷ l) (same_operands os)
-
 -- ---- bodies
 -- the names that the join gives back
 abbrev given_back : Joined → List Renaming
@@ -90,7 +86,7 @@ joined_worded : (p : Settings) (kind : JoinKind) (u : Option (List Comp)) (os : 
 unfolding joined_node
 joined_worded p kind u os h =
     clause_at p true (given_back (joined_of kind os)) (nodes.join (operands_of os) (record { kind = kind; using = using_names u })) _
-    (all_words p os h, λ e. ap (λ ds. last_renamings kind (held_names kind ds) ds) (same_operands os))
+    (all_words p os h, λ e. ap (λ ds. last_renamings kind (held_names kind ds) ds) (same-operands os))
 
 last_worded : (p : Settings) (j : Joined) (n : NodeTree) → IsAt p true (given_back j) n → Gives (IsWorded p) (last_naming j n)
 unfolding last_naming

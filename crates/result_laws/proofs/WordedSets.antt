@@ -3,6 +3,7 @@ use Rattle.std.proofs.Common.{◌≡◌, List, [], ◌∷◌, Option, Some, None
 use Rattle.std.specs.Option.{IfSome}
 use Rattle.std.specs.List.{AllByRecursion, list_all}
 use Rattle.std.specs.Prelude.{ℕ, option_to_list, unwrap_or}
+use Rattle.std.proofs.lemmas.Bool.{not-false}
 use Rattle.vtl_lists.specs.Results.{◌>>=◌}
 use Rattle.vtl_decimal.specs.Settings.{Settings}
 use Rattle.vtl_text.specs.Words.{is_component_name}
@@ -40,7 +41,6 @@ use Rattle.check_laws.specs.Gives.{Gives}
 use Rattle.check_laws.proofs.Left.{IsNamed, known-gives}
 use Rattle.vtl_meaning.proofs.Lists as lists
 use Rattle.check_laws.proofs.Steps.{after, tested-then, then}
-use Rattle.check_laws.proofs.Tests.{not-false}
 use Rattle.check_laws.proofs.Turns.{all-in-turn}
 use Rattle.result_laws.proofs.Words.{FormIsWorded, HasCodes, HaveWords, IsTreeWorded, IsWorded, component_named}
 use Rattle.result_laws.proofs.WordedOperators.{dataset_in_worded, dataset_worded}

@@ -4,7 +4,8 @@ use Rattle.std.specs.List.{AllByRecursion, filter}
 use Rattle.std.specs.Option.{IfSome}
 use Rattle.std.proofs.lemmas.List.{get_or_append_left, take-append-le}
 use Rattle.vtl_decimal.specs.Settings.{Settings}
-use Rattle.vtl_lists.proofs.Sorts.{AllByRecursion-filter}
+use Rattle.vtl_lists.proofs.Sorts.{AllByRecursion-filter, AllByRecursion-map}
+use Rattle.vtl_lists.proofs.Alls.{all_append, all_more}
 use Rattle.vtl_cell.specs.Outcome.{after, fault_in, join, unless}
 use Rattle.vtl_cell.specs.Outcomes.{is_true}
 use Rattle.vtl_cell.specs.Profile.{IsOfProfile}
@@ -32,7 +33,7 @@ use Rattle.vtl_meaning.specs.Made.{AreFor, IsColumnAt, IsTyped, component_kinds}
 use Rattle.vtl_meaning.specs.Points.{cell_or_null, each_point, point_fault, point_of, with_points}
 use Rattle.vtl_meaning.proofs.Kept.{column_within, columns_point}
 use Rattle.vtl_meaning.proofs.OwnColumns.{columns_apart}
-use Rattle.vtl_meaning.proofs.Places.{all_append, all_map, all_more, key_cells, key_within, point_length}
+use Rattle.vtl_meaning.proofs.Places.{key_cells, key_within, point_length}
 use Rattle.vtl_rulings.specs.Outputs.{code_cell, errors_at, is_basic_shown, is_false, level_cell}
 use Rattle.vtl_rulings.specs.PointChecks.{check_of, imbalance_at}
 use Rattle.selects_to_sql.specs.Queries.{is_chosen, name_of_first}
@@ -141,7 +142,7 @@ module _ (p : Settings) (spec : CheckSpec) (a : Structure) (w : IsStructure a) (
       kept_are basic.Invalid =
           let test = negated truth in
           let none = faults_same (λ q. fault_in (value p test q) ≡ None) (λ q. fault_in (value p test q)) (λ q. None) (λ q h. h) (map row d)
-          (all_map row (λ q. fault_in (value p test q) ≡ None) d (all_more P (λ r. fault_in (value p test (row r)) ≡ None) (λ r h. negated_fault p (value p truth (row r)) ∙ ap fault_in (truth_is r h)) d all)) in
+          (AllByRecursion-map row (λ q. fault_in (value p test q) ≡ None) d (all_more P (λ r. fault_in (value p test (row r)) ≡ None) (λ r h. negated_fault p (value p truth (row r)) ∙ ap fault_in (truth_is r h)) d all)) in
           ap (λ f. unless f (filter (λ q. is_true (value p test q)) (map row d))) (none ∙ no_faults (map row d))
           ∙ ap Ok (filter-map (λ q. is_true (value p test q)) row d
           ∙ ap (map row) (filter_same (λ r. is_true (value p test (row r))) (λ r. is_false (t r)) d (all_more P (λ r. is_true (value p test (row r)) ≡ is_false (t r)) (λ r h. negated_true p (value p truth (row r)) ∙ ap (λ m. is_false (cell_or_null m)) (truth_is r h)) d all)))
@@ -150,5 +151,5 @@ module _ (p : Settings) (spec : CheckSpec) (a : Structure) (w : IsStructure a) (
       checked_rows =
           let o = spec.output in
           ap (λ m. after m (each_point p es)) (kept_are o)
-          ∙ each_sure p IsQuiet es (λ q h. h) (map row (shown o)) (all_map row IsQuiet (shown o) (all_more P (λ r. IsQuiet (row r)) quiet (shown o) (AllByRecursion-filter P (λ r. is_basic_shown o (t r)) d all)))
+          ∙ each_sure p IsQuiet es (λ q h. h) (map row (shown o)) (AllByRecursion-map row IsQuiet (shown o) (all_more P (λ r. IsQuiet (row r)) quiet (shown o) (AllByRecursion-filter P (λ r. is_basic_shown o (t r)) d all)))
           ∙ ap Ok (map-map (point_of p es) row (shown o) ∙ shown_points P (λ r. is_basic_shown o (t r)) (λ r. point_of p es (row r)) point (λ r h s. point_is r h) d all)

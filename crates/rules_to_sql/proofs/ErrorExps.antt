@@ -139,7 +139,7 @@ level_fault p (Ok (c.Day x)) n = refl
 level_fault p (Ok (c.Period x)) n = refl
 level_fault p (Err f) n = refl
 
-same_twice : (f : Option Fault) → join f f ≡ f
+pub same_twice : (f : Option Fault) → join f f ≡ f
 same_twice None = refl
 same_twice (Some DivZero) = refl
 same_twice (Some Range) = refl
@@ -164,7 +164,7 @@ errors_at_fault p truth (Some text) (Some n) r =
 
 -- ---- typed
 
-zero_fits : (p : Settings) → IsOk (fit_integer p.scale (pos 0))
+pub zero_fits : (p : Settings) → IsOk (fit_integer p.scale (pos 0))
 zero_fits p = grind (arith, one-le-pow (18 - p.scale) 10 (omega arith))
 
 pub errors_for : (p : Settings) (xs : List Component) (code : Option (List ℕ)) (level : Option ℤ) → IfSome level (λ n. IsOfProfile p (c.Int n)) → AreFor p xs (error_exps code level) error_measures

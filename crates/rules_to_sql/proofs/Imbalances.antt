@@ -1,8 +1,10 @@
 -- The imbalance of a point: the measure of the point that agrees with it, as a number.
-use Rattle.std.proofs.Common.{◌≡◌, ◌≤◌, ◌+◌, ℕ, Bool, true, cond, List, [], ◌∷◌, ◌++◌, length, take, Option, Some, None, Ok, refl, sym, ap, ◌∙◌, subst, arith}
-use Rattle.std.specs.List.{AllByRecursion, filter, find}
+use Rattle.std.proofs.Common.{◌≡◌, ◌≤◌, ◌+◌, ℕ, true, List, [], ◌∷◌, ◌++◌, length, take, Option, Some, None, Ok, refl, sym, ap, ◌∙◌, subst, arith}
+use Rattle.std.specs.List.{find}
 use Rattle.std.specs.Option.{option_map_or}
 use Rattle.std.proofs.lemmas.List.{get_or-append-add}
+use Rattle.vtl_lists.proofs.Alls.{all_more}
+use Rattle.vtl_lists.proofs.Filters.{filter_all}
 use Rattle.vtl_decimal.specs.Settings.{Settings}
 use Rattle.vtl_cell.specs.Conversion.{as_kind}
 use Rattle.vtl_cell.specs.Kinds.{is_of}
@@ -33,7 +35,7 @@ use Rattle.vtl_meaning.proofs.Agreements.{found_by_key, own_values}
 use Rattle.vtl_meaning.proofs.JoinAgreements.{covers, own_names}
 use Rattle.vtl_meaning.proofs.Kept.{look_is}
 use Rattle.vtl_meaning.proofs.LookUps.{named_cells}
-use Rattle.vtl_meaning.proofs.Places.{all_more, point_length}
+use Rattle.vtl_meaning.proofs.Places.{point_length}
 use Rattle.vtl_meaning.proofs.Profiles.{IsRowOfProfile, cell_is}
 use Rattle.vtl_meaning.proofs.ValueKinds.{cell_is_of, null_is_of}
 use Rattle.vtl_rulings.specs.PointChecks.{imbalance_at}
@@ -113,13 +115,9 @@ module _ (p : Settings) (place : ℕ) (name : List ℕ) where
 
 -- ---- the point that agrees
 
-all_pass : {X : Type 0} (t : X → Bool) (xs : List X) → AllByRecursion (λ x. t x ≡ true) xs → filter t xs ≡ xs
-all_pass t [] all = refl
-all_pass t (x ∷ xs) all = ap (λ b. cond b (x ∷ filter t xs) (filter t xs)) all.0 ∙ ap (λ l. x ∷ l) (all_pass t xs all.1)
-
 module _ (a b : Structure) (within : AreAmong (identifiers_of b) (identifiers_of a)) where
   all_common : common_identifiers a b ≡ identifiers_of b
-  all_common = all_pass (λ z. has_identifier a z.name) (identifiers_of b) (all_more (λ z. has_identifier b z.name ≡ true) (λ z. has_identifier a z.name ≡ true) (λ z h. covers a b within z.name h) (identifiers_of b) (own_names b))
+  all_common = filter_all (λ z. has_identifier a z.name) (identifiers_of b) (all_more (λ z. has_identifier b z.name ≡ true) (λ z. has_identifier a z.name ≡ true) (λ z h. covers a b within z.name h) (identifiers_of b) (own_names b))
 
   pub agreeing_is : (e : List Row) (r : Row) → IsDataSet b e → first_agreeing a (with_points b e) r ≡ partner a (with_points b e) r
   agreeing_is e r s =

@@ -5,13 +5,15 @@ use Rattle.std.specs.Prelude.{option_map}
 use Rattle.std.specs.List.{AllByRecursion, filter, flat_map}
 use Rattle.std.specs.Option.{option_to_list}
 use Rattle.std.proofs.lemmas.List.{length-map, map-append}
+use Rattle.std.proofs.lemmas.List.Concat.{flat_map_single}
 use Rattle.vtl_decimal.specs.Settings.{Settings}
 use Rattle.vtl_decimal.specs.declared.number.Fault.{Fault}
 use Rattle.vtl_cell.specs.Outcome.{Outcome, after, faults_by, fault_in, join, unless}
 use Rattle.vtl_cell.specs.Outcomes.{is_true}
 use Rattle.vtl_cell.specs.Row.{Row, column_of}
 use Rattle.vtl_cell.specs.declared.cell.Cell.TheVariants as c
-use Rattle.vtl_lists.proofs.Sorts.{AllByRecursion-filter}
+use Rattle.vtl_lists.proofs.Sorts.{AllByRecursion-filter, AllByRecursion-map}
+use Rattle.vtl_lists.proofs.Alls.{all_more}
 use Rattle.vtl_rows.specs.Tables.{cells_at}
 use Rattle.vtl_tree.specs.Clauses.{filter_of}
 use Rattle.vtl_tree.specs.Columns.{columns_named, identifiers_of, places_in}
@@ -26,7 +28,7 @@ use Rattle.vtl_meaning.specs.Made.{AreFor}
 use Rattle.vtl_meaning.specs.Points.{beside, each_point, partner, with_points}
 use Rattle.vtl_meaning.proofs.Kept.{column_front, look_is}
 use Rattle.vtl_meaning.proofs.OwnColumns.{columns_apart, own_columns}
-use Rattle.vtl_meaning.proofs.Places.{all_map, all_more, point_append}
+use Rattle.vtl_meaning.proofs.Places.{point_append}
 use Rattle.sql_tree.specs.Formed.{IsName}
 use Rattle.sql_tree.specs.Trees.{Exp, SelectTree, Text, on}
 use Rattle.sql_tree.specs.declared.word_groups.JoinKind.TheVariants as joining
@@ -63,10 +65,6 @@ rows_where p (Some e) rows = filter_of p e rows
 abbrev pub or_nulls : ℕ → Option Row → Row
 or_nulls m None = nulls m
 or_nulls m (Some q) = q
-
-one_each : {X Y : Type 0} (f : X → Y) (xs : List X) → flat_map (λ x. f x ∷ []) xs ≡ map f xs
-one_each f [] = refl
-one_each f (x ∷ xs) = ap (λ l. f x ∷ l) (one_each f xs)
 
 pub null_cell : (m place : ℕ) → column_of place (nulls m) ≡ c.Null
 null_cell zero place = nothing place
@@ -147,7 +145,7 @@ module _ (p : Settings) (law : Translates p) (before : Data) (x y : Text) (a b s
   met w m left right = flat_map (partners_or_alone (λ l z. holds w tie (l ++ z)) from.beside (λ l. l ++ nulls m) right) left
 
   met_is : met v width d e ≡ map left_row d
-  met_is = same_pieces (λ r. is_point xs r ≡ true) (partners_or_alone (λ l z. holds v tie (l ++ z)) from.beside (λ l. l ++ nulls width) e) (λ r. left_row r ∷ []) (λ r h. ap (λ l. or_alone l (r ++ nulls width)) (one_row r h) ∙ go r (partner a D r)) d set.typed ∙ one_each left_row d
+  met_is = same_pieces (λ r. is_point xs r ≡ true) (partners_or_alone (λ l z. holds v tie (l ++ z)) from.beside (λ l. l ++ nulls width) e) (λ r. left_row r ∷ []) (λ r h. ap (λ l. or_alone l (r ++ nulls width)) (one_row r h) ∙ go r (partner a D r)) d set.typed ∙ flat_map_single left_row d
     where
       go : (r : Row) (o : Option Row) → or_alone (option_to_list (option_map (λ q. r ++ q) o)) (r ++ nulls width) ≡ (r ++ or_nulls width o) ∷ []
       go r None = refl
@@ -183,7 +181,7 @@ module _ (p : Settings) (law : Translates p) (before : Data) (x y : Text) (a b s
         ∙ where_is condition test
 
     all_rows : AllByRecursion (IsPointOf left_columns) (map left_row d)
-    all_rows = all_map left_row (IsPointOf left_columns) d (all_more (λ r. is_point xs r ≡ true) (λ r. IsPointOf left_columns (left_row r)) left_typed d set.typed)
+    all_rows = AllByRecursion-map left_row (IsPointOf left_columns) d (all_more (λ r. is_point xs r ≡ true) (λ r. IsPointOf left_columns (left_row r)) left_typed d set.typed)
 
     all_typed : (o : Option CompExp) → AllRows (IsPointOf left_columns) (rows_where p o (map left_row d))
     all_typed None = all_rows

@@ -9,6 +9,7 @@ use Rattle.vtl_cell.specs.Row.{Row}
 use Rattle.vtl_tree.specs.CompExp.{CompExp}
 use Rattle.vtl_meaning.specs.Points.{each_point, point_fault, point_of}
 use Rattle.sql_meaning.specs.Selects.{appended, rows_in}
+use Rattle.sql_meaning.proofs.Faulted.{fault_unless}
 
 pub shown_points : {X Y : Type 0} (P : X → Type 0) (t : X → Bool) (f g : X → Y) → ((x : X) → P x → t x ≡ true → f x ≡ g x) → (xs : List X) → AllByRecursion P xs → map f (filter t xs) ≡ filter_map (λ x. cond (t x) (Some (g x)) None) xs
 shown_points P t f g same [] all = refl
@@ -37,10 +38,6 @@ each_sure p P es h d all = ap (λ o. unless o (map (point_of p es) d)) (faults_s
 
 -- ---- several selects, each with rows or a fault
 
-fault_is : {A : Type 0} (f : Option Fault) (x : A) → fault_in (unless f x) ≡ f
-fault_is None x = refl
-fault_is (Some f) x = refl
-
 both_none : (f g : Option Fault) → join f g ≡ None → (f ≡ None) × (g ≡ None)
 both_none None g e = (refl, e)
 both_none (Some DivZero) g e = cc
@@ -53,7 +50,7 @@ module _ {X : Type 0} (F : X → Option Fault) (G : X → List Row) where
 
   all_faults : (xs : List X) → faults_by fault_in (map one xs) ≡ faults_by F xs
   all_faults [] = refl
-  all_faults (x ∷ xs) = ap (λ f. join f (faults_by fault_in (map one xs))) (fault_is (F x) (G x)) ∙ ap (join (F x)) (all_faults xs)
+  all_faults (x ∷ xs) = ap (λ f. join f (faults_by fault_in (map one xs))) (fault_unless (F x) (G x)) ∙ ap (join (F x)) (all_faults xs)
 
   all_rows : (xs : List X) → faults_by F xs ≡ None → flat_map rows_in (map one xs) ≡ flat_map G xs
   all_rows [] e = refl

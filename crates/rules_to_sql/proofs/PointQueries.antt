@@ -1,6 +1,7 @@
 -- The query of `check_datapoint` means it.
 use Rattle.std.proofs.Common.{◌≡◌, ◌<◌, ◌^◌, Bool, true, false, List, [], ◌∷◌, ◌++◌, length, map, Option, Some, None, Ok, refl, sym, ap, ◌∙◌, arith, append_assoc}
 use Rattle.std.specs.List.{AllByRecursion, filter}
+use Rattle.vtl_lists.proofs.Alls.{all_append, all_each}
 use Rattle.vtl_decimal.specs.Settings.{Settings}
 use Rattle.vtl_decimal.specs.declared.number.Fault.{Fault}
 use Rattle.vtl_cell.specs.Outcome.{Outcome, after, fault_in, unless}
@@ -29,7 +30,6 @@ use Rattle.vtl_meaning.proofs.Agreements.{own_values}
 use Rattle.vtl_meaning.proofs.Kept.{columns_point}
 use Rattle.vtl_meaning.proofs.LookUps.{named_cells}
 use Rattle.vtl_meaning.proofs.OwnColumns.{columns_apart, own_measures}
-use Rattle.vtl_meaning.proofs.Places.{all_append, each}
 use Rattle.vtl_rulings.specs.Outputs.{code_cell, errors_at, is_false, is_shown, level_cell}
 use Rattle.vtl_tree.specs.Checks.{error_measures, output_parts, rule_id, ruled_measures, ruleid, with_ids}
 use Rattle.vtl_rulings.specs.PointChecks.{PointRule, datapoint_of, errors_of, point_rules, rule_fault, rule_points, truth_of}
@@ -176,7 +176,7 @@ module _ (p : Settings) (law : Translates p) (before : Data) (name : Text) (o : 
       shown = filter (λ r. is_shown o (truth rule r)) d
 
       go : (f : Option Fault) → after (unless f shown) (each_point p (es rule)) ≡ unless f (rule_points p o A rule)
-      go None = each_sure p (λ r. Unit {0}) (es rule) (λ r h. columns_sure p xs (identifiers_of a) (const (c.Text rule.0) ∷ ruled_parts o a rule.1) r ∙ sure r) shown (each (λ r. Unit {0}) (λ r. tt) shown) ∙ ap Ok (points_are rule)
+      go None = each_sure p (λ r. Unit {0}) (es rule) (λ r h. columns_sure p xs (identifiers_of a) (const (c.Text rule.0) ∷ ruled_parts o a rule.1) r ∙ sure r) shown (all_each (λ r. Unit {0}) (λ r. tt) shown) ∙ ap Ok (points_are rule)
       go (Some f) = refl
 
 -- the truth value and its errors have the fault of the rule

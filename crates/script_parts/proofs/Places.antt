@@ -13,9 +13,9 @@ use Rattle.vtl_syntax.specs.declared.word_groups.AssignKind.{AssignKind}
 use Rattle.vtl_tree.specs.NodeView.{node_tree}
 use Rattle.vtl_tree.specs.Structures.{Named, has_name, is_declarable}
 use Rattle.vtl_tree.specs.Trees.{NodeTree, structure_of}
-use Rattle.vtl_tree.specs.declared.nodes.Node as of_node
 use Rattle.vtl_tree.specs.declared.nodes.Node.{Node}
 use Rattle.vtl_tree.specs.declared.structure.Structure.{Structure}
+use Rattle.check_clauses.proofs.ClauseErrors.{structure-there}
 use Rattle.vtl_check.specs.Transformations.{Transformation, transformations_from}
 use Rattle.vtl_check.proofs.LeftLemmas.{assigned_at, left, one_left}
 use Rattle.rerun_laws.specs.Parts.{definitions_in, is_transformation, known_before}
@@ -71,9 +71,6 @@ has_node known t ts nodes place are = go (nat_lt place (length nodes)) refl
     go : (b : Bool) → nat_lt place (length nodes) ≡ b → place < length nodes
     go true e = ltb-true place (length nodes) e
     go false e = absurd (none (ltb-false place (length nodes) e))
-
-structure-there : (n : Node) → structure_of (node_tree n) ≡ n.structure
-structure-there n = search (rules, of_node.the_lemmas)
 
 -- what is known and left behind the transformation at a place
 module _ (known : Named) (ss : List Statement) (i : ℕ) (nodes : List Node) (place : ℕ) (s : Statement) (less : i < length ss) (s_is : s ≡ get_or ss i s)

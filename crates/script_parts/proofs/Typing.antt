@@ -1,6 +1,6 @@
 -- A transformation alone, behind the definitions before it, is typed as it is in the whole.
 use Rattle.std.proofs.Common.{◌≡◌, ℕ, zero, suc, ◌+◌, ◌≤◌, ◌<◌, Bool, true, false, cond, ◌||◌, ◌==◌, nat_lt, List, [], ◌∷◌, ◌++◌, length, take, slice_get, Result, Ok, Err, refl, sym, ap, ◌∙◌, subst, arith, append_assoc}
-use Rattle.std.proofs.lemmas.Bool.{eq-eqb, eqb-true, le-ltb, lt-ltb, ltb-false}
+use Rattle.std.proofs.lemmas.Bool.{eq-eqb, eqb-true, le-ltb, lt-ltb, ltb-false, or_parts}
 use Rattle.std.proofs.lemmas.List.{append-nil}
 use Rattle.std.proofs.lemmas.List.Folds.{list_any-append}
 use Rattle.std.specs.Cmp.Lexicographic.{bytes_decides, nat_list_eq_equiv}
@@ -8,6 +8,7 @@ use Rattle.std.specs.List.{AllByRecursion, list_any}
 use Rattle.std.specs.Map.{keys_of}
 use Rattle.vtl_decimal.specs.Settings.{Settings}
 use Rattle.vtl_lists.specs.Results.{◌>>=◌}
+use Rattle.vtl_lists.proofs.Tests.{or_true}
 use Rattle.vtl_syntax.specs.Trees as tree
 use Rattle.vtl_syntax.specs.Trees.{Exp, ScriptTree, StatementTree}
 use Rattle.vtl_syntax.specs.declared.word_groups.AssignKind.TheVariants as assigned_by
@@ -144,14 +145,6 @@ typed-of s i before done (tree.hierarchical name item rules last ∷ ss) ns h =
     ∙ typed-of (with_ruleset s name d) (suc i) (before + length rules) done ss ns h.1
 
 -- ---- names
-neither : (a b : Bool) → (a || b) ≡ false → (a ≡ false) × (b ≡ false)
-neither true b e = absurd cc
-neither false b e = (refl, e)
-
-or-true : (a : Bool) → (a || true) ≡ true
-or-true true = refl
-or-true false = refl
-
 key-more : {T : Type 0} (name other : List ℕ) (x : T) (xs : List (List ℕ × T))
     → list_any (same_name name) (keys_of (xs ++ (other, x) ∷ [])) ≡ (list_any (same_name name) (keys_of xs) || (same_name name other || false))
 key-more name other x xs = ap (list_any (same_name name)) (keys_push xs other x) ∙ list_any-append (same_name name) (keys_of xs) (other ∷ [])
@@ -163,7 +156,7 @@ still-defined : (name other : List ℕ) (d : StatementTree) (ds : Definitions) �
 still-defined name other d ds is = key-more name other d ds ∙ ap (λ b. b || (same_name name other || false)) is
 
 now-defined : (name : List ℕ) (d : StatementTree) (ds : Definitions) → is_defined name (ds ++ (name, d) ∷ []) ≡ true
-now-defined name d ds = key-more name name d ds ∙ ap (λ b. is_defined name ds || (b || false)) (nat_list_eq_equiv.refl name) ∙ or-true (is_defined name ds)
+now-defined name d ds = key-more name name d ds ∙ ap (λ b. is_defined name ds || (b || false)) (nat_list_eq_equiv.refl name) ∙ or_true (is_defined name ds)
 
 -- a name that is defined is unlike one that is not
 unlike : (name other : List ℕ) (ds : Definitions) → is_defined name ds ≡ true → is_defined other ds ≡ false → same_name name other ≡ false
@@ -174,7 +167,7 @@ unlike name other ds is not = go (same_name name other) refl
     go false e = refl
 
 new-result : (s : Standing) (before : ℕ) (name : List ℕ) (e : Exp) (n : NodeTree) → assigned s before name e ≡ Ok n → (has_name name s.known ≡ false) × (is_defined name s.definitions ≡ false)
-new-result s before name e n h = neither (has_name name s.known) (is_defined name s.definitions) (assigned-passed s before name e n h).0
+new-result s before name e n h = or_parts (has_name name s.known) (is_defined name s.definitions) (assigned-passed s before name e n h).0
 
 -- results after a definition have other names
 stays-new : (name : List ℕ) (number i : ℕ) (s : Standing) (before : ℕ) (ss : ScriptTree) (ns : List NodeTree)
@@ -248,7 +241,7 @@ defined-there : (s : Standing) (number i before fewer : ℕ) (name : List ℕ) (
     → defined (standing_over s (known_before number s.known (transformations_from (suc i) ss) ns)) fewer name rules fits ≡ Ok tt
 defined-there s number i before fewer name rules fits d ss ns few h rest =
     let known = known_before number s.known (transformations_from (suc i) ss) ns in
-    let new = neither (has_name name s.known) (is_defined name s.definitions) (defined-passed s before name rules fits h).0 in
+    let new = or_parts (has_name name s.known) (is_defined name s.definitions) (defined-passed s before name rules fits h).0 in
     let still = stays-new name number (suc i) (with_ruleset s name d) (before + rules) ss ns new.0 (now-defined name d s.definitions) rest in
     defined-sooner s (standing_over s known) before fewer name rules fits few (ap (λ b. b || is_defined name s.definitions) still ∙ new.1) h
 

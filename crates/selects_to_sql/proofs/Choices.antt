@@ -1,5 +1,5 @@
 -- `if` on data sets is a union of two selects, each over a join with the condition's table.
-use Rattle.std.proofs.Common.{◌≡◌, ◌+◌, Bool, true, false, not, cond, List, [], ◌∷◌, ◌++◌, length, map, Option, Some, None, Ok, refl, ap, sym, ◌∙◌, subst, arith, append_assoc, append-nil}
+use Rattle.std.proofs.Common.{◌≡◌, ◌+◌, Bool, true, false, not, cond, List, [], ◌∷◌, ◌++◌, length, map, Option, Some, None, Ok, refl, ap, sym, ◌∙◌, subst, arith, append-nil}
 use Rattle.std.specs.Prelude.{IfOk, option_map}
 use Rattle.std.specs.List.{AllByRecursion, filter, flat_map}
 use Rattle.std.specs.Option.{option_to_list}
@@ -8,7 +8,7 @@ use Rattle.vtl_cell.specs.Kinds.{is_of}
 use Rattle.vtl_decimal.specs.declared.number.Fault.{Fault}
 use Rattle.vtl_cell.specs.Outcome.{after, fault_in, faults_by, unless}
 use Rattle.vtl_cell.specs.Outcomes.{is_true}
-use Rattle.vtl_lists.specs.Perm.{Perm, empty, chain}
+use Rattle.vtl_lists.specs.Perm.{chain}
 use Rattle.vtl_cell.specs.Row.{Row, column_of}
 use Rattle.vtl_decimal.specs.Settings.{Settings}
 use Rattle.vtl_cell.specs.declared.cell.Cell.{Cell}
@@ -16,8 +16,9 @@ use Rattle.vtl_cell.specs.declared.cell.Cell.TheVariants as c
 use Rattle.vtl_cell.specs.declared.kind.Kind.{Kind}
 use Rattle.vtl_cell.specs.declared.kind.Kind.TheVariants as k
 use Rattle.vtl_cell.specs.declared.operator.ScalarOp.TheVariants as op
-use Rattle.vtl_lists.proofs.Perms.{Perm-append_back, Perm-append_comm, Perm-append_front, Perm-same}
+use Rattle.vtl_lists.proofs.Perms.{Perm-same}
 use Rattle.vtl_lists.proofs.Sorts.{AllByRecursion-filter}
+use Rattle.vtl_tuples.proofs.Lists.{flat_map_both}
 use Rattle.vtl_rows.specs.Tables.{cells_at}
 use Rattle.vtl_tree.specs.Clauses.{filter_of}
 use Rattle.vtl_tree.specs.CompExp.{CompExp}
@@ -56,20 +57,6 @@ use Rattle.selects_to_sql.proofs.Pairs.{column_later, pairs_give, points, rows_w
 
 abbrev no_rows : List Row
 no_rows = []
-
--- two walks over a list give what one walk gives that does both at each item
-split_walk : {X Y : Type 0} (f g : X → List Y) (xs : List X) → Perm (flat_map f xs ++ flat_map g xs) (flat_map (λ x. f x ++ g x) xs)
-split_walk f g [] = empty
-split_walk f g (x ∷ xs) =
-    let a = f x in
-    let b = g x in
-    let F = flat_map f xs in
-    let G = flat_map g xs in
-    chain (Perm-same ((a ++ F) ++ (b ++ G)) (a ++ (F ++ (b ++ G))) (append_assoc a F (b ++ G)))
-    (chain (Perm-append_front a (Perm-same (F ++ (b ++ G)) ((F ++ b) ++ G) (sym (append_assoc F b G))))
-    (chain (Perm-append_front a (Perm-append_back G (Perm-append_comm F b)))
-    (chain (Perm-same (a ++ ((b ++ F) ++ G)) ((a ++ b) ++ (F ++ G)) (ap (λ l. a ++ l) (append_assoc b F G) ∙ sym (append_assoc a b (F ++ G))))
-    (Perm-append_front (a ++ b) (split_walk f g xs)))))
 
 -- a filter and a map over a walk
 walked : {X Y Z : Type 0} (P : X → Type 0) (p : Y → Bool) (h : Y → Z) (f : X → List Y) (g : X → List Z) → ((x : X) → P x → map h (filter p (f x)) ≡ g x) → (xs : List X) → AllByRecursion P xs → map h (filter p (flat_map f xs)) ≡ flat_map g xs
@@ -292,4 +279,4 @@ module _ (p : Settings) (law : Translates p) (before : Data) (x y z : Text) (t a
       let choice = choice_of (with_points t tests) (with_points a d) (with_points b e) s in
       let last : flat_map first tests ++ (flat_map second tests ++ []) ≡ flat_map first tests ++ flat_map second tests = ap (λ l. flat_map first tests ++ l) (append-nil (flat_map second tests)) in
       means_by p before (choose_query p t a b s x y z) s (Ok (flat_map first tests ++ (flat_map second tests ++ []))) (Ok choice)
-      (chain (Perm-same (flat_map first tests ++ (flat_map second tests ++ [])) (flat_map first tests ++ flat_map second tests) last) (chain (split_walk first second tests) (Perm-same (flat_map (λ r. first r ++ second r) tests) choice (same_walk (λ r. first r ++ second r) (taken_at t (with_points a d) (with_points b e) s) (λ r. taken r (is_first_chosen t r)) tests)))) union
+      (chain (Perm-same (flat_map first tests ++ (flat_map second tests ++ [])) (flat_map first tests ++ flat_map second tests) last) (chain (flat_map_both first second tests) (Perm-same (flat_map (λ r. first r ++ second r) tests) choice (same_walk (λ r. first r ++ second r) (taken_at t (with_points a d) (with_points b e) s) (λ r. taken r (is_first_chosen t r)) tests)))) union

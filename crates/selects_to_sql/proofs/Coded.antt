@@ -4,6 +4,7 @@ use Rattle.std.specs.List.{AllByRecursion, filter, find}
 use Rattle.std.specs.Option.{option_map_or, option_to_list}
 use Rattle.std.proofs.lemmas.Bool.{and_parts}
 use Rattle.vtl_lists.specs.Sorting.{insert_by, le_by, sorted_by}
+use Rattle.vtl_tuples.proofs.Lists.{filter_each}
 use Rattle.vtl_cell.specs.Groups.{aggregate, group_value, values_of}
 use Rattle.vtl_cell.specs.Kinds.{is_null}
 use Rattle.vtl_cell.specs.Order.{cell_cmp, same_cell}
@@ -15,27 +16,24 @@ use Rattle.vtl_cell.specs.declared.cell.Cell.TheVariants as c
 use Rattle.vtl_cell.specs.declared.operator.AggKind.TheVariants as agg
 use Rattle.vtl_cell.proofs.Cells.{same_cell-is}
 use Rattle.vtl_cell.proofs.Rows.{same_row-is, same_row-refl}
+use Rattle.vtl_scalar.proofs.NullLemmas.{null_is}
 use Rattle.vtl_rows.specs.Tables.{cells_at}
 use Rattle.vtl_tree.specs.DataSet.{IsDataSet, is_point}
 use Rattle.vtl_tree.specs.Structure.{columns_of, key_width}
-use Rattle.vtl_tree.specs.declared.structure.Component.{Component}
 use Rattle.vtl_tree.specs.declared.structure.Structure.{Structure}
 use Rattle.vtl_meaning.specs.Agreement.{values_in}
-use Rattle.vtl_tree.specs.Columns.{identifiers_of, place_of, places_in}
-use Rattle.vtl_meaning.specs.LookUps.{value_named, values_named}
+use Rattle.vtl_tree.specs.Columns.{identifiers_of, places_in}
+use Rattle.vtl_meaning.specs.LookUps.{value_named}
 use Rattle.vtl_meaning.specs.Turned.{is_coded, other_identifiers}
 use Rattle.vtl_meaning.proofs.JoinAgreements.{only_one}
 use Rattle.vtl_meaning.proofs.Kept.{alike_cells}
 use Rattle.vtl_meaning.proofs.Places.{key_cells, key_within}
 use Rattle.vtl_meaning.proofs.TurnedKept.{others_are}
 use Rattle.vtl_meaning.proofs.TurnedOrders.{alike_others}
+use Rattle.vtl_meaning.proofs.LookUps.{named_cells}
 use Rattle.sql_meaning.specs.Outcomes.{all_values, cell_or_null}
 
 -- ---- lists
-
-pub cells_named : (xs zs : List Component) (r : Row) → cells_at (places_in xs zs) r ≡ values_named xs zs r
-cells_named xs [] r = refl
-cells_named xs (z ∷ zs) r = ap (λ l. column_of (place_of z.name xs) r ∷ l) (cells_named xs zs r)
 
 filtered_twice : {X : Type 0} (p q : X → Bool) (xs : List X) → filter q (filter p xs) ≡ filter (λ x. p x && q x) xs
 filtered_twice p q [] = refl
@@ -44,10 +42,6 @@ filtered_twice p q (x ∷ xs) = go (p x) (filtered_twice p q xs)
     go : (b : Bool) → filter q (filter p xs) ≡ filter (λ y. p y && q y) xs → filter q (cond b (x ∷ filter p xs) (filter p xs)) ≡ cond (b && q x) (x ∷ filter (λ y. p y && q y) xs) (filter (λ y. p y && q y) xs)
     go true ih = ap (λ l. cond (q x) (x ∷ l) l) ih
     go false ih = ih
-
-filtered_alike : {X : Type 0} (p q : X → Bool) → ((x : X) → p x ≡ q x) → (xs : List X) → filter p xs ≡ filter q xs
-filtered_alike p q h [] = refl
-filtered_alike p q h (x ∷ xs) = ap (λ b. cond b (x ∷ filter p xs) (filter p xs)) (h x) ∙ ap (λ l. cond (q x) (x ∷ l) l) (filtered_alike p q h xs)
 
 -- an expression that has these values at the rows of a group
 pub all_there : (P : Row → Type 0) (f : Row → Outcome Cell) (g : Row → Cell) → ((r : Row) → P r → f r ≡ Ok (g r)) → (rows : List Row) → AllByRecursion P rows → all_values f rows ≡ Ok (map g rows)
@@ -74,15 +68,6 @@ values_of_cases coded value (r ∷ rows) = go (coded r) (values_of_cases coded v
     go : (b : Bool) → values_of (map (case_of coded value) rows) ≡ values_of (map value (filter coded rows)) → values_of (cond b (value r) c.Null ∷ map (case_of coded value) rows) ≡ values_of (map value (cond b (r ∷ filter coded rows) (filter coded rows)))
     go true ih = ap (λ l. cond (not (is_null (value r))) (value r ∷ l) l) ih
     go false ih = ih
-
-null_is : (v : Cell) → is_null v ≡ true → v ≡ c.Null
-null_is c.Null e = refl
-null_is (c.Bool x) e = cc
-null_is (c.Int x) e = cc
-null_is (c.Num x) e = cc
-null_is (c.Text x) e = cc
-null_is (c.Day x) e = cc
-null_is (c.Period x) e = cc
 
 greatest_of_one : (p : Settings) (v : Cell) → group_value p agg.Max (v ∷ []) ≡ Ok v
 greatest_of_one p v = go (is_null v) refl
@@ -160,7 +145,7 @@ module _ (a : Structure) (id : List ℕ) (d : List Row) (h : IsDataSet a d) (key
   only_coded : filter has_code group ≡ option_to_list (find (is_coded a id key code) d)
   only_coded =
       filtered_twice (λ r. same_row (cells_at (places_in (columns_of a) (other_identifiers id a)) r) key) has_code d
-      ∙ filtered_alike (λ r. same_row (cells_at (places_in (columns_of a) (other_identifiers id a)) r) key && has_code r) (is_coded a id key code) (λ r. ap (λ l. same_row l key && has_code r) (cells_named (columns_of a) (other_identifiers id a) r)) d
+      ∙ filter_each (λ r. same_row (cells_at (places_in (columns_of a) (other_identifiers id a)) r) key && has_code r) (is_coded a id key code) (λ r. ap (λ l. same_row l key && has_code r) (named_cells (columns_of a) (other_identifiers id a) r)) d
       ∙ only_one (λ r. is_point (columns_of a) r ≡ true) (same_key (key_width a)) (is_coded a id key code) d h.typed h.distinct one_key
 
   pub greatest_coded : (p : Settings) (value : Row → Cell) → group_value p agg.Max (map (case_of has_code value) group) ≡ Ok (option_map_or value (find (is_coded a id key code) d) c.Null)

@@ -1,6 +1,7 @@
 -- The tables of operands one behind the other, and a query over them.
 use Rattle.std.proofs.Common.{◌≡◌, ℕ, ◌+◌, ◌<◌, ◌≤◌, ◌^◌, true, false, List, [], ◌∷◌, ◌++◌, length, Ok, Err, refl, ap, sym, ◌∙◌, subst, arith, append_assoc, append-nil, length-append, inl, inr, ⊎_elim}
 use Rattle.std.specs.List.{AllByRecursion}
+use Rattle.vtl_lists.proofs.Alls.{all_append, all_more}
 use Rattle.vtl_cell.specs.Outcome.{Outcome, after}
 use Rattle.vtl_cell.specs.Row.{Row}
 use Rattle.vtl_decimal.specs.Settings.{Settings}
@@ -8,8 +9,8 @@ use Rattle.vtl_text.specs.Texts.{same_text}
 use Rattle.vtl_text.specs.Words.{is_word}
 use Rattle.vtl_tree.specs.Environment.{DataSet, Environment}
 use Rattle.vtl_tree.specs.declared.structure.Structure.{Structure}
+use Rattle.vtl_tree.proofs.NotNullLemmas.{same_itself}
 use Rattle.vtl_meaning.specs.Points.{with_points}
-use Rattle.vtl_meaning.proofs.Places.{all_append, all_more, same_name-refl}
 use Rattle.sql_tree.specs.Trees.{QueryTree, Text}
 use Rattle.sql_meaning.specs.Scripts.{Data, base_of, tables_in}
 use Rattle.sql_meaning.specs.Selects.{query_value}
@@ -74,7 +75,7 @@ module _ (p : Settings) (r : Text) (word : is_word r ≡ true) where
       let back : now ++ (name, held s e.0) ∷ [] ≡ before ++ (x.more ++ (name, held s e.0) ∷ []) = append_assoc before x.more ((name, held s e.0) ∷ []) in
       let free = next_free m.next now number (all_earlier n m.next before x.more (omega (arith, x.counted)) apart x.new) in
       let named = numbered_is_name r m.next word number in
-      let last = there_last now (same_text name) name (held s e.0) free (same_name-refl name) in
+      let last = there_last now (same_text name) name (held s e.0) free (same_itself name) in
       let one : AreLawful p (tables_in now) (table_of name m.query ∷ []) = ((named, g.1.query.printed), (name_free now name free, g.1.query.typed), tt) in
       let more : Extends p before r n (stored r m).tables (stored r m).next = record {
         more = x.more ++ (name, held s e.0) ∷ [];

@@ -4,7 +4,6 @@ use Rattle.std.specs.List.{AllByRecursion, filter}
 use Rattle.vtl_lists.specs.Apart.{all_apart}
 use Rattle.vtl_cell.specs.declared.kind.Kind.{Kind}
 use Rattle.vtl_cell.specs.declared.kind.Kind.TheVariants as k
-use Rattle.vtl_lists.proofs.Sorts.{AllByRecursion-filter}
 use Rattle.vtl_cell.specs.Literals.{is_null_kind}
 use Rattle.vtl_tree.specs.Structure.{columns_of, names_of, of_role, same_name, same_role}
 use Rattle.vtl_tree.specs.Structures as structures
@@ -14,7 +13,7 @@ use Rattle.vtl_tree.specs.declared.structure.Role.TheVariants as role
 use Rattle.vtl_tree.specs.declared.structure.Structure.{Structure}
 use Rattle.vtl_meaning.specs.Shapes.{IsShaped}
 use Rattle.vtl_meaning.proofs.OwnColumns.{columns_apart}
-use Rattle.vtl_meaning.proofs.Places.{all_append}
+use Rattle.vtl_meaning.proofs.FoundColumns.{of-columns}
 use Rattle.sql_check_laws.specs.Selects.{IsColumnKind}
 use Rattle.sql_check_parts.specs.Queries.{most_columns}
 use Rattle.selects_to_sql.specs.Writable.{HaveNames}
@@ -59,13 +58,6 @@ as_many (x ∷ xs) = go x.role (as_many xs)
     go role.Measure ih = omega (arith, ih)
     go role.Attribute ih = omega (arith, ih)
 
--- what holds of each component holds of each column
-pub each_column : (P : Component → Type 0) (s : Structure) → AllByRecursion P s.components → AllByRecursion P (columns_of s)
-each_column P s all =
-    let of : (r : Role) → AllByRecursion P (of_role r s) = λ r. AllByRecursion-filter P (λ x. same_role x.role r) s.components all in
-    let front = of_role role.Identifier s ++ of_role role.Measure s in
-    all_append P front (of_role role.Attribute s) (all_append P (of_role role.Identifier s) (of_role role.Measure s) (of role.Identifier) (of role.Measure)) (of role.Attribute)
-
 -- there are as many columns as components
 pub columns_count : (s : Structure) → length (columns_of s) ≡ length s.components
 columns_count s =
@@ -81,7 +73,7 @@ columns_given s w named =
     let high = w.well_formed.few in
     record {
       apart = columns_apart s w.well_formed;
-      kinds = each_column (λ x. is_null_kind x.kind ≡ false) s (kinds_told s.components w.kinds);
+      kinds = of-columns (λ x. is_null_kind x.kind ≡ false) s (kinds_told s.components w.kinds);
       few = omega (arith, size, high);
       some = omega (arith, size, low);
       named = named;

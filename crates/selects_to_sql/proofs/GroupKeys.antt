@@ -2,6 +2,7 @@
 use Rattle.std.proofs.Common.{◌≡◌, ℕ, ◌+◌, true, ◌||◌, not, cond, List, [], ◌∷◌, ◌++◌, map, None, Ok, refl, ap, ◌∙◌, arith}
 use Rattle.std.specs.Prelude.{is_some}
 use Rattle.std.specs.List.{AllByRecursion, list_any, position_or_len}
+use Rattle.vtl_lists.proofs.Alls.{all_each}
 use Rattle.grammar_forms.specs.Written.{Each}
 use Rattle.vtl_cell.specs.Groups.{group_value}
 use Rattle.vtl_cell.specs.Outcome.{after}
@@ -18,7 +19,7 @@ use Rattle.vtl_tree.specs.declared.structure.Component.{Component}
 use Rattle.vtl_tree.specs.Columns.{columns_named, place_of, places_in}
 use Rattle.vtl_meaning.specs.Made.{IsColumnAt}
 use Rattle.vtl_meaning.proofs.OwnColumns.{column_any}
-use Rattle.vtl_meaning.proofs.Places.{each, same_name-sym}
+use Rattle.vtl_meaning.proofs.Places.{same_name-sym}
 use Rattle.vtl_meaning.proofs.ValueKinds.{cell_is_of}
 use Rattle.sql_tree.specs.Formed.{IsColumn}
 use Rattle.sql_tree.specs.declared.parts.Column.{Column}
@@ -125,4 +126,4 @@ module _ (p : Settings) (law : Translates p) (before : Data) (xs : List Componen
   -- ---- whether a group has rows
 
   pub truth_is : (columns : List Column) (key : Row) (rows : List Row) → sql_value (at_groups b scope columns) has_rows key rows ≡ Ok (truth_of rows)
-  truth_is columns key rows = ap (λ o. after o (group_value p agg.Min)) (all_there (λ r. Unit {0}) (λ r. Ok (c.Bool true)) (λ r. c.Bool true) (λ r h. refl) rows (each (λ r. Unit {0}) (λ r. tt) rows)) ∙ least_truth p rows
+  truth_is columns key rows = ap (λ o. after o (group_value p agg.Min)) (all_there (λ r. Unit {0}) (λ r. Ok (c.Bool true)) (λ r. c.Bool true) (λ r h. refl) rows (all_each (λ r. Unit {0}) (λ r. tt) rows)) ∙ least_truth p rows

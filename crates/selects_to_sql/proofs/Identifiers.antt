@@ -3,6 +3,8 @@ use Rattle.std.proofs.Common.{◌≡◌, ◌≤◌, ℕ, zero, suc, Bool, true, 
 use Rattle.std.specs.List.{AllByRecursion, filter, list_all}
 use Rattle.std.specs.Option.{option_map_or}
 use Rattle.std.proofs.lemmas.Bool.{and_parts}
+use Rattle.vtl_lists.proofs.Alls.{all_filtered}
+use Rattle.vtl_lists.proofs.Filters.{filter_no_more}
 use Rattle.vtl_cell.specs.Kinds.{is_null, is_of, kind_of, same_kind}
 use Rattle.vtl_cell.specs.Row.{Row, column_of}
 use Rattle.vtl_cell.specs.declared.cell.Cell.{Cell}
@@ -23,8 +25,9 @@ use Rattle.vtl_tree.specs.Columns.{identifiers_of, kind_named, others_of, place_
 use Rattle.vtl_meaning.specs.Made.{AreAmong, IsColumnAt}
 use Rattle.vtl_meaning.proofs.Kept.{column_front, column_within, place_front}
 use Rattle.vtl_meaning.proofs.OwnColumns.{columns_apart, own_identifiers}
-use Rattle.vtl_meaning.proofs.Places.{all_filtered, columns_split, place_here, place_later, same_name-is}
+use Rattle.vtl_meaning.proofs.Places.{columns_split, place_here, place_later, same_name-is}
 use Rattle.vtl_meaning.proofs.ValueKinds.{point_parts}
+use Rattle.vtl_meaning.proofs.Agreements.{like_an_identifier}
 use Rattle.selects_to_sql.proofs.OneOperand.{kind_at}
 
 -- ---- cells that are there
@@ -49,13 +52,13 @@ pub record IsIdentifierAt (name : List ℕ) (kind : Kind) (xs : List Component) 
 abbrev pub AreIdentifiersAt : List Component → List Component → Type 0
 AreIdentifiersAt xs zs = AllByRecursion (λ z. IsIdentifierAt z.name z.kind xs) zs
 
-not_null : (x : Role) (n : Bool) → same_role x role.Identifier ≡ true → not (same_role x role.Identifier && n) ≡ true → n ≡ false
+pub not_null : (x : Role) (n : Bool) → same_role x role.Identifier ≡ true → not (same_role x role.Identifier && n) ≡ true → n ≡ false
 not_null role.Identifier false e h = refl
 not_null role.Identifier true e h = cc
 not_null role.Measure n e h = cc
 not_null role.Attribute n e h = cc
 
-filled_at : (place : ℕ) (name : List ℕ) (kind : Kind) (xs ys : List Component) (r : Row) → AllByRecursion (λ x. same_role x.role role.Identifier ≡ true) xs → IsColumnAt place name kind xs → is_point (xs ++ ys) r ≡ true → is_null (column_of place r) ≡ false
+pub filled_at : (place : ℕ) (name : List ℕ) (kind : Kind) (xs ys : List Component) (r : Row) → AllByRecursion (λ x. same_role x.role role.Identifier ≡ true) xs → IsColumnAt place name kind xs → is_point (xs ++ ys) r ≡ true → is_null (column_of place r) ≡ false
 filled_at place name kind [] ys r all i h = absurd i
 filled_at zero name kind (x ∷ xs) ys [] all i h = cc
 filled_at zero name kind (x ∷ xs) ys (v ∷ r) all i h = not_null x.role (is_null v) all.0 (point_parts x (xs ++ ys) v r h).1
@@ -86,17 +89,8 @@ identifiers_there t w (z ∷ zs) i = ((identifier_there t w z.name z.kind i.0).0
 pub own_there : (t : Structure) → IsStructure t → AreIdentifiersAt (columns_of t) (identifiers_of t)
 own_there t w = identifiers_there t w (identifiers_of t) (own_identifiers t w)
 
--- there are not more of them than components
-pub fewer : {X : Type 0} (p : X → Bool) (xs : List X) → length (filter p xs) ≤ length xs
-fewer p [] = omega arith
-fewer p (x ∷ xs) = go (p x) (fewer p xs)
-  where
-    go : (b : Bool) → length (filter p xs) ≤ length xs → length (cond b (x ∷ filter p xs) (filter p xs)) ≤ length (x ∷ xs)
-    go true ih = omega (arith, ih)
-    go false ih = omega (arith, ih)
-
 pub few_identifiers : (t : Structure) → IsStructure t → length (identifiers_of t) ≤ most_components
-few_identifiers t w = let few = w.few in omega (arith, fewer (λ x. same_role x.role role.Identifier) t.components, few)
+few_identifiers t w = let few = w.few in omega (arith, filter_no_more (λ x. same_role x.role role.Identifier) t.components, few)
 
 -- ---- an operand that contains another one's identifiers
 
@@ -109,11 +103,6 @@ kinds_same k.Text k.Text h = refl
 kinds_same k.Day k.Day h = refl
 kinds_same k.Period k.Period h = refl
 kinds_same a b h = cc
-
-roles_same : (a b : Role) → same_role a role.Identifier ≡ true → same_role a b ≡ true → same_role b role.Identifier ≡ true
-roles_same role.Identifier role.Identifier h i = refl
-roles_same role.Identifier b h i = cc
-roles_same a b h i = cc
 
 abbrev identifiers_in : List Component → List Component
 identifiers_in ys = filter (λ y. same_role y.role role.Identifier) ys
@@ -134,7 +123,7 @@ one_among z (y ∷ ys) i e = go (same_name y.name z.name) refl e (one_among z ys
         → IsColumnAt (place_of z.name (identifiers_in (y ∷ ys))) z.name z.kind (identifiers_in (y ∷ ys))
     go true h f ih =
         let alike = and_parts (same_role z.role y.role) (same_kind z.kind y.kind) f in
-        met (same_role y.role role.Identifier) (roles_same z.role y.role i alike.0) h (kinds_same z.kind y.kind alike.1)
+        met (same_role y.role role.Identifier) (like_an_identifier z.role y.role i alike.0) h (kinds_same z.kind y.kind alike.1)
     go false h f ih = passed (same_role y.role role.Identifier) h (ih f)
 
 pub contained_among : (a b : Structure) → contains a b ≡ true → AreAmong (identifiers_of b) (identifiers_of a)

@@ -16,7 +16,8 @@ use lib.Utf8.{encode}
 use Rattle.vtl_decimal.proofs.SplitLemmas.{at, at_end, before_first-append}
 use Rattle.vtl_text.specs.Texts.{same_text}
 use Rattle.vtl_text.specs.Words.{fits_name, is_component_character, is_component_name, is_word, is_word_character, starts_with_letter}
-use Rattle.vtl_meaning.proofs.Places.{same_name-is, same_name-refl}
+use Rattle.vtl_tree.proofs.NotNullLemmas.{same_itself}
+use Rattle.vtl_meaning.proofs.Places.{same_name-is}
 use Rattle.sql_lexer.specs.Spelling.{has_no_control, is_name, size}
 use Rattle.sql_lexer.specs.Spelling as sql
 use Rattle.sql_lexer.proofs.NameParts.{size-append}
@@ -65,7 +66,7 @@ other_statement r name other e h = go (same_text name other) refl
     go false i = refl
     go true i =
         let same : name ≡ other = same_name-is name other i in
-        sym (same_name-refl r) ∙ ap (λ x. same_text r x) (sym e ∙ ap fault_name same) ∙ h
+        sym (same_itself r) ∙ ap (λ x. same_text r x) (sym e ∙ ap fault_name same) ∙ h
 
 -- ---- numbers
 
@@ -126,7 +127,7 @@ number_size n h =
     let own : size (dollar ∷ decimal n) ≡ 1 + size (decimal n) = size-append (dollar ∷ []) (decimal n) in
     omega (arith, own, ap length plain, digits)
 
-fits : (n : ℕ) → 1 ≤ n → n ≤ 256 → sql.fits_name n ≡ true
+pub fits : (n : ℕ) → 1 ≤ n → n ≤ 256 → sql.fits_name n ≡ true
 fits n h i = grind (arith, nat_tests)
 
 pub word_is_name : (r : Text) → is_word r ≡ true → is_name r ≡ true
@@ -145,7 +146,7 @@ numbered_is_name r n h few =
 
 -- ---- names of components
 
-component_is_no_control : (x : ℕ) → is_component_character x ≡ true → not (is_control x) ≡ true
+pub component_is_no_control : (x : ℕ) → is_component_character x ≡ true → not (is_control x) ≡ true
 component_is_no_control x h = (and_parts (not (x == 39)) (not (is_control x)) h).1
 
 filled : (xs : Text) → not (length xs == 0) ≡ true → 1 ≤ length xs

@@ -24,9 +24,10 @@ use Rattle.vtl_meaning.specs.Made.{AreAmong, AreFor, IsCalculated, IsColumnAt, I
 use Rattle.vtl_meaning.specs.Operators.{calculated_exps, calculated_of, left_of, measured_exps, measured_of}
 use Rattle.vtl_meaning.specs.Points.{each_point, point_fault, point_of, with_points}
 use Rattle.vtl_tree.specs.Trees.{ItemTree as Target, MeasureTree}
+use Rattle.vtl_tree.proofs.NotNullLemmas.{same_itself}
 use Rattle.vtl_meaning.proofs.Kept.{columns_point}
 use Rattle.vtl_meaning.proofs.OwnColumns.{columns_apart, own_columns}
-use Rattle.vtl_meaning.proofs.Places.{first_cells, point_length, same_name-refl, same_name-sym}
+use Rattle.vtl_meaning.proofs.Places.{first_cells, point_length, same_name-sym}
 use Rattle.sql_tree.specs.Formed.{IsMaybeExp, IsName}
 use Rattle.sql_tree.specs.Trees.{Exp, ItemTree, Text}
 use Rattle.sql_check_laws.specs.Fits.{IsMaybeCondition}
@@ -57,7 +58,7 @@ same_functions f g h = λ i. λ x. h x i
 
 pub kind_at : (place : ℕ) (name : List ℕ) (kind : Kind) (xs : List Component) → IsColumnAt place name kind xs → AreApart xs → kind_named name xs ≡ kind
 kind_at place name kind [] i a = absurd i
-kind_at zero name kind (x ∷ xs) i a = let same : same_name x.name name ≡ true = ap (same_name x.name) (sym i.0) ∙ same_name-refl x.name in rw same i.1
+kind_at zero name kind (x ∷ xs) i a = let same : same_name x.name name ≡ true = ap (same_name x.name) (sym i.0) ∙ same_itself x.name in rw same i.1
 kind_at (suc place) name kind (x ∷ xs) i a =
     let other : same_name x.name name ≡ false = same_name-sym x.name name ∙ not_first place name kind x xs i a in
     rw other (kind_at place name kind xs i (apart_parts same_name x.name (names_of xs) a).1)

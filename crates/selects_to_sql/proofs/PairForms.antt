@@ -41,7 +41,7 @@ behind_of n k name = second_of n k name ∙ sym (ap (λ m. of_two n m name) (sym
 
 -- ---- items
 
-lead_first : (p : Settings) (xs ys zs : List Component) (es : List CompExp) → items_for p (of_two (length xs)) (columns_named xs ys ++ es) (ys ++ zs) ≡ map (lead_item xs) ys ++ items_for p (of_two (length xs)) es zs
+pub lead_first : (p : Settings) (xs ys zs : List Component) (es : List CompExp) → items_for p (of_two (length xs)) (columns_named xs ys ++ es) (ys ++ zs) ≡ map (lead_item xs) ys ++ items_for p (of_two (length xs)) es zs
 lead_first p xs [] zs es = refl
 lead_first p xs (y ∷ ys) zs es = ap (λ l. lead_item xs y ∷ l) (lead_first p xs ys zs es)
 

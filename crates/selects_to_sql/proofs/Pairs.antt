@@ -16,6 +16,7 @@ use Rattle.vtl_cell.specs.declared.kind.Kind.{Kind}
 use Rattle.vtl_cell.specs.declared.kind.Kind.TheVariants as k
 use Rattle.vtl_cell.specs.declared.operator.ScalarOp.TheVariants as op
 use Rattle.vtl_lists.proofs.Aparts.{apart_parts}
+use Rattle.vtl_lists.proofs.Alls.{all_append, all_more}
 use Rattle.vtl_cell.proofs.Rows.{same_row-is, same_row-sym}
 use Rattle.vtl_rows.specs.Tables.{cells_at}
 use Rattle.vtl_tree.specs.Clauses.{filter_of}
@@ -32,7 +33,7 @@ use Rattle.vtl_meaning.proofs.Drawn.{drawn_all}
 use Rattle.vtl_meaning.proofs.Kept.{Pairs, all_paired, column_front, column_within}
 use Rattle.vtl_meaning.proofs.Looks.{look_absent}
 use Rattle.vtl_meaning.proofs.OwnColumns.{columns_apart}
-use Rattle.vtl_meaning.proofs.Places.{all_append, all_more, key_cells, key_within, point_length}
+use Rattle.vtl_meaning.proofs.Places.{key_cells, key_within, point_length}
 use Rattle.vtl_meaning.proofs.ValueKinds.{cell_is_of}
 use Rattle.sql_tree.specs.Formed.{IsName}
 use Rattle.sql_tree.specs.Trees.{Exp, JoinTree, SelectTree, Text, on}

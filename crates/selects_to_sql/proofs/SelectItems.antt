@@ -3,6 +3,7 @@
 use Rattle.std.proofs.Common.{◌≡◌, ◌≤◌, ℕ, true, false, not, cond, List, [], ◌∷◌, length, map, Option, Some, None, Ok, Err, refl, ap, sym, ◌∙◌, subst, arith}
 use Rattle.std.specs.Prelude.{IfOk, zip}
 use Rattle.std.specs.List.{AllByRecursion, list_any}
+use Rattle.std.proofs.lemmas.Bool.{or_from}
 use Rattle.grammar_forms.specs.Written.{Each}
 use Rattle.vtl_cell.specs.Conversion.{as_kind}
 use Rattle.vtl_cell.specs.Kinds.{is_of}
@@ -38,7 +39,7 @@ use Rattle.sql_meaning.specs.Windows.{told_apart}
 use Rattle.selects_to_sql.specs.Writable.{HaveNames}
 use Rattle.selects_to_sql.specs.Queries.{items_as, select_as}
 use Rattle.selects_to_sql.specs.Runs.{printable_depth}
-use Rattle.selects_to_sql.proofs.Aggregates.{neither, no_aggregate}
+use Rattle.selects_to_sql.proofs.Aggregates.{no_aggregate}
 use Rattle.selects_to_sql.proofs.Givens.{AreGiven, kinds_in}
 
 -- ---- selects that give rows
@@ -109,7 +110,7 @@ module _ (b : Base) (s : Scope) (P : Row → Type 0) where
 
   no_items : (fs : List Valued) (es : List Exp) (ys : List Component) → AreItems b s P fs es ys → list_any item_aggregates (items_as es ys) ≡ false
   no_items [] [] [] i = refl
-  no_items (f ∷ fs) (e ∷ es) (y ∷ ys) i = neither _ _ (no_aggregate (site b.settings b.tables s) e i.0.fits) (no_items fs es ys i.1)
+  no_items (f ∷ fs) (e ∷ es) (y ∷ ys) i = or_from _ _ (no_aggregate (site b.settings b.tables s) e i.0.fits) (no_items fs es ys i.1)
   no_items fs es ys i = absurd i
 
   items_fit : (fs : List Valued) (es : List Exp) (ys : List Component) → AreItems b s P fs es ys → AllByRecursion (IsItemTyped (site b.settings b.tables s) None) (items_as es ys)

@@ -11,8 +11,9 @@ use Rattle.vtl_cell.specs.declared.kind.Kind.{Kind}
 use Rattle.vtl_lists.proofs.Aparts.{apart_parts}
 use Rattle.vtl_tree.specs.Structure.{names_of, same_name}
 use Rattle.vtl_tree.specs.declared.structure.Component.{Component}
+use Rattle.vtl_tree.proofs.NotNullLemmas.{same_itself}
 use Rattle.vtl_meaning.specs.Made.{IsColumnAt}
-use Rattle.vtl_meaning.proofs.Places.{same_name-refl, same_name-sym}
+use Rattle.vtl_meaning.proofs.Places.{same_name-sym}
 use Rattle.sql_lexer.specs.Spelling.{is_name}
 use Rattle.sql_tree.specs.Formed.{IsName}
 use Rattle.sql_check_parts.specs.Scopes.{Scope, found, numbered}
@@ -39,7 +40,7 @@ not_first place name kind x xs i a = same_name-sym name x.name ∙ named_within 
 pub kind_found : (place : ℕ) (name : List ℕ) (kind : Kind) (xs : List Component) → IsColumnAt place name kind xs → AreApart xs → lookup (same_text name) (entries xs) ≡ Some kind
 kind_found place name kind [] i a = absurd i
 kind_found zero name kind (x ∷ xs) i a =
-    ap (λ b. cond b (Some x.kind) (lookup (same_text name) (entries xs))) (ap (λ n. same_text n x.name) (sym i.0) ∙ same_name-refl x.name) ∙ ap Some i.1
+    ap (λ b. cond b (Some x.kind) (lookup (same_text name) (entries xs))) (ap (λ n. same_text n x.name) (sym i.0) ∙ same_itself x.name) ∙ ap Some i.1
 kind_found (suc place) name kind (x ∷ xs) i a =
     ap (λ b. cond b (Some x.kind) (lookup (same_text name) (entries xs))) (not_first place name kind x xs i a)
     ∙ kind_found place name kind xs i (apart_parts same_name x.name (names_of xs) a).1
@@ -47,7 +48,7 @@ kind_found (suc place) name kind (x ∷ xs) i a =
 pub place_found : (n place : ℕ) (name : List ℕ) (kind : Kind) (xs : List Component) → IsColumnAt place name kind xs → AreApart xs → lookup (same_text name) (numbered n (entries xs)) ≡ Some (n + place)
 place_found n place name kind [] i a = absurd i
 place_found n zero name kind (x ∷ xs) i a =
-    ap (λ b. cond b (Some n) (lookup (same_text name) (numbered (suc n) (entries xs)))) (ap (λ m. same_text m x.name) (sym i.0) ∙ same_name-refl x.name) ∙ ap Some (omega arith)
+    ap (λ b. cond b (Some n) (lookup (same_text name) (numbered (suc n) (entries xs)))) (ap (λ m. same_text m x.name) (sym i.0) ∙ same_itself x.name) ∙ ap Some (omega arith)
 place_found n (suc place) name kind (x ∷ xs) i a =
     let more : suc n + place ≡ n + suc place = omega arith in
     ap (λ b. cond b (Some n) (lookup (same_text name) (numbered (suc n) (entries xs)))) (not_first place name kind x xs i a)

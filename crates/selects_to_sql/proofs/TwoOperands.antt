@@ -1,5 +1,6 @@
 -- An operator on two data sets is a select over a join of their tables.
-use Rattle.std.proofs.Common.{◌≡◌, Bool, true, false, ◌||◌, cond, List, [], ◌∷◌, ◌++◌, None, Ok, refl}
+use Rattle.std.proofs.Common.{◌≡◌, Bool, true, false, cond, List, [], ◌∷◌, ◌++◌, None, Ok, refl}
+use Rattle.vtl_lists.proofs.Tests.{or_second}
 use Rattle.vtl_cell.specs.Row.{Row}
 use Rattle.vtl_decimal.specs.Settings.{Settings}
 use Rattle.vtl_cell.specs.declared.operator.ScalarOp.{ScalarOp}
@@ -31,10 +32,6 @@ module _ (p : Settings) (law : Translates p) (before : Data) (x y : Text) (a b s
       one_exactly p before s given (pairs_select p es a b s None x y) (each_point p es (paired (with_points a d) (with_points b e)))
       (pairs_give p law before x y a b s d e there here named na nb set other ours es i h given None tt (Ok (paired (with_points a d) (with_points b e))) (rows_are p law before x y a b s d e there here named na nb set other ours es i h) (points p law before x y a b s d e there here named na nb set other ours es i h))
 
-contained_back : (a b : Bool) → (a || b) ≡ true → a ≡ false → b ≡ true
-contained_back true b h e = cc
-contained_back false b h e = h
-
 pub pair_means : (p : Settings) → Translates p → (before : Data) (x y : Text) (o : ScalarOp) (a b s : Structure) (d e : List Row) → IsTable before x a d → IsTable before y b e → IsName x × IsName y → HaveNames (columns_of a) → HaveNames (columns_of b) → IsDataSet a d → IsDataSet b e → IsPaired p o a b s → AllCanBeWritten (pair_exps o a b s) → AreGiven (columns_of s)
     → IsExactly p before (pair_query p o a b s x y) s (pair_of p o (with_points a d) (with_points b e) s)
 pair_means p law before x y o a b s d e t u named na nb h i j w given = go (contains a b) refl j.columns
@@ -42,4 +39,4 @@ pair_means p law before x y o a b s d e t u named na nb h i j w given = go (cont
     go : (z : Bool) → contains a b ≡ z → AreFor p (cond z (columns_of a ++ columns_of b) (columns_of b ++ columns_of a)) (pair_exps o a b s) (columns_of s)
         → IsExactly p before (cond z (pairs_select p (pair_exps o a b s) a b s None x y ∷ []) (pairs_select p (pair_exps o a b s) b a s None y x ∷ [])) s (each_point p (pair_exps o a b s) (cond z (paired (with_points a d) (with_points b e)) (paired (with_points b e) (with_points a d))))
     go true q f = pairs_mean p law before x y a b s d e t u named na nb h i (identifiers_there a h.well_formed (identifiers_of b) (contained_among a b q)) (pair_exps o a b s) f w given
-    go false q f = pairs_mean p law before y x b a s e d u t (named.1, named.0) nb na i h (identifiers_there b i.well_formed (identifiers_of a) (contained_among b a (contained_back (contains a b) (contains b a) j.contained q))) (pair_exps o a b s) f w given
+    go false q f = pairs_mean p law before y x b a s e d u t (named.1, named.0) nb na i h (identifiers_there b i.well_formed (identifiers_of a) (contained_among b a (or_second (contains a b) (contains b a) j.contained q))) (pair_exps o a b s) f w given

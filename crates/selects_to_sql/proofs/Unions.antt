@@ -1,10 +1,9 @@
 -- A query of one select, and a union of several.
-use Rattle.std.proofs.Common.{◌≡◌, true, List, [], ◌∷◌, ◌++◌, length, map, Some, None, Ok, Err, refl, ap, sym, ◌∙◌, subst, arith, append-nil}
+use Rattle.std.proofs.Common.{◌≡◌, true, List, [], ◌∷◌, ◌++◌, length, map, Some, None, Ok, refl, ap, sym, ◌∙◌, subst, arith}
 use Rattle.std.specs.Prelude.{IsSome, fold, zip}
 use Rattle.std.specs.List.{AllByRecursion, flat_map}
 use Rattle.std.proofs.lemmas.List.{length-map}
 use Rattle.grammar_forms.specs.Written.{Each}
-use Rattle.vtl_decimal.specs.declared.number.Fault.TheVariants.{DivZero, Range}
 use Rattle.vtl_cell.specs.Outcome.{Outcome, fault_in, faults_by, unless}
 use Rattle.vtl_cell.specs.Row.{Row}
 use Rattle.vtl_cell.specs.ScalarKinds.{shared_kind}
@@ -14,16 +13,17 @@ use Rattle.vtl_cell.specs.declared.kind.Kind.TheVariants as k
 use Rattle.vtl_tree.specs.Structure.{columns_of, names_of}
 use Rattle.vtl_tree.specs.declared.structure.Component.{Component}
 use Rattle.vtl_tree.specs.declared.structure.Structure.{Structure}
-use Rattle.vtl_meaning.proofs.Places.{same_name-refl}
 use Rattle.sql_tree.specs.Formed.{IsSelect}
-use Rattle.sql_tree.specs.Trees.{SelectTree, Text}
+use Rattle.sql_tree.specs.Trees.{SelectTree}
 use Rattle.sql_check_laws.specs.Selects.{IsColumnKind, IsSelectTyped}
+use Rattle.sql_check_laws.proofs.TypedSelects.{all_known, names_agree}
 use Rattle.sql_check_parts.specs.Queries.{query_columns}
 use Rattle.sql_check_parts.specs.Queries as queries
 use Rattle.sql_check_parts.specs.Scopes.{or_null}
 use Rattle.sql_meaning.specs.Scripts.{Data, base_of, tables_in}
 use Rattle.sql_meaning.specs.Selects.{appended, rows_in, select_value}
 use Rattle.sql_meaning.specs.Tables.{kinds_of}
+use Rattle.sql_meaning.proofs.UnionParts.{alone}
 use Rattle.selects_to_sql.specs.Means.{IsQueryFor}
 use Rattle.selects_to_sql.specs.Runs.{entries, printable_depth}
 use Rattle.selects_to_sql.proofs.Exact.{IsExactly}
@@ -52,14 +52,6 @@ shared_same k.Period = refl
 shared_kinds_same : (ks : List Kind) → queries.beside (map Some ks) ks ≡ map Some ks
 shared_kinds_same [] = refl
 shared_kinds_same (q ∷ ks) = ap (λ o. o ∷ queries.beside (map Some ks) ks) (shared_same q) ∙ ap (λ l. Some q ∷ l) (shared_kinds_same ks)
-
-all_known : (ks : List Kind) → AllByRecursion IsSome (map Some ks)
-all_known [] = tt
-all_known (q ∷ ks) = (refl, all_known ks)
-
-names_agree : (ns : List Text) → queries.same_names ns ns ≡ true
-names_agree [] = refl
-names_agree (n ∷ ns) = rw (same_name-refl n) (names_agree ns)
 
 -- ---- several selects of the same columns
 
@@ -144,11 +136,6 @@ module _ (p : Settings) (before : Data) (t : Structure) where
     }
 
 -- ---- without a fault, and alone
-
-alone : (m : Outcome (List Row)) → appended (m ∷ []) ≡ m
-alone (Ok rows) = ap Ok (append-nil rows)
-alone (Err DivZero) = refl
-alone (Err Range) = refl
 
 pub one_exactly : (p : Settings) (before : Data) (t : Structure) → AreGiven (columns_of t) → (q : SelectTree) (m : Outcome (List Row)) → GivesRows p before t q m → IsExactly p before (q ∷ []) t m
 one_exactly p before t given q m h =

@@ -78,7 +78,7 @@ is_input_table ls tables e (Some t) there h =
       fit = subst (λ (u : Option Listed). RowsFit (kinds_of (input_columns (input_of ls e))) (rows_of u)) (sym there) (subst (λ ks. RowsFit ks t.rows) (kinds_are (columns_of e.1) ∙ ap kinds_of columns) (points_fit (columns_of e.1) t.rows h.points.typed));
     }
 
-same_rows : (o : Option Listed) → option_map_or (λ t. t.rows) o [] ≡ rows_of o
+pub same_rows : (o : Option Listed) → option_map_or (λ t. t.rows) o [] ≡ rows_of o
 same_rows None = refl
 same_rows (Some t) = refl
 

@@ -7,6 +7,7 @@ use Rattle.std.specs.Option.{is_none}
 use Rattle.vtl_text.specs.Words.{is_word}
 use Rattle.std.proofs.lemmas.Bool.Decides.{eqb_tells}
 use Rattle.std.proofs.lemmas.Str.{length-le-encodes}
+use Rattle.std.proofs.lemmas.Bool.{or_parts}
 use Rattle.vtl_decimal.specs.Settings.{Settings}
 use Rattle.vtl_decimal.specs.declared.settings.Rounding.{Rounding}
 use Rattle.vtl_cell.specs.declared.kind.Kind.{Kind}
@@ -24,7 +25,7 @@ use Rattle.sql_check_parts.specs.declared.rules.SqlRule.{SqlRule}
 use Rattle.sql_check_parts.specs.declared.rules.SqlRule.TheVariants as rule
 use Rattle.sql_check_parts.proofs.Least.{least_append}
 use Rattle.sql_check_parts.proofs.Maps.{keys_all}
-use Rattle.sql_check_parts.proofs.Unbroken.{holds_first, none_either, none_lesser}
+use Rattle.sql_check_parts.proofs.Unbroken.{holds_first, none_lesser}
 use Rattle.sql_check_queries.proofs.Columns.{names_differ}
 use Rattle.sql_check_queries.specs.Told.{IsQueryTold}
 use Rattle.sql_check_queries.specs.declared.queries.QueryTold.{QueryTold}
@@ -97,7 +98,7 @@ input_settled tables s h =
     let codes = list_any (λ c. not (codes_fit s.key c)) s.columns || nat_lt most_input_columns (length s.columns) in
     let one = holds_first rule.MisnamedTable (taken || not (is_word s.name)) ((rule.MisnamedColumn, twice || misplaced) ∷ (rule.CodesOrCount, codes) ∷ []) h in
     let two = holds_first rule.MisnamedColumn (twice || misplaced) ((rule.CodesOrCount, codes) ∷ []) one.1 in
-    ((none_either taken (not (is_word s.name)) one.0).0, distinct (input_columns s) (none_either twice misplaced two.0).0)
+    ((or_parts taken (not (is_word s.name)) one.0).0, distinct (input_columns s) (or_parts twice misplaced two.0).0)
 
 pub input_may : (tables : Tables) (s : SqlInput) (columns : Option Columns) (fault : Option SqlRule) → columns ≡ distinct_columns (input_columns s) → fault ≡ least (input_breaks tables s) → fault ≡ None → MayPut tables s.name columns
 input_may tables s columns fault c f n =
@@ -117,7 +118,7 @@ export_new tables exported s None f n =
     let unfit = not (order_fits (columns_of tables s.name) s.order) in
     let one = holds_first rule.UnknownTable unknown ((rule.MisnamedTable, twice || not (is_word s.name)) ∷ (rule.MisnamedColumn, unfit) ∷ []) (sym f) in
     let two = holds_first rule.MisnamedTable (twice || not (is_word s.name)) ((rule.MisnamedColumn, unfit) ∷ []) one.1 in
-    (none_either twice (not (is_word s.name)) two.0).0
+    (or_parts twice (not (is_word s.name)) two.0).0
 
 -- where a created table breaks no rule its name is free, and the columns of its query have different names
 create_settled : (p : Settings) (tables : Tables) (name : Text) (q : QueryTree) (names : List Text) (kinds : List Kind) (taken query : Option SqlRule) → taken ≡ least (broken ((rule.MisnamedTable, is_taken tables name) ∷ [])) → query ≡ least (query_breaks p tables q)

@@ -4,6 +4,7 @@ use Rattle.std.specs.Prelude.{Option, filter, zip}
 use Rattle.std.specs.List.{AllByRecursion, list_any}
 use Rattle.std.proofs.lemmas.List.{length-map}
 use Rattle.std.proofs.lemmas.List.Filters.{length-filter_both}
+use Rattle.std.proofs.lemmas.Bool.{or_parts}
 use Rattle.grammar_forms.specs.Written.{Each}
 use Rattle.vtl_decimal.specs.Settings.{Settings}
 use Rattle.vtl_cell.specs.declared.kind.Kind.{Kind}
@@ -19,7 +20,6 @@ use Rattle.sql_check_parts.specs.Scopes.{Tables, or_null, repeats}
 use Rattle.sql_check_parts.specs.Statements.{column_entry, in_table_order, is_of_key}
 use Rattle.sql_check_parts.proofs.Maps.{keys_all}
 use Rattle.sql_check_parts.proofs.QueryKinds.{as_many}
-use Rattle.sql_check_parts.proofs.Unbroken.{none_either}
 use Rattle.sql_check_laws.specs.Selects.{AreColumns, IsColumnKind, IsQueryWhole}
 use Rattle.sql_check_laws.specs.Statements.{IsDeclared, IsInputTyped}
 
@@ -44,7 +44,7 @@ no_null (c ∷ cs) h = ap (λ b. b || list_any (λ c. is_null_kind c.kind) cs) (
 
 none_kept : (f : InputColumn → Bool) (cs : List InputColumn) → list_any (λ c. is_null_kind c.kind) cs ≡ false → list_any (λ c. is_null_kind c.kind) (filter f cs) ≡ false
 none_kept f [] h = refl
-none_kept f (c ∷ cs) h = go (f c) (none_either (is_null_kind c.kind) (list_any (λ c. is_null_kind c.kind) cs) h).0 (none_kept f cs (none_either (is_null_kind c.kind) (list_any (λ c. is_null_kind c.kind) cs) h).1)
+none_kept f (c ∷ cs) h = go (f c) (or_parts (is_null_kind c.kind) (list_any (λ c. is_null_kind c.kind) cs) h).0 (none_kept f cs (or_parts (is_null_kind c.kind) (list_any (λ c. is_null_kind c.kind) cs) h).1)
   where
     go : (b : Bool) → is_null_kind c.kind ≡ false → list_any (λ c. is_null_kind c.kind) (filter f cs) ≡ false → list_any (λ c. is_null_kind c.kind) (cond b (c ∷ filter f cs) (filter f cs)) ≡ false
     go true first rest = ap (λ b. b || list_any (λ c. is_null_kind c.kind) (filter f cs)) first ∙ rest
@@ -53,10 +53,10 @@ none_kept f (c ∷ cs) h = go (f c) (none_either (is_null_kind c.kind) (list_any
 none_joined : (xs ys : List InputColumn) → list_any (λ c. is_null_kind c.kind) xs ≡ false → list_any (λ c. is_null_kind c.kind) ys ≡ false → list_any (λ c. is_null_kind c.1) (map column_entry (xs ++ ys)) ≡ false
 none_joined [] [] h i = refl
 none_joined [] (y ∷ ys) h i =
-    let first = none_either (is_null_kind y.kind) (list_any (λ c. is_null_kind c.kind) ys) i in
+    let first = or_parts (is_null_kind y.kind) (list_any (λ c. is_null_kind c.kind) ys) i in
     ap (λ b. b || list_any (λ c. is_null_kind c.1) (map column_entry ys)) first.0 ∙ none_joined [] ys refl first.1
 none_joined (x ∷ xs) ys h i =
-    let first = none_either (is_null_kind x.kind) (list_any (λ c. is_null_kind c.kind) xs) h in
+    let first = or_parts (is_null_kind x.kind) (list_any (λ c. is_null_kind c.kind) xs) h in
     ap (λ b. b || list_any (λ c. is_null_kind c.1) (map column_entry (xs ++ ys))) first.0 ∙ none_joined xs ys first.1 i
 
 pub inputs_declared : (tables : Tables) (s : SqlInput) → IsInput s → IsInputTyped tables s → IsDeclared s

@@ -171,15 +171,15 @@ module _ (p : Settings) (tables : Tables) (q : QueryTree) where
 
 -- ---- one select alone
 
-all_known : (kinds : List Kind) → AllByRecursion IsSome (map Some kinds)
+pub all_known : (kinds : List Kind) → AllByRecursion IsSome (map Some kinds)
 all_known [] = tt
 all_known (kind ∷ kinds) = (refl, all_known kinds)
 
-names_agree : (names : List Text) → same_names names names ≡ true
+pub names_agree : (names : List Text) → same_names names names ≡ true
 names_agree [] = refl
 names_agree (n ∷ ns) = ap (λ b. b && same_names ns ns) ((bytes_eq-Decides n n).1 refl) ∙ names_agree ns
 
-as_long : (xs ys : List Text) → same_names xs ys ≡ true → length xs ≡ length ys
+pub as_long : (xs ys : List Text) → same_names xs ys ≡ true → length xs ≡ length ys
 as_long [] [] h = refl
 as_long [] (y ∷ ys) h = cc
 as_long (x ∷ xs) [] h = cc

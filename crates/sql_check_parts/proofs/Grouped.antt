@@ -14,7 +14,7 @@ use Rattle.sql_tree.specs.declared.parts.Column.{Column}
 use Rattle.sql_check_parts.specs.Scopes.{ColumnName, column_name, column_order, grouping_of}
 use Rattle.sql_check_parts.proofs.Maps.{map_push}
 
-total : IsTotalOrder column_order
+pub total : IsTotalOrder column_order
 total = then_total (on_total (λ (c : ColumnName). c.0) nat_list_cmp_total) (on_total (λ (c : ColumnName). c.1) nat_list_cmp_total)
 
 -- columns that the order does not tell apart are the same

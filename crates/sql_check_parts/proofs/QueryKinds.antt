@@ -8,7 +8,7 @@ use Rattle.sql_tree.specs.Trees.{QueryTree, SelectTree}
 use Rattle.sql_check_parts.specs.Queries.{beside, item_kind, item_name, kinds_of, query_names, scope_of, shared_kinds}
 use Rattle.sql_check_parts.specs.Scopes.{Tables, or_null}
 
-length-beside : (cs : List (Option Kind)) (kinds : List Kind) → length (beside cs kinds) ≡ length cs
+pub length-beside : (cs : List (Option Kind)) (kinds : List Kind) → length (beside cs kinds) ≡ length cs
 length-beside [] kinds = refl
 length-beside (c ∷ cs) [] = refl
 length-beside (c ∷ cs) (kind ∷ kinds) = ap suc (length-beside cs kinds)

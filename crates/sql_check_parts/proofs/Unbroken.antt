@@ -1,5 +1,5 @@
 -- What follows where no rule is broken: no part breaks one, and no test is broken.
-use Rattle.std.proofs.Common.{◌≡◌, Bool, true, false, ◌||◌, List, [], ◌∷◌, ◌++◌, Some, None, refl, ap, ◌∙◌}
+use Rattle.std.proofs.Common.{◌≡◌, Bool, true, false, List, [], ◌∷◌, ◌++◌, Some, None, refl, ap, ◌∙◌}
 use Rattle.std.specs.Prelude.{Option}
 use Rattle.sql_check_parts.specs.Rules.{Tests, broken, least, lesser}
 use Rattle.sql_check_parts.specs.declared.rules.SqlRule.{SqlRule}
@@ -49,7 +49,3 @@ pub none_lesser : (a b : Option SqlRule) → lesser a b ≡ None → (a ≡ None
 none_lesser None b h = (refl, h)
 none_lesser (Some a) None h = cc
 none_lesser (Some a) (Some b) h = cc
-
-pub none_either : (a b : Bool) → (a || b) ≡ false → (a ≡ false) × (b ≡ false)
-none_either true b h = cc
-none_either false b h = (refl, h)

@@ -11,7 +11,6 @@ use Rattle.vtl_lists.specs.Perm.{Perm}
 use Rattle.vtl_text.specs.Texts.{same_text}
 use Rattle.vtl_rows.specs.Named.{NamedTables, table_of}
 use Rattle.vtl_rows.specs.Tables.{Listed, column_kinds}
-use Rattle.vtl_rows.specs.declared.column.Column.{Column}
 use Rattle.vtl_tree.specs.Structure.{IsStructure, columns_of, names_of, same_role}
 use Rattle.vtl_tree.specs.declared.structure.Role.TheVariants as role
 use Rattle.vtl_sets.specs.TableOf.{IsTableOf, column_for, table_columns}
@@ -24,6 +23,7 @@ use Rattle.sql_check_parts.specs.Statements.{in_table_order, input_columns, is_o
 use Rattle.sql_check_laws.specs.Statements.{IsDeclared}
 use Rattle.sql_meaning.specs.Tables.{HasTable, RowsFit, column_entry, kinds_of, rows_of}
 use Rattle.sql_meaning.proofs.Lists.{under}
+use Rattle.sql_meaning.proofs.HeldTables.{kinds_are}
 use Rattle.sql_engine.specs.InputTables.{IsInputTable}
 use Rattle.sql_engine.specs.Structures.{component_of, structure_of}
 
@@ -100,10 +100,6 @@ lawful_structure s d =
     apart false e = cc
 
 -- ---- tables
-
-kinds_are : (columns : List Column) → column_kinds columns ≡ kinds_of (map column_entry columns)
-kinds_are [] = refl
-kinds_are (x ∷ columns) = ap (λ l. x.kind ∷ l) (kinds_are columns)
 
 pub table_is_input : (s : SqlInput) (tables : NamedTables) (t : Listed) → table_of s.name tables ≡ Some t → IsTableOf (structure_of s) t → IsInputTable tables s
 table_is_input s tables t there is =

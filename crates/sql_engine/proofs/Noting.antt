@@ -1,5 +1,5 @@
 -- What is read is noted, part by part.
-use Rattle.std.proofs.Common.{◌≡◌, ◌+◌, ◌≤◌, ◌<◌, ℕ, Bool, true, false, cond, List, [], ◌∷◌, map, drop, get_or, length, Some, Result, Ok, Err, refl, sym, ap, ◌∙◌, subst, arith, rules}
+use Rattle.std.proofs.Common.{◌≡◌, ◌+◌, ◌≤◌, ◌<◌, ℕ, Bool, true, false, cond, List, [], ◌∷◌, map, drop, get_or, length, Some, Result, Ok, Err, refl, sym, ap, ◌∙◌, subst, arith}
 use Rattle.std.specs.Prelude.{OnOk, nat_le}
 use Rattle.std.specs.List.{AllByRecursion}
 use Rattle.std.specs.Map.{lookup}
@@ -10,9 +10,9 @@ use Rattle.sql_tree.specs.Trees as tree
 use Rattle.sql_tree.specs.Trees.{Exp, StatementTree, Text, branches_of, exps_of}
 use Rattle.sql_tree.specs.View.{branch_tree, expr_tree, statement_tree}
 use Rattle.sql_tree.specs.declared.expressions.Branch.{Branch}
-use Rattle.sql_tree.specs.declared.expressions.Branch as branch
 use Rattle.sql_tree.specs.declared.expressions.SqlExpr.{SqlExpr}
 use Rattle.sql_tree.specs.declared.statements.Statement.{Statement}
+use Rattle.sql_plan.proofs.Reaches.{branch_is}
 use Rattle.sql_engine.specs.LastReads.{AreNoted, EachCreated, EachExported, IsNoted, IsReadFrom, LastPlaces, StaysRead, is_from}
 use Rattle.sql_engine.specs.Reads.{EachOfAll, EachOfBranches, EachRead}
 
@@ -77,9 +77,6 @@ on_ok (Ok x) X Y f h = f h
 on_ok (Err e) X Y f h = tt
 
 -- ---- lists of expressions
-
-branch_is : (b : Branch) → branch_tree b ≡ (expr_tree b.condition, expr_tree b.value)
-branch_is b = search (rules, branch.the_lemmas)
 
 abbrev pub EachLeft : List SqlExpr → ℕ → (Text → Type 0) → Type 0
 EachLeft es i P = EachOfAll P (exps_of (map expr_tree (drop i es)))

@@ -5,6 +5,7 @@ use Rattle.std.specs.List.{AllByRecursion, position_or_len, range_with_len}
 use Rattle.std.specs.Map.{keys_of}
 use Rattle.std.proofs.lemmas.List.{append-nil, length-map}
 use Rattle.std.proofs.lemmas.List.Sums.{position_or_len_is}
+use Rattle.vtl_lists.proofs.Alls.{all_append, all_get}
 use Rattle.vtl_cell.specs.Sorted.{rising}
 use Rattle.vtl_text.specs.Texts.{same_text}
 use Rattle.vtl_rows.specs.Keys.{key_of, ordered}
@@ -16,7 +17,6 @@ use Rattle.sql_check_parts.specs.Scopes.{Columns, value_among}
 use Rattle.sql_check_laws.specs.Statements.{AreNames}
 use Rattle.sql_meaning.specs.Scripts.{sort_key}
 use Rattle.sql_meaning.specs.Tables.{column_entry}
-use Rattle.sql_meaning.proofs.Lists.{all_at, all_joined}
 use Rattle.vtl_rows.proofs.AllColumns.{all_columns_last}
 use Rattle.sql_engine.specs.Exported.{ordered_by}
 
@@ -77,9 +77,9 @@ keys_within keys columns names h e =
     let n = length columns in
     let many : length (map column_entry columns) ≡ n = length-map columns column_entry in
     let listed = subst (λ (m : ℕ). AllByRecursion (λ q. q.place < m) (map (sort_key (map column_entry columns)) names)) many (listed_within (map column_entry columns) names h.1) in
-    let all = all_joined (λ q. q.place < n) (map (sort_key (map column_entry columns)) names) (map rising (range_with_len 0 n)) listed (first_within n 0 n (omega arith)) in
+    let all = all_append (λ q. q.place < n) (map (sort_key (map column_entry columns)) names) (map rising (range_with_len 0 n)) listed (first_within n 0 n (omega arith)) in
     let each = keys_from n keys (subst (AllByRecursion (λ q. q.place < n)) (sym e) all) in
-    λ k d within. all_at (λ x. x.column < n) keys k d within each
+    λ k d within. all_get (λ x. x.column < n) keys k d within each
 
 -- ---- rows in order
 

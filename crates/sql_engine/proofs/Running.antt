@@ -1,5 +1,5 @@
 -- A run, one statement after the other.
-use Rattle.std.proofs.Common.{◌≡◌, ◌≤◌, ◌+◌, ℕ, Bool, true, false, cond, List, [], ◌∷◌, ◌++◌, map, Option, Some, None, Result, Ok, Err, refl, sym, ap, ◌∙◌, subst, arith}
+use Rattle.std.proofs.Common.{◌≡◌, ◌≤◌, ◌+◌, ℕ, Bool, true, false, cond, List, [], ◌∷◌, ◌++◌, Option, Some, None, Result, Ok, Err, refl, sym, ap, ◌∙◌, subst, arith}
 use Rattle.std.specs.Prelude.{IfOk, fold, nat_le, unwrap_or}
 use Rattle.std.specs.Map.{keys_of, lookup}
 use Rattle.std.proofs.lemmas.List.{map-append}
@@ -16,7 +16,6 @@ use Rattle.vtl_text.specs.Texts.{same_text}
 use Rattle.vtl_cell.specs.declared.kind.Kind.{Kind}
 use Rattle.vtl_rows.specs.Named.{NamedTables, table_of}
 use Rattle.vtl_rows.specs.Tables.{Listed, column_kinds, fits_kinds}
-use Rattle.vtl_rows.specs.declared.column.Column.{Column}
 use Rattle.grammar_forms.specs.Written.{Each}
 use Rattle.sql_tree.specs.Formed.{IsStatement}
 use Rattle.sql_tree.specs.Grammar.{most_levels}
@@ -32,10 +31,11 @@ use Rattle.sql_check_laws.specs.Statements.{AreTyped}
 use Rattle.sql_meaning.specs.Profiles.{AreOfProfile, IsRowOfProfile}
 use Rattle.sql_meaning.specs.Scripts.{Made, NamedFault, Table, and_table, base_of, created, export_of, fault_name, input_table, nothing_made, or_named, rows_read, statements_made, table_named}
 use Rattle.sql_meaning.specs.Selects.{query_value}
-use Rattle.sql_meaning.specs.Tables.{RowsFit, column_entry, kinds_of, rows_of}
+use Rattle.sql_meaning.specs.Tables.{RowsFit, kinds_of, rows_of}
 use Rattle.sql_meaning.proofs.Lists.{under}
 use Rattle.sql_meaning.proofs.Profiled.{query_are}
 use Rattle.sql_meaning.proofs.QueryKinds.{query_fit}
+use Rattle.sql_meaning.proofs.HeldTables.{kinds_are}
 use Rattle.sql_from.specs.Held.{base_held, tables_held}
 use Rattle.sql_engine.specs.Exported.{exports_in}
 use Rattle.sql_engine.specs.Held.{HaveMade, MayLetGo, StandFor}
@@ -64,10 +64,6 @@ pub record Running (p : Settings) (inputs : NamedTables) (last : LastPlaces) (fi
   pub whole_is : statements_made p (rows_given inputs) made rest ≡ whole
 
 -- ---- small facts
-
-kinds_are : (columns : List Column) → column_kinds columns ≡ kinds_of (map column_entry columns)
-kinds_are [] = refl
-kinds_are (x ∷ columns) = ap (λ l. x.kind ∷ l) (kinds_are columns)
 
 rows_looked : (name : Text) (inputs : NamedTables) → rows_read (rows_given inputs) name ≡ rows_of (table_of name inputs)
 rows_looked name [] = refl

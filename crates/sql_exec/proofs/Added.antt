@@ -13,6 +13,7 @@ use Rattle.vtl_scalar.specs.declared.error.ScalarErr.{ScalarErr}
 use Rattle.vtl_scalar.specs.declared.error.ScalarErr.TheVariants as err
 use Rattle.sql_meaning.specs.Selects.{appended, rows_in}
 use Rattle.sql_meaning.proofs.UpToOrder.{faults_by-append, join_assoc, join_none}
+use Rattle.sql_meaning.proofs.Faulted.{fault_unless}
 use Rattle.sql_exec.specs.Outputs.{Adds, Sees, fault_seen}
 use Rattle.sql_exec.specs.declared.output.Output.{Output}
 
@@ -23,10 +24,6 @@ neither_fault None b e = (refl, e)
 neither_fault (Some DivZero) b e = cc
 neither_fault (Some Range) None e = cc
 neither_fault (Some Range) (Some g) e = cc
-
-pub fault_of_unless : {A : Type 0} (f : Option Fault) (x : A) → fault_in (unless f x) ≡ f
-fault_of_unless None x = refl
-fault_of_unless (Some f) x = refl
 
 pub rows_of_unless : (f : Option Fault) (xs : List Row) → f ≡ None → rows_in (unless f xs) ≡ xs
 rows_of_unless None xs e = refl
@@ -65,10 +62,10 @@ module _ {X : Type 0} (m : X → Outcome (List Row)) (xs : List X) (i : ℕ) (x 
 
   pub added_more : (old now then : Output) → Adds (appended (map m (take i xs))) old now → Adds (m x) now then → Adds (appended (map m (take (i + 1) xs))) old then
   added_more old now then before one =
-      let seen : fault_seen now ≡ join (fault_seen old) (fault first) = before.fault ∙ ap (join (fault_seen old)) (fault_of_unless (fault first) (rows first)) in
+      let seen : fault_seen now ≡ join (fault_seen old) (fault first) = before.fault ∙ ap (join (fault_seen old)) (fault_unless (fault first) (rows first)) in
       record {
         columns = one.columns ∙ before.columns;
-        fault = one.fault ∙ ap (λ f. join f (fault_in (m x))) seen ∙ join_assoc (fault_seen old) (fault first) (fault_in (m x)) ∙ ap (join (fault_seen old)) (sym fault_next ∙ sym (fault_of_unless (fault next) (rows next)));
+        fault = one.fault ∙ ap (λ f. join f (fault_in (m x))) seen ∙ join_assoc (fault_seen old) (fault first) (fault_in (m x)) ∙ ap (join (fault_seen old)) (sym fault_next ∙ sym (fault_unless (fault next) (rows next)));
         rows = λ none.
             let both = neither_fault (fault_seen now) (fault_in (m x)) (sym one.fault ∙ none) in
             let firsts = (neither_fault (fault_seen old) (fault first) (sym seen ∙ both.0)).1 in

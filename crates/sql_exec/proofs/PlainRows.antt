@@ -7,7 +7,8 @@ use Rattle.vtl_cell.specs.Row.{Row}
 use Rattle.vtl_cell.specs.declared.cell.Cell.{Cell}
 use Rattle.sql_meaning.specs.Outcomes.{cell_or_null, row_at, row_fault}
 use Rattle.sql_meaning.specs.Selects.{appended, rows_in}
-use Rattle.sql_exec.proofs.Added.{fault_of_unless, neither_fault, unless_same}
+use Rattle.sql_meaning.proofs.Faulted.{fault_unless}
+use Rattle.sql_exec.proofs.Added.{neither_fault, unless_same}
 
 -- ---- one row after the other
 
@@ -17,7 +18,7 @@ module _ {X : Type 0} (f : X → Option Fault) (g : X → Row) where
 
   faults_each : (xs : List X) → faults_by fault_in (map one_row xs) ≡ faults_by f xs
   faults_each [] = refl
-  faults_each (x ∷ xs) = λ n. join (fault_of_unless (f x) (g x ∷ []) n) (faults_each xs n)
+  faults_each (x ∷ xs) = λ n. join (fault_unless (f x) (g x ∷ []) n) (faults_each xs n)
 
   rows_each : (xs : List X) → faults_by f xs ≡ None → flat_map rows_in (map one_row xs) ≡ map g xs
   rows_each [] e = refl

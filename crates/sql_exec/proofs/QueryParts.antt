@@ -11,6 +11,7 @@ use Rattle.vtl_decimal.specs.Settings.{Settings}
 use Rattle.vtl_cell.specs.declared.cell.Cell.{Cell}
 use Rattle.vtl_cell.specs.declared.kind.Kind.{Kind}
 use Rattle.vtl_rows.specs.Tables.{fits_kinds}
+use Rattle.vtl_rows.proofs.Gathered.{null_is_of}
 use Rattle.vtl_scalar.specs.KindLaws.{HasKind, IsOfKind}
 use Rattle.sql_tree.specs.Trees as tree
 use Rattle.sql_tree.specs.Trees.{ItemTree, QueryTree, SelectTree, ValueTree}
@@ -28,7 +29,6 @@ use Rattle.sql_groups.proofs.LiftedLemmas.{all_are_lifted}
 use Rattle.sql_meaning.proofs.ExpressionKinds.{value_has}
 use Rattle.sql_meaning.proofs.Lists.{under}
 use Rattle.sql_meaning.proofs.OperatorKinds.{after_if, as_kind_is_of}
-use Rattle.sql_meaning.proofs.SourceKinds.{null_is_of}
 use Rattle.sql_meaning.proofs.WindowKinds.{sees_row, window_has}
 use Rattle.sql_exec.specs.Items.{HasCallKind, IsKindKnown}
 use Rattle.sql_exec.specs.Parts.{IsPart, MakesKinds}

@@ -10,7 +10,7 @@ use Rattle.vtl_cell.specs.Outcomes.{Same}
 use Rattle.vtl_lists.specs.Perm.{Perm}
 use Rattle.vtl_cell.specs.Row.{Row}
 use Rattle.vtl_cell.specs.declared.kind.Kind.{Kind}
-use Rattle.vtl_rows.specs.Tables.{Tabled, column_kinds}
+use Rattle.vtl_rows.specs.Tables.{Tabled}
 use Rattle.vtl_rows.specs.declared.column.Column.{Column}
 use Rattle.vtl_scalar.specs.declared.error.ScalarErr.{ScalarErr}
 use Rattle.sql_tree.specs.Formed.{IsQuery}
@@ -48,9 +48,6 @@ first_many tables selects d kinds h e =
 pub columns_are : (tables : Tables) (selects : List Select) (d : Select) (kinds : List Kind) (columns : List Column) → 0 < length selects → kinds ≡ map or_null (shared_kinds tables (map select_tree selects))
     → map column_entry columns ≡ zip (map (λ (x : Item). x.name) (get_or selects 0 d).items) kinds → map column_entry columns ≡ query_columns tables (map select_tree selects)
 columns_are tables selects d kinds columns h e c = c ∙ (λ i. zip (sym (names_are selects d h) i) (e i))
-
-pub kinds_held : (columns : List Column) → column_kinds columns ≡ kinds_of (map column_entry columns)
-kinds_held columns = mapped_twice column_entry (λ (x : Text × Kind). x.1) columns
 
 zip_long : {X Y : Type 0} (xs : List X) (ys : List Y) → length xs ≡ length ys → length (zip xs ys) ≡ length xs
 zip_long [] ys e = refl

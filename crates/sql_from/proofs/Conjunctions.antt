@@ -1,21 +1,19 @@
 -- The truth of AND and of an equality.
-use Rattle.std.proofs.Common.{◌≡◌, ℕ, Bool, true, false, ◌&&◌, List, [], ◌∷◌, ◌++◌, Option, Some, None, Ok, Err, refl, sym, ap, ◌∙◌}
+use Rattle.std.proofs.Common.{◌≡◌, ℕ, Bool, true, false, ◌&&◌, List, [], ◌∷◌, ◌++◌, None, Ok, Err, refl, sym, ap, ◌∙◌}
 use Rattle.std.specs.Ordering.{is_eq}
 use Rattle.std.specs.List.{list_all}
 use Rattle.std.proofs.lemmas.Bool.{and_parts}
 use Rattle.std.proofs.lemmas.List.Folds.{list_all-append}
-use Rattle.vtl_cell.specs.Conversion.{as_kind}
 use Rattle.vtl_cell.specs.Logic.{and_of}
 use Rattle.vtl_cell.specs.Outcome.{Outcome, fault_in}
 use Rattle.vtl_cell.specs.Outcomes.{is_true}
 use Rattle.vtl_cell.specs.Row.{column_of}
 use Rattle.vtl_cell.specs.ScalarChoice.{on_truths, truth_in}
-use Rattle.vtl_cell.specs.ScalarComparison.{compared, truth}
+use Rattle.vtl_cell.specs.ScalarComparison.{compared}
 use Rattle.vtl_decimal.specs.Settings.{Settings}
 use Rattle.vtl_cell.specs.declared.cell.Cell.{Cell}
 use Rattle.vtl_cell.specs.declared.cell.Cell.TheVariants as c
 use Rattle.vtl_cell.specs.declared.kind.Kind.{Kind}
-use Rattle.vtl_cell.specs.declared.kind.Kind.TheVariants as k
 use Rattle.vtl_cell.specs.declared.operator.ScalarOp.TheVariants as op
 use Rattle.vtl_rows.specs.Places.{row_at}
 use Rattle.sql_tree.specs.Trees as tree
@@ -23,27 +21,14 @@ use Rattle.sql_tree.specs.Trees.{Exp}
 use Rattle.sql_tree.specs.declared.parts.Column.{Column}
 use Rattle.sql_meaning.specs.Outcomes.{operated}
 use Rattle.sql_meaning.specs.Values.{place_in}
+use Rattle.sql_meaning.proofs.EarlyTried.{both_hold, truth_kept}
+use Rattle.sql_meaning.proofs.IndexedJoins.{truth_stays}
 use Rattle.sql_from.specs.Joins.{with_number}
 use Rattle.sql_from.specs.Keys.{AllImplied, AllPaired, AreImplied, ArePaired, IsPairOf, all_paired, is_paired, last_of, row_in}
 use Rattle.sql_from.specs.Rows.{combined}
 use Rattle.sql_from.specs.Sources.{Sourced, parts_of, scope_held}
 use Rattle.sql_from.specs.Standing.{condition_at}
 use Rattle.sql_from.specs.declared.key_pairs.KeyPair.{KeyPair}
-
-truth_stays : (p : Settings) (kind : Kind) (o : Option Bool) → as_kind p kind (truth o) ≡ Ok (truth o)
-truth_stays p k.Null o = refl
-truth_stays p k.Bool o = refl
-truth_stays p k.Int o = refl
-truth_stays p k.Num None = refl
-truth_stays p k.Num (Some b) = refl
-truth_stays p k.Text o = refl
-truth_stays p k.Day o = refl
-truth_stays p k.Period o = refl
-
-both_stay : (p : Settings) (kind : Kind) (a b : Option (Option Bool)) → as_kind p kind (on_truths and_of a b) ≡ Ok (on_truths and_of a b)
-both_stay p kind None b = truth_stays p kind None
-both_stay p kind (Some a) None = truth_stays p kind None
-both_stay p kind (Some a) (Some b) = truth_stays p kind (and_of a b)
 
 both_true : (u v : Cell) → is_true (Ok (on_truths and_of (truth_in u) (truth_in v))) ≡ (is_true (Ok u) && is_true (Ok v))
 both_true (c.Bool true) (c.Bool b) = refl
@@ -65,7 +50,7 @@ record Conjoined (p : Settings) (kind : Kind) (m n : Outcome Cell) : Type 0 wher
 
 conjoined : (p : Settings) (kind : Kind) (m n : Outcome Cell) → fault_in m ≡ None → fault_in n ≡ None → Conjoined p kind m n
 conjoined p kind (Ok u) (Ok v) e f =
-    let is = both_stay p kind (truth_in u) (truth_in v) in
+    let is = truth_kept p kind (truth_in u) (truth_in v) in
     record { sound = ap fault_in is; same = ap is_true is ∙ both_true u v }
 conjoined p kind (Ok u) (Err g) e f = cc
 conjoined p kind (Err g) n e f = cc
@@ -95,15 +80,9 @@ pub last_and : (b : Bool) → b ≡ (b && true)
 last_and true = refl
 last_and false = refl
 
--- what is true on both sides
-and_true : (p : Settings) (kind : Kind) (m n : Outcome Cell) → is_true (operated p kind (m ∷ n ∷ []) op.And) ≡ true → (is_true m ≡ true) × (is_true n ≡ true)
-and_true p kind (Ok u) (Ok v) h = and_parts (is_true (Ok u)) (is_true (Ok v)) (sym (ap is_true (both_stay p kind (truth_in u) (truth_in v)) ∙ both_true u v) ∙ h)
-and_true p kind (Ok u) (Err g) h = cc
-and_true p kind (Err g) n h = cc
-
 pub conjunction_implied : (s : Sourced) (lead : ℕ) (a b : Exp) (first mid all : List KeyPair) → AreImplied s lead a first mid → AreImplied s lead b mid all → AreImplied s lead (tree.binary a op.And b) first all
 conjunction_implied s lead a b first mid all h g p front last whole t before =
-    let both = and_true p _ (condition_at p s a (with_number front last)) (condition_at p s b (with_number front last)) t in
+    let both = both_hold p _ (condition_at p s a (with_number front last)) (condition_at p s b (with_number front last)) t in
     g p front last whole both.1 (h p front last whole both.0 before)
 
 pub paired_implied : (s : Sourced) (lead : ℕ) (e : Exp) (first all : List KeyPair) → ArePaired s lead e first all → AreImplied s lead e first all

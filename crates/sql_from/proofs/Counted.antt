@@ -1,7 +1,9 @@
 -- Steps of a join of two sources, and of what goes before it.
-use Rattle.std.proofs.Common.{◌≡◌, ℕ, zero, suc, ◌+◌, ◌≤◌, Bool, true, false, true≢false, ◌||◌, cond, List, [], ◌∷◌, ◌++◌, length, map, drop, take, Option, None, Some, refl, sym, ap, ◌∙◌, subst, arith}
+use Rattle.std.proofs.Common.{◌≡◌, ℕ, zero, suc, ◌+◌, ◌≤◌, Bool, true, false, cond, List, [], ◌∷◌, ◌++◌, length, map, drop, take, Option, None, Some, refl, sym, ap, ◌∙◌, subst, arith}
 use Rattle.std.specs.List.{AllByRecursion}
 use Rattle.std.specs.Prelude.{fold, sum, nat_eq}
+use Rattle.std.proofs.lemmas.Bool.{or_parts}
+use Rattle.vtl_lists.proofs.Alls.{all_append}
 use Rattle.vtl_decimal.specs.declared.number.Fault.{Fault}
 use Rattle.vtl_decimal.specs.Settings.{Settings}
 use Rattle.vtl_cell.specs.declared.operator.ScalarOp.TheVariants as op
@@ -17,7 +19,6 @@ use Rattle.sql_meaning.specs.Values.{at_rows}
 use Rattle.sql_check_parts.specs.Queries.{first_scope, join_source}
 use Rattle.sql_check_parts.specs.Scopes.{Scope, with_source}
 use Rattle.sql_meaning.specs.Tables.{Base, rows_from}
-use Rattle.sql_meaning.proofs.Lists.{all_joined}
 use Rattle.sql_check_laws.specs.Selects.{AreJoinsTyped, IsJoinCondition, IsSourceTyped}
 use Rattle.sql_meaning.specs.declared.plan.Early.{Early}
 use Rattle.sql_from.specs.Asking.{asks, condition_asks}
@@ -36,13 +37,9 @@ use Rattle.sql_from.proofs.TwoSources.{counts_are, joins_linked}
 
 -- ---- parts of WHERE
 
-neither : (a b : Bool) → (a || b) ≡ false → (a ≡ false) × (b ≡ false)
-neither true b e = absurd (true≢false e)
-neither false b e = (refl, e)
-
 -- parts of what asks no EXISTS ask none
 parts_ask : (e : Exp) → asks e ≡ false → AllByRecursion (λ x. asks x ≡ false) (conjuncts e)
-parts_ask (tree.binary a op.And b) h = let both = neither (asks a) (asks b) h in all_joined (λ x. asks x ≡ false) (conjuncts a) (conjuncts b) (parts_ask a both.0) (parts_ask b both.1)
+parts_ask (tree.binary a op.And b) h = let both = or_parts (asks a) (asks b) h in all_append (λ x. asks x ≡ false) (conjuncts a) (conjuncts b) (parts_ask a both.0) (parts_ask b both.1)
 parts_ask e h = (h, tt)
 
 one_asks : (c : Option Exp) → condition_asks c ≡ false → AllByRecursion (λ x. asks x ≡ false) (conjuncts_of c)
@@ -71,7 +68,7 @@ due_asks s early place h = go (nat_eq place (length s.joins))
     parts (e ∷ es) = here (nat_eq e.join place) (parts es)
       where
         here : (b : Bool) → Silent (parts_at (conjuncts_of s.condition) es place) → Silent (cond b (take 1 (drop e.conjunct (conjuncts_of s.condition))) [] ++ parts_at (conjuncts_of s.condition) es place)
-        here true rest = all_joined (λ x. asks x ≡ false) (take 1 (drop e.conjunct (conjuncts_of s.condition))) (parts_at (conjuncts_of s.condition) es place) (one e.conjunct (conjuncts_of s.condition) (one_asks s.condition h)) rest
+        here true rest = all_append (λ x. asks x ≡ false) (take 1 (drop e.conjunct (conjuncts_of s.condition))) (parts_at (conjuncts_of s.condition) es place) (one e.conjunct (conjuncts_of s.condition) (one_asks s.condition h)) rest
         here false rest = rest
 
     go : (b : Bool) → Silent (cond b (all_of s.condition) (parts_at (conjuncts_of s.condition) early place))

@@ -5,6 +5,7 @@ use Rattle.std.proofs.Math.IntN.{pos-*ℤ-pos, negsuc-*ℤ-pos}
 use Rattle.std.proofs.Math.Nat.{mul-div_cancel, mul-le-mul_right, one-le-pow}
 use Rattle.std.proofs.lemmas.Bool.{and_parts}
 use Rattle.std.proofs.lemmas.Int.{ints}
+use Rattle.vtl_lists.proofs.Tests.{same_tests}
 use Rattle.vtl_cell.specs.Kinds.{is_null}
 use Rattle.vtl_cell.specs.Order.{same_cell}
 use Rattle.vtl_cell.specs.Profile.{IsOfProfile}
@@ -21,11 +22,6 @@ use Rattle.sql_meaning.specs.Profiles.{IsRowOfProfile}
 use Rattle.sql_meaning.proofs.Profiled.{cell_is}
 use Rattle.sql_from.specs.Keys.{all_paired, are_equal, as_number, asked_columns, is_paired, own_columns}
 use Rattle.sql_from.specs.declared.key_pairs.KeyPair.{KeyPair}
-
-pub same_truth : (b d : Bool) → (b ≡ true → d ≡ true) → (d ≡ true → b ≡ true) → b ≡ d
-same_truth true d there back = sym (there refl)
-same_truth false true there back = back refl
-same_truth false false there back = refl
 
 -- ---- integers in units
 whole_units : (u : ℕ) → 0 < u → (a b : ℕ) → a * u ≡ b * u → a ≡ b
@@ -59,7 +55,7 @@ integer_of a b e = let s = same_cell-is (c.Int a) (c.Int b) e in cc
 
 same_units : (p : Settings) (a b : ℤ) → is_eq (int_cmp a b) ≡ is_eq (int_cmp (units p a) (units p b))
 same_units p a b =
-    same_truth (same_cell (c.Int a) (c.Int b)) (same_cell (c.Num (units p a)) (c.Num (units p b)))
+    same_tests (same_cell (c.Int a) (c.Int b)) (same_cell (c.Num (units p a)) (c.Num (units p b)))
     (λ e. ap (λ k. same_cell (c.Num (units p a)) (c.Num (units p k))) (sym (integer_of a b e)) ∙ same_cell-refl (c.Num (units p a)))
     (λ e. ap (λ k. same_cell (c.Int a) (c.Int k)) (sym (units_apart (10 ^ p.scale) (one-le-pow p.scale 10 (omega arith)) a b (number_of (units p a) (units p b) e))) ∙ same_cell-refl (c.Int a))
 
@@ -90,7 +86,7 @@ pub equal_sym : (p : Settings) (a b : Cell) → are_equal p a b ≡ are_equal p 
 equal_sym p a b =
     let u = in_units p a in
     let v = in_units p b in
-    equal_in_units p a b ∙ same_truth (not (is_null v) && same_cell u v) (not (is_null u) && same_cell v u) (turned u v) (turned v u) ∙ sym (equal_in_units p b a)
+    equal_in_units p a b ∙ same_tests (not (is_null v) && same_cell u v) (not (is_null u) && same_cell v u) (turned u v) (turned v u) ∙ sym (equal_in_units p b a)
 
 -- ---- keys
 module _ (p : Settings) (small : p.scale ≤ 9) where

@@ -1,9 +1,9 @@
 -- What a look-up finds is what a conjunction of equalities keeps.
-use Rattle.std.proofs.Common.{◌≡◌, ℕ, zero, suc, ◌+◌, ◌-◌, ◌<◌, ◌≤◌, Bool, true, false, cond, not, ◌&&◌, ◌||◌, List, [], ◌∷◌, length, map, Option, Some, None, refl, sym, ap, ◌∙◌, subst, true≢false, arith}
+use Rattle.std.proofs.Common.{◌≡◌, ℕ, zero, suc, ◌+◌, ◌-◌, ◌<◌, ◌≤◌, Bool, true, false, cond, not, ◌&&◌, ◌||◌, List, [], ◌∷◌, length, map, Some, None, refl, sym, ap, ◌∙◌, subst, true≢false, arith}
 use Rattle.std.specs.Prelude.{◌==◌, slice_get, slice_index}
 use Rattle.std.specs.List.{AllByRecursion, filter, list_all, list_any}
-use Rattle.vtl_decimal.specs.declared.number.Fault.{Fault}
-use Rattle.vtl_cell.specs.Outcome.{fault_in, faults_by, join}
+use Rattle.vtl_lists.proofs.Filters.{filter_implied}
+use Rattle.vtl_cell.specs.Outcome.{fault_in}
 use Rattle.vtl_cell.specs.Row.{Row, same_row}
 use Rattle.vtl_decimal.specs.Settings.{Settings}
 use Rattle.vtl_rows.specs.Gathered.{part_at}
@@ -72,10 +72,6 @@ any_kept t (j ∷ js) = go (t j) (any_kept t js)
     go true e = sym (ap not (other_number (length (j ∷ filter t js)) 0 (λ s. omega (arith, s))))
     go false e = e
 
-pub no_faults : {X : Type 0} (f : X → Option Fault) → ((x : X) → f x ≡ None) → (xs : List X) → faults_by f xs ≡ None
-no_faults f h [] = refl
-no_faults f h (x ∷ xs) = λ i. join (h x i) (no_faults f h xs i)
-
 -- ---- tables that are held
 pub ranged : (p : Settings) (held : NamedTables) → IsLawful (base_held p held) → (t : Listed) → IsHeld held t → AreOfProfile p t.rows
 ranged p held lawful t h = h p lawful.ranged
@@ -100,16 +96,6 @@ module _ (p : Settings) (own : Listed) (lead : ℕ) (table : Listed) (keys : Lis
       ∙ found_is p small own.rows own_is (row_at table.rows number) (ranged_row p table.rows table_is number) keys t h
 
 -- ---- the look-up of conditions
-
--- a stronger test keeps the same of what a weaker one keeps
-pub filter_implied : {X : Type 0} (t u : X → Bool) → ((x : X) → u x ≡ true → t x ≡ true) → (xs : List X) → filter u (filter t xs) ≡ filter u xs
-filter_implied t u h [] = refl
-filter_implied t u h (x ∷ xs) = go (t x) (u x) refl refl (filter_implied t u h xs)
-  where
-    go : (d e : Bool) → t x ≡ d → u x ≡ e → filter u (filter t xs) ≡ filter u xs → filter u (cond d (x ∷ filter t xs) (filter t xs)) ≡ cond e (x ∷ filter u xs) (filter u xs)
-    go true e p q ih = ap (λ a. cond a (x ∷ filter u (filter t xs)) (filter u (filter t xs))) q ∙ ap (λ l. cond e (x ∷ l) l) ih
-    go false true p q ih = absurd (true≢false (sym (h x q) ∙ p))
-    go false false p q ih = ih
 
 module _ (p : Settings) (s : Sourced) (es : List Exp) (l : JoinLookup) (lead : ℕ) (own table : Listed) (keys : List KeyPair)
     (lawful : IsLawful (base_held p s.held)) (within : lead + 1 < length s.sources) (own_got : slice_get (parts_of s.sources) (length s.sources - 1) ≡ Some own) (own_held : IsHeld s.held own)

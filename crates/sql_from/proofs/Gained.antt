@@ -5,6 +5,7 @@ use Rattle.std.specs.List.{filter, flat_map, list_any}
 use Rattle.std.proofs.lemmas.List.{append-nil, map-append, take_more}
 use Rattle.std.proofs.lemmas.List.Elements.{filter-append}
 use Rattle.std.proofs.lemmas.List.Folds.{list_any-append}
+use Rattle.vtl_lists.proofs.Tests.{or_false}
 use Rattle.vtl_decimal.specs.declared.number.Fault.{Fault}
 use Rattle.vtl_decimal.specs.declared.number.Fault.TheVariants.{DivZero, Range}
 use Rattle.vtl_cell.specs.Outcome.{Outcome, fault_in, faults_by, join}
@@ -20,7 +21,7 @@ use Rattle.sql_from.specs.Gains.{AreMarked, Gains, Tries}
 use Rattle.sql_from.specs.Joins.{Test, fault_of, from_left, kept_fault, kept_tuples, numbers_to, pairs_with, passes, told, unmarked_to, with_number}
 use Rattle.sql_from.specs.declared.pairs.Walked.{Walked}
 use Rattle.sql_from.proofs.Marks.{mark_past, mark_set}
-use Rattle.sql_from.proofs.Walks.{faults_by_more, flat_more, left_made, one_number, or_false, told_fault, told_true}
+use Rattle.sql_from.proofs.Walks.{faults_by_more, flat_more, left_made, one_number, told_fault, told_true}
 
 -- ---- tuples
 

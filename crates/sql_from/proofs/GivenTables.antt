@@ -3,13 +3,13 @@ use Rattle.std.proofs.Common.{◌≡◌, ℕ, suc, ◌+◌, Bool, true, false, c
 use Rattle.std.specs.Prelude.{is_some, option_map, ◌&&◌}
 use Rattle.std.specs.List.{AllByRecursion, list_all}
 use Rattle.std.proofs.lemmas.List.{map-append}
+use Rattle.std.proofs.lemmas.Bool.{and_parts}
 use Rattle.vtl_decimal.specs.Settings.{Settings}
 use Rattle.vtl_text.specs.Texts.{same_text}
 use Rattle.vtl_cell.specs.Kinds.{same_kind}
 use Rattle.vtl_cell.specs.Row.{Row}
 use Rattle.vtl_cell.specs.declared.kind.Kind.{Kind}
 use Rattle.vtl_cell.specs.declared.kind.Kind.TheVariants as k
-use Rattle.vtl_cell.proofs.Rows.{split_and}
 use Rattle.vtl_rows.specs.Named.{NamedTables, table_of}
 use Rattle.vtl_rows.specs.Tables.{Listed, column_at}
 use Rattle.vtl_rows.specs.declared.column.Column.{Column as TableColumn}
@@ -26,13 +26,13 @@ use Rattle.sql_meaning.proofs.Lists.{under}
 use Rattle.sql_meaning.proofs.Profiled.{dated_is, source_is}
 use Rattle.sql_meaning.proofs.SeriesColumns.{given_columns, series_columns}
 use Rattle.sql_meaning.proofs.SeriesRows.{series_all}
+use Rattle.sql_meaning.proofs.WindowKinds.{same_text-is}
 use Rattle.sql_eval.specs.Origins.{IsSeriesOf, rows_at, rows_by}
 use Rattle.sql_eval.specs.declared.origin.Origin.{Origin}
 use Rattle.sql_eval.specs.declared.origin.SeriesPlaces.{SeriesPlaces}
 use Rattle.sql_from.specs.Given.{filled}
 use Rattle.sql_from.specs.Held.{IsHeld, base_held, columns_held, rows_held, tables_held}
 use Rattle.sql_from.specs.Sources.{given_table, or_nothing, series_table, table_given, table_named}
-use Rattle.sql_from.proofs.Named.{same_text-is}
 use Rattle.sql_from.proofs.Sited.{columns_are}
 
 -- ---- the table of a name
@@ -95,13 +95,13 @@ all_entries : (t : Listed) (names : List Text) → list_all (λ name. is_some (v
     → map column_entry (map (λ name. column_at t.columns (place_among (columns_held t) name)) names) ≡ map (entry_named (columns_held t)) names
 all_entries t [] known = refl
 all_entries t (name ∷ names) known =
-    let parts = split_and (is_some (value_among (columns_held t) name)) (list_all (λ name. is_some (value_among (columns_held t) name)) names) known in
+    let parts = and_parts (is_some (value_among (columns_held t) name)) (list_all (λ name. is_some (value_among (columns_held t) name)) names) known in
     λ i. entry_at t.columns name parts.0 i ∷ all_entries t names parts.1 i
 
 table_columns : (o : Option Series) (t : Listed) → maybe_series_fits (columns_held t) o ≡ true → columns_within (columns_held t) o ≡ columns_held (given_table o t)
 table_columns None t fits = refl
 table_columns (Some s) t fits =
-    let known = (split_and (list_all (λ name. is_some (value_among (columns_held t) name)) (series_names s)) (not (repeats (series_names s)) && same_kind (or_null (value_among (columns_held t) s.on)) k.Period) fits).0 in
+    let known = (and_parts (list_all (λ name. is_some (value_among (columns_held t) name)) (series_names s)) (not (repeats (series_names s)) && same_kind (or_null (value_among (columns_held t) s.on)) k.Period) fits).0 in
     series_columns (columns_held t) s fits ∙ sym (all_entries t (series_names s) known)
 
 pub source_columns_are : (held : NamedTables) (s : Source) → IsSome (columns_of (tables_held held) s.table) → maybe_series_fits (columns_named (tables_held held) s.table) s.series ≡ true

@@ -4,17 +4,13 @@ use Rattle.std.specs.Prelude.{◌==◌}
 use Rattle.std.proofs.lemmas.Grind.{get_or-set_at}
 use Rattle.std.proofs.lemmas.List.{get_or-set_other}
 use Rattle.std.proofs.lemmas.Bool.{cases_eq}
-use Rattle.sql_from.proofs.Walks.{or_false}
+use Rattle.vtl_lists.proofs.Tests.{or_false, or_true}
 
 pub same_number : (a b : ℕ) → a ≡ b → (a == b) ≡ true
 same_number a b e = grind arith
 
 pub other_number : (a b : ℕ) → a ≢ b → (a == b) ≡ false
 other_number a b e = grind arith
-
-or_true : (b : Bool) → (b || true) ≡ true
-or_true true = refl
-or_true false = refl
 
 pub mark_set : (met : List Bool) (last : ℕ) → last < length met → (j : ℕ) → get_or (set met last true) j false ≡ (get_or met j false || (last == j))
 mark_set met last h j = go (cases_eq last j)

@@ -1,11 +1,10 @@
 -- Tuples of numbers stand for rows of FROM: a join of tuples is the join of the rows.
-use Rattle.std.proofs.Common.{◌≡◌, ℕ, zero, suc, ◌+◌, ◌<◌, List, [], ◌∷◌, ◌++◌, Bool, true, false, cond, not, ◌||◌, map, length, length-append, append_assoc, Option, refl, sym, ap, ◌∙◌, arith, replicate}
+use Rattle.std.proofs.Common.{◌≡◌, ℕ, zero, suc, ◌+◌, ◌<◌, List, [], ◌∷◌, ◌++◌, Bool, true, false, cond, not, ◌||◌, map, length, length-append, append_assoc, refl, sym, ap, ◌∙◌, arith, replicate}
 use Rattle.std.specs.List.{AllByRecursion, filter, flat_map, range_with_len}
 use Rattle.std.proofs.lemmas.List.{append-nil, length-replicate, map-append, replicate-append-replicate}
 use Rattle.std.proofs.lemmas.List.FromFn.{fill_by_all}
 use Rattle.vtl_cell.specs.declared.cell.Cell.{Cell}
 use Rattle.vtl_cell.specs.declared.cell.Cell.TheVariants as c
-use Rattle.vtl_decimal.specs.declared.number.Fault.{Fault}
 use Rattle.vtl_cell.specs.Outcome.{Outcome, fault_in, faults_by, join}
 use Rattle.vtl_cell.specs.Outcomes.{is_true}
 use Rattle.vtl_cell.specs.Row.{Row, column_of}
@@ -17,6 +16,7 @@ use Rattle.sql_tree.specs.declared.word_groups.JoinKind.TheVariants as joining
 use Rattle.sql_meaning.specs.From.{beside, is_met, joined_by, joined_rows, nulls, or_alone, pairs, pairs_by, partners, partners_or_alone, unmet}
 use Rattle.sql_meaning.proofs.SourceKinds.{joined_all, pairs_all}
 use Rattle.sql_meaning.proofs.UpToOrder.{faults_by-append}
+use Rattle.sql_meaning.proofs.UnionParts.{faults_mapped}
 use Rattle.sql_from.specs.Joins.{crossed_tuples, fault_of, joined_tuples, kept_tuples, marks_of, numbers_to, pairs_fault, passes, singles, with_number}
 use Rattle.sql_from.specs.Rows.{combined, part, places_of, width_of}
 use Rattle.sql_from.specs.Sources.{IsWide}
@@ -124,10 +124,6 @@ faults_of_pairs f (x ∷ xs) js = (λ i. join (one js i) (faults_of_pairs f xs j
     one [] = refl
     one (k ∷ ks) = ap (join (fault_of f x k)) (one ks)
 
-pub faults_through : {X Y : Type 0} (f : Y → Option Fault) (h : X → Y) (xs : List X) → faults_by (λ x. f (h x)) xs ≡ faults_by f (map h xs)
-faults_through f h [] = refl
-faults_through f h (x ∷ xs) = ap (join (f (h x))) (faults_through f h xs)
-
 module _ (ts : List Listed) (u : Listed) (rows_wide : IsWide u) (v : Row → Outcome Cell) where
   abbrev more : List Listed
   more = ts ++ u ∷ []
@@ -160,7 +156,7 @@ module _ (ts : List Listed) (u : Listed) (rows_wide : IsWide u) (v : Row → Out
 
   pub step_faults : (xs : List (List ℕ)) → AllByRecursion IsTuple xs → pairs_fault at (length u.rows) xs ≡ faults_by (λ r. fault_in (v r)) (pairs (map (combined ts) xs) u.rows)
   step_faults xs all =
-      faults_of_pairs at xs (numbers_to (length u.rows)) ∙ faults_through (λ r. fault_in (v r)) (combined more) (pairs_by with_number xs (numbers_to (length u.rows)))
+      faults_of_pairs at xs (numbers_to (length u.rows)) ∙ faults_mapped (λ r. fault_in (v r)) (combined more) (pairs_by with_number xs (numbers_to (length u.rows)))
       ∙ ap (faults_by (λ r. fault_in (v r))) (pairs_mean xs all (numbers_to (length u.rows)) ∙ ap (pairs (map (combined ts) xs)) (parts_all u rows_wide))
 
   pub cross_means : (xs : List (List ℕ)) → AllByRecursion IsTuple xs → map (combined more) (crossed_tuples (length u.rows) xs) ≡ pairs (map (combined ts) xs) u.rows

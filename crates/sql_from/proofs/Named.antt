@@ -1,10 +1,8 @@
 -- Columns by name, found as in a list.
-use Rattle.std.proofs.Common.{◌≡◌, ℕ, suc, ◌+◌, ◌<◌, List, [], ◌∷◌, ◌++◌, map, length, get_or, take, Bool, true, false, cond, ◌||◌, Option, Some, None, IsSome, arith, eqb-true, refl, sym, ap, ◌∙◌, subst}
+use Rattle.std.proofs.Common.{◌≡◌, ℕ, suc, ◌+◌, ◌<◌, List, [], ◌∷◌, ◌++◌, map, length, get_or, take, Bool, true, false, cond, ◌||◌, Option, Some, None, IsSome, arith, refl, sym, ap, ◌∙◌, subst}
 use Rattle.std.specs.List.{list_any}
 use Rattle.std.specs.Map.{keys_of}
 use Rattle.std.specs.Option.{option_map}
-use Rattle.std.specs.Prelude.{nat_eq}
-use Rattle.std.proofs.lemmas.Bool.{and_parts}
 use Rattle.std.proofs.lemmas.List.{map-append, take_more}
 use Rattle.vtl_text.specs.Texts.{same_text}
 use Rattle.vtl_cell.specs.declared.kind.Kind.{Kind}
@@ -12,6 +10,7 @@ use Rattle.vtl_rows.specs.declared.column.Column.{Column}
 use Rattle.sql_tree.specs.Trees.{Text}
 use Rattle.sql_check_parts.specs.Scopes.{Columns, Named, numbered, value_among}
 use Rattle.sql_meaning.specs.Tables.{column_entry}
+use Rattle.sql_meaning.proofs.WindowKinds.{same_text-is}
 use Rattle.sql_from.specs.Columns.{AreFound}
 use Rattle.sql_from.specs.declared.columns.ColumnAt.{ColumnAt}
 
@@ -39,15 +38,6 @@ numbered_last {V = V} first [] key v = let e : first ≡ first + 0 = omega arith
 numbered_last {V = V} first (e ∷ es) key v =
     let s : suc first + length es ≡ first + suc (length es) = omega arith in
     ap (λ l. (e.0, first) ∷ l) (numbered_last (suc first) es key v ∙ ap (λ (n : ℕ). numbered (suc first) es ++ (key, n) ∷ []) s)
-
-pub same_text-is : (x y : Text) → same_text x y ≡ true → x ≡ y
-same_text-is [] [] e = refl
-same_text-is [] (j ∷ y) e = cc
-same_text-is (i ∷ x) [] e = cc
-same_text-is (i ∷ x) (j ∷ y) e =
-    let parts = and_parts (nat_eq i j) (same_text x y) e in
-    let rest = same_text-is x y parts.1 in
-    λ m. eqb-true i j parts.0 m ∷ rest m
 
 -- ---- one column more
 module _ (es : Columns) (named : Named ColumnAt) (key : Text) (kind : Kind) (before : AreFound es named) where

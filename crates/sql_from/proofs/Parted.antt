@@ -3,6 +3,7 @@ use Rattle.std.proofs.Common.{◌≡◌, ℕ, zero, suc, ◌+◌, ◌<◌, ◌�
 use Rattle.std.specs.Prelude.{slice_get, slice_index}
 use Rattle.std.specs.List.{range_with_len}
 use Rattle.std.proofs.lemmas.List.{append-nil, length-map, map-append}
+use Rattle.vtl_lists.proofs.Filters.{range_more}
 use Rattle.vtl_cell.specs.declared.cell.Cell.{Cell}
 use Rattle.vtl_cell.specs.declared.cell.Cell.TheVariants as c
 use Rattle.vtl_cell.specs.Row.{column_of}
@@ -10,7 +11,6 @@ use Rattle.vtl_rows.specs.Gathered.{part_at, picked, picked_cell}
 use Rattle.vtl_rows.specs.Places.{row_at}
 use Rattle.vtl_rows.specs.Tables.{Listed}
 use Rattle.vtl_rows.specs.declared.gather.Pick.{Pick}
-use Rattle.vtl_rows.proofs.Stable.{one_number_more}
 use Rattle.sql_from.specs.Joins.{marks_of}
 use Rattle.sql_from.specs.Rows.{combined, picks_at, picks_from, width_of}
 
@@ -19,7 +19,7 @@ pub picks_more : (k j : ℕ) (old now then : List Pick) → now ≡ old ++ picks
 picks_more k j old now then e h =
     let z : 0 + j ≡ j = omega arith in
     let more : picks_at k (j + 1) ≡ picks_at k j ++ record { part = k; column = j } ∷ [] =
-    ap (map (λ i. record { part = k; column = i })) (one_number_more 0 j ∙ ap (λ i. range_with_len 0 j ++ i ∷ []) z) ∙ map-append (λ i. record { part = k; column = i }) (range_with_len 0 j) (j ∷ []) in
+    ap (map (λ i. record { part = k; column = i })) (range_more 0 j ∙ ap (λ i. range_with_len 0 j ++ i ∷ []) z) ∙ map-append (λ i. record { part = k; column = i }) (range_with_len 0 j) (j ∷ []) in
     h ∙ ap (λ l. l ++ record { part = k; column = j } ∷ []) e ∙ append_assoc old (picks_at k j) (record { part = k; column = j } ∷ []) ∙ ap (λ l. old ++ l) (sym more)
 
 -- ---- picks

@@ -10,7 +10,7 @@ use Rattle.vtl_cell.specs.declared.kind.Kind.{Kind}
 use Rattle.sql_tree.specs.Trees.{Text}
 use Rattle.sql_tree.specs.declared.parts.Column.{Column}
 use Rattle.sql_tree.specs.declared.parts.Series.{Series}
-use Rattle.sql_check_parts.specs.Scopes.{Columns, Named, add_column, columns_within, is_among, maybe_within, numbered, or_null, row_of, series_names, value_among}
+use Rattle.sql_check_parts.specs.Scopes.{Columns, Named, add_column, columns_within, is_among, numbered, or_null, row_of, series_names, value_among}
 use Rattle.sql_meaning.specs.Tables.{place_among}
 use Rattle.sql_meaning.specs.Values.{inner_scope, place_in}
 use Rattle.sql_from.specs.Columns.{and_number}
@@ -91,7 +91,3 @@ module _ (alias : Text) (x : Column) where
       go : (b : Bool) → unwrap_or (option_and_then (λ named. value_among named x.name) (cond b (Some (numbered 0 columns)) None)) (length (row_of {V = Kind} ((alias, columns) ∷ []))) ≡ cond b (place_among columns x.name) (length columns)
       go true = ap (unwrap_or (value_among (numbered 0 columns) x.name)) (alone_wide columns) ∙ number_is columns x.name
       go false = alone_wide columns
-
-pub none_within : (o : Option Series) → maybe_within o None ≡ None
-none_within None = refl
-none_within (Some s) = refl

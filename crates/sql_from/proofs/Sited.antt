@@ -1,6 +1,6 @@
 -- What the sources of a select know of themselves.
-use Rattle.std.proofs.Common.{◌≡◌, ℕ, zero, suc, ◌+◌, ◌<◌, ◌≤◌, List, [], ◌∷◌, ◌++◌, map, length, Bool, true, false, cond, ◌||◌, Option, Some, None, IsSome, arith, refl, sym, ap, ◌∙◌, subst, length-append}
-use Rattle.std.specs.List.{AllByRecursion, list_any}
+use Rattle.std.proofs.Common.{◌≡◌, ℕ, zero, suc, ◌+◌, ◌<◌, ◌≤◌, [], ◌∷◌, ◌++◌, map, length, Bool, true, false, cond, ◌||◌, Option, Some, None, IsSome, arith, refl, sym, ap, ◌∙◌, subst, length-append}
+use Rattle.std.specs.List.{list_any}
 use Rattle.std.specs.Map.{keys_of}
 use Rattle.std.specs.Option.{option_map}
 use Rattle.std.specs.Prelude.{IfSome, option_and_then, slice_get, unwrap_or}
@@ -48,15 +48,6 @@ sited_last n [] alias s all here = let e : n + 0 ≡ n = omega arith in (here �
 sited_last n (u ∷ ss) alias s all here =
     let e : n + (length u.1.table.now.columns + width_of (parts_of (map source_of ss))) ≡ n + length u.1.table.now.columns + width_of (parts_of (map source_of ss)) = omega arith in
     (all.0, sited_last (n + length u.1.table.now.columns) ss alias s all.1 (here ∙ e))
-
-pub all_last : {X : Type 0} (P : X → Type 0) (xs : List X) (x : X) → AllByRecursion P xs → P x → AllByRecursion P (xs ++ x ∷ [])
-all_last P [] x all h = (h, tt)
-all_last P (y ∷ xs) x all h = (all.0, all_last P xs x all.1 h)
-
-pub one_of : {X : Type 0} (P : X → Type 0) (xs : List X) (i : ℕ) (x : X) → AllByRecursion P xs → slice_get xs i ≡ Some x → P x
-one_of P [] i x all e = cc
-one_of P (y ∷ xs) zero x all e = let s : y ≡ x = cc in subst P s all.0
-one_of P (y ∷ xs) (suc i) x all e = one_of P xs i x all.1 e
 
 -- ---- look-ups
 

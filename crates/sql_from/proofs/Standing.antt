@@ -1,5 +1,5 @@
 -- What one source more stands for.
-use Rattle.std.proofs.Common.{◌≡◌, ℕ, suc, true, ◌+◌, ◌-◌, ◌<◌, List, [], ◌∷◌, ◌++◌, cond, map, length, Option, Some, None, Ok, Err, IfOk, IsSome, Result, refl, sym, ap, ◌∙◌, subst, length-append, arith}
+use Rattle.std.proofs.Common.{◌≡◌, ℕ, suc, true, ◌+◌, ◌-◌, ◌<◌, List, [], ◌∷◌, ◌++◌, cond, map, length, Option, Some, None, Ok, Err, IsSome, refl, sym, ap, ◌∙◌, subst, length-append, arith}
 use Rattle.std.specs.Borrow.{Bor}
 use Rattle.std.specs.List.{AllByRecursion, filter}
 use Rattle.std.specs.Prelude.{fold}
@@ -35,6 +35,7 @@ use Rattle.sql_meaning.specs.Values.{View, at_rows, value}
 use Rattle.sql_meaning.specs.declared.plan.Early.{Early}
 use Rattle.sql_meaning.proofs.SourceKinds.{source_added}
 use Rattle.sql_meaning.proofs.UpToOrder.{join_assoc, join_none}
+use Rattle.sql_meaning.proofs.UnionParts.{faults_mapped}
 use Rattle.sql_from.specs.Conditions.{all_of, conditions_at, due_at, filtered, kind_of, on_of}
 use Rattle.sql_from.specs.Held.{base_held, columns_held, tables_held}
 use Rattle.sql_from.specs.Joins.{crossed_tuples, joined_tuples, kept_fault, kept_tuples, marks_of, numbers_to, pairs_fault, singles}
@@ -46,7 +47,7 @@ use Rattle.sql_from.specs.Standing.{MayLookUp, StandsFor, condition_at, rows_for
 use Rattle.sql_from.specs.Steps.{is_listed}
 use Rattle.sql_from.specs.Tuples.{Numbered}
 use Rattle.sql_from.proofs.Marks.{other_number, same_number}
-use Rattle.sql_from.proofs.Means.{cross_means, crossed_wide, faults_through, joined_wide, kept_means, marks_many, single_rows, singles_wide, step_faults, step_means}
+use Rattle.sql_from.proofs.Means.{cross_means, crossed_wide, joined_wide, kept_means, marks_many, single_rows, singles_wide, step_faults, step_means}
 use Rattle.sql_from.proofs.Parted.{get_behind}
 use Rattle.sql_from.proofs.GivenTables.{source_columns_are, source_rows_are}
 use Rattle.sql_from.proofs.Sited.{row_wide}
@@ -187,7 +188,7 @@ module _ (p : Settings) (s : Sourced) (t : Numbered) (seen : Option Fault) (f : 
         whole = subst (AllByRecursion (λ x. length x ≡ length s.sources)) (sym is) (AllByRecursion-filter (λ x. length x ≡ length s.sources) (λ x. is_true (condition_at p s e x)) t.tuples before.whole);
         wide = before.wide;
         rows = ap (map h) is ∙ kept_means h v t.tuples ∙ ap (filter (λ r. is_true (v r))) before.rows;
-        fault = fault ∙ (λ i. join (before.fault i) (faults_through (λ r. fault_in (v r)) h t.tuples i)) ∙ ap (λ rows. join f.fault (faults_by (λ r. fault_in (v r)) rows)) before.rows;
+        fault = fault ∙ (λ i. join (before.fault i) (faults_mapped (λ r. fault_in (v r)) h t.tuples i)) ∙ ap (λ rows. join f.fault (faults_by (λ r. fault_in (v r)) rows)) before.rows;
       }
 
 -- the same tuples and the same fault
@@ -337,10 +338,6 @@ looked_up None e = cc
 looked_up (Some x) e = refl
 
 -- ---- answers
-
-pub if_ok : {A E : Type 0} (r : Result A E) (P Q : A → Type 0) → ((x : A) → P x → Q x) → IfOk r P → IfOk r Q
-if_ok (Ok x) P Q h k = h x k
-if_ok (Err e) P Q h k = k
 
 pub answered_rows : (s : Sourced) (rows t : Numbered) (seen : Option Fault) (m : Outcome (List Row)) → Ok t ≡ answer_of (unless seen rows) → unless seen (rows_for s rows) ≡ m → m ≡ Ok (rows_for s t)
 answered_rows s rows t None m e is = let same : t ≡ rows = cc in sym is ∙ ap (λ (n : Numbered). Ok (rows_for s n)) (sym same)

@@ -12,6 +12,7 @@ use Rattle.sql_tree.specs.declared.word_groups.JoinKind.{JoinKind}
 use Rattle.sql_tree.specs.declared.word_groups.JoinKind.TheVariants as joining
 use Rattle.sql_meaning.specs.From.{partners}
 use Rattle.sql_meaning.proofs.Lists.{all_parted}
+use Rattle.sql_meaning.proofs.IndexedJoins.{no_faults}
 use Rattle.sql_from.specs.Conditions.{conditions_at}
 use Rattle.sql_from.specs.Joins.{Test, fault_of, in_turn, joined_tuples, kept_fault, kept_tuples, numbers_to, pairs_fault, passes, with_number}
 use Rattle.sql_from.specs.Sources.{Sourced}
@@ -20,10 +21,6 @@ use Rattle.sql_from.specs.Gains.{IsJoined}
 use Rattle.sql_from.specs.declared.pairs.Walked.{Walked}
 use Rattle.vtl_scalar.specs.Seen.{seen_of}
 use Rattle.sql_from.proofs.Turns.{all_kept, no_fault_kept, turn_fault, turn_true}
-
-none_by : {X : Type 0} (f : X → Option Fault) → ((x : X) → f x ≡ None) → (xs : List X) → faults_by f xs ≡ None
-none_by f h [] = refl
-none_by f h (x ∷ xs) = λ i. join (h x i) (none_by f h xs i)
 
 if_none : (b : Bool) (fault : Option Fault) → fault ≡ None → cond b fault None ≡ None
 if_none true fault e = e
@@ -84,13 +81,13 @@ module _ (p : Settings) (s : Sourced) (es ds : List Exp) where
   module _ (sound : (x : List ℕ) → AllByRecursion (λ e. fault_in (condition_at p s e x) ≡ None) (es ++ ds)) where
     pub no_pairs_fault : (count : ℕ) (xs : List (List ℕ)) → pairs_fault on count xs ≡ None
     no_pairs_fault count xs =
-        none_by (λ x. faults_by (fault_of on x) (numbers_to count)) (λ x. none_by (fault_of on x) (λ j. turns_sound p s es (with_number x j) (all_parted (λ e. fault_in (condition_at p s e (with_number x j)) ≡ None) es ds (sound (with_number x j))).0) (numbers_to count)) xs
+        no_faults (λ x. faults_by (fault_of on x) (numbers_to count)) (λ x. no_faults (fault_of on x) (λ j. turns_sound p s es (with_number x j) (all_parted (λ e. fault_in (condition_at p s e (with_number x j)) ≡ None) es ds (sound (with_number x j))).0) (numbers_to count)) xs
 
     pub no_kept_fault : (xs : List (List ℕ)) → kept_fault kept xs ≡ None
-    no_kept_fault xs = none_by (λ x. fault_in (kept x)) (λ x. turns_sound p s ds x (all_parted (λ e. fault_in (condition_at p s e x) ≡ None) es ds (sound x)).1) xs
+    no_kept_fault xs = no_faults (λ x. fault_in (kept x)) (λ x. turns_sound p s ds x (all_parted (λ e. fault_in (condition_at p s e x) ≡ None) es ds (sound x)).1) xs
 
     pub no_fault_of_all : (count : ℕ) (xs : List (List ℕ)) → pairs_fault all count xs ≡ None
-    no_fault_of_all count xs = none_by (λ x. faults_by (fault_of all x) (numbers_to count)) (λ x. none_by (fault_of all x) (λ j. turns_sound p s (es ++ ds) (with_number x j) (sound (with_number x j))) (numbers_to count)) xs
+    no_fault_of_all count xs = no_faults (λ x. faults_by (fault_of all x) (numbers_to count)) (λ x. no_faults (fault_of all x) (λ j. turns_sound p s (es ++ ds) (with_number x j) (sound (with_number x j))) (numbers_to count)) xs
 
     -- a join by both, of which all is kept, is one by the first with the others as a filter
     pub together : (marks : List ℕ) (count : ℕ) (before behind : Walked) → IsJoined joining.Inner all (in_turn []) marks count before behind → IsJoined joining.Inner on kept marks count before behind

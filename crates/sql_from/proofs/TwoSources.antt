@@ -5,6 +5,7 @@ use Rattle.std.specs.Map.{keys_of}
 use Rattle.std.specs.Prelude.{option_and_then, slice_get, unwrap_or}
 use Rattle.std.proofs.lemmas.List.{length-map}
 use Rattle.std.proofs.lemmas.List.Folds.{list_all-append}
+use Rattle.vtl_lists.proofs.Tests.{or_false, or_true}
 use Rattle.vtl_text.specs.Texts.{same_text}
 use Rattle.vtl_cell.specs.declared.operator.ScalarOp.TheVariants as op
 use Rattle.vtl_decimal.specs.Settings.{Settings}
@@ -24,15 +25,14 @@ use Rattle.sql_check_parts.specs.Scopes.{Named, Scope, found, is_among, numbered
 use Rattle.sql_meaning.specs.Tables.{column_entry}
 use Rattle.sql_check_laws.specs.Selects.{IsSourceTyped}
 use Rattle.sql_meaning.proofs.Lists.{all_parted}
+use Rattle.sql_meaning.proofs.WindowKinds.{same_text-is}
 use Rattle.sql_from.specs.Held.{columns_held, tables_held}
 use Rattle.sql_from.specs.Keys.{IsLinked, are_linked, is_link, linked_count, spot_of, stands_in}
 use Rattle.sql_from.specs.Rows.{picks_from}
 use Rattle.sql_from.specs.Sources.{Sourced, parts_of, scope_held, table_given}
 use Rattle.sql_from.specs.Steps.{JoinsTwo, two_counts}
 use Rattle.sql_from.proofs.Marks.{same_number}
-use Rattle.sql_from.proofs.Named.{same_text-is}
 use Rattle.sql_from.proofs.Standing.{last_counted, scope_more, with_table}
-use Rattle.sql_from.proofs.Walks.{or_false}
 
 -- ---- numbers of columns
 
@@ -63,10 +63,6 @@ module _ (k : ℕ) (rest : List Pick) where
   pick_behind : (a n i : ℕ) → slice_get (picks a n) (n + i) ≡ slice_get rest i
   pick_behind a zero i = let e : 0 + i ≡ i = omega arith in ap (slice_get rest) e
   pick_behind a (suc n) i = let e : suc n + i ≡ suc (n + i) = omega arith in ap (slice_get (picks a (suc n))) e ∙ pick_behind (a + 1) n i
-
-or_true : (b : Bool) → (b || true) ≡ true
-or_true true = refl
-or_true false = refl
 
 -- ---- two sources
 

@@ -4,10 +4,11 @@ use Rattle.std.specs.List.{filter, flat_map, list_any}
 use Rattle.std.proofs.lemmas.Grind.{flat_map-append}
 use Rattle.std.proofs.lemmas.List.{append-nil, take_all, take_more}
 use Rattle.std.proofs.lemmas.List.Folds.{list_any-append}
+use Rattle.vtl_lists.proofs.Filters.{range_more}
+use Rattle.vtl_lists.proofs.Tests.{or_false}
 use Rattle.vtl_cell.specs.declared.cell.Cell.{Cell}
 use Rattle.vtl_decimal.specs.declared.number.Fault.{Fault}
 use Rattle.vtl_cell.specs.Outcome.{Outcome, fault_in, faults_by, join}
-use Rattle.vtl_rows.proofs.Stable.{one_number_more}
 use Rattle.vtl_cell.specs.Outcomes.{is_true}
 use Rattle.sql_meaning.proofs.UpToOrder.{faults_by-append, join_none}
 use Rattle.sql_meaning.specs.From.{or_alone}
@@ -18,11 +19,7 @@ pub faults_by_more : {X : Type 0} (f : X → Option Fault) (xs : List X) (i : �
 faults_by_more f xs i x h = ap (faults_by f) (take_more xs i x h) ∙ faults_by-append f (take i xs) (get_or xs i x ∷ []) ∙ ap (join (faults_by f (take i xs))) (join_none (f (get_or xs i x)))
 
 pub one_number : (j : ℕ) → numbers_to (j + 1) ≡ numbers_to j ++ j ∷ []
-one_number j = one_number_more 0 j ∙ (let e : 0 + j ≡ j = omega arith in ap (λ i. numbers_to j ++ i ∷ []) e)
-
-pub or_false : (b : Bool) → (b || false) ≡ b
-or_false true = refl
-or_false false = refl
+one_number j = range_more 0 j ∙ (let e : 0 + j ≡ j = omega arith in ap (λ i. numbers_to j ++ i ∷ []) e)
 
 module _ (f : List ℕ → Outcome Cell) (x : List ℕ) (j : ℕ) where
   pub any_more : list_any (passes f x) (numbers_to (j + 1)) ≡ (list_any (passes f x) (numbers_to j) || passes f x j)

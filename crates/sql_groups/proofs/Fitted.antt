@@ -12,6 +12,7 @@ use Rattle.vtl_cell.specs.declared.cell.Cell.{Cell}
 use Rattle.vtl_cell.specs.declared.kind.Kind.{Kind}
 use Rattle.vtl_rows.specs.Tables.{cells_at, column_kinds, fits, fits_kinds}
 use Rattle.vtl_rows.specs.declared.column.Column.{Column as TableColumn}
+use Rattle.vtl_rows.proofs.Gathered.{null_is_of}
 use Rattle.vtl_scalar.specs.KindLaws.{HasKind, IsOfKind}
 use Rattle.sql_tree.specs.Trees as tree
 use Rattle.sql_tree.specs.Trees.{Exp, ItemTree, ValueTree}
@@ -29,7 +30,7 @@ use Rattle.sql_meaning.specs.Values.{View, at_groups, place_in, same_column}
 use Rattle.sql_meaning.proofs.ExpressionKinds.{Sees, value_has}
 use Rattle.sql_meaning.proofs.Lists.{all_once, under}
 use Rattle.sql_meaning.proofs.OperatorKinds.{after_if, as_kind_is_of}
-use Rattle.sql_meaning.proofs.SourceKinds.{null_is_of, nulls_fit}
+use Rattle.sql_meaning.proofs.SourceKinds.{nulls_fit}
 use Rattle.sql_meaning.proofs.WindowKinds.{sees_key, sees_rows}
 use Rattle.sql_groups.specs.Resolved.{AreLifted}
 

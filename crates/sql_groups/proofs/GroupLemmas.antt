@@ -1,10 +1,12 @@
 -- Groups of rows as they are laid out: their first rows, their keys and their rows.
-use Rattle.std.proofs.Common.{◌≡◌, ℕ, zero, suc, ◌+◌, ◌<◌, ◌≤◌, Bool, true, false, not, cond, List, [], ◌∷◌, length, get_or, map, filter, refl, sym, ap, ◌∙◌, arith, subst, eqb, eq-eqb, ne_eqb}
+use Rattle.std.proofs.Common.{◌≡◌, ℕ, zero, suc, ◌<◌, Bool, true, false, not, cond, List, [], ◌∷◌, length, get_or, map, filter, refl, sym, ap, ◌∙◌, arith, subst, eqb, eq-eqb, ne_eqb}
 use Rattle.std.specs.List.{AllByRecursion, position_or_len, range_with_len}
 use Rattle.std.specs.Prelude.{slice_index_or}
 use Rattle.std.proofs.lemmas.Bool.{eqb-true}
 use Rattle.std.proofs.lemmas.List.{get_or-map, length-map}
 use Rattle.vtl_lists.proofs.Sorts.{AllByRecursion-filter}
+use Rattle.vtl_lists.proofs.Alls.{all_get, numbers_within}
+use Rattle.vtl_lists.proofs.Filters.{map-filter}
 use Rattle.vtl_cell.specs.Row.{Row, same_row}
 use Rattle.vtl_rows.specs.Places.{row_at}
 use Rattle.vtl_rows.specs.Tables.{cells_at}
@@ -14,7 +16,6 @@ use Rattle.vtl_index.proofs.KeyGroups.{are_leads, keys_once, rows_of_key}
 use Rattle.vtl_index.proofs.Ranges.{all_indexed, none_pass, passing, passing_at, passing_is}
 use Rattle.vtl_tuples.specs.Keys as tuples
 use Rattle.sql_meaning.specs.Groups.{keys_by, rows_with}
-use Rattle.sql_meaning.proofs.Lists.{all_at}
 use Rattle.sql_groups.specs.Grouped.{AreGroups, AreWithin, Grouped, groups_led, rows_at}
 
 -- ---- the first row of a group
@@ -73,20 +74,8 @@ module _ (places : List ℕ) (rows : List Row) (leads : List ℕ) (x : Grouped) 
     key_led = ap key_at (first_stands leads laid.1 g is_there).1 ∙ key_is h
 
 -- ---- numbers of rows
-numbers_within : (a n m : ℕ) → a + n ≤ m → AllByRecursion (λ i. i < m) (range_with_len a n)
-numbers_within a zero m h = tt
-numbers_within a (suc n) m h = (omega (arith, h), numbers_within (a + 1) n m (omega (arith, h)))
-
-filter-map : {X Y : Type 0} (f : X → Y) (p : Y → Bool) (xs : List X) → map f (filter (λ x. p (f x)) xs) ≡ filter p (map f xs)
-filter-map f p [] = refl
-filter-map f p (x ∷ xs) = go (p (f x)) (filter-map f p xs)
-  where
-    go : (b : Bool) → map f (filter (λ y. p (f y)) xs) ≡ filter p (map f xs) → map f (cond b (x ∷ filter (λ y. p (f y)) xs) (filter (λ y. p (f y)) xs)) ≡ cond b (f x ∷ filter p (map f xs)) (filter p (map f xs))
-    go true ih = ap (λ l. f x ∷ l) ih
-    go false ih = ih
-
 passing_rows : (p : Row → Bool) (rows : List Row) → rows_at rows (passing (λ i. p (row_at rows i)) (length rows)) ≡ filter p rows
-passing_rows p rows = filter-map (row_at rows) p (range_with_len 0 (length rows)) ∙ ap (filter p) (all_indexed rows [])
+passing_rows p rows = map-filter (row_at rows) p (range_with_len 0 (length rows)) ∙ ap (filter p) (all_indexed rows [])
 
 every_one : (rows : List Row) → filter (λ r. true) rows ≡ rows
 every_one [] = refl
@@ -179,7 +168,7 @@ module _ (places : List ℕ) (rows : List Row) (x : Grouped) (are : AreGroups pl
   numbers_many = sym (length-map x.numbers (rows_at rows)) ∙ ap length are.rows_are ∙ length-map x.keys (rows_with places rows)
 
   pub group_within : (i : ℕ) → i < length x.keys → AreWithin rows (slice_index_or x.numbers i [])
-  group_within i h = all_at (AreWithin rows) x.numbers i [] (let m = numbers_many in omega (arith, m, h)) are.within
+  group_within i h = all_get (AreWithin rows) x.numbers i [] (let m = numbers_many in omega (arith, m, h)) are.within
 
   pub group_rows : (i : ℕ) → i < length x.keys → rows_at rows (slice_index_or x.numbers i []) ≡ rows_with places rows (row_at x.keys i)
   group_rows i h =

@@ -7,11 +7,10 @@ use Rattle.std.proofs.lemmas.List.{get_or_past, length-map}
 use Rattle.std.proofs.lemmas.List.Elements.{All-from_recursion}
 use Rattle.vtl_cell.specs.Row.{Row, column_of, same_row}
 use Rattle.vtl_decimal.specs.Settings.{Settings}
-use Rattle.vtl_cell.specs.declared.cell.Cell.TheVariants as c
 use Rattle.vtl_cell.specs.declared.kind.Kind.{Kind}
 use Rattle.vtl_cell.specs.declared.kind.Kind.TheVariants as k
 use Rattle.vtl_rows.specs.Tables.{cells_at}
-use Rattle.vtl_index.proofs.Ranges.{all_indexed}
+use Rattle.vtl_rows.proofs.PlacesStay.{cells_stay}
 use Rattle.vtl_index.specs.Leads.{leads_of}
 use Rattle.sql_tree.specs.declared.parts.Column.{Column}
 use Rattle.sql_check_parts.proofs.Places.{found_placed}
@@ -72,12 +71,8 @@ keys_of_profile p (i ∷ is) rows all = all_once same_row (IsRowOfProfile p) (ma
 
 -- ---- keys in their table
 
--- all cells of a row, by their places
-whole_key : (n : ℕ) (r : Row) → length r ≡ n → cells_at (range_with_len 0 n) r ≡ r
-whole_key n r e = ap (λ m. cells_at (range_with_len 0 m) r) (sym e) ∙ all_indexed r c.Null
-
 key_stays : (places : List ℕ) (r : Row) → cells_at (range_with_len 0 (length places)) (cells_at places r) ≡ cells_at places r
-key_stays places r = whole_key (length places) (cells_at places r) (length-map places (λ i. column_of i r))
+key_stays places r = cells_stay (length places) (cells_at places r) (length-map places (λ i. column_of i r))
 
 map_twice : {X Y Z : Type 0} (f : Y → Z) (g : X → Y) (xs : List X) → map f (map g xs) ≡ map (λ x. f (g x)) xs
 map_twice f g [] = refl

@@ -4,6 +4,7 @@ use Rattle.std.specs.Prelude.{zip}
 use Rattle.std.specs.List.{filter}
 use Rattle.std.proofs.lemmas.List.{get_or-map, length-map, take_all, take_more}
 use Rattle.std.proofs.lemmas.Slice.Zip.{get_or-zip, length-zip}
+use Rattle.vtl_lists.proofs.Filters.{filter_true}
 use Rattle.vtl_cell.specs.Conversion.{as_kind}
 use Rattle.vtl_decimal.specs.declared.number.Fault.{Fault}
 use Rattle.vtl_cell.specs.Outcome.{Outcome, after, fault_in, faults_by, join, unless}
@@ -56,10 +57,6 @@ items_done s items kinds i now same past all =
     subst (λ l. AllStand s l now) (take_all i (zip (map item_tree items) kinds) (omega (arith, long, many, same, past))) all
 
 -- ---- a walk over keys
-
-every_one : {X : Type 0} (xs : List X) → filter (λ x. true) xs ≡ xs
-every_one [] = refl
-every_one (x ∷ xs) = ap (λ l. x ∷ l) (every_one xs)
 
 exchanged : (t r u v : Option Fault) → join (join t r) (join u v) ≡ join (join t u) (join r v)
 exchanged t r u v = join_assoc t r (join u v) ∙ ap (join t) (join_swap r u v) ∙ sym (join_assoc t u (join r v))
@@ -121,7 +118,7 @@ module _ (s : GroupSight) (tables : Text → List Row) (members : Row → List R
     test having key = tested s.settings tables having key (members key)
 
     kept_is : (having : Option Exp) (h : Option Resolved) → HavingStands s having h → filter (λ key. passes (test h key)) keys ≡ kept_keys v members having keys
-    kept_is None None e = every_one keys
+    kept_is None None e = filter_true keys
     kept_is None (Some x) e = absurd e
     kept_is (Some t) None e = absurd e
     kept_is (Some t) (Some x) e = λ n. filter (λ key. (kept_where (placed_value s.settings tables (placed_of x) key (members key)) ∙ ap is_true (e tables key (members key))) n) keys

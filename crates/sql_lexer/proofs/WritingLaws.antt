@@ -1,8 +1,8 @@
 -- Written tokens are read back.
-use Rattle.std.proofs.Common.{◌≡◌, ◌≤◌, ◌<◌, ◌+◌, ◌∷◌, ◌++◌, ◌∙◌, ◌==◌, ◌&&◌, ◌||◌, ◌⊎◌, [], ℕ, List, Bool, None, true, false, not, chars, length, append_assoc, append-nil, length-append, sym, ap, subst, refl, arith, inl, inr, eq-eqb}
+use Rattle.std.proofs.Common.{◌≡◌, ◌≤◌, ◌<◌, ◌+◌, ◌∷◌, ◌++◌, ◌∙◌, ◌==◌, ◌||◌, ◌⊎◌, [], ℕ, List, Bool, None, true, false, not, chars, length, append_assoc, append-nil, length-append, sym, ap, subst, refl, arith, inl, inr, eq-eqb}
 use Rattle.std.specs.Char.{is_ascii_digit}
 use Rattle.std.specs.List.{list_all}
-use Rattle.std.proofs.lemmas.Bool.{and_parts, cases_Bool, false≢true}
+use Rattle.std.proofs.lemmas.Bool.{and_parts, cases_Bool, false≢true, and_right, or_from, or_parts}
 use Rattle.std.proofs.lemmas.Bool.Decides.{nat_tests}
 use Rattle.std.proofs.lemmas.Str.{encodes-IsAscii}
 use Rattle.sql_lexer.specs.Lexed.{IsLexed, IsToken, Lexes, at_end, behind_token, is_white_space, kinds_of}
@@ -86,17 +86,13 @@ text-longest : (text rest : List ℕ) → begins_with (λ c. c == 39) rest ≡ f
 text-longest text rest quiet (k.Text v) behind lead e = quoted-longest 39 text rest v behind e quiet
 text-longest text rest quiet other behind lead e = absurd (cc lead)
 
-or-parts : (a b : Bool) → (a || b) ≡ false → (a ≡ false) × (b ≡ false)
-or-parts true b e = absurd (false≢true (sym e))
-or-parts false b e = (refl, e)
-
 no-digit : (rest : List ℕ) → begins_with (λ c. is_ascii_digit c || c == 46) rest ≡ false → begins_with is_ascii_digit rest ≡ false
 no-digit [] quiet = refl
-no-digit (c ∷ rest) quiet = (or-parts (is_ascii_digit c) (c == 46) quiet).0
+no-digit (c ∷ rest) quiet = (or_parts (is_ascii_digit c) (c == 46) quiet).0
 
 no-dot : (rest left : List ℕ) → begins_with (λ c. is_ascii_digit c || c == 46) rest ≡ false → rest ≡ 46 ∷ left → ⊥
 no-dot [] left quiet e = cc e
-no-dot (c ∷ rest) left quiet e = let heads : c ≡ 46 = cc e in false≢true (sym (or-parts (is_ascii_digit c) (c == 46) quiet).1 ∙ eq-eqb c 46 heads)
+no-dot (c ∷ rest) left quiet e = let heads : c ≡ 46 = cc e in false≢true (sym (or_parts (is_ascii_digit c) (c == 46) quiet).1 ∙ eq-eqb c 46 heads)
 
 alone : (kind : TokenKind) (rest : List ℕ) → IsFormed kind → begins_with (goes_on kind) rest ≡ false → IsToken (spelled kind ++ rest) kind rest
 alone (k.Word word) rest formed quiet = word-alone word rest quiet
@@ -129,10 +125,6 @@ apart-last kinds kind (c ∷ text) quiet = apart-here kinds kind c text (quiet c
 abbrev pub is_quiet : ℕ → Bool
 is_quiet c = not (is_keyword_character c || (c == 61 || (c == 62 || (c == 34 || (c == 39 || (is_ascii_digit c || c == 46))))))
 
-and-false : (a b : Bool) → b ≡ false → (a && b) ≡ false
-and-false true b e = e
-and-false false b e = refl
-
 record Quiet (c : ℕ) : Type 0 where
   keyword : is_keyword_character c ≡ false
   equal : (c == 61) ≡ false
@@ -144,25 +136,21 @@ record Quiet (c : ℕ) : Type 0 where
 
 quiet-parts : (c : ℕ) → is_quiet c ≡ true → Quiet c
 quiet-parts c e =
-    let a = or-parts (is_keyword_character c) _ (not-true _ e) in
-    let b = or-parts (c == 61) _ a.1 in
-    let d = or-parts (c == 62) _ b.1 in
-    let f = or-parts (c == 34) _ d.1 in
-    let g = or-parts (c == 39) (is_ascii_digit c || c == 46) f.1 in
-    record { keyword = a.0; equal = b.0; greater = d.0; name = f.0; text = g.0; number = g.1; digit = (or-parts (is_ascii_digit c) (c == 46) g.1).0 }
+    let a = or_parts (is_keyword_character c) _ (not-true _ e) in
+    let b = or_parts (c == 61) _ a.1 in
+    let d = or_parts (c == 62) _ b.1 in
+    let f = or_parts (c == 34) _ d.1 in
+    let g = or_parts (c == 39) (is_ascii_digit c || c == 46) f.1 in
+    record { keyword = a.0; equal = b.0; greater = d.0; name = f.0; text = g.0; number = g.1; digit = (or_parts (is_ascii_digit c) (c == 46) g.1).0 }
   where
     not-true : (b : Bool) → not b ≡ true → b ≡ false
     not-true true h = absurd (false≢true h)
     not-true false h = refl
 
-or-both : (a b : Bool) → a ≡ false → b ≡ false → (a || b) ≡ false
-or-both true b e f = e
-or-both false b e f = f
-
 word-quiet : (word : Word) (c : ℕ) → Quiet c → goes_on (k.Word word) c ≡ false
-word-quiet w.Less c q = or-both (c == 61) (c == 62) q.equal q.greater
+word-quiet w.Less c q = or_from (c == 61) (c == 62) q.equal q.greater
 word-quiet w.Greater c q = q.equal
-word-quiet word c q = and-false (begins_with is_keyword_character (spelling word)) (is_keyword_character c) q.keyword
+word-quiet word c q = and_right (begins_with is_keyword_character (spelling word)) (is_keyword_character c) q.keyword
 
 kind-quiet : (kind : TokenKind) (c : ℕ) → Quiet c → goes_on kind c ≡ false
 kind-quiet (k.Word word) c q = word-quiet word c q

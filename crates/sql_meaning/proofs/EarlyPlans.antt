@@ -1,15 +1,17 @@
 -- A query whose joins on equalities go by indexes, and whose WHERE is tried early where it may be, has the same rows and faults.
-use Rattle.std.proofs.Common.{◌≡◌, ℕ, zero, suc, Bool, true, false, cond, ◌&&◌, ◌||◌, List, [], ◌∷◌, ◌++◌, map, drop, take, length, Option, Some, None, refl, sym, ap, ◌∙◌, subst, true≢false, append_assoc, ◌⊎◌, inl, inr}
+use Rattle.std.proofs.Common.{◌≡◌, ℕ, zero, suc, Bool, true, false, cond, ◌&&◌, ◌||◌, List, [], ◌∷◌, ◌++◌, map, drop, take, length, Option, Some, None, refl, sym, ap, ◌∙◌, subst, append_assoc, ◌⊎◌, inl, inr}
 use Rattle.std.specs.Prelude.{filter, fold, nat_eq}
 use Rattle.std.specs.List.{AllByRecursion, list_all}
 use Rattle.std.specs.Map.{keys_of}
 use Rattle.std.proofs.lemmas.Bool.{and_parts, eqb-true}
 use Rattle.std.proofs.lemmas.List.{append-nil, map-append}
 use Rattle.vtl_lists.proofs.Sorts.{AllByRecursion-filter}
+use Rattle.vtl_lists.proofs.Alls.{all_append}
+use Rattle.vtl_lists.proofs.Filters.{filter_implied, filter_true}
 use Rattle.vtl_cell.specs.Outcome.{faults_by, join, unless}
 use Rattle.vtl_cell.specs.Row.{Row}
 use Rattle.vtl_rows.specs.Tables.{fits_kinds}
-use Rattle.vtl_cell.specs.Kinds.{is_of}
+use Rattle.vtl_rows.proofs.Flats.{fits_count}
 use Rattle.vtl_cell.specs.Outcomes.{Same, is_true}
 use Rattle.vtl_cell.specs.declared.kind.Kind.{Kind}
 use Rattle.vtl_cell.specs.declared.operator.ScalarOp.TheVariants as op
@@ -30,10 +32,10 @@ use Rattle.sql_meaning.specs.Tables.{Base, RowsFit, columns_given, kinds_of, row
 use Rattle.sql_meaning.specs.Values.{View, at_rows}
 use Rattle.sql_meaning.specs.declared.plan.Early.{Early}
 use Rattle.sql_meaning.specs.declared.plan.Indexed.{Indexed}
-use Rattle.sql_meaning.proofs.EarlyTried.{Implied, conjuncts_implied, filter_everything, filter_two, joined_filtered, pairs_filtered}
+use Rattle.sql_meaning.proofs.EarlyTried.{Implied, conjuncts_implied, filter_two, joined_filtered, pairs_filtered}
 use Rattle.sql_meaning.proofs.IndexedJoins.{index_same}
 use Rattle.sql_meaning.proofs.LeftValues.{value_narrow}
-use Rattle.sql_meaning.proofs.Lists.{all_joined, under}
+use Rattle.sql_meaning.proofs.Lists.{under}
 use Rattle.sql_meaning.proofs.Planned.{Same_refl, entries_here, equality_here, joins_by_index, next_behind}
 use Rattle.sql_meaning.proofs.Profiled.{append_is, joined_are, source_is}
 use Rattle.sql_meaning.proofs.SafeValues.{no_faults}
@@ -42,12 +44,6 @@ use Rattle.sql_meaning.proofs.SourceKinds.{first_fits, from_fits, kinds_now, lef
 use Rattle.sql_meaning.proofs.UpToOrder.{join_none}
 
 -- ---- lists
-
-fits_width : (ks : List Kind) (r : Row) → fits_kinds ks r ≡ true → length r ≡ length ks
-fits_width [] [] h = refl
-fits_width [] (v ∷ r) h = cc
-fits_width (x ∷ ks) [] h = cc
-fits_width (x ∷ ks) (v ∷ r) h = ap suc (fits_width ks r (and_parts (is_of x v) (fits_kinds ks r) h).1)
 
 last_one : {X : Type 0} (t : X → Bool) (xs : List X) (x : X) → (list_all t xs && t x) ≡ list_all t (xs ++ x ∷ [])
 last_one t [] x = go (t x)
@@ -66,15 +62,6 @@ taken_more zero [] x rest e = cc
 taken_more zero (y ∷ xs) x rest e = let same : y ≡ x = cc in ap (λ z. z ∷ []) same
 taken_more (suc n) [] x rest e = cc
 taken_more (suc n) (y ∷ xs) x rest e = ap (λ l. y ∷ l) (taken_more n xs x rest e)
-
-filter_implied : {X : Type 0} (t u : X → Bool) → ((x : X) → u x ≡ true → t x ≡ true) → (xs : List X) → filter u (filter t xs) ≡ filter u xs
-filter_implied t u h [] = refl
-filter_implied t u h (x ∷ xs) = go (t x) (u x) refl refl (filter_implied t u h xs)
-  where
-    go : (d e : Bool) → t x ≡ d → u x ≡ e → filter u (filter t xs) ≡ filter u xs → filter u (cond d (x ∷ filter t xs) (filter t xs)) ≡ cond e (x ∷ filter u xs) (filter u xs)
-    go true e p q ih = ap (λ a. cond a (x ∷ filter u (filter t xs)) (filter u (filter t xs))) q ∙ ap (λ l. cond e (x ∷ l) l) ih
-    go false true p q ih = absurd (true≢false (sym (h x q) ∙ p))
-    go false false p q ih = ih
 
 -- the item at a place, if there is one
 one_at : {A : Type 0} (P : A → Type 0) (i : ℕ) (xs : List A) → AllByRecursion P xs → AllByRecursion P (take 1 (drop i xs))
@@ -100,7 +87,7 @@ module _ (s : SelectTree) where
   early_have P n (e ∷ early) all = go (nat_eq e.join n) (early_have P n early all)
     where
       go : (d : Bool) → AllByRecursion P (early_at s early n) → AllByRecursion P (cond d (take 1 (drop e.conjunct (conjuncts_of s.condition))) [] ++ early_at s early n)
-      go true ih = all_joined P (take 1 (drop e.conjunct (conjuncts_of s.condition))) (early_at s early n) (one_at P e.conjunct (conjuncts_of s.condition) all) ih
+      go true ih = all_append P (take 1 (drop e.conjunct (conjuncts_of s.condition))) (early_at s early n) (one_at P e.conjunct (conjuncts_of s.condition) all) ih
       go false ih = ih
 
   early_name : (n : ℕ) (early : List Early) → AllByRecursion (MayBeEarly s) early → AllByRecursion (NamesOnly (aliases_left s n)) (early_at s early n)
@@ -109,7 +96,7 @@ module _ (s : SelectTree) where
     where
       go : (d : Bool) → nat_eq e.join n ≡ d → AllByRecursion (NamesOnly (aliases_left s n)) (early_at s early n) → AllByRecursion (NamesOnly (aliases_left s n)) (cond d (take 1 (drop e.conjunct (conjuncts_of s.condition))) [] ++ early_at s early n)
       go true q ih =
-          all_joined (NamesOnly (aliases_left s n)) (take 1 (drop e.conjunct (conjuncts_of s.condition))) (early_at s early n)
+          all_append (NamesOnly (aliases_left s n)) (take 1 (drop e.conjunct (conjuncts_of s.condition))) (early_at s early n)
           (first_at (NamesOnly (aliases_left s n)) (drop e.conjunct (conjuncts_of s.condition)) (subst (λ m. IsFirst (NamesOnly (aliases_left s m)) (drop e.conjunct (conjuncts_of s.condition))) (eqb-true e.join n q) may.0.conjunct)) ih
       go false q ih = ih
 
@@ -125,7 +112,7 @@ module _ (s : SelectTree) where
 conjuncts_safe : (w : Exp) → is_safe w ≡ true → AllByRecursion (λ e. is_safe e ≡ true) (conjuncts w)
 conjuncts_safe (tree.binary a op.And d) h =
     let two = and_parts (is_safe a) (is_safe d) h in
-    all_joined (λ e. is_safe e ≡ true) (conjuncts a) (conjuncts d) (conjuncts_safe a two.0) (conjuncts_safe d two.1)
+    all_append (λ e. is_safe e ≡ true) (conjuncts a) (conjuncts d) (conjuncts_safe a two.0) (conjuncts_safe d two.1)
 conjuncts_safe e h = (h, tt)
 
 -- ---- rows so far, cut by conjuncts
@@ -143,7 +130,7 @@ module _ (b : Base) (lawful : IsLawful b) where
     ranged : AreOfProfile b.settings f.rows
 
   cut_none : (f : Joined) → cut [] f ≡ f
-  cut_none f = λ i. record { scope = f.scope; rows = filter_everything f.rows i; fault = f.fault }
+  cut_none f = λ i. record { scope = f.scope; rows = filter_true f.rows i; fault = f.fault }
 
   tried : (es more : List Exp) (f : Joined) → Stage f → AllByRecursion (λ e. is_safe e ≡ true) more → fold (try_early (at_rows b f.scope)) (cut es f) more ≡ cut (es ++ more) f
   tried es [] f st safe = ap (λ l. cut l f) (sym (append-nil es))
@@ -179,9 +166,9 @@ module _ (b : Base) (lawful : IsLawful b) where
     hold_same [] names x y h g = refl
     hold_same (e ∷ es) names x y h g =
         let added = source_added b.tables f.scope s known in
-        let width : length (x ++ y) ≡ length (row_of (f.scope ++ (s.alias, columns_given b.tables s) ∷ [])) = fits_width (row_of f.scope ++ theirs) (x ++ y) g ∙ ap length (sym (kinds_now b lawful.fit f.scope s known) ∙ ap row_of added.1) in
+        let width : length (x ++ y) ≡ length (row_of (f.scope ++ (s.alias, columns_given b.tables s) ∷ [])) = fits_count (row_of f.scope ++ theirs) (x ++ y) g ∙ ap length (sym (kinds_now b lawful.fit f.scope s known) ∙ ap row_of added.1) in
         let one : holds (at_rows b next) e (x ++ y) ≡ holds (at_rows b f.scope) e x =
-        ap (λ scope. holds (at_rows b scope) e (x ++ y)) added.1 ∙ ap is_true (value_narrow b f.scope ((s.alias, columns_given b.tables s) ∷ []) x y (fits_width (row_of f.scope) x h) width e names.0) in
+        ap (λ scope. holds (at_rows b scope) e (x ++ y)) added.1 ∙ ap is_true (value_narrow b f.scope ((s.alias, columns_given b.tables s) ∷ []) x y (fits_count (row_of f.scope) x h) width e names.0) in
         λ i. one i && hold_same es names.1 x y h g i
 
     beside_same : (es : List Exp) → AllByRecursion (NamesOnly (keys_of f.scope)) es → (x y : Row) → fits_kinds (row_of f.scope) x ≡ true → fits_kinds theirs y ≡ true → all_hold next es (x ++ y) ≡ all_hold f.scope es x
@@ -298,7 +285,7 @@ module _ (b : Base) (lawful : IsLawful b) where
         let v = at_rows b f.scope in
         let tries = fold (try_early v) (cut es f) new in
         let next = with_join b f j in
-        let named : AllByRecursion (NamesOnly (keys_of f.scope)) all = all_joined (NamesOnly (keys_of f.scope)) es new names (subst (λ ks. AllByRecursion (NamesOnly ks) new) (sym keys) (early_name s n early may)) in
+        let named : AllByRecursion (NamesOnly (keys_of f.scope)) all = all_append (NamesOnly (keys_of f.scope)) es new names (subst (λ ks. AllByRecursion (NamesOnly ks) new) (sym keys) (early_name s n early may)) in
         let lasting : Lasts all (j ∷ js) = both_last es new (j ∷ js) lasts (subst (λ l. Lasts new l) there (early_last s n early may)) in
         let step : cond (is_indexed indexed n) (with_index b tries j) (with_join b tries j) ≡ cut all next =
         by_index tries j n (λ e. equality_here s.joins n j js indexed there equal e)
@@ -309,7 +296,7 @@ module _ (b : Base) (lawful : IsLawful b) where
         added ∙ ap (λ l. l ++ (join_source j).alias ∷ []) keys ∙ ap (λ l. s.source.alias ∷ l) (sym (map-append join_alias (take n s.joins) (j ∷ [])) ∙ ap (map join_alias) (sym (taken_more n s.joins j js there))) in
         let ih = planned_cut js (suc n) next all (next_behind n s.joins j js there) keyed (stage_next f j js st typed safe.0) (subst (λ scope. AreJoinsTyped b.settings b.tables scope js) (sym (scope_next f j)) typed.2) safe.1
         (then_last all j js lasting) (subst (λ scope. AllByRecursion (NamesOnly (keys_of scope)) all) (sym (scope_next f j)) (names_next f st (join_source j) (typed_source f j js typed) all named))
-        (all_joined P es new have (early_have s P n early conjoined)) in
+        (all_append P es new have (early_have s P n early conjoined)) in
         record {
           cutting = record { by = ih.cutting.by; same = ap (λ g. planned_joins b s indexed early (suc n) g js) step ∙ ih.cutting.same; have = ih.cutting.have };
           stage = ih.stage;

@@ -4,6 +4,7 @@ use Rattle.std.specs.Prelude.{filter}
 use Rattle.std.specs.List.{AllByRecursion, flat_map}
 use Rattle.std.proofs.lemmas.List.Elements.{filter-append}
 use Rattle.vtl_lists.proofs.Sorts.{AllByRecursion-filter}
+use Rattle.vtl_lists.proofs.Alls.{all_append}
 use Rattle.vtl_cell.specs.Conversion.{as_kind}
 use Rattle.vtl_cell.specs.Outcome.{Outcome}
 use Rattle.vtl_cell.specs.Row.{Row}
@@ -26,7 +27,7 @@ use Rattle.sql_meaning.specs.Outcomes.{operated}
 use Rattle.sql_meaning.specs.Plans.{conjuncts}
 use Rattle.sql_meaning.specs.Values.{View, value}
 use Rattle.sql_meaning.proofs.IndexedJoins.{truth_stays}
-use Rattle.sql_meaning.proofs.Lists.{all_joined, under}
+use Rattle.sql_meaning.proofs.Lists.{under}
 use Rattle.sql_meaning.proofs.OperatorKinds.{null_stays}
 
 -- ---- filters and joins of lists
@@ -38,10 +39,6 @@ filter_two t u (x ∷ xs) = go (t x) (filter_two t u xs)
     go : (b : Bool) → filter u (filter t xs) ≡ filter (λ y. t y && u y) xs → filter u (cond b (x ∷ filter t xs) (filter t xs)) ≡ cond (b && u x) (x ∷ filter (λ y. t y && u y) xs) (filter (λ y. t y && u y) xs)
     go true ih = ap (λ l. cond (u x) (x ∷ l) l) ih
     go false ih = ih
-
-pub filter_everything : {X : Type 0} (xs : List X) → filter (λ x. true) xs ≡ xs
-filter_everything [] = refl
-filter_everything (x ∷ xs) = ap (λ l. x ∷ l) (filter_everything xs)
 
 -- a list of which all or none passes
 all_pass : {A C : Type 0} (Q : A → Type 0) (u : C → Bool) (f : A → C) (xs : List A) → ((x : A) → Q x → u (f x) ≡ true) → AllByRecursion Q xs → filter u (map f xs) ≡ map f xs
@@ -91,7 +88,7 @@ module _ {A B C : Type 0} (P : A → Type 0) (Q : B → Type 0) (t : A → Bool)
 -- ---- conjuncts
 
 -- AND of two values is true, false or null, and true only where both are
-truth_kept : (p : Settings) (kind : Kind) (a b : Option (Option Bool)) → as_kind p kind (on_truths and_of a b) ≡ Ok (on_truths and_of a b)
+pub truth_kept : (p : Settings) (kind : Kind) (a b : Option (Option Bool)) → as_kind p kind (on_truths and_of a b) ≡ Ok (on_truths and_of a b)
 truth_kept p kind None b = null_stays p kind
 truth_kept p kind (Some a) None = null_stays p kind
 truth_kept p kind (Some a) (Some b) = truth_stays p kind (and_of a b)
@@ -110,7 +107,7 @@ both_true c.Null (c.Bool true) h = cc
 both_true c.Null (c.Bool false) h = cc
 both_true x y h = cc
 
-both_hold : (p : Settings) (kind : Kind) (m n : Outcome Cell) → is_true (operated p kind (m ∷ n ∷ []) op.And) ≡ true → (is_true m ≡ true) × (is_true n ≡ true)
+pub both_hold : (p : Settings) (kind : Kind) (m n : Outcome Cell) → is_true (operated p kind (m ∷ n ∷ []) op.And) ≡ true → (is_true m ≡ true) × (is_true n ≡ true)
 both_hold p kind (Err f) n h = cc
 both_hold p kind (Ok x) (Err f) h = cc
 both_hold p kind (Ok x) (Ok y) h = both_true x y (ap is_true (sym (truth_kept p kind (truth_in x) (truth_in y))) ∙ h)
@@ -122,7 +119,7 @@ Implied v w e = (r : Row) → holds v w r ≡ true → holds v e r ≡ true
 pub conjuncts_implied : (v : View) (w : Exp) → AllByRecursion (Implied v w) (conjuncts w)
 conjuncts_implied v (tree.binary a op.And b) =
     let both : (r : Row) → holds v (tree.binary a op.And b) r ≡ true → (holds v a r ≡ true) × (holds v b r ≡ true) = λ r h. both_hold v.base.settings (kind_in v.scope (tree.binary a op.And b)) (value v a r []) (value v b r []) h in
-    all_joined (Implied v (tree.binary a op.And b)) (conjuncts a) (conjuncts b)
+    all_append (Implied v (tree.binary a op.And b)) (conjuncts a) (conjuncts b)
     (under {P = Implied v a} {Q = Implied v (tree.binary a op.And b)} (λ e f r h. f r (both r h).0) (conjuncts a) (conjuncts_implied v a))
     (under {P = Implied v b} {Q = Implied v (tree.binary a op.And b)} (λ e f r h. f r (both r h).1) (conjuncts b) (conjuncts_implied v b))
 conjuncts_implied v e = ((λ r h. h), tt)

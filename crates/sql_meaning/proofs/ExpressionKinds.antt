@@ -15,6 +15,7 @@ use Rattle.vtl_cell.specs.declared.kind.Kind.TheVariants as k
 use Rattle.vtl_cell.specs.declared.operator.ScalarOp.TheVariants as op
 use Rattle.vtl_cell.specs.AggregateKinds.{aggregate_kind}
 use Rattle.vtl_scalar.specs.KindLaws.{HasKind, IsOfKind}
+use Rattle.vtl_scalar.proofs.ValueKindLemmas.{whole_is}
 use Rattle.sql_tree.specs.Trees as tree
 use Rattle.sql_tree.specs.Trees.{Branches, Exp, Exps}
 use Rattle.sql_tree.specs.declared.parts.Column.{Column}
@@ -26,7 +27,7 @@ use Rattle.sql_meaning.specs.Outcomes.{all_values, cell_or_null, operated}
 use Rattle.sql_meaning.specs.Tables.{Base}
 use Rattle.sql_meaning.specs.Values.{View, at_rows, chosen, literal_cell, place_in, value, values}
 use Rattle.sql_meaning.proofs.Lists.{under}
-use Rattle.sql_meaning.proofs.OperatorKinds.{EachHas, after_if, all_ok, as_kind_has, branch_has, common_all, constant_has, group_has, if_more, in_has, integer_has, is_null_has, not_has, not_in_has, null_has, operator_has, some_of, unless_has}
+use Rattle.sql_meaning.proofs.OperatorKinds.{EachHas, after_if, all_ok, as_kind_has, branch_has, common_all, constant_has, group_has, if_more, in_has, is_null_has, not_has, not_in_has, null_has, operator_has, some_of, unless_has}
 
 module _ (b : Base) (scope : Scope) where
   abbrev at : Site
@@ -54,7 +55,7 @@ module _ (b : Base) (scope : Scope) where
     value_has place g (tree.column x) r rows h s all = s x h
     value_has place g (tree.call f es) r rows h s all =
         operator_has b.settings f (kind_in scope (tree.call f es)) (kinds_in scope es) (values (by place) es r rows) (some_of (operator_kind f (kinds_in scope es)) h.1) (values_have place g es r rows h.0 s all)
-    value_has place g tree.count_all r rows h s all = integer_has (fit_integer b.settings.scale (pos (length rows)))
+    value_has place g tree.count_all r rows h s all = whole_is (fit_integer b.settings.scale (pos (length rows)))
     value_has place g (tree.aggregate f e) r rows h s all =
         let at_row : Row → Outcome Cell = λ q. value (at_rows b scope) e q [] in
         let each : (qs : List Row) → AllByRecursion (Sees None (place_in scope)) qs → AllByRecursion (λ q. HasKind (kind_in scope e) (at_row q)) qs =

@@ -51,7 +51,7 @@ of_parts f (x ∷ xs) = ap (join (one_by_one (f x))) (of_parts f xs) ∙ sym (fa
 of_items : {I X : Type 0} (f : I → X → Option Fault) (items : List I) (xs : List X) → faults_by (λ x. faults_by (λ i. f i x) items) xs ≡ one_by_one (flat_map (λ x. map (λ i. f i x) items) xs)
 of_items f items xs = ap (λ g. faults_by g xs) (λ i x. of_mapped (λ j. f j x) items i) ∙ of_parts (λ x. map (λ i. f i x) items) xs
 
-fault_unless : {A : Type 0} (o : Option Fault) (x : A) → fault_in (unless o x) ≡ o
+pub fault_unless : {A : Type 0} (o : Option Fault) (x : A) → fault_in (unless o x) ≡ o
 fault_unless None x = refl
 fault_unless (Some f) x = refl
 

@@ -7,7 +7,7 @@ use Rattle.vtl_rows.specs.declared.column.Column.{Column}
 use Rattle.sql_check_parts.specs.Scopes.{Tables}
 use Rattle.sql_meaning.specs.Tables.{AreHeldFit, HasColumns, HasTable, RowsFit, TablesFit, base_over, column_entry, kinds_of, rows_of}
 
-kinds_are : (columns : List Column) → column_kinds columns ≡ kinds_of (map column_entry columns)
+pub kinds_are : (columns : List Column) → column_kinds columns ≡ kinds_of (map column_entry columns)
 kinds_are [] = refl
 kinds_are (x ∷ columns) = ap (λ l. x.kind ∷ l) (kinds_are columns)
 

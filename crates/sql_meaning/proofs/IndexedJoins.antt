@@ -118,7 +118,7 @@ module _ (v : View) (alias : Text) (r : Row) where
 
 -- ---- joins
 
-no_faults : {X : Type 0} (f : X → Option Fault) → ((x : X) → f x ≡ None) → (xs : List X) → faults_by f xs ≡ None
+pub no_faults : {X : Type 0} (f : X → Option Fault) → ((x : X) → f x ≡ None) → (xs : List X) → faults_by f xs ≡ None
 no_faults f h [] = refl
 no_faults f h (x ∷ xs) = λ i. join (h x i) (no_faults f h xs i)
 

@@ -3,11 +3,14 @@ use Rattle.std.proofs.Common.{◌≡◌, ℕ, pos, Bool, true, false, List, [], 
 use Rattle.std.specs.Prelude.{ℤ, IfOk, IsSome, ◌&&◌, not, Contains, option_and_then, encode_utf8_all, option_map, unwrap_or}
 use Rattle.std.specs.Int.RustNames.{int_le}
 use Rattle.std.specs.List.{AllByRecursion, list_all}
+use Rattle.std.proofs.lemmas.Bool.{and_parts}
 use Rattle.vtl_decimal.specs.declared.number.Fault.{Fault as DecimalFault, Fault}
 use Rattle.vtl_decimal.specs.Numeral.{number_spelled}
 use Rattle.vtl_decimal.specs.Range.{fit_integer, fit_number}
 use Rattle.vtl_decimal.specs.Settings.{Settings}
 use Rattle.vtl_lists.specs.Sorting.{sorted_by}
+use Rattle.vtl_lists.proofs.Alls.{all_get}
+use Rattle.vtl_lists.proofs.Tests.{then_some}
 use Rattle.vtl_cell.specs.Conversion.{as_kind}
 use Rattle.vtl_cell.specs.Groups.{aggregate, greatest, group_value, is_integer, least, mean_value, median_of, middle_of, number_or_null, numbers_of, of_nothing, of_values, total_of, values_of, wholes_of}
 use Rattle.vtl_cell.specs.Kinds.{is_null, is_of, kind_of}
@@ -26,14 +29,13 @@ use Rattle.vtl_cell.specs.declared.operator.ScalarOp.{ScalarOp}
 use Rattle.vtl_cell.specs.declared.operator.ScalarOp.TheVariants as op
 use Rattle.vtl_cell.proofs.Extremes.{greatest_member, least_member}
 use Rattle.vtl_cell.proofs.Readings.{read_kind}
-use Rattle.vtl_cell.proofs.Rows.{split_and}
 use Rattle.vtl_decimal.specs.Tally.{mean_of, tally_of}
 use Rattle.vtl_cell.specs.AggregateKinds.{aggregate_kind, number_of}
 use Rattle.vtl_cell.specs.Literals.{integer_written, written}
 use Rattle.vtl_cell.specs.OperatorKinds.{counted_kinds, kind_by_operands}
 use Rattle.vtl_scalar.specs.KindLaws.{HasKind, IsOfKind}
 use Rattle.vtl_scalar.proofs.KindLemmas.{common_left, common_right, meet_through, only_gives, two_give}
-use Rattle.vtl_scalar.proofs.ValueKindLemmas.{scalar_is, value_is_of_kind}
+use Rattle.vtl_scalar.proofs.ValueKindLemmas.{scalar_is, value_is_of_kind, whole_is, whole_is_number}
 use Rattle.sql_tree.specs.declared.parts.Constant.{Constant}
 use Rattle.sql_tree.specs.declared.parts.Constant.TheVariants as constant
 use Rattle.sql_tree.specs.declared.parts.Numeral.TheVariants as numeral
@@ -42,7 +44,6 @@ use Rattle.sql_check_parts.specs.Literals.{constant_kind}
 use Rattle.sql_check_parts.specs.Scopes.{or_null}
 use Rattle.sql_meaning.specs.Outcomes.{cell_or_null, operated}
 use Rattle.sql_meaning.specs.Values.{constant_cell}
-use Rattle.sql_meaning.proofs.Lists.{all_at}
 
 pub after_if : {A B : Type 0} (m : Outcome A) (f : A → Outcome B) (P : A → Type 0) (Q : B → Type 0) → IfOk m P → ((x : A) → P x → IfOk (f x) Q) → IfOk (after m f) Q
 after_if (Ok x) f P Q h g = g x h
@@ -196,23 +197,15 @@ all_ok f P (x ∷ xs) n all = (one (f x) all.0, all_ok f P xs n all.1)
     one (Ok v) h = h
     one (Err e) h = n
 
-pub integer_has : (r : Result ℤ DecimalFault) → HasKind k.Int (integer r)
-integer_has (Ok n) = refl
-integer_has (Err e) = tt
-
 pub number_has : (r : Result ℤ DecimalFault) → HasKind k.Num (number r)
 number_has (Ok n) = refl
 number_has (Err e) = tt
-
-integer_as_number : (r : Result ℤ DecimalFault) → HasKind k.Num (integer r)
-integer_as_number (Ok n) = refl
-integer_as_number (Err e) = tt
 
 total_number : (p : Settings) (xs : List Cell) → HasKind k.Num (total_of p xs)
 total_number p xs = go (list_all is_integer xs)
   where
     go : (b : Bool) → HasKind k.Num (cond b (integer (fit_integer p.scale (tally_of (wholes_of xs)).total)) (number (fit_number (tally_of (numbers_of p.scale xs)).total)))
-    go true = integer_as_number (fit_integer p.scale (tally_of (wholes_of xs)).total)
+    go true = whole_is_number (fit_integer p.scale (tally_of (wholes_of xs)).total)
     go false = number_has (fit_number (tally_of (numbers_of p.scale xs)).total)
 
 -- what an aggregate gives of some values of a kind
@@ -232,7 +225,7 @@ whole kind x h i j = cc
 wholes : (kind : Kind) (xs : List Cell) → meets k.Int kind ≡ true → Known kind xs → list_all is_integer xs ≡ true
 wholes kind [] h all = refl
 wholes kind (x ∷ xs) h all =
-    let parts = split_and (not (is_null x)) (list_all (λ y. not (is_null y)) xs) all.1 in
+    let parts = and_parts (not (is_null x)) (list_all (λ y. not (is_null y)) xs) all.1 in
     λ i. whole kind x h all.0.0 parts.0 i && wholes kind xs h (all.0.1, parts.1) i
 
 values_known : (kind : Kind) (xs : List Cell) → AllByRecursion (IsOfKind kind) xs → Known kind (values_of xs)
@@ -244,7 +237,7 @@ values_known kind (x ∷ xs) all = go (not (is_null x)) refl (values_known kind 
     go false e h = h
 
 pub member_has : (P : Cell → Type 0) (xs : List Cell) (v : Cell) → AllByRecursion P xs → Contains xs v → P v
-member_has P xs v all h = subst P h.2 (all_at P xs h.0 v h.1 all)
+member_has P xs v all h = subst P h.2 (all_get P xs h.0 v h.1 all)
 
 given_if : (b : Bool) (x y kind : Kind) (o : Option Kind) → (cond b (Some x) o) ≡ Some kind → ((b ≡ true) × (x ≡ kind)) ⊎ (o ≡ Some kind)
 given_if true x y kind o e = inl (refl, cc)
@@ -261,14 +254,14 @@ values_have p agg.Sum of given x xs e h = go (given_if (meets k.Int of) k.Int k.
     go (inl i) =
         subst (λ z. HasKind z (total_of p (x ∷ xs))) i.1
         (subst (λ b. HasKind k.Int (cond b (integer (fit_integer p.scale (tally_of (wholes_of (x ∷ xs))).total)) (number (fit_number (tally_of (numbers_of p.scale (x ∷ xs))).total)))) (sym (wholes of (x ∷ xs) i.0 h))
-        (integer_has (fit_integer p.scale (tally_of (wholes_of (x ∷ xs))).total)))
+        (whole_is (fit_integer p.scale (tally_of (wholes_of (x ∷ xs))).total)))
     go (inr i) = subst (λ z. HasKind z (total_of p (x ∷ xs))) (number_given (meets k.Num of) given i) (total_number p (x ∷ xs))
 values_have p agg.Avg of given x xs e h = subst (λ z. HasKind z (mean_value p (x ∷ xs))) (number_given (meets k.Num of) given e) (mean (mean_of p.rounding (tally_of (numbers_of p.scale (x ∷ xs)))))
   where
     mean : (o : Option ℤ) → HasKind k.Num (number_or_null o)
     mean None = refl
     mean (Some n) = number_has (fit_number n)
-values_have p agg.Count of given x xs e h = subst (λ z. HasKind z (of_values p agg.Count (x ∷ xs))) (counted e) (integer_has (fit_integer p.scale (pos (length (x ∷ xs)))))
+values_have p agg.Count of given x xs e h = subst (λ z. HasKind z (of_values p agg.Count (x ∷ xs))) (counted e) (whole_is (fit_integer p.scale (pos (length (x ∷ xs)))))
   where
     counted : Some k.Int ≡ Some given → k.Int ≡ given
     counted q = cc
@@ -297,14 +290,9 @@ pub group_has : (p : Settings) (f : AggKind) (of given : Kind) (xs : List Cell) 
 group_has p f of given xs e all = aggregate_has p f of given (values_of xs) e (values_known of xs all)
 
 -- ---- CASE
--- a value of one of the kinds that share a kind is of that one
-then_some : {A B : Type 0} (o : Option A) (f : A → Option B) (y : B) → option_and_then f o ≡ Some y → (x : A) × (o ≡ Some x) × (f x ≡ Some y)
-then_some None f y e = cc
-then_some (Some x) f y e = (x, refl, e)
-
 -- what a kind is that stands for another one
 pub through : (wanted given : Kind) (v : Cell) → meets wanted given ≡ true → IsOfKind given v → IsOfKind wanted v
-through wanted given v h i = (split_and (meets wanted (kind_of v)) true (meet_through (wanted ∷ []) (given ∷ []) (kind_of v ∷ []) (beside (meets wanted given) h) (beside (meets given (kind_of v)) i))).0
+through wanted given v h i = (and_parts (meets wanted (kind_of v)) true (meet_through (wanted ∷ []) (given ∷ []) (kind_of v ∷ []) (beside (meets wanted given) h) (beside (meets given (kind_of v)) i))).0
   where
     beside : (d : Bool) → d ≡ true → (d && true) ≡ true
     beside d e = ap (λ t. t && true) e

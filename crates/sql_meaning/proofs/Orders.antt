@@ -84,13 +84,13 @@ EachSame [] (n ∷ ns) = ⊥
 EachSame (m ∷ ms) [] = ⊥
 EachSame (m ∷ ms) (n ∷ ns) = Same m n × EachSame ms ns
 
-fault_same : (m n : Outcome (List Row)) → Same m n → fault_in m ≡ fault_in n
+pub fault_same : (m n : Outcome (List Row)) → Same m n → fault_in m ≡ fault_in n
 fault_same (Ok d) (Ok e) s = refl
 fault_same (Err x) (Err y) s = ap Some s
 fault_same (Ok d) (Err y) s = absurd s
 fault_same (Err x) (Ok e) s = absurd s
 
-rows_in-Perm : (m n : Outcome (List Row)) → Same m n → Perm (rows_in m) (rows_in n)
+pub rows_in-Perm : (m n : Outcome (List Row)) → Same m n → Perm (rows_in m) (rows_in n)
 rows_in-Perm (Ok d) (Ok e) s = s
 rows_in-Perm (Err x) (Err y) s = empty
 rows_in-Perm (Ok d) (Err y) s = absurd s

@@ -4,12 +4,12 @@ use Rattle.std.specs.List.{AllByRecursion, count_by, fold}
 use Rattle.vtl_lists.specs.Sorting.{IsOrder, Rises, le_by}
 use Rattle.vtl_lists.proofs.Perms.{Perm-sym}
 use Rattle.vtl_lists.proofs.Sorts.{Perm-sorted_by, Rises-sorted_by}
+use Rattle.vtl_lists.proofs.Alls.{all_get}
 use Rattle.vtl_cell.specs.Row.{Row, same_row}
 use Rattle.vtl_cell.specs.Sorted.{Key, in_order, window_cmp}
 use Rattle.vtl_cell.proofs.Keys.{window_order}
 use Rattle.vtl_cell.proofs.Rows.{same_row-is, same_row-refl}
 use Rattle.sql_meaning.specs.Windows.{place_within}
-use Rattle.sql_meaning.proofs.Lists.{all_at}
 use Rattle.sql_meaning.proofs.UpToOrder.{count_by-Perm}
 
 abbrev bit : Bool → ℕ
@@ -57,7 +57,7 @@ module _ (le : Row → Row → Bool) (o : IsOrder le) where
   count_at (x ∷ xs) (suc i) d r h =
       let y = get_or xs i d in
       let e = count_more (λ q. le q y) x xs in
-      let one : ◌≡◌ {A = ℕ} (bit (le x y)) 1 = ap (λ (b : Bool). bit b) (all_at (λ q. le x q ≡ true) xs i d (omega arith) r.0) in
+      let one : ◌≡◌ {A = ℕ} (bit (le x y)) 1 = ap (λ (b : Bool). bit b) (all_get (λ q. le x q ≡ true) xs i d (omega arith) r.0) in
       let ih = count_at xs i d r.1 (omega arith) in
       let next : suc i + 1 ≡ suc (i + 1) = omega arith in
       let same = ap (λ n. count_by (same_row y) (drop n (x ∷ xs))) next in

@@ -12,6 +12,7 @@ use Rattle.vtl_decimal.specs.Settings.{Settings}
 use Rattle.vtl_cell.specs.declared.cell.Cell.{Cell}
 use Rattle.vtl_cell.specs.declared.kind.Kind.{Kind}
 use Rattle.vtl_rows.specs.Tables.{cells_at, fits_kinds}
+use Rattle.vtl_rows.proofs.Gathered.{null_is_of}
 use Rattle.vtl_scalar.specs.KindLaws.{HasKind, IsOfKind}
 use Rattle.sql_tree.specs.Trees as tree
 use Rattle.sql_tree.specs.Trees.{Exp, ItemTree, QueryTree, SelectTree, Text, ValueTree}
@@ -32,7 +33,7 @@ use Rattle.sql_meaning.proofs.ExpressionKinds.{Sees, value_has}
 use Rattle.sql_meaning.proofs.Lists.{all_once, under}
 use Rattle.sql_meaning.proofs.OperatorKinds.{after_if, as_kind_is_of}
 use Rattle.sql_meaning.proofs.SharedKinds.{Lifted, all_lifted}
-use Rattle.sql_meaning.proofs.SourceKinds.{null_is_of, nulls_fit, source_rows_fit, unless_ok}
+use Rattle.sql_meaning.proofs.SourceKinds.{nulls_fit, source_rows_fit, unless_ok}
 use Rattle.sql_meaning.proofs.WindowKinds.{sees_key, sees_row, sees_rows, window_has}
 
 -- ---- a row of items

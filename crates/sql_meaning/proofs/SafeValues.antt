@@ -2,7 +2,7 @@
 use Rattle.std.proofs.Common.{◌≡◌, ◌≤◌, Bool, true, false, not, ◌&&◌, List, [], ◌∷◌, map, Option, Some, None, Ok, Err, refl, sym, ap, subst}
 use Rattle.std.specs.Prelude.{IsOk}
 use Rattle.std.specs.List.{AllByRecursion}
-use Rattle.std.proofs.lemmas.Bool.{and_parts}
+use Rattle.std.proofs.lemmas.Bool.{and_parts, not-true}
 use Rattle.vtl_cell.specs.Conversion.{as_kind}
 use Rattle.vtl_cell.specs.Outcome.{Outcome, after, fault_in, faults_by, join}
 use Rattle.vtl_cell.specs.Outcomes.{all_of, branch, first_chosen, result_of}
@@ -43,10 +43,6 @@ sure_of p (Err f) o g = cc
 
 then_sure : {A : Type 0} (p : Settings) (P : A → Type 0) (m : Outcome A) (f : A → Outcome Cell) → (x : A) × (m ≡ Ok x) × P x → ((x : A) → P x → Sure p (f x)) → Sure p (after m f)
 then_sure p P m f s h = subst (λ n. Sure p (after n f)) (sym s.1) (h s.0 s.2)
-
-not_true : (b : Bool) → not b ≡ true → b ≡ false
-not_true true e = cc
-not_true false e = refl
 
 module _ (p : Settings) (small : p.scale ≤ 9) where
   kind_sure : (kind : Kind) (v : Cell) → IsOfProfile p v → Sure p (as_kind p kind v)
@@ -89,10 +85,10 @@ module _ (b : Base) (small : b.settings.scale ≤ 9) (scope : Scope) (r : Row) (
     value_sure (tree.binary x o y) h =
         let one = and_parts (not (may_fault o) && is_safe x) (is_safe y) h in
         let two = and_parts (not (may_fault o)) (is_safe x) one.0 in
-        operated_sure p small (kind_in scope (tree.binary x o y)) (value v x r [] ∷ value v y r [] ∷ []) o (not_true (may_fault o) two.0) (value_sure x two.1, (value_sure y one.1, tt))
+        operated_sure p small (kind_in scope (tree.binary x o y)) (value v x r [] ∷ value v y r [] ∷ []) o (not-true (may_fault o) two.0) (value_sure x two.1, (value_sure y one.1, tt))
     value_sure (tree.unary o e) h =
         let two = and_parts (not (may_fault o)) (is_safe e) h in
-        operated_sure p small (kind_in scope (tree.unary o e)) (value v e r [] ∷ []) o (not_true (may_fault o) two.0) (value_sure e two.1, tt)
+        operated_sure p small (kind_in scope (tree.unary o e)) (value v e r [] ∷ []) o (not-true (may_fault o) two.0) (value_sure e two.1, tt)
     value_sure (tree.is_null e true) h =
         operated_sure p small k.Bool (operated p k.Bool (value v e r [] ∷ []) op.IsNull ∷ []) op.Not refl (operated_sure p small k.Bool (value v e r [] ∷ []) op.IsNull refl (value_sure e h, tt), tt)
     value_sure (tree.is_null e false) h = operated_sure p small k.Bool (value v e r [] ∷ []) op.IsNull refl (value_sure e h, tt)
@@ -102,7 +98,7 @@ module _ (b : Base) (small : b.settings.scale ≤ 9) (scope : Scope) (r : Row) (
     value_sure (tree.column x) h = (cell_at v r x, refl, cell_is p (place_in scope x) r row)
     value_sure (tree.call f es) h =
         let two = and_parts (not (may_fault f)) (are_safe es) h in
-        operated_sure p small (kind_in scope (tree.call f es)) (values v es r []) f (not_true (may_fault f) two.0) (values_sure es two.1)
+        operated_sure p small (kind_in scope (tree.call f es)) (values v es r []) f (not-true (may_fault f) two.0) (values_sure es two.1)
     value_sure tree.count_all h = cc
     value_sure (tree.aggregate f e) h = cc
     value_sure (tree.case_when bs e) h =

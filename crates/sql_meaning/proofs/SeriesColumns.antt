@@ -6,6 +6,7 @@ use Rattle.std.specs.Map.{keys_of, lookup}
 use Rattle.std.specs.Cmp.Lexicographic.{nat_list_eq_equiv}
 use Rattle.std.proofs.lemmas.List.{append-nil, map-append}
 use Rattle.std.proofs.lemmas.List.Folds.{list_any-append}
+use Rattle.std.proofs.lemmas.Bool.{and_parts}
 use Rattle.vtl_decimal.specs.Settings.{Settings}
 use Rattle.vtl_lists.specs.Apart.{all_apart}
 use Rattle.vtl_lists.specs.Perm.{Perm}
@@ -18,7 +19,6 @@ use Rattle.vtl_cell.specs.declared.cell.Cell.{Cell}
 use Rattle.vtl_cell.specs.declared.cell.Cell.TheVariants as c
 use Rattle.vtl_cell.specs.declared.kind.Kind.{Kind}
 use Rattle.vtl_cell.specs.declared.kind.Kind.TheVariants as k
-use Rattle.vtl_cell.proofs.Rows.{split_and}
 use Rattle.vtl_rows.specs.Tables.{cells_at, fits_kinds}
 use Rattle.sql_tree.specs.Trees.{Text}
 use Rattle.sql_tree.specs.declared.parts.Series.{Series}
@@ -70,8 +70,8 @@ nothing_before (name ∷ names) = (refl, nothing_before names)
 -- what a SERIES that fits its table has: its names are known, apart, and it is ON periods
 pub series_parts : (table : Columns) (s : Series) → series_fits table s ≡ true → (all_apart same_text (series_names s) ≡ true) × (kind_named table s.on ≡ k.Period)
 series_parts table s h =
-    let two = split_and (list_all (λ name. is_some (value_among table name)) (series_names s)) (not (repeats (series_names s)) && same_kind (kind_named table s.on) k.Period) h in
-    let rest = split_and (not (repeats (series_names s))) (same_kind (kind_named table s.on) k.Period) two.1 in
+    let two = and_parts (list_all (λ name. is_some (value_among table name)) (series_names s)) (not (repeats (series_names s)) && same_kind (kind_named table s.on) k.Period) h in
+    let rest = and_parts (not (repeats (series_names s))) (same_kind (kind_named table s.on) k.Period) two.1 in
     (twice (all_apart same_text (series_names s)) rest.0, periods (kind_named table s.on) rest.1)
   where
     twice : (b : Bool) → not (not b) ≡ true → b ≡ true
@@ -108,7 +108,7 @@ named_fits [] [] name h = refl
 named_fits [] (v ∷ vs) name h = cc
 named_fits (x ∷ xs) [] name h = cc
 named_fits (x ∷ xs) (v ∷ vs) name h =
-    let parts = split_and (is_of x.1 v) (fits_kinds (kinds_of xs) vs) h in
+    let parts = and_parts (is_of x.1 v) (fits_kinds (kinds_of xs) vs) h in
     go (same_text name x.0) parts.0 (named_fits xs vs name parts.1)
   where
     go : (b : Bool) → is_of x.1 v ≡ true → is_of (kind_named xs name) (column_of (place_among xs name) vs) ≡ true

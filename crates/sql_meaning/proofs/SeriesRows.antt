@@ -7,6 +7,7 @@ use Rattle.vtl_lists.specs.Perm.{Perm, chain}
 use Rattle.vtl_lists.proofs.Aparts.{list_any-Perm}
 use Rattle.vtl_lists.proofs.Perms.{Perm-filter, Perm-flat_map, Perm-map, Perm-same}
 use Rattle.vtl_lists.proofs.Sorts.{AllByRecursion-filter}
+use Rattle.vtl_lists.proofs.Alls.{all_append}
 use Rattle.vtl_cell.specs.Row.{Row, same_row}
 use Rattle.vtl_cell.specs.declared.cell.Cell.TheVariants as c
 use Rattle.vtl_rows.specs.Tables.{cells_at}
@@ -16,15 +17,14 @@ use Rattle.vtl_index.specs.Groups.{each_once}
 use Rattle.vtl_tuples.specs.Keys as tuples
 use Rattle.vtl_series.specs.Series.{dated, frequencies, is_spanned, keys_by, number_at, numbers_of, rows_by, seen_by, series_at, series_rows, some_number}
 use Rattle.vtl_series.specs.declared.extent.Extent.{Extent}
-use Rattle.vtl_series.specs.declared.extent.Extent.TheVariants as extent
-use Rattle.sql_meaning.proofs.Lists.{all_joined}
+use Rattle.vtl_series.proofs.OrderLemmas.{seen-Perm}
 use Rattle.sql_meaning.proofs.UpToOrder.{once-Perm}
 
 -- ---- what holds of each row
 
 all_flat : {A B : Type 0} (P : B → Type 0) (f : A → List B) (Q : A → Type 0) → ((x : A) → Q x → AllByRecursion P (f x)) → (xs : List A) → AllByRecursion Q xs → AllByRecursion P (flat_map f xs)
 all_flat P f Q h [] all = tt
-all_flat P f Q h (x ∷ xs) all = all_joined P (f x) (flat_map f xs) (h x all.0) (all_flat P f Q h xs all.1)
+all_flat P f Q h (x ∷ xs) all = all_append P (f x) (flat_map f xs) (h x all.0) (all_flat P f Q h xs all.1)
 
 all_mapped : {A B : Type 0} (P : B → Type 0) (f : A → B) → ((x : A) → P (f x)) → (xs : List A) → AllByRecursion P (map f xs)
 all_mapped P f h [] = tt
@@ -62,10 +62,6 @@ keys-Perm by {rows} {others} p =
     chain (Perm-same (each_once same_row (map (cells_at by) rows)) (tuples.each_once same_row (map (cells_at by) rows)) (once_same same_row (map (cells_at by) rows)))
     (chain (once-Perm (Perm-map (cells_at by) p))
     (Perm-same (tuples.each_once same_row (map (cells_at by) others)) (each_once same_row (map (cells_at by) others)) (sym (once_same same_row (map (cells_at by) others)))))
-
-seen-Perm : (e : Extent) {rows others own own' : List Row} → Perm rows others → Perm own own' → Perm (seen_by e rows own) (seen_by e others own')
-seen-Perm extent.Single p q = q
-seen-Perm extent.All p q = p
 
 some_same : (test : ℕ → Bool) (f : Frequency) (on : ℕ) {rows others : List Row} → Perm rows others → some_number test f on rows ≡ some_number test f on others
 some_same test f on p = list_any-Perm (λ r. option_map_or test (number_at on f r) false) p

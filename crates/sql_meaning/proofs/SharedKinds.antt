@@ -1,20 +1,21 @@
 -- The kinds that the selects of a query share: each value of an item's own kind is one of the kind of its column.
-use Rattle.std.proofs.Common.{◌≡◌, suc, List, [], ◌∷◌, map, length, Bool, true, false, ◌&&◌, Option, Some, None, refl, sym, ap, ◌∙◌, subst, arith}
+use Rattle.std.proofs.Common.{◌≡◌, suc, List, [], ◌∷◌, map, length, Option, Some, None, refl, sym, ap, ◌∙◌, subst, arith}
 use Rattle.std.specs.Prelude.{IsSome, fold, option_and_then, zip}
 use Rattle.std.specs.List.{AllByRecursion}
 use Rattle.std.proofs.lemmas.List.{length-map}
 use Rattle.vtl_cell.specs.Kinds.{kind_of}
 use Rattle.vtl_cell.specs.ScalarKinds.{shared_kind}
-use Rattle.vtl_text.specs.Texts.{same_text}
 use Rattle.vtl_cell.specs.declared.cell.Cell.{Cell}
 use Rattle.vtl_cell.specs.declared.kind.Kind.{Kind}
 use Rattle.vtl_scalar.specs.KindLaws.{IsOfKind}
 use Rattle.vtl_scalar.proofs.KindLemmas.{common_left, common_right}
 use Rattle.sql_tree.specs.Trees.{QueryTree, SelectTree, Text}
 use Rattle.sql_check_parts.specs.Queries as typing
-use Rattle.sql_check_parts.specs.Queries.{beside, item_kind, item_name, names_of, query_columns, same_names, scope_of, shared_kinds}
+use Rattle.sql_check_parts.specs.Queries.{beside, item_kind, item_name, names_of, query_columns, scope_of, shared_kinds}
 use Rattle.sql_check_parts.specs.Scopes.{or_null}
+use Rattle.sql_check_parts.proofs.QueryKinds.{length-beside}
 use Rattle.sql_check_laws.specs.Selects.{IsQueryTyped}
+use Rattle.sql_check_laws.proofs.TypedSelects.{as_long}
 use Rattle.sql_meaning.specs.Tables.{Base, kinds_of}
 use Rattle.sql_meaning.proofs.Lists.{under}
 use Rattle.sql_meaning.proofs.OperatorKinds.{shared_pair}
@@ -79,26 +80,11 @@ beside_new [] (y ∷ others) e = absurd (omega arith)
 beside_new (x ∷ cs) [] e = absurd (omega arith)
 beside_new (x ∷ cs) (y ∷ others) e = (over_new x y, beside_new cs others (omega arith))
 
-length-beside : (cs : List (Option Kind)) (others : List Kind) → length (beside cs others) ≡ length cs
-length-beside [] others = refl
-length-beside (x ∷ cs) [] = refl
-length-beside (x ∷ cs) (y ∷ others) = ap suc (length-beside cs others)
-
 pub named_kinds : (names : List Text) (ks : List Kind) → length names ≡ length ks → kinds_of (zip names ks) ≡ ks
 named_kinds [] [] e = refl
 named_kinds [] (x ∷ ks) e = absurd (omega arith)
 named_kinds (n ∷ names) [] e = absurd (omega arith)
 named_kinds (n ∷ names) (x ∷ ks) e = ap (λ l. x ∷ l) (named_kinds names ks (omega arith))
-
-same_widths : (names others : List Text) → same_names names others ≡ true → length names ≡ length others
-same_widths [] [] e = refl
-same_widths [] (y ∷ others) e = cc
-same_widths (x ∷ names) [] e = cc
-same_widths (x ∷ names) (y ∷ others) e = ap suc (go (same_text x y) e (same_widths names others))
-  where
-    go : (t : Bool) → (t && same_names names others) ≡ true → (same_names names others ≡ true → length names ≡ length others) → length names ≡ length others
-    go true h ih = ih h
-    go false h ih = cc
 
 -- ---- the selects of a query
 
@@ -140,7 +126,7 @@ module _ (b : Base) where
       let shared = shared_kinds b.tables (s ∷ ss) in
       let start = map Some (typing.kinds_of b.tables s) in
       let wide : (t : SelectTree) → length (typing.kinds_of b.tables t) ≡ length (names_of t) = λ t. length-map t.items (item_kind (scope_of b.tables t)) ∙ sym (length-map t.items item_name) in
-      let widths : AllByRecursion (SameWidth start) ss = under (λ t e. length-map (typing.kinds_of b.tables s) Some ∙ wide s ∙ same_widths names (names_of t) e ∙ sym (wide t)) ss h.names.1 in
+      let widths : AllByRecursion (SameWidth start) ss = under (λ t e. length-map (typing.kinds_of b.tables s) Some ∙ wide s ∙ as_long names (names_of t) e ∙ sym (wide t)) ss h.names.1 in
       let many : length names ≡ length (map or_null shared) = sym (length-map shared or_null ∙ length-fold ss start ∙ length-map (typing.kinds_of b.tables s) Some ∙ wide s) in
       let first = lifted shared (typing.kinds_of b.tables s) h.kinds (start_over ss start (typing.kinds_of b.tables s) widths (over_same (typing.kinds_of b.tables s))) in
       let others = under (λ t o. lifted shared (typing.kinds_of b.tables t) h.kinds o) ss (others_over ss start widths) in

@@ -4,16 +4,16 @@ use Rattle.std.specs.Prelude.{IfOk, IsSome, filter, fold, option_map, unwrap_or}
 use Rattle.std.specs.List.{AllByRecursion, flat_map}
 use Rattle.std.proofs.lemmas.List.{append-nil, length-map}
 use Rattle.std.proofs.lemmas.Grind.{flat_map-append}
+use Rattle.std.proofs.lemmas.Bool.{and_parts}
 use Rattle.vtl_lists.proofs.Sorts.{AllByRecursion-filter}
 use Rattle.vtl_cell.specs.Kinds.{is_of}
 use Rattle.vtl_decimal.specs.declared.number.Fault.{Fault}
 use Rattle.vtl_cell.specs.Outcome.{Outcome, faults_by, join, unless}
 use Rattle.vtl_cell.specs.Row.{Row, column_of}
-use Rattle.vtl_cell.specs.declared.cell.Cell.TheVariants as c
 use Rattle.vtl_cell.specs.declared.kind.Kind.{Kind}
 use Rattle.vtl_cell.specs.declared.kind.Kind.TheVariants as k
-use Rattle.vtl_cell.proofs.Rows.{split_and}
 use Rattle.vtl_rows.specs.Tables.{fits_kinds}
+use Rattle.vtl_rows.proofs.Gathered.{null_is_of}
 use Rattle.sql_tree.specs.Trees as tree
 use Rattle.sql_tree.specs.Trees.{Exp, JoinTree, SelectTree, Text}
 use Rattle.sql_tree.specs.declared.parts.Column.{Column}
@@ -38,8 +38,8 @@ cell_of_kind : (kinds : List Kind) (r : Row) (i : ℕ) → fits_kinds kinds r �
 cell_of_kind [] [] i h = refl
 cell_of_kind [] (v ∷ vs) i h = cc
 cell_of_kind (x ∷ xs) [] i h = cc
-cell_of_kind (x ∷ xs) (v ∷ vs) zero h = (split_and (is_of x v) (fits_kinds xs vs) h).0
-cell_of_kind (x ∷ xs) (v ∷ vs) (suc i) h = cell_of_kind xs vs i (split_and (is_of x v) (fits_kinds xs vs) h).1
+cell_of_kind (x ∷ xs) (v ∷ vs) zero h = (and_parts (is_of x v) (fits_kinds xs vs) h).0
+cell_of_kind (x ∷ xs) (v ∷ vs) (suc i) h = cell_of_kind xs vs i (and_parts (is_of x v) (fits_kinds xs vs) h).1
 
 -- a column that is known has a cell of its kind
 pub column_fits : (scope : Scope) (r : Row) (x : Column) (kind : Kind) → fits_kinds (row_of scope) r ≡ true → found scope x ≡ Some kind → is_of kind (column_of (place_in scope x) r) ≡ true
@@ -53,15 +53,6 @@ column_fits scope r x kind h e = go (found (placed scope) x) (sym (found_placed 
         same w = cc
 
 -- ---- rows
-
-pub null_is_of : (kind : Kind) → is_of kind c.Null ≡ true
-null_is_of k.Null = refl
-null_is_of k.Bool = refl
-null_is_of k.Int = refl
-null_is_of k.Num = refl
-null_is_of k.Text = refl
-null_is_of k.Day = refl
-null_is_of k.Period = refl
 
 pub nulls_fit : (ks : List Kind) → fits_kinds ks (nulls (length ks)) ≡ true
 nulls_fit [] = refl

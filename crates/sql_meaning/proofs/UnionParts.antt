@@ -164,7 +164,7 @@ faults_joined f g (x ∷ xs) =
     ∙ ap (join (f x)) (join_swap (g x) (faults_by f xs) (faults_by g xs))
     ∙ sym (join_assoc (f x) (faults_by f xs) (join (g x) (faults_by g xs)))
 
-faults_mapped : {X Y : Type 0} (g : Y → Option Fault) (f : X → Y) (xs : List X) → faults_by (λ x. g (f x)) xs ≡ faults_by g (map f xs)
+pub faults_mapped : {X Y : Type 0} (g : Y → Option Fault) (f : X → Y) (xs : List X) → faults_by (λ x. g (f x)) xs ≡ faults_by g (map f xs)
 faults_mapped g f [] = refl
 faults_mapped g f (x ∷ xs) = ap (join (g (f x))) (faults_mapped g f xs)
 
@@ -222,7 +222,7 @@ module _ (b : Base) (kinds own : List Kind) (up : Lifted kinds own) where
 -- ---- queries
 
 -- a select alone
-alone : (m : Outcome (List Row)) → appended (m ∷ []) ≡ m
+pub alone : (m : Outcome (List Row)) → appended (m ∷ []) ≡ m
 alone (Ok rows) = ap Ok (append-nil rows)
 alone (Err f) = ap (λ o. unless o []) (join_none (Some f))
 

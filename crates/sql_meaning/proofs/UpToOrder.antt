@@ -1,8 +1,9 @@
 -- Lists, faults and results up to order.
-use Rattle.std.proofs.Common.{◌≡◌, ℕ, ◌+◌, List, [], ◌∷◌, ◌++◌, map, Bool, true, false, cond, not, Option, Some, None, Ok, Err, refl, sym, ap, ◌∙◌, subst, true≢false, arith}
+use Rattle.std.proofs.Common.{◌≡◌, ℕ, ◌+◌, List, [], ◌∷◌, ◌++◌, map, Bool, true, false, cond, not, Option, Some, None, Ok, Err, refl, sym, ap, ◌∙◌, subst, arith}
 use Rattle.std.specs.List.{filter, count_by, fold}
 use Rattle.vtl_lists.specs.Perm.{Perm, empty, keep, cross, chain}
 use Rattle.vtl_lists.proofs.Perms.{Perm-refl, Perm-same, Perm-map, Perm-filter}
+use Rattle.vtl_lists.proofs.Filters.{filter_swap}
 use Rattle.vtl_tuples.specs.Keys.{each_once}
 use Rattle.vtl_decimal.specs.declared.number.Fault.{Fault}
 use Rattle.vtl_decimal.specs.declared.number.Fault.TheVariants.{DivZero, Range}
@@ -11,6 +12,7 @@ use Rattle.vtl_cell.specs.Outcomes.{Same}
 use Rattle.vtl_cell.specs.Row.{Row, same_row}
 use Rattle.vtl_cell.specs.declared.cell.Cell.{Cell}
 use Rattle.vtl_cell.proofs.Rows.{same_row-is, same_row-sym}
+use Rattle.vtl_series.proofs.OrderLemmas.{once_cross}
 use Rattle.sql_meaning.specs.Outcomes.{all_values, cell_or_null}
 use Rattle.sql_meaning.specs.Windows.{told_apart}
 
@@ -81,15 +83,6 @@ cond_swap p q x xs true true e h ih = rw (e, h) (ap (λ l. x ∷ l) ih)
 cond_swap p q x xs true false e h ih = rw h ih
 cond_swap p q x xs false true e h ih = rw e ih
 cond_swap p q x xs false false e h ih = ih
-
-filter_swap : {X : Type 0} (p q : X → Bool) (xs : List X) → filter p (filter q xs) ≡ filter q (filter p xs)
-filter_swap p q [] = refl
-filter_swap p q (x ∷ xs) = cond_swap p q x xs (p x) (q x) refl refl (filter_swap p q xs)
-
-once_cross : (a b : Bool) (x y : Row) (l m : List Row) → a ≡ true → b ≡ true → l ≡ m → Perm (x ∷ cond a (y ∷ l) l) (y ∷ cond b (x ∷ m) m)
-once_cross true true x y l m e h same = chain (cross x y l) (Perm-same (y ∷ x ∷ l) (y ∷ x ∷ m) (ap (λ n. y ∷ x ∷ n) same))
-once_cross false b x y l m e h same = absurd (true≢false (sym e))
-once_cross true false x y l m e h same = absurd (true≢false (sym h))
 
 pub once-Perm : {xs ys : List Row} → Perm xs ys → Perm (each_once same_row xs) (each_once same_row ys)
 once-Perm empty = empty

@@ -35,7 +35,7 @@ use Rattle.vtl_cell.proofs.Keys.{window_order}
 use Rattle.vtl_cell.specs.Literals.{integer_cell, integer_written, number_cell, with_sign, written}
 use Rattle.vtl_rows.specs.Tables.{cells_at, fits_kinds}
 use Rattle.vtl_scalar.specs.KindLaws.{HasKind, IsOfKind}
-use Rattle.vtl_scalar.proofs.ValueKindLemmas.{value_is_of_kind}
+use Rattle.vtl_scalar.proofs.ValueKindLemmas.{value_is_of_kind, whole_is}
 use Rattle.sql_tree.specs.Trees.{Text}
 use Rattle.sql_tree.specs.declared.parts.Column.{Column}
 use Rattle.sql_tree.specs.declared.parts.Literal.{Literal}
@@ -58,12 +58,12 @@ use Rattle.sql_meaning.specs.Tables.{Base, RowsFit}
 use Rattle.sql_meaning.specs.Values.{View, at_rows, cell_at, literal_cell, place_in, same_column}
 use Rattle.sql_meaning.specs.Windows.{Stand, bound_of, call_value, cells_of, count_of, default_cell, framed, keys_of, partition_of, partition_places, shifted, stand_in, window_value}
 use Rattle.sql_meaning.proofs.ExpressionKinds.{Sees}
-use Rattle.sql_meaning.proofs.OperatorKinds.{group_has, int_has, integer_has, meets_of, num_has, number_given, number_has, some_of, through, written_has}
+use Rattle.sql_meaning.proofs.OperatorKinds.{group_has, int_has, meets_of, num_has, number_given, number_has, some_of, through, written_has}
 use Rattle.sql_meaning.proofs.SourceKinds.{column_fits}
 
 -- ---- columns that are the same
 
-same_text-is : (x y : Text) → same_text x y ≡ true → x ≡ y
+pub same_text-is : (x y : Text) → same_text x y ≡ true → x ≡ y
 same_text-is [] [] e = refl
 same_text-is [] (j ∷ y) e = cc
 same_text-is (i ∷ x) [] e = cc
@@ -255,7 +255,7 @@ module _ (b : Base) (scope : Scope) (rows : List Row) (all : RowsFit (row_of sco
       subst (λ z. IsOfKind z (shifted f (count_of b.settings digits) (default_cell b.settings default) s.place (cells_of v x s.ordered))) d.0
       (shift_has f (IsOfKind (column_kind scope x)) (count_of b.settings digits) s.place (default_cell b.settings default) (cells_of v x s.ordered) d.1 (cells_have x seen.0 s.ordered fit))
   call_has call.Rank o s given e seen fit =
-      subst (λ z. HasKind z (row_rank b.settings (keys_of v o) s.row s.ordered)) (same_some k.Int given e) (integer_has (fit_integer b.settings.scale (pos (count_by (λ q. is_lt (by_keys (keys_of v o) q s.row)) s.ordered + 1))))
+      subst (λ z. HasKind z (row_rank b.settings (keys_of v o) s.row s.ordered)) (same_some k.Int given e) (whole_is (fit_integer b.settings.scale (pos (count_by (λ q. is_lt (by_keys (keys_of v o) q s.row)) s.ordered + 1))))
 
   pub window_has : (w : Window) (x : Row × ℕ) → IsWindowTyped b.settings scope None w → HasKind (window_kind scope w) (window_value v w rows x)
   window_has w x h =

@@ -6,21 +6,19 @@ use Rattle.std.proofs.lemmas.List.{get_or-map, length-map}
 use Rattle.vtl_cell.specs.ScalarKinds.{common_kind, shared_kind}
 use Rattle.vtl_cell.specs.declared.kind.Kind.{Kind}
 use Rattle.vtl_cell.specs.declared.kind.Kind.TheVariants as k
+use Rattle.vtl_scalar.proofs.KindLemmas.{shared_with_null}
 use Rattle.sql_tree.specs.Trees.{QueryTree, SelectTree}
 use Rattle.sql_check_parts.specs.Queries.{beside, item_kind, item_name, kinds_of, query_columns, query_names, scope_of, shared_kinds}
 use Rattle.sql_check_parts.specs.Scopes.{Tables, or_null}
+use Rattle.sql_check_parts.proofs.QueryKinds.{length-beside}
 use Rattle.sql_meaning_laws.specs.Columns.{common_columns, common_kinds, kind_at}
 
 -- ---- the kind that two share
 
-with_null : (x : Kind) → shared_kind x k.Null ≡ Some x
-with_null k.Null = refl
-with_null x = refl
-
 -- null goes with each kind
 null_behind : (o : Option Kind) → option_and_then (λ x. shared_kind x k.Null) o ≡ o
 null_behind None = refl
-null_behind (Some x) = with_null x
+null_behind (Some x) = shared_with_null x
 
 bracketed : (x y z : Kind) → option_and_then (λ w. shared_kind w z) (shared_kind x y) ≡ option_and_then (shared_kind x) (shared_kind y z)
 bracketed k.Null k.Null k.Null = refl
@@ -49,11 +47,6 @@ from_left o (y ∷ ks) = from_left (option_and_then (λ w. shared_kind w y) o) k
     one (Some x) (Some z) = bracketed x y z
 
 -- ---- place by place
-
-length-beside : (cs : List (Option Kind)) (kinds : List Kind) → length (beside cs kinds) ≡ length cs
-length-beside [] kinds = refl
-length-beside (x ∷ cs) [] = refl
-length-beside (x ∷ cs) (y ∷ kinds) = ap suc (length-beside cs kinds)
 
 beside_at : (cs : List (Option Kind)) (kinds : List Kind) (i : ℕ) → get_or (beside cs kinds) i None ≡ option_and_then (λ w. shared_kind w (get_or kinds i k.Null)) (get_or cs i None)
 beside_at [] kinds i = refl

@@ -4,6 +4,7 @@ use Rattle.std.specs.Prelude.{find, nat_le, nat_lt, option_and_then}
 use Rattle.std.specs.List.{list_all, range_with_len}
 use Rattle.std.proofs.lemmas.Bool.Decides.{nat_tests}
 use Rattle.std.proofs.lemmas.List.{take-map}
+use Rattle.vtl_lists.proofs.Tests.{and_false}
 use Rattle.sql_tree.specs.Trees.{Exp, SelectTree, Text}
 use Rattle.sql_tree.specs.declared.parts.Column.{Column}
 use Rattle.sql_check_parts.specs.Scopes.{Named, is_among, value_among}
@@ -20,10 +21,6 @@ both_below m p n = grind (arith, nat_tests)
 grouped : (a b d : Bool) → (a && (b && d)) ≡ ((a && b) && d)
 grouped true b d = refl
 grouped false b d = refl
-
-and_false : (a : Bool) → (a && false) ≡ false
-and_false true = refl
-and_false false = refl
 
 -- the first number from a bound on
 find_none : (a m : ℕ) → find (λ n. within n None) (range_with_len a m) ≡ None

@@ -1,19 +1,16 @@
 -- A plan lists the join of a select over two sources whose ON is a conjunction of equalities.
-use Rattle.std.proofs.Common.{◌≡◌, ℕ, ◌+◌, Bool, true, false, cond, List, [], ◌∷◌, ◌++◌, length, refl, sym, ap, ◌∙◌, subst, true≢false, arith}
-use Rattle.std.specs.Prelude.{◌==◌, ◌&&◌, filter}
-use Rattle.std.specs.List.{AllByRecursion, list_all}
+use Rattle.std.proofs.Common.{◌≡◌, ℕ, ◌+◌, Bool, true, false, cond, List, [], ◌∷◌, ◌++◌, length, refl, sym, subst, true≢false, arith}
+use Rattle.std.specs.Prelude.{◌==◌, filter}
+use Rattle.std.specs.List.{AllByRecursion}
+use Rattle.vtl_lists.proofs.Alls.{test_from_all}
 use Rattle.sql_tree.specs.Trees as tree
 use Rattle.sql_tree.specs.Trees.{JoinTree, SelectTree}
 use Rattle.sql_meaning.specs.Plans.{IsEqualityJoin, Ways, conjuncts, indexed_in, is_indexed, is_side_equality}
 use Rattle.sql_meaning.specs.declared.plan.Indexed.{Indexed}
 use Rattle.sql_plan.specs.Chosen.{equality_joins, equality_joins_from, is_equality_join}
 
-all_true : {X : Type 0} (t : X → Bool) (xs : List X) → AllByRecursion (λ x. t x ≡ true) xs → list_all t xs ≡ true
-all_true t [] each = refl
-all_true t (x ∷ xs) each = ap (λ b. b && list_all t xs) each.0 ∙ all_true t xs each.1
-
-is_listed : (j : JoinTree) → IsEqualityJoin j → is_equality_join j ≡ true
-is_listed (tree.on kind s e) equal = all_true (is_side_equality s.alias) (conjuncts e) equal
+pub is_listed : (j : JoinTree) → IsEqualityJoin j → is_equality_join j ≡ true
+is_listed (tree.on kind s e) equal = test_from_all (is_side_equality s.alias) (conjuncts e) equal
 is_listed (tree.cross s) equal = absurd equal
 
 -- the only join of the first select is listed

@@ -35,7 +35,7 @@ operands_next places n es i e h is =
 abbrev pub branches_left : List Branch → ℕ → List Column
 branches_left bs i = columns_within (branches_of (map branch_tree (drop i bs)))
 
-branch_is : (b : Branch) → branch_tree b ≡ (expr_tree b.condition, expr_tree b.value)
+pub branch_is : (b : Branch) → branch_tree b ≡ (expr_tree b.condition, expr_tree b.value)
 branch_is b = search (rules, branch.the_lemmas)
 
 pub branches_next : (places : Named ℕ) (n : ℕ) (bs : List Branch) (i : ℕ) (b : Branch) → i < length bs → b ≡ get_or bs i b

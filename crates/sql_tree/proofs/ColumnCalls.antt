@@ -77,7 +77,7 @@ module _ (n k : ℕ) (low : 2 ≤ n) where
     }),
   )
 
-prim-aggr : (n : ℕ) (part : g.Expr) (ts : Tokens) (x : DeepExp) → (g.aggr n part).spells ts x → (g.prim n part).spells ts x
+pub prim-aggr : (n : ℕ) (part : g.Expr) (ts : Tokens) (x : DeepExp) → (g.aggr n part).spells ts x → (g.prim n part).spells ts x
 unfolding g.prim
 prim-aggr n part ts x h = inr (inr (inr (inr (inl h))))
 

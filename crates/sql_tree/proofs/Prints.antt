@@ -15,7 +15,7 @@ use Rattle.vtl_cell.specs.declared.operator.AggKind.{AggKind}
 use Rattle.vtl_cell.specs.declared.operator.AggKind.TheVariants as agg
 use Rattle.sql_tree.specs.Trees.{Text, Exp, Exps, Branches, exps_of, branches_of, binary, unary, is_null, in_list, constant, column, call, count_all, aggregate, case_when, exists, no_exps, exp, no_branches, branch}
 use Rattle.sql_tree.specs.Grammar as g
-use Rattle.sql_tree.specs.Grammar.{SqlForm, items_after, two_keys, Tokens, Expr, DeepExp, Place, Whole, Negated, Signed, key, of_table, in_brackets, expr_at, joined_by, operator_before, or_ops_table, and_ops_table, add_ops_table, multiply_ops_table, compare_ops_table, signs_table, functions_table, aggregates_table}
+use Rattle.sql_tree.specs.Grammar.{SqlForm, items_after, two_keys, Tokens, Expr, Place, Whole, Negated, Signed, key, of_table, in_brackets, expr_at, joined_by, operator_before, or_ops_table, and_ops_table, add_ops_table, multiply_ops_table, compare_ops_table, signs_table, functions_table, aggregates_table}
 use Rattle.sql_tree.specs.Printing as p
 use Rattle.sql_tree.specs.Printing.{op_word, aggregate_word, op_level, unary_level, level_of, just, bracketed, wrapped, not_word, minus_word, commas, written_source, written_equality, written_equalities, written_number, written_constant, written_literal, written, written_exps, more_exps, written_branches}
 use Rattle.sql_tree.specs.Formed.{IsName, is_binary, is_unary, is_function, IsEquality, IsLiteral, Formed, SomeExps, SomeBranches, EachFormed, BranchesFormed, exp_depth, exps_depth, branches_depth}
@@ -32,6 +32,7 @@ use Rattle.sql_tree.specs.declared.word_groups.Span.{Span}
 use Rattle.sql_tree.specs.declared.word_groups.Span.TheVariants as span
 use Rattle.sql_tree.specs.declared.parts.Equality.{Equality}
 use Rattle.sql_tree.proofs.Levels.{limited-ok, one, name-of, text-of, int-of, dec-of, in-brackets-of, column-of, column-prim, form_at, moved, lift, whole, negated, signed}
+use Rattle.sql_tree.proofs.ColumnCalls.{prim-aggr}
 
 -- ---- parts
 
@@ -280,16 +281,12 @@ constant-good x m h = record { depth = 1; low = omega arith; spelled = inl (reco
 column-good : (x : Column) → Good (column x)
 column-good x m h = record { depth = 1; low = omega arith; spelled = column-prim (suc m) (expr_at m Whole) _ x (column-of x) }
 
-aggr-prim : (n : ℕ) (part : Expr) (ts : Tokens) (x : DeepExp) → (g.aggr n part).spells ts x → (g.prim n part).spells ts x
-unfolding g.prim
-aggr-prim n part ts x h = inr (inr (inr (inr (inl h))))
-
 count_all-good : Good count_all
 unfolding g.aggr g.counted
 count_all-good m h = record {
   depth = 1;
   low = omega arith;
-  spelled = aggr-prim (suc m) (expr_at m Whole) (t.Word w.Count ∷ bracketed (just w.Star)) (deep count_all 1)
+  spelled = prim-aggr (suc m) (expr_at m Whole) (t.Word w.Count ∷ bracketed (just w.Star)) (deep count_all 1)
       (inl (after-of (just w.Count) (bracketed (just w.Star)) tt (one w.Count) (in-brackets-of (just w.Star) (deep count_all 1) (inl (as-of _ (just w.Star) tt (one w.Star))))));
 }
 
@@ -487,7 +484,7 @@ aggregate-good f e ge (suc k) h =
     record {
       depth = suc a.depth;
       low = omega (arith, a.low, deep-some e);
-      spelled = aggr-prim (suc (suc k)) (expr_at (suc k) Whole) _ (deep (aggregate f e) (suc a.depth)) (aggr-of (suc (suc k)) (expr_at (suc k) Whole) f e a.depth (written e) (omega (arith, a.low, h)) (whole k (written e) (deep e a.depth) a.spelled));
+      spelled = prim-aggr (suc (suc k)) (expr_at (suc k) Whole) _ (deep (aggregate f e) (suc a.depth)) (aggr-of (suc (suc k)) (expr_at (suc k) Whole) f e a.depth (written e) (omega (arith, a.low, h)) (whole k (written e) (deep e a.depth) a.spelled));
     }
 
 -- ---- cases

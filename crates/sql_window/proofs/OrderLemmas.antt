@@ -6,24 +6,25 @@ use Rattle.std.specs.FinMap.{nat_cmp-IsAntisymmetric}
 use Rattle.std.specs.List.{AllByRecursion, range_with_len}
 use Rattle.std.specs.Ordering.{is_lt, nat_cmp, on, ordering_then, then_cmp}
 use Rattle.std.specs.declared.cmp.Ordering.{Ordering}
-use Rattle.std.specs.declared.cmp.Ordering.TheVariants.{Less, Equal, Greater}
+use Rattle.std.specs.declared.cmp.Ordering.TheVariants.{Equal}
 use Rattle.std.proofs.lemmas.List.{map-append}
 use Rattle.vtl_lists.specs.Perm.{chain}
 use Rattle.vtl_cell.specs.Row.{Row, row_cmp, same_row}
 use Rattle.vtl_cell.specs.Sorted.{by_keys, in_order, rising, window_cmp}
 use Rattle.vtl_lists.specs.Sorting.{Rises, le_by, sorted_by}
 use Rattle.vtl_cell.proofs.Aggregates.{ratio-Perm}
-use Rattle.vtl_cell.proofs.Keys.{by_keys_total, window_order}
+use Rattle.vtl_cell.proofs.Keys.{by_keys_total, window_order, no_tie}
 use Rattle.vtl_lists.proofs.Perms.{Perm-map, Perm-sym}
 use Rattle.vtl_cell.proofs.Rows.{same_row-is}
 use Rattle.vtl_lists.proofs.Sorts.{Perm-sorted_by, sorted_by-from_sort}
+use Rattle.vtl_lists.proofs.Alls.{all_more}
 use Rattle.vtl_rows.specs.Keys.{agree, key_of}
 use Rattle.vtl_rows.specs.Places.{IsOrderOf, row_at}
 use Rattle.vtl_rows.specs.declared.column.SortKey.{SortKey}
 use Rattle.vtl_rows.proofs.AllColumns.{all_keys, keys_append}
 use Rattle.vtl_rows.proofs.Stable.{placed_total}
 use Rattle.vtl_frames.specs.Ranked.{AreInOrder}
-use Rattle.vtl_frames.proofs.ListLemmas.{all_more, listed, map_same, rises_with}
+use Rattle.vtl_frames.proofs.ListLemmas.{listed, map_same, rises_with}
 use Rattle.vtl_frames.proofs.OrderLemmas.{at_most}
 use Rattle.vtl_frames.proofs.PartitionLemmas as partitions
 use Rattle.vtl_frames.proofs.RankLemmas.{count_cons, row_rank-Perm}
@@ -40,11 +41,6 @@ use Rattle.sql_window.specs.Keys.{AreSorted, rising_key, tie_breakers}
 use Rattle.sql_window.specs.Runs.{IsPartition, IsTold, behind, run_values, stand_at, window_at}
 use Rattle.sql_window.proofs.PartitionLemmas.{stand_is}
 use Rattle.sql_window.proofs.StandLemmas.{numbered, told_sorted}
-
-no_tie : (r s : Ordering) → ordering_then r s ≡ Equal → s ≡ Equal
-no_tie Less s e = cc
-no_tie Equal s e = e
-no_tie Greater s e = cc
 
 rising_keys : (ks : List ℕ) → map key_of (map rising_key ks) ≡ map rising ks
 rising_keys [] = refl

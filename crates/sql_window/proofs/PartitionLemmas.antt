@@ -9,11 +9,11 @@ use Rattle.vtl_cell.proofs.Keys.{window_order}
 use Rattle.vtl_lists.proofs.Perms.{Perm-sym}
 use Rattle.vtl_cell.proofs.Rows.{same_row-is, same_row-refl}
 use Rattle.vtl_lists.proofs.Sorts.{Rises-map, sorted_is}
+use Rattle.vtl_lists.proofs.Alls.{all_get, all_more}
 use Rattle.vtl_rows.specs.Places.{row_at}
 use Rattle.sql_tree.specs.declared.windows.Over.{Over}
 use Rattle.sql_meaning.specs.Values.{View}
 use Rattle.sql_meaning.specs.Windows.{keys_of, partition_of, partition_places, place_within, stand_in}
-use Rattle.vtl_frames.proofs.ListLemmas.{all_get, all_more}
 use Rattle.vtl_frames.proofs.RankLemmas.{count_by-Perm, count_cons, count_map}
 use Rattle.sql_window.specs.Runs.{IsPartition, IsTold, behind, stand_at}
 

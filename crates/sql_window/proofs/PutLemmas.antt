@@ -6,7 +6,8 @@ use Rattle.std.proofs.lemmas.List.{drop_all, get_or-set_other, get_or-set_same, 
 use Rattle.std.proofs.lemmas.List.Elements.{All-from_recursion}
 use Rattle.std.proofs.lemmas.List.FromFn.{fill_by_all, get_or-range_with_len, length-range_with_len, map-range_with_len_more}
 use Rattle.std.proofs.lemmas.List.Sorted.{All-permutation, Contains-permutation}
-use Rattle.std.proofs.lemmas.Bool.{cases_eq}
+use Rattle.std.proofs.lemmas.Bool.{cases_eq, cases_lt}
+use Rattle.vtl_lists.proofs.Alls.{all_append}
 use Rattle.vtl_cell.specs.Sorted.{rising}
 use Rattle.vtl_cell.specs.declared.cell.Cell.TheVariants as cells
 use Rattle.vtl_rows.specs.Keys.{key_of}
@@ -32,7 +33,6 @@ use Rattle.sql_tree.specs.declared.windows.WindowCall.TheVariants as call
 use Rattle.sql_tree.specs.declared.word_groups.ValueFunction.TheVariants as value
 use Rattle.sql_window.specs.Keys.{falls, order_key, partition_key, rising_key, tie_breakers}
 use Rattle.sql_window.specs.Runs.{behind, window_at}
-use Rattle.vtl_frames.proofs.RankLemmas.{below_or_not}
 
 -- ---- keys
 pub columns_more : (old now : List SortKey) (i : ℕ) → now ≡ old ++ map rising_key (range_with_len 0 i) → now ++ rising_key i ∷ [] ≡ old ++ map rising_key (range_with_len 0 (i + 1))
@@ -79,7 +79,7 @@ put_more places all values js back value m perm h items at =
       long = length-set back k value ∙ h.long;
       few = omega (arith, here);
       front = λ f e. (parts f e).0;
-      behind = λ f e u l b. put_at f k (get_or places u 0) (below_or_not (length js) u) within ((parts f e).1 ∙ ap (λ i. f (get_or places i 0)) (sym at)) (λ j. h.behind f e u (omega (arith, more, j)) b) (λ j. ap (λ i. get_or places i 0) (omega (arith, at, l, j)));
+      behind = λ f e u l b. put_at f k (get_or places u 0) (cases_lt (length js) u) within ((parts f e).1 ∙ ap (λ i. f (get_or places i 0)) (sym at)) (λ j. h.behind f e u (omega (arith, more, j)) b) (λ j. ap (λ i. get_or places i 0) (omega (arith, at, l, j)));
     }
   where
     put_at : (f : ℕ → Outcome Cell) (k i : ℕ) {P Q : Type 0} → P ⊎ Q → k < length back → value ≡ f k → (P → get_or back i (Ok cells.Null) ≡ f i) → (Q → i ≡ k) → get_or (set back k value) i (Ok cells.Null) ≡ f i
@@ -124,10 +124,6 @@ all_mapped : {X : Type 0} (f : X → SortKey) (n : ℕ) (xs : List X) → AllByR
 all_mapped f n [] all = tt
 all_mapped f n (x ∷ xs) all = (all.0, all_mapped f n xs all.1)
 
-all_appended : {X : Type 0} (P : X → Type 0) (xs ys : List X) → AllByRecursion P xs → AllByRecursion P ys → AllByRecursion P (xs ++ ys)
-all_appended P [] ys a b = b
-all_appended P (x ∷ xs) ys a b = (a.0, all_appended P xs ys a.1 b)
-
 all_columns : (a n w : ℕ) → a + n ≤ w → AllByRecursion (λ i. (rising_key i).column < w) (range_with_len a n)
 all_columns a zero w h = tt
 all_columns a (suc n) w h = (omega (arith, h), all_columns (a + 1) n w (omega (arith, h)))
@@ -141,8 +137,8 @@ pub keys_within : (scope : Scope) (o : Over) (c : WindowCall) (n : ℕ) → AllB
     → All (λ k. k.column < n) ((map (partition_key scope) o.partition ++ map (order_key scope) o.order) ++ tie_breakers c n)
 keys_within scope o c n partition order =
     All-from_recursion (λ k. k.column < n) ((map (partition_key scope) o.partition ++ map (order_key scope) o.order) ++ tie_breakers c n)
-    (all_appended (λ k. k.column < n) (map (partition_key scope) o.partition ++ map (order_key scope) o.order) (tie_breakers c n)
-    (all_appended (λ k. k.column < n) (map (partition_key scope) o.partition) (map (order_key scope) o.order) (all_mapped (partition_key scope) n o.partition partition) (all_mapped (order_key scope) n o.order order))
+    (all_append (λ k. k.column < n) (map (partition_key scope) o.partition ++ map (order_key scope) o.order) (tie_breakers c n)
+    (all_append (λ k. k.column < n) (map (partition_key scope) o.partition) (map (order_key scope) o.order) (all_mapped (partition_key scope) n o.partition partition) (all_mapped (order_key scope) n o.order order))
     (breakers_within c n))
 
 pub partition_named : (v : View) (columns : List Column) → map key_of (map (λ x. rising_key (v.place x)) columns) ≡ map rising (map v.place columns)

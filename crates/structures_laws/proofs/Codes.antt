@@ -4,7 +4,7 @@ use Rattle.std.specs.List.{AllByRecursion, list_all, list_any}
 use Rattle.std.specs.Option.{option_and_then}
 use Rattle.std.specs.Prelude.{chars, codes, encode_utf8_all, option_map}
 use Rattle.std.specs.Str.{is_utf8}
-use Rattle.std.proofs.lemmas.Bool.{and_parts}
+use Rattle.std.proofs.lemmas.Bool.{and_parts, or_parts}
 use Rattle.std.proofs.lemmas.Str.{chars-nil}
 use Rattle.vtl_lists.specs.Aliases.{Field, Name, Text}
 use Rattle.vtl_lists.specs.Apart.{all_apart}
@@ -17,7 +17,6 @@ use Rattle.vtl_tree.specs.declared.structure.Role.TheVariants as r
 use Rattle.vtl_tree.specs.Names.{is_among}
 use Rattle.vtl_tree.specs.Structure.{same_name}
 use Rattle.vtl_tree.specs.Structures.{are_codes, codes_fit, is_filled, is_null_kind, is_string_identifier}
-use Rattle.vtl_tree.proofs.DeclarationLemmas.{or_none}
 use Rattle.vtl_csv.specs.Declarations.{code_in, codes_in, codes_of, distinct, is_bar, kind_in, listed_by, onto_first, parts, role_in, says_not_null, says_null}
 use Rattle.vtl_csv.specs.StructuresFile.{is_identifier}
 use Rattle.vtl_csv.specs.StructuresText.{barred, codes_field, kind_word, nullable_word, role_word}
@@ -54,13 +53,13 @@ listed_again list x = go (is_identifier x) (is_among x.name list)
 parts_end : (f : Field) → list_any is_bar f ≡ false → parts f ≡ f ∷ []
 parts_end [] h = refl
 parts_end (b ∷ bs) h =
-    let p = or_none (is_bar b) (list_any is_bar bs) h in
+    let p = or_parts (is_bar b) (list_any is_bar bs) h in
     ap (λ t. cond t ([] ∷ parts bs) (onto_first b (parts bs))) p.0 ∙ ap (onto_first b) (parts_end bs p.1)
 
 parts_bar : (f rest : Field) → list_any is_bar f ≡ false → parts (f ++ 124 ∷ rest) ≡ f ∷ parts rest
 parts_bar [] rest h = refl
 parts_bar (b ∷ bs) rest h =
-    let p = or_none (is_bar b) (list_any is_bar bs) h in
+    let p = or_parts (is_bar b) (list_any is_bar bs) h in
     ap (λ t. cond t ([] ∷ parts (bs ++ 124 ∷ rest)) (onto_first b (parts (bs ++ 124 ∷ rest)))) p.0 ∙ ap (onto_first b) (parts_bar bs rest p.1)
 
 parts_again : (c : Text) (cs : List Text) → IsCode c → AllByRecursion IsCode cs → parts (encode_utf8_all c ++ flat_map barred cs) ≡ encode_utf8_all c ∷ map encode_utf8_all cs

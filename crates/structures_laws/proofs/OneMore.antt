@@ -2,7 +2,7 @@
 use Rattle.std.proofs.Common.{◌≡◌, ℕ, ◌<◌, Bool, true, false, cond, not, ◌&&◌, List, length, Option, Some, Result, Ok, Err, ap, ◌∙◌}
 use Rattle.std.specs.List.{list_any}
 use Rattle.std.specs.Prelude.{encode_utf8_all, ok_or}
-use Rattle.std.proofs.lemmas.Bool.{and_parts, lt-leb}
+use Rattle.std.proofs.lemmas.Bool.{and_parts, lt-leb, not-true}
 use Rattle.vtl_lists.specs.Aliases.{Name, Text}
 use Rattle.vtl_lists.specs.Results.{◌>>=◌}
 use Rattle.vtl_text.specs.Words.{is_component_name}
@@ -11,7 +11,6 @@ use Rattle.vtl_tree.specs.declared.structure.Component.{Component}
 use Rattle.vtl_tree.specs.declared.structure.Role.{Role}
 use Rattle.vtl_tree.specs.Structure.{most_components, names_of, same_name}
 use Rattle.vtl_tree.specs.Structures.{Named, codes_fit, components_of, is_declarable_component, is_null_kind}
-use Rattle.vtl_tree.proofs.DeclarationLemmas.{not_false}
 use Rattle.vtl_csv.specs.declared.declarations.NewComponent.{NewComponent}
 use Rattle.vtl_csv.specs.declared.version.Version.TheVariants as v
 use Rattle.vtl_csv.specs.Declarations.{codes_of, component_in, dataset_in, has_component, is_full, kind_in, listed_by, record_of, role_in}
@@ -40,7 +39,7 @@ module _ (so_far : Named) (name : Name) (list : List Name) (x : Component) (name
   by_dataset dataset = ok_or (component_in (encode_utf8_all x.name)) 4 >>= by_name dataset
 
   filled : is_null_kind x.kind ≡ false
-  filled = not_false (is_null_kind x.kind) (and_parts (is_component_name x.name) (not (is_null_kind x.kind)) (and_parts (is_component_name x.name && not (is_null_kind x.kind)) (codes_fit x) declarable).0).1
+  filled = not-true (is_null_kind x.kind) (and_parts (is_component_name x.name) (not (is_null_kind x.kind)) (and_parts (is_component_name x.name && not (is_null_kind x.kind)) (codes_fit x) declarable).0).1
 
   fits : codes_fit x ≡ true
   fits = (and_parts (is_component_name x.name && not (is_null_kind x.kind)) (codes_fit x) declarable).1

@@ -4,7 +4,7 @@ use Rattle.std.specs.Cmp.Lexicographic.{nat_list_eq_equiv}
 use Rattle.std.specs.List.{AllByRecursion, filter}
 use Rattle.std.specs.Map.{keys_of, lookup}
 use Rattle.std.specs.Prelude.{unwrap_or}
-use Rattle.std.proofs.lemmas.Bool.{and_parts}
+use Rattle.std.proofs.lemmas.Bool.{and_parts, not-true, or_parts}
 use Rattle.std.proofs.lemmas.Grind.{flat_map-append}
 use Rattle.std.proofs.lemmas.List.{map-append}
 use Rattle.std.proofs.lemmas.List.Elements.{filter-append}
@@ -15,7 +15,6 @@ use Rattle.vtl_tree.specs.declared.structure.Structure.{Structure}
 use Rattle.vtl_tree.specs.NotNull.{Declared, NotNull, longer_list, not_null_of, with_list, with_name}
 use Rattle.vtl_tree.specs.Structure.{names_of, same_name}
 use Rattle.vtl_tree.specs.Structures.{Named, has_name, structure_of, with_component}
-use Rattle.vtl_tree.proofs.DeclarationLemmas.{not_false, or_none}
 use Rattle.vtl_tree.proofs.StructuresLemmas.{begins_data_set, keys_push}
 use Rattle.vtl_csv.specs.declared.declarations.NewComponent.{NewComponent}
 use Rattle.vtl_csv.specs.Declarations.{with_new}
@@ -32,13 +31,13 @@ all_split P (y ∷ ys) x all = let rest = all_split P ys x all.1 in ((all.0, res
 pub last_found : (front : Named) (name : Name) (s : Structure) → has_name name front ≡ false → lookup (same_name name) (front ++ (name, s) ∷ []) ≡ Some s
 last_found [] name s new = ap (λ b. cond b (Some s) None) (same_itself name)
 last_found (y ∷ ys) name s new =
-    let parts = or_none (same_name name y.0) (has_name name ys) new in
+    let parts = or_parts (same_name name y.0) (has_name name ys) new in
     ap (λ b. cond b (Some y.1) (lookup (same_name name) (ys ++ (name, s) ∷ []))) parts.0 ∙ last_found ys name s parts.1
 
 last_grows : (front : Named) (name : Name) (cs : List Component) (x : Component) → has_name name front ≡ false → with_component name x (front ++ (name, structure_of cs) ∷ []) ≡ front ++ (name, structure_of (cs ++ x ∷ [])) ∷ []
 last_grows [] name cs x new = ap (λ b. cond b ((name, structure_of (cs ++ x ∷ [])) ∷ []) ((name, structure_of cs) ∷ with_component name x [])) (same_itself name)
 last_grows (y ∷ ys) name cs x new =
-    let parts = or_none (same_name name y.0) (has_name name ys) new in
+    let parts = or_parts (same_name name y.0) (has_name name ys) new in
     ap (λ b. cond b ((y.0, structure_of (y.1.components ++ x ∷ [])) ∷ (ys ++ (name, structure_of cs) ∷ [])) (y ∷ with_component name x (ys ++ (name, structure_of cs) ∷ []))) parts.0
     ∙ ap (λ (l : Named). y ∷ l) (last_grows ys name cs x parts.1)
 
@@ -56,7 +55,7 @@ module _ (ls : NotNull) where
   -- ---- the list of each is its own
   none_kept : (name : Name) (ys : Named) → has_name name ys ≡ false → not_null_of name (lists_in_order ls ys) ≡ []
   none_kept name [] new = refl
-  none_kept name (y ∷ ys) new = let parts = or_none (same_name name y.0) (has_name name ys) new in go (kept y) parts.0 (none_kept name ys parts.1)
+  none_kept name (y ∷ ys) new = let parts = or_parts (same_name name y.0) (has_name name ys) new in go (kept y) parts.0 (none_kept name ys parts.1)
     where
       go : (ns : List Name) → same_name name y.0 ≡ false → not_null_of name (lists_in_order ls ys) ≡ [] → not_null_of name (with_list y.0 ns ++ lists_in_order ls ys) ≡ []
       go [] f ih = ih
@@ -66,14 +65,14 @@ module _ (ls : NotNull) where
   past k [] zs ys new all = all
   past k (n ∷ ns) zs [] new all = tt
   past k (n ∷ ns) zs (y ∷ ys) new all =
-      let parts = or_none (same_name k y.0) (has_name k ys) new in
+      let parts = or_parts (same_name k y.0) (has_name k ys) new in
       (ap (λ b. unwrap_or (cond b (Some (n ∷ ns)) (lookup (same_name y.0) zs)) []) (nat_list_eq_equiv.symm y.0 k ∙ parts.0) ∙ all.0, past k (n ∷ ns) zs ys parts.1 all.1)
 
   own_kept : (xs : Named) → all_apart same_name (keys_of xs) ≡ true → AllByRecursion (IsOwn (lists_in_order ls xs)) xs
   own_kept [] apart = tt
   own_kept (x ∷ xs) apart =
       let parts = and_parts (not (has_name x.0 xs)) (all_apart same_name (keys_of xs)) apart in
-      let new = not_false (has_name x.0 xs) parts.0 in
+      let new = not-true (has_name x.0 xs) parts.0 in
       (first (kept x) new, past x.0 (kept x) (lists_in_order ls xs) xs new (own_kept xs parts.1))
     where
       first : (ns : List Name) → has_name x.0 xs ≡ false → not_null_of x.0 (with_list x.0 ns ++ lists_in_order ls xs) ≡ ns
@@ -87,7 +86,7 @@ module _ (ls : NotNull) where
   front_stays : (zs : NotNull) (name n : Name) (ys : Named) → has_name name ys ≡ false → AllByRecursion (IsOwn zs) ys → with_name name n ys zs ≡ lists_in_order ls ys
   front_stays zs name n [] new all = refl
   front_stays zs name n (y ∷ ys) new all =
-      let parts = or_none (same_name name y.0) (has_name name ys) new in
+      let parts = or_parts (same_name name y.0) (has_name name ys) new in
       ap (λ b. with_list y.0 (cond b (not_null_of y.0 zs ++ n ∷ []) (not_null_of y.0 zs)) ++ with_name name n ys zs) parts.0
       ∙ ap (λ ns. with_list y.0 ns ++ with_name name n ys zs) all.0
       ∙ ap (λ l. with_list y.0 (kept y) ++ l) (front_stays zs name n ys parts.1 all.1)

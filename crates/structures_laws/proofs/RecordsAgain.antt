@@ -1,10 +1,9 @@
 -- The records of a text of version 2 are read again.
-use Rattle.std.proofs.Common.{◌≡◌, ℕ, zero, suc, ◌+◌, ◌<◌, ◌≤◌, Bool, true, false, cond, ◌&&◌, ◌==◌, List, [], ◌∷◌, ◌++◌, length, length-append, map, flat_map, arith, refl, sym, ap, ◌∙◌, append_assoc, lit<}
-use Rattle.std.proofs.lemmas.Bool.{ne_eqb}
+use Rattle.std.proofs.Common.{◌≡◌, ℕ, zero, suc, ◌+◌, ◌≤◌, cond, List, [], ◌∷◌, ◌++◌, length, length-append, map, flat_map, arith, refl, ap, ◌∙◌}
 use Rattle.std.proofs.lemmas.List.{map-append}
 use Rattle.std.specs.Prelude.{codes}
-use Rattle.csv.specs.Reading.{default_config, is_bom, records, records_from, strip_bom}
-use Rattle.csv.specs.Writing.{default_writer, escaped, field_text, fields_text, is_blank, needs_quotes, quoted, read_back, row_body, row_text}
+use Rattle.csv.specs.Reading.{default_config, records, records_from, strip_bom}
+use Rattle.csv.specs.Writing.{default_writer, is_blank, read_back, row_body, row_text}
 use Rattle.csv.specs.declared.parser.State.TheVariants as st
 use Rattle.csv.proofs.RoundTrip.{read-write}
 use Rattle.vtl_lists.specs.Aliases.{Name, Record}
@@ -15,6 +14,7 @@ use Rattle.vtl_tree.specs.Structures.{Named}
 use Rattle.vtl_csv.specs.StructuresFile.{records_in}
 use Rattle.vtl_csv.specs.StructuresText.{component_record, declaring_records, heading_record, profile_record, records_written, rounding_word, second_text, set_records}
 use Rattle.vtl_csv.proofs.RecordsLeftLemmas.{records_from-none}
+use Rattle.vtl_csv.proofs.ReadAgainLemmas.{record_unmarked}
 
 -- ---- records
 written : (n : ℕ) (rows : List Record) → length rows ≤ n → records_from default_config n st.StartRecord (flat_map (row_text default_writer) rows) ≡ map read_back rows
@@ -55,59 +55,9 @@ sets_back ls (e ∷ es) =
     ∙ ap (λ (t : List Record). set_records ls e ++ t) (sets_back ls es)
 
 -- ---- the first one begins with no mark
-and_no : (b : Bool) → (b && false) ≡ false
-and_no true = refl
-and_no false = refl
-
-no_mark_here : (a b c : ℕ) (rest : List ℕ) → strip_bom (a ∷ b ∷ c ∷ rest) ≡ a ∷ b ∷ c ∷ rest → is_bom a b c ≡ false
-unfolding strip_bom
-no_mark_here a b c rest e = go (is_bom a b c) e
-  where
-    go : (m : Bool) → cond m rest (a ∷ b ∷ c ∷ rest) ≡ a ∷ b ∷ c ∷ rest → m ≡ false
-    go false h = refl
-    go true h = absurd (let l = ap length h in omega (arith, l))
-
-empty_unmarked : strip_bom [] ≡ []
-unfolding strip_bom
-empty_unmarked = refl
-
 word_unmarked : strip_bom (codes "structures") ≡ codes "structures"
 unfolding strip_bom
 word_unmarked = refl
-
-goes_on : (f : List ℕ) (h : ℕ) (t : List ℕ) → h < 128 → strip_bom f ≡ f → strip_bom (f ++ h ∷ t) ≡ f ++ h ∷ t
-unfolding strip_bom
-goes_on [] h [] few e = refl
-goes_on [] h (b ∷ []) few e = refl
-goes_on [] h (b ∷ c ∷ t) few e = let n : (h == 239) ≡ false = ne_eqb h 239 (λ z. omega (arith, z, few)) in rw n refl
-goes_on (a ∷ []) h [] few e = refl
-goes_on (a ∷ []) h (c ∷ t) few e = let n : (h == 187) ≡ false = ne_eqb h 187 (λ z. omega (arith, z, few)) in rw (n, and_no (a == 239)) refl
-goes_on (a ∷ b ∷ []) h t few e = let n : (h == 191) ≡ false = ne_eqb h 191 (λ z. omega (arith, z, few)) in rw (n, and_no ((a == 239) && (b == 187))) refl
-goes_on (a ∷ b ∷ c ∷ f) h t few e = rw (no_mark_here a b c f e) refl
-
-field_goes_on : (f : List ℕ) (h : ℕ) (t : List ℕ) → h < 128 → strip_bom f ≡ f → strip_bom (field_text default_writer f ++ h ∷ t) ≡ field_text default_writer f ++ h ∷ t
-field_goes_on f h t few e = go (needs_quotes default_writer f)
-  where
-    go : (b : Bool) → strip_bom (cond b (quoted default_writer f) f ++ h ∷ t) ≡ cond b (quoted default_writer f) f ++ h ∷ t
-    go false = goes_on f h t few e
-    go true = goes_on [] 34 ((escaped default_writer f ++ (34 ∷ [])) ++ h ∷ t) (lit< tt) empty_unmarked
-
-followed : (fields : List (List ℕ)) (blank : Bool) (rest : List ℕ)
-    → (h : ℕ) × (t : List ℕ) × ((fields_text default_writer fields ++ (cond blank (34 ∷ 34 ∷ []) [] ++ (10 ∷ []))) ++ rest ≡ h ∷ t) × (h < 128)
-unfolding fields_text
-followed [] true rest = (34, 34 ∷ 10 ∷ rest, refl, lit< tt)
-followed [] false rest = (10, rest, refl, lit< tt)
-followed (g ∷ gs) blank rest = (44, ((field_text default_writer g ++ fields_text default_writer gs) ++ (cond blank (34 ∷ 34 ∷ []) [] ++ (10 ∷ []))) ++ rest, refl, lit< tt)
-
-record_unmarked : (f : List ℕ) (fs : List (List ℕ)) (rest : List ℕ) → strip_bom f ≡ f → strip_bom (row_text default_writer (f ∷ fs) ++ rest) ≡ row_text default_writer (f ∷ fs) ++ rest
-record_unmarked f fs rest e =
-    let blank = is_blank default_writer (f ∷ fs) in
-    let tail = cond blank (34 ∷ 34 ∷ []) [] ++ (10 ∷ []) in
-    let next = followed fs blank rest in
-    let parts : row_text default_writer (f ∷ fs) ++ rest ≡ field_text default_writer f ++ next.0 ∷ next.1 =
-    ap (λ l. l ++ rest) (append_assoc (field_text default_writer f) (fields_text default_writer fs) tail) ∙ append_assoc (field_text default_writer f) (fields_text default_writer fs ++ tail) rest
-    ∙ ap (λ l. field_text default_writer f ++ l) next.2 in
-    ap strip_bom parts ∙ field_goes_on f next.0 next.1 next.3 e ∙ sym parts
 
 -- ---- the whole text
 pub second_again : (d : Declared) (p : Settings) → records_in (second_text d p) ≡ records_written d p

@@ -5,7 +5,7 @@ use Rattle.std.specs.List.{AllByRecursion, list_all, list_any}
 use Rattle.std.specs.Map.{keys_of, lookup}
 use Rattle.std.specs.Option.{option_and_then, option_map_or}
 use Rattle.std.specs.Prelude.{encode_utf8_all, nat_le, option_map}
-use Rattle.std.proofs.lemmas.Bool.{and_parts}
+use Rattle.std.proofs.lemmas.Bool.{and_parts, not-true, or_parts}
 use Rattle.std.proofs.lemmas.Bool.Decides.{nat_tests}
 use Rattle.std.proofs.lemmas.List.{map-append}
 use Rattle.vtl_lists.specs.Aliases.{Name, Record}
@@ -19,7 +19,6 @@ use Rattle.vtl_tree.specs.declared.structure.Structure.{Structure}
 use Rattle.vtl_tree.specs.NotNull.{Declared, NotNull, not_null_of}
 use Rattle.vtl_tree.specs.Structure.{most_components, names_of, same_name}
 use Rattle.vtl_tree.specs.Structures.{Named, are_declarable, components_of, has_name, is_declarable_component, is_declarable_entry, structure_of}
-use Rattle.vtl_tree.proofs.DeclarationLemmas.{not_false, or_none}
 use Rattle.vtl_tree.proofs.StructuresLemmas.{not_found}
 use Rattle.vtl_csv.specs.declared.declarations.NewComponent.{NewComponent}
 use Rattle.vtl_csv.specs.declared.structures.Declared.{Declared as Whole}
@@ -36,39 +35,39 @@ use Rattle.structures_laws.proofs.RecordsAgain.{second_again}
 
 -- ---- names that are apart
 at_seam : {X : Type 0} (p : X → Bool) (xs : List X) (x : X) (ys : List X) → list_any p (xs ++ x ∷ ys) ≡ false → p x ≡ false
-at_seam p [] x ys h = (or_none (p x) (list_any p ys) h).0
-at_seam p (z ∷ xs) x ys h = at_seam p xs x ys (or_none (p z) (list_any p (xs ++ x ∷ ys)) h).1
+at_seam p [] x ys h = (or_parts (p x) (list_any p ys) h).0
+at_seam p (z ∷ xs) x ys h = at_seam p xs x ys (or_parts (p z) (list_any p (xs ++ x ∷ ys)) h).1
 
 new_behind : (xs : List Name) (n : Name) (ys : List Name) → all_apart same_name (xs ++ n ∷ ys) ≡ true → list_any (same_name n) xs ≡ false
 new_behind [] n ys apart = refl
 new_behind (z ∷ xs) n ys apart =
     let parts = and_parts (not (list_any (same_name z) (xs ++ n ∷ ys))) (all_apart same_name (xs ++ n ∷ ys)) apart in
-    let differ = at_seam (same_name z) xs n ys (not_false (list_any (same_name z) (xs ++ n ∷ ys)) parts.0) in
+    let differ = at_seam (same_name z) xs n ys (not-true (list_any (same_name z) (xs ++ n ∷ ys)) parts.0) in
     ap (λ b. b || list_any (same_name n) xs) (nat_list_eq_equiv.symm n z ∙ differ) ∙ new_behind xs n ys parts.1
 
 front_apart : (xs : List Name) (n : Name) (ys : List Name) → all_apart same_name (xs ++ n ∷ ys) ≡ true → all_apart same_name (xs ++ n ∷ []) ≡ true
 front_apart [] n ys apart = refl
 front_apart (z ∷ xs) n ys apart =
     let parts = and_parts (not (list_any (same_name z) (xs ++ n ∷ ys))) (all_apart same_name (xs ++ n ∷ ys)) apart in
-    let fewer = not_false (list_any (same_name z) (xs ++ n ∷ ys)) parts.0 in
+    let fewer = not-true (list_any (same_name z) (xs ++ n ∷ ys)) parts.0 in
     ap (λ b. not b && all_apart same_name (xs ++ n ∷ [])) (shorter (same_name z) xs n ys fewer) ∙ front_apart xs n ys parts.1
   where
     shorter : (p : Name → Bool) (xs : List Name) (n : Name) (ys : List Name) → list_any p (xs ++ n ∷ ys) ≡ false → list_any p (xs ++ n ∷ []) ≡ false
-    shorter p [] n ys h = ap (λ b. b || false) (or_none (p n) (list_any p ys) h).0
+    shorter p [] n ys h = ap (λ b. b || false) (or_parts (p n) (list_any p ys) h).0
     shorter p (z ∷ xs) n ys h =
-        let parts = or_none (p z) (list_any p (xs ++ n ∷ ys)) h in
+        let parts = or_parts (p z) (list_any p (xs ++ n ∷ ys)) h in
         ap (λ b. b || list_any p (xs ++ n ∷ [])) parts.0 ∙ shorter p xs n ys parts.1
 
 before_apart : (xs : List Name) (ys : List Name) → all_apart same_name (xs ++ ys) ≡ true → all_apart same_name xs ≡ true
 before_apart [] ys apart = refl
 before_apart (z ∷ xs) ys apart =
     let parts = and_parts (not (list_any (same_name z) (xs ++ ys))) (all_apart same_name (xs ++ ys)) apart in
-    ap (λ b. not b && all_apart same_name xs) (shorter (same_name z) xs (not_false (list_any (same_name z) (xs ++ ys)) parts.0)) ∙ before_apart xs ys parts.1
+    ap (λ b. not b && all_apart same_name xs) (shorter (same_name z) xs (not-true (list_any (same_name z) (xs ++ ys)) parts.0)) ∙ before_apart xs ys parts.1
   where
     shorter : (p : Name → Bool) (us : List Name) → list_any p (us ++ ys) ≡ false → list_any p us ≡ false
     shorter p [] h = refl
     shorter p (u ∷ us) h =
-        let parts = or_none (p u) (list_any p (us ++ ys)) h in
+        let parts = or_parts (p u) (list_any p (us ++ ys)) h in
         ap (λ b. b || list_any p us) parts.0 ∙ shorter p us parts.1
 
 names_split : (xs : List Component) (x : Component) (ys : List Component) → names_of (xs ++ x ∷ ys) ≡ names_of xs ++ x.name ∷ names_of ys
@@ -166,12 +165,12 @@ own_components : (xs : Named) → all_apart same_name (keys_of xs) ≡ true → 
 own_components [] apart = tt
 own_components (x ∷ xs) apart =
     let parts = and_parts (not (has_name x.0 xs)) (all_apart same_name (keys_of xs)) apart in
-    (ap (λ b. option_map_or (λ (s : Structure). s.components) (cond b (Some x.1) (lookup (same_name x.0) xs)) []) (same_itself x.0), past xs (not_false (has_name x.0 xs) parts.0) (own_components xs parts.1))
+    (ap (λ b. option_map_or (λ (s : Structure). s.components) (cond b (Some x.1) (lookup (same_name x.0) xs)) []) (same_itself x.0), past xs (not-true (has_name x.0 xs) parts.0) (own_components xs parts.1))
   where
     past : (ys : Named) → has_name x.0 ys ≡ false → AllByRecursion (λ e. components_of e.0 xs ≡ e.1.components) ys → AllByRecursion (λ e. components_of e.0 (x ∷ xs) ≡ e.1.components) ys
     past [] new all = tt
     past (y ∷ ys) new all =
-        let parts = or_none (same_name x.0 y.0) (has_name x.0 ys) new in
+        let parts = or_parts (same_name x.0 y.0) (has_name x.0 ys) new in
         (ap (λ b. option_map_or (λ (s : Structure). s.components) (cond b (Some x.1) (lookup (same_name y.0) xs)) []) (nat_list_eq_equiv.symm y.0 x.0 ∙ parts.0) ∙ all.0, past ys parts.1 all.1)
 
 -- ---- the first records

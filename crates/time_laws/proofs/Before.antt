@@ -6,16 +6,20 @@ use Rattle.std.specs.Ordering.{is_le, is_lt, ordering_reverse}
 use Rattle.std.specs.declared.cmp.Ordering.{Ordering}
 use Rattle.std.specs.declared.cmp.Ordering.TheVariants.{Less, Equal, Greater}
 use Rattle.std.proofs.lemmas.List.Elements.{filter-append}
+use Rattle.std.proofs.lemmas.Bool.{and_parts}
 use Rattle.vtl_lists.specs.Apart.{all_apart}
 use Rattle.vtl_lists.specs.Perm.{Perm, chain}
 use Rattle.vtl_lists.proofs.Aparts.{all_apart-filter}
 use Rattle.vtl_lists.proofs.Perms.{Perm-append_comm, Perm-middle, Perm-same}
+use Rattle.vtl_lists.proofs.Alls.{all_back, all_both, all_front, all_kept, all_more, test_from_all}
+use Rattle.vtl_lists.proofs.Filters.{none_found}
+use Rattle.vtl_tuples.proofs.Lists.{filter_same}
 use Rattle.vtl_cell.specs.Order.{cell_cmp, same_cell}
 use Rattle.vtl_cell.specs.Row.{Row, same_key, same_row}
 use Rattle.vtl_cell.specs.ScalarPeriods.{frequency_of}
 use Rattle.vtl_cell.proofs.Cells.{same_cell-is, same_cell-refl}
 use Rattle.vtl_cell.proofs.Orders.{cell_cmp-ties, cell_cmp_total}
-use Rattle.vtl_cell.proofs.Rows.{same_row-is, same_row-refl, split_and}
+use Rattle.vtl_cell.proofs.Rows.{same_row-is, same_row-refl, is_Less}
 use Rattle.vtl_tree.specs.DataSet.{IsDataSet, is_point}
 use Rattle.vtl_tree.specs.Environment.{DataSet}
 use Rattle.vtl_tree.specs.Structure.{IsStructure, columns_of, key_width}
@@ -23,8 +27,8 @@ use Rattle.vtl_tree.specs.declared.structure.Structure.{Structure}
 use Rattle.vtl_meaning.specs.Agreement.{values_in}
 use Rattle.vtl_meaning.specs.Points.{with_points}
 use Rattle.vtl_timing.specs.Times.{HasTime, before, in_one_series, other_identifiers, previous, series_of, time_of, up_to}
-use Rattle.vtl_timing.proofs.FlowOrders.{all_both, kept_too, keys_same}
-use Rattle.time_laws.proofs.Lists.{IsAmong, all_back, all_front, all_list, apart_cut, cut_at, filter_same, filtered_all, find_gives, find_none, first_among, item_has, later_among, passes_too}
+use Rattle.vtl_timing.proofs.FlowOrders.{keys_same}
+use Rattle.time_laws.proofs.Lists.{IsAmong, apart_cut, cut_at, filtered_all, find_gives, first_among, item_has, later_among, passes_too}
 
 -- ---- orderings
 not_equal : (o : Ordering) → (o ≡ Equal → ⊥) → is_le o ≡ is_lt o
@@ -37,19 +41,10 @@ own_tie Less e = cc
 own_tie Equal e = refl
 own_tie Greater e = cc
 
-less_is : (o : Ordering) → is_lt o ≡ true → o ≡ Less
-less_is Less e = refl
-less_is Equal e = cc
-less_is Greater e = cc
-
 turned : (o w : Ordering) → w ≡ ordering_reverse o → is_le o ≡ false → is_lt w ≡ true
 turned Less w e f = cc
 turned Equal w e f = cc
 turned Greater w e f = ap is_lt e
-
-all_mapped : {X : Type 0} (P Q : X → Type 0) → ((x : X) → P x → Q x) → (xs : List X) → AllByRecursion P xs → AllByRecursion Q xs
-all_mapped P Q f [] all = tt
-all_mapped P Q f (x ∷ xs) all = (f x all.0, all_mapped P Q f xs all.1)
 
 module _ (a : Structure) where
   abbrev no_later : Row → Row → Bool
@@ -69,7 +64,7 @@ module _ (a : Structure) where
   earlier_still z x r h e = go (cell_cmp (time_of a z) (time_of a x)) refl h
     where
       less : cell_cmp (time_of a x) (time_of a r) ≡ Less
-      less = less_is (cell_cmp (time_of a x) (time_of a r)) e
+      less = is_Less (cell_cmp (time_of a x) (time_of a r)) e
 
       go : (o : Ordering) → cell_cmp (time_of a z) (time_of a x) ≡ o → is_le o ≡ true → earlier z r ≡ true
       go Less f g = ap is_lt (cell_cmp_total.trans (time_of a z) (time_of a x) (time_of a r) f less)
@@ -77,7 +72,7 @@ module _ (a : Structure) where
       go Greater f g = cc
 
   lax : (z r : Row) → earlier z r ≡ true → no_later z r ≡ true
-  lax z r e = ap is_le (less_is (cell_cmp (time_of a z) (time_of a r)) e)
+  lax z r e = ap is_le (is_Less (cell_cmp (time_of a z) (time_of a r)) e)
 
   -- ---- one series
   pub self_series : (r : Row) → in_one_series a r r ≡ true
@@ -86,7 +81,7 @@ module _ (a : Structure) where
   one_series : (r q : Row) → in_one_series a r q ≡ true → in_one_series a q ≡ in_one_series a r
   one_series r q e =
       let vals = λ (z : Row). values_in a (other_identifiers a) z in
-      let parts = split_and (same_row (vals q) (vals r)) (same_cell (frequency_of (time_of a q)) (frequency_of (time_of a r))) e in
+      let parts = and_parts (same_row (vals q) (vals r)) (same_cell (frequency_of (time_of a q)) (frequency_of (time_of a r))) e in
       let values = same_row-is (vals q) (vals r) parts.0 in
       let letters = same_cell-is (frequency_of (time_of a q)) (frequency_of (time_of a r)) parts.1 in
       λ i z. same_row (vals z) (values i) && same_cell (frequency_of (time_of a z)) (letters i)
@@ -108,7 +103,7 @@ module _ (a : Structure) where
           go true e = record { row = rest.row; among = later_among rest.row x (y ∷ ys) rest.among; last = (e, rest.last) }
           go false e =
               let less = or_else x rest.row e in
-              record { row = x; among = first_among x (y ∷ ys); last = (ap is_le (at_once x), all_mapped (λ z. no_later z rest.row ≡ true) (λ z. no_later z x ≡ true) (λ z h. lax z x (earlier_still z rest.row x h less)) (y ∷ ys) rest.last) }
+              record { row = x; among = first_among x (y ∷ ys); last = (ap is_le (at_once x), all_more (λ z. no_later z rest.row ≡ true) (λ z. no_later z x ≡ true) (λ z h. lax z x (earlier_still z rest.row x h less)) (y ∷ ys) rest.last) }
 
   abbrev is_last : List Row → Row → Bool
   is_last rows q = list_all (λ z. no_later z q) rows
@@ -117,7 +112,7 @@ module _ (a : Structure) where
   none_at_all [] e = refl
   none_at_all (x ∷ xs) e =
       let found = last_one x xs in
-      absurd (true≢false (sym (all_list (λ z. no_later z found.row) (x ∷ xs) found.last) ∙ item_has (λ q. is_last (x ∷ xs) q ≡ false) (x ∷ xs) found.row found.among (find_none (is_last (x ∷ xs)) (x ∷ xs) e)))
+      absurd (true≢false (sym (test_from_all (λ z. no_later z found.row) (x ∷ xs) found.last) ∙ item_has (λ q. is_last (x ∷ xs) q ≡ false) (x ∷ xs) found.row found.among (none_found (is_last (x ∷ xs)) (x ∷ xs) e)))
 
   module _ (well : IsStructure a) (time : HasTime a) (us : List Row) (h : IsDataSet a us) where
     abbrev d : DataSet
@@ -130,7 +125,7 @@ module _ (a : Structure) where
     IsIn r z = (is_point (columns_of a) z ≡ true) × (in_one_series a r z ≡ true)
 
     all_in : (r : Row) → AllByRecursion (IsIn r) (series_of d r)
-    all_in r = kept_too (λ z. is_point (columns_of a) z ≡ true) (in_one_series a r) us h.typed
+    all_in r = all_kept (λ z. is_point (columns_of a) z ≡ true) (in_one_series a r) us h.typed
 
     -- ---- up to a point
     pub up_to_is : (r : Row) → IsAmong us r → Perm (up_to d r) (before d r ++ r ∷ [])
@@ -160,7 +155,7 @@ module _ (a : Structure) where
 
     -- ---- the previous point
     all_before : (r : Row) → AllByRecursion (λ z. IsIn r z × (earlier z r ≡ true)) (before d r)
-    all_before r = kept_too (IsIn r) (λ z. earlier z r) (series_of d r) (all_in r)
+    all_before r = all_kept (IsIn r) (λ z. earlier z r) (series_of d r) (all_in r)
 
     pub before_is : (r x : Row) → previous d r ≡ Some x → up_to d x ≡ before d r
     before_is r x e =
@@ -168,7 +163,7 @@ module _ (a : Structure) where
         let late = filtered_all (λ z. earlier z r) (λ z. no_later z x) (series_of d r) found.1 in
         ap (filter (λ z. no_later z x)) (series_same r x found.0.0.1)
         ∙ filter_same (λ z. no_later z x) (λ z. earlier z r) (series_of d r)
-        (all_mapped (λ z. earlier z r ≡ true → no_later z x ≡ true) (λ z. no_later z x ≡ earlier z r) (λ z k. both_ways (no_later z x) (earlier z r) (λ f. earlier_still z x r f found.0.1) k) (series_of d r) late)
+        (all_more (λ z. earlier z r ≡ true → no_later z x ≡ true) (λ z. no_later z x ≡ earlier z r) (λ z k. both_ways (no_later z x) (earlier z r) (λ f. earlier_still z x r f found.0.1) k) (series_of d r) late)
 
     pub none_before : (r : Row) → previous d r ≡ None → before d r ≡ []
     none_before r e = none_at_all (before d r) e

@@ -6,6 +6,7 @@ use Rattle.std.proofs.lemmas.Bool.Decides.{nat_tests}
 use Rattle.std.proofs.lemmas.Int.{ints}
 use Rattle.std.proofs.lemmas.List.{map-append}
 use Rattle.std.proofs.lemmas.List.Sums.{fold-append}
+use Rattle.vtl_lists.proofs.Filters.{filter_all}
 use Rattle.vtl_decimal.specs.Range.{fit_integer, fit_number}
 use Rattle.vtl_decimal.specs.Settings.{Settings}
 use Rattle.vtl_decimal.specs.Tally.{tally_of}
@@ -26,7 +27,6 @@ use Rattle.vtl_cell.specs.declared.kind.Kind.TheVariants as k
 use Rattle.vtl_cell.specs.declared.operator.AggKind.TheVariants as agg
 use Rattle.vtl_cell.specs.declared.operator.ScalarOp.TheVariants as op
 use Rattle.vtl_meaning.proofs.GroupKinds.{IsOf}
-use Rattle.vtl_timing.proofs.FlowsKept.{keep_all}
 
 -- a value of a kind that is there
 abbrev pub IsThere : Kind → Cell → Type 0
@@ -69,7 +69,7 @@ all_and kind (u ∷ vs) v all h = (all.0, all_and kind vs v all.1 h)
 module _ (p : Settings) where
   -- ---- totals
   sum_of_some : (kind : Kind) (v : Cell) (vs : List Cell) → AllByRecursion (IsThere kind) (v ∷ vs) → group_value p agg.Sum (v ∷ vs) ≡ total_of p (v ∷ vs)
-  sum_of_some kind v vs all = ap (aggregate p agg.Sum) (keep_all (λ x. not (is_null x)) (v ∷ vs) (all_there kind (v ∷ vs) all))
+  sum_of_some kind v vs all = ap (aggregate p agg.Sum) (filter_all (λ x. not (is_null x)) (v ∷ vs) (all_there kind (v ∷ vs) all))
 
   sum_with : (kind : Kind) (vs : List Cell) (v : Cell) → AllByRecursion (IsThere kind) (vs ++ v ∷ []) → group_value p agg.Sum (vs ++ v ∷ []) ≡ total_of p (vs ++ v ∷ [])
   sum_with kind [] v all = sum_of_some kind v [] all

@@ -4,6 +4,7 @@ use Rattle.std.specs.List.{AllByRecursion, list_any, range_with_len}
 use Rattle.std.proofs.lemmas.List.{append-nil, get_or_push, length-map, length_push, map-append, take_all}
 use Rattle.vtl_lists.specs.Apart.{all_apart}
 use Rattle.vtl_lists.proofs.Sorts.{AllByRecursion-filter}
+use Rattle.vtl_lists.proofs.Alls.{all_both, all_filtered}
 use Rattle.vtl_cell.specs.Row.{Row, column_of, same_row}
 use Rattle.vtl_cell.specs.declared.cell.Cell.{Cell}
 use Rattle.vtl_cell.specs.declared.cell.Cell.TheVariants as c
@@ -28,31 +29,20 @@ use Rattle.vtl_meaning.specs.LookUps.{value_named, values_named}
 use Rattle.vtl_meaning.specs.Points.{with_points}
 use Rattle.vtl_meaning.proofs.AnalyticColumns.{identifier_cells}
 use Rattle.vtl_meaning.proofs.LookUps.{named_cells}
-use Rattle.vtl_meaning.proofs.Lists.{passing}
 use Rattle.vtl_meaning.proofs.OwnColumns.{columns_apart}
 use Rattle.vtl_meaning.proofs.Places.{columns_split, first_cells, point_append, point_length}
-use Rattle.vtl_tuples.proofs.Lists.{map-map}
+use Rattle.vtl_meaning.proofs.TurnedKept.{front_same}
+use Rattle.vtl_tuples.proofs.Lists.{map-map, map_same}
 use Rattle.vtl_timing.specs.Times.{HasTime, fill_of, filled_keys, in_order, is_time, other_identifiers, series_columns, time_of, time_place}
 use Rattle.vtl_timing.proofs.FilledPoints as filled
-use Rattle.vtl_timing.proofs.FlowOrders.{all_both, own_time, time_at}
+use Rattle.vtl_timing.proofs.FlowOrders.{own_time, time_at}
 use Rattle.vtl_timing.proofs.SeriesColumns.{time_only}
 use Rattle.time_laws.proofs.Alike.{AreAlike, series_same}
-use Rattle.time_laws.proofs.Lists.{IsAmong, all_among, map_same}
+use Rattle.time_laws.proofs.Lists.{IsAmong, all_among}
 
 -- ---- lists
 longer : (xs : Row) (x : Cell) → [] ≡ xs ++ x ∷ [] → ⊥
 longer xs x e = let l = length_push xs x in let n : 0 ≡ length (xs ++ x ∷ []) = ap length e in absurd (omega (arith, l, n))
-
--- the last items, and what stands before them
-lasts_are : (xs ys : Row) (x y : Cell) → xs ++ x ∷ [] ≡ ys ++ y ∷ [] → (xs ≡ ys) × (x ≡ y)
-lasts_are [] [] x y e = (refl, cc)
-lasts_are [] (z ∷ ys) x y e = let n : [] ≡ ys ++ y ∷ [] = cc in absurd (longer ys y n)
-lasts_are (z ∷ xs) [] x y e = let n : xs ++ x ∷ [] ≡ [] = cc in absurd (longer xs x (sym n))
-lasts_are (z ∷ xs) (w ∷ ys) x y e =
-    let first : z ≡ w = cc in
-    let rest : xs ++ x ∷ [] ≡ ys ++ y ∷ [] = cc in
-    let both = lasts_are xs ys x y rest in
-    (ap (λ v. v ∷ xs) first ∙ ap (λ l. w ∷ l) both.0, both.1)
 
 behind_same : (us vs ws : Row) → us ++ vs ≡ us ++ ws → vs ≡ ws
 behind_same [] vs ws e = e
@@ -122,7 +112,7 @@ module _ (e : Extent) (d : DataSet) (timed : HasTime d.structure) (h : IsDataSet
       let only = (time_only a timed).only in
       let Stands : Component → Type 0 = λ y. is_time y ≡ true → f y ≡ column_of (time_place a) (map f ids) in
       let same = subst (AllByRecursion (Stays r)) only (AllByRecursion-filter (Stays r) is_time ids (each_stays r i)) in
-      let passes = subst (AllByRecursion (λ x. is_time x ≡ true)) only (passing is_time ids) in
+      let passes = subst (AllByRecursion (λ x. is_time x ≡ true)) only (all_filtered is_time ids) in
       let stands = subst (AllByRecursion Stands) only (AllByRecursion-filter Stands is_time ids (time_at f ids timed).0) in
       sym (stands.0 passes.0 ∙ own_time a h.well_formed timed z (is_filled r i)) ∙ same.0
 
@@ -132,7 +122,7 @@ module _ (e : Extent) (d : DataSet) (timed : HasTime d.structure) (h : IsDataSet
       let r = dated f key i in
       let g : Component → Cell = λ y. value_named sc r y.name in
       let split = map-append g others (filter is_time ids) ∙ ap (λ l. map g others ++ map g l) (time_only a timed).only in
-      let both = lasts_are (map g others) key (g t) (c.Period (period_at f i)) (sym split ∙ filled.own_row a h.well_formed timed r whole) in
+      let both = front_same (map g others) key (g t) (c.Period (period_at f i)) (sym split ∙ filled.own_row a h.well_formed timed r whole) in
       (others_stay r whole ∙ both.0, time_stays r whole ∙ both.1)
 
   pub is_row : (q : Row) → is_point xs q ≡ true → (f : Frequency) (i : ℕ) → IsRow (dated f (cells_at by q) i)

@@ -4,6 +4,7 @@ use Rattle.std.specs.List.{AllByRecursion, list_any}
 use Rattle.std.specs.Option.{option_map_or}
 use Rattle.std.proofs.lemmas.Bool.{and_parts}
 use Rattle.std.proofs.lemmas.Bool.Decides.{nat_tests}
+use Rattle.vtl_lists.proofs.Tests.{same_tests}
 use Rattle.vtl_cell.proofs.Cells.{same_cell-is, same_cell-refl}
 use Rattle.vtl_cell.proofs.Rows.{same_row-is, same_row-refl}
 use Rattle.vtl_cell.specs.Order.{same_cell}
@@ -25,11 +26,6 @@ use Rattle.time_laws.specs.Stands.{is_at, stands_at}
 use Rattle.time_laws.proofs.Filled.{dated_is, each_row, filled_is, is_row, point, rows}
 
 -- ---- tests on lists
-both_ways : (a b : Bool) → (a ≡ true → b ≡ true) → (b ≡ true → a ≡ true) → a ≡ b
-both_ways true b f g = sym (f refl)
-both_ways false true f g = g refl
-both_ways false false f g = refl
-
 any_mapped : (p q : Row → Bool) (f : Row → Row) (xs : List Row) → AllByRecursion (λ x. p (f x) ≡ q x) xs → list_any p (map f xs) ≡ list_any q xs
 any_mapped p q f [] all = refl
 any_mapped p q f (x ∷ xs) all = λ i. all.0 i || any_mapped p q f xs all.1 i
@@ -93,7 +89,7 @@ module _ (e : Extent) (d : DataSet) (timed : HasTime d.structure) (h : IsDataSet
       let r = dated g (cells_at by q) m in
       let is = dated_is e d timed h (cells_at by q) g m (is_row e d timed h q k g m) in
       (λ n. same_row (is.0 n) key && same_cell (is.1 n) (c.Period (period_at f i)))
-      ∙ both_ways (same_row (cells_at by q) key && same_cell (c.Period (period_at g m)) (c.Period (period_at f i))) (same_row (dated f key i) r) there back
+      ∙ same_tests (same_row (cells_at by q) key && same_cell (c.Period (period_at g m)) (c.Period (period_at f i))) (same_row (dated f key i) r) there back
     where
       there : (same_row (cells_at by q) key && same_cell (c.Period (period_at g m)) (c.Period (period_at f i))) ≡ true → same_row (dated f key i) (dated g (cells_at by q) m) ≡ true
       there t =

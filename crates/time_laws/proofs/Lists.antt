@@ -1,10 +1,12 @@
 -- Items of lists, tests and filters.
-use Rattle.std.proofs.Common.{◌≡◌, Bool, true, false, ◌&&◌, ◌||◌, cond, List, [], ◌∷◌, ◌++◌, find, filter, map, Some, None, refl, sym, ap, ◌∙◌, subst, true≢false}
+use Rattle.std.proofs.Common.{◌≡◌, Bool, true, false, ◌||◌, cond, List, [], ◌∷◌, ◌++◌, find, filter, Some, refl, sym, ap, ◌∙◌, subst, true≢false}
 use Rattle.std.specs.List.{AllByRecursion, list_all, list_any}
+use Rattle.std.proofs.lemmas.Bool.{and_parts, or_right}
 use Rattle.vtl_lists.specs.Apart.{all_apart}
 use Rattle.vtl_lists.proofs.Aparts.{apart_parts}
+use Rattle.vtl_lists.proofs.Alls.{all_back}
 use Rattle.vtl_cell.specs.Row.{Row, same_row}
-use Rattle.vtl_cell.proofs.Rows.{same_row-is, same_row-refl, split_and}
+use Rattle.vtl_cell.proofs.Rows.{same_row-is, same_row-refl}
 
 abbrev pub IsAmong : List Row → Row → Type 0
 IsAmong xs r = list_any (same_row r) xs ≡ true
@@ -23,24 +25,12 @@ cut_at r (q ∷ rows) e = go (same_row r q) refl e (cut_at r rows)
     go true t f later = record { front = []; back = rows; is = ap (λ z. z ∷ rows) (sym (same_row-is r q t)) }
     go false t f later = let more = later f in record { front = q ∷ more.front; back = more.back; is = ap (λ l. q ∷ l) more.is }
 
-pub all_back : {X : Type 0} (P : X → Type 0) (xs ys : List X) → AllByRecursion P (xs ++ ys) → AllByRecursion P ys
-all_back P [] ys all = all
-all_back P (x ∷ xs) ys all = all_back P xs ys all.1
-
-pub all_front : {X : Type 0} (P : X → Type 0) (xs ys : List X) → AllByRecursion P (xs ++ ys) → AllByRecursion P xs
-all_front P [] ys all = tt
-all_front P (x ∷ xs) ys all = (all.0, all_front P xs ys all.1)
-
 pub item_has : (P : Row → Type 0) (rows : List Row) (r : Row) → IsAmong rows r → AllByRecursion P rows → P r
 item_has P rows r e all = let c = cut_at r rows e in (all_back P c.front (r ∷ c.back) (subst (AllByRecursion P) c.is all)).0
 
-or_later : (a b : Bool) → b ≡ true → (a || b) ≡ true
-or_later true b e = refl
-or_later false b e = e
-
 more_among : (x : Row) (xs ys : List Row) → AllByRecursion (IsAmong xs) ys → AllByRecursion (IsAmong (x ∷ xs)) ys
 more_among x xs [] all = tt
-more_among x xs (y ∷ ys) all = (or_later (same_row y x) (list_any (same_row y) xs) all.0, more_among x xs ys all.1)
+more_among x xs (y ∷ ys) all = (or_right (same_row y x) (list_any (same_row y) xs) all.0, more_among x xs ys all.1)
 
 pub all_among : (xs : List Row) → AllByRecursion (IsAmong xs) xs
 all_among [] = tt
@@ -50,7 +40,7 @@ pub first_among : (x : Row) (xs : List Row) → IsAmong (x ∷ xs) x
 first_among x xs = ap (λ b. b || list_any (same_row x) xs) (same_row-refl x)
 
 pub later_among : (m x : Row) (xs : List Row) → IsAmong xs m → IsAmong (x ∷ xs) m
-later_among m x xs e = or_later (same_row m x) (list_any (same_row m) xs) e
+later_among m x xs e = or_right (same_row m x) (list_any (same_row m) xs) e
 
 pub passes_too : (p : Row → Bool) (r : Row) (rows : List Row) → p r ≡ true → IsAmong rows r → IsAmong (filter p rows) r
 passes_too p r [] h e = e
@@ -63,26 +53,14 @@ passes_too p r (q ∷ rows) h e = go (same_row r q) refl (p q) refl e (passes_to
     go false s false u f later = later f
 
 -- ---- tests
-pub all_list : {X : Type 0} (g : X → Bool) (xs : List X) → AllByRecursion (λ x. g x ≡ true) xs → list_all g xs ≡ true
-all_list g [] all = refl
-all_list g (x ∷ xs) all = λ i. all.0 i && all_list g xs all.1 i
-
 -- what holds of all that pass holds of each that passes
 pub filtered_all : {X : Type 0} (p g : X → Bool) (xs : List X) → list_all g (filter p xs) ≡ true → AllByRecursion (λ x. p x ≡ true → g x ≡ true) xs
 filtered_all p g [] e = tt
 filtered_all p g (x ∷ xs) e = go (p x) refl e (filtered_all p g xs)
   where
     go : (b : Bool) → p x ≡ b → list_all g (cond b (x ∷ filter p xs) (filter p xs)) ≡ true → (list_all g (filter p xs) ≡ true → AllByRecursion (λ z. p z ≡ true → g z ≡ true) xs) → (p x ≡ true → g x ≡ true) × AllByRecursion (λ z. p z ≡ true → g z ≡ true) xs
-    go true t f later = let parts = split_and (g x) (list_all g (filter p xs)) f in ((λ u. parts.0), later parts.1)
+    go true t f later = let parts = and_parts (g x) (list_all g (filter p xs)) f in ((λ u. parts.0), later parts.1)
     go false t f later = ((λ u. absurd (true≢false (sym u ∙ t))), later f)
-
-pub map_same : {X Y : Type 0} (f g : X → Y) (xs : List X) → AllByRecursion (λ x. f x ≡ g x) xs → map f xs ≡ map g xs
-map_same f g [] all = refl
-map_same f g (x ∷ xs) all = λ i. all.0 i ∷ map_same f g xs all.1 i
-
-pub filter_same : {X : Type 0} (p q : X → Bool) (xs : List X) → AllByRecursion (λ x. p x ≡ q x) xs → filter p xs ≡ filter q xs
-filter_same p q [] all = refl
-filter_same p q (x ∷ xs) all = λ i. cond (all.0 i) (x ∷ filter_same p q xs all.1 i) (filter_same p q xs all.1 i)
 
 pub find_gives : {X : Type 0} (p : X → Bool) (P : X → Type 0) (xs : List X) (x : X) → AllByRecursion P xs → find p xs ≡ Some x → P x × (p x ≡ true)
 find_gives p P [] x all e = cc
@@ -91,14 +69,6 @@ find_gives p P (y ∷ ys) x all e = go (p y) refl e (find_gives p P ys x all.1)
     go : (b : Bool) → p y ≡ b → cond b (Some y) (find p ys) ≡ Some x → (find p ys ≡ Some x → P x × (p x ≡ true)) → P x × (p x ≡ true)
     go true t f later = let same : y ≡ x = cc in (subst P same all.0, ap p (sym same) ∙ t)
     go false t f later = later f
-
-pub find_none : {X : Type 0} (p : X → Bool) (xs : List X) → find p xs ≡ None → AllByRecursion (λ x. p x ≡ false) xs
-find_none p [] e = tt
-find_none p (y ∷ ys) e = go (p y) refl e (find_none p ys)
-  where
-    go : (b : Bool) → p y ≡ b → cond b (Some y) (find p ys) ≡ None → (find p ys ≡ None → AllByRecursion (λ x. p x ≡ false) ys) → (p y ≡ false) × AllByRecursion (λ x. p x ≡ false) ys
-    go true t f later = cc
-    go false t f later = (t, later f)
 
 -- of a list whose items stand apart, an item stands apart from those before it and behind it
 pub apart_cut : {X : Type 0} (same : X → X → Bool) (front : List X) (r : X) (back : List X) → all_apart same (front ++ r ∷ back) ≡ true → AllByRecursion (λ z. same z r ≡ false) front × AllByRecursion (λ z. same r z ≡ false) back

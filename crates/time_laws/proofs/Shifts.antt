@@ -4,6 +4,7 @@ use Rattle.std.specs.Prelude.{if◌then◌else◌}
 use Rattle.std.specs.List.{AllByRecursion}
 use Rattle.std.proofs.lemmas.List.{append-nil, length-map, take_all}
 use Rattle.vtl_lists.specs.Apart.{all_apart}
+use Rattle.vtl_lists.proofs.Alls.{all_both}
 use Rattle.vtl_decimal.specs.declared.number.Fault.{Fault}
 use Rattle.vtl_cell.specs.Outcome.{Outcome, fault_in, faults_by, join, unless}
 use Rattle.vtl_cell.specs.Row.{Row}
@@ -26,7 +27,6 @@ use Rattle.vtl_meaning.proofs.LookUps.{named_cells}
 use Rattle.vtl_meaning.proofs.OwnColumns.{columns_apart}
 use Rattle.vtl_meaning.proofs.Places.{first_cells}
 use Rattle.vtl_timing.specs.Times.{is_time, shifted_value, timeshift_of}
-use Rattle.vtl_timing.proofs.FlowOrders.{all_both}
 use Rattle.vtl_timing.proofs.ShiftKept.{each_without}
 
 -- ---- rows that are made column by column

@@ -1,12 +1,14 @@
 -- `stock_to_flow` undoes `flow_to_stock`, where no measure is null and no total has a fault.
 use Rattle.std.proofs.Common.{◌≡◌, ℕ, zero, suc, pos, Bool, true, false, not, ◌&&◌, cond, List, [], ◌∷◌, ◌++◌, find, filter, map, length, Ok, Option, Some, None, option_map, refl, sym, ap, ◌∙◌, subst, true≢false}
-use Rattle.std.specs.Prelude.{if◌then◌else◌, IfOk, unwrap_or}
+use Rattle.std.specs.Prelude.{if◌then◌else◌, IfOk}
 use Rattle.std.specs.List.{AllByRecursion, list_all, position_or_len}
 use Rattle.std.specs.Option.{option_map_or}
 use Rattle.std.specs.Ordering.{is_le, is_lt}
 use Rattle.std.proofs.lemmas.List.{map-append}
 use Rattle.vtl_lists.proofs.Perms.{AllByRecursion-Perm, Perm-map, Perm-sym}
 use Rattle.vtl_lists.proofs.Sorts.{AllByRecursion-filter}
+use Rattle.vtl_lists.proofs.Alls.{all_append, all_back, all_both, all_filtered, all_front, all_more}
+use Rattle.vtl_tuples.proofs.Lists.{map_same}
 use Rattle.vtl_decimal.specs.Settings.{Settings}
 use Rattle.vtl_cell.specs.AggregateKinds.{is_number}
 use Rattle.vtl_cell.specs.Groups.{group_value}
@@ -20,7 +22,6 @@ use Rattle.vtl_cell.specs.Row.{Row, column_of, same_row}
 use Rattle.vtl_cell.specs.ScalarPeriods.{frequency_of}
 use Rattle.vtl_cell.specs.declared.cell.Cell.{Cell}
 use Rattle.vtl_cell.specs.declared.cell.Cell.TheVariants as c
-use Rattle.vtl_cell.specs.declared.kind.Kind.{Kind}
 use Rattle.vtl_cell.specs.declared.operator.AggKind.TheVariants as agg
 use Rattle.vtl_cell.specs.declared.operator.ScalarOp.TheVariants as op
 use Rattle.vtl_cell.proofs.Aggregates.{group-Perm}
@@ -45,20 +46,21 @@ use Rattle.vtl_meaning.specs.Analytics.{each_point as each_made, point_of}
 use Rattle.vtl_meaning.specs.LookUps.{value_named}
 use Rattle.vtl_meaning.specs.Operators.{left_of}
 use Rattle.vtl_meaning.specs.Points.{cell_or_null, with_points}
-use Rattle.vtl_meaning.proofs.AnalyticColumns.{all_filtered, by_roles, columns_found, columns_split}
+use Rattle.vtl_meaning.proofs.AnalyticColumns.{by_roles, columns_found}
 use Rattle.vtl_meaning.proofs.Kept.{unless_ok}
 use Rattle.vtl_meaning.proofs.LookUps.{named_cells}
 use Rattle.vtl_meaning.proofs.OwnColumns.{columns_apart}
-use Rattle.vtl_meaning.proofs.Places.{all_append, all_more, all_of_map, same_name-is}
+use Rattle.vtl_meaning.proofs.Places.{all_of_map, same_name-is, columns_split}
+use Rattle.vtl_meaning.proofs.AnalyticShaped.{no_measure}
 use Rattle.vtl_timing.specs.TimeShapes.{AreHeld, IsFlowed}
 use Rattle.vtl_timing.specs.Times.{HasTime, before, by_measure, flow_of, flow_value, in_one_series, is_time, other_identifiers, previous, series_of, stock_of, stock_value, time_of, time_place, up_to}
-use Rattle.vtl_timing.proofs.FlowOrders.{all_both, own_time}
-use Rattle.vtl_timing.proofs.FlowsKept.{IsOfMeasure, free, identify, others_are, own_cell, stocks_kept}
+use Rattle.vtl_timing.proofs.FlowOrders.{own_time}
+use Rattle.vtl_timing.proofs.FlowsKept.{IsOfMeasure, free, identify, others_are, own_cell, stocks_kept, kind_kept}
 use Rattle.vtl_timing.proofs.ShiftKept.{each_without}
 use Rattle.time_laws.specs.Stands.{HasNoNulls}
 use Rattle.time_laws.proofs.Before.{before_is, none_before, up_to_is}
 use Rattle.time_laws.proofs.Differences.{IsBefore, IsThere, last_back}
-use Rattle.time_laws.proofs.Lists.{IsAmong, all_among, all_back, all_front, find_gives, item_has, map_same}
+use Rattle.time_laws.proofs.Lists.{IsAmong, all_among, find_gives, item_has}
 use Rattle.time_laws.proofs.Shifts.{own_made}
 
 -- ---- lists through a map
@@ -98,15 +100,6 @@ record IsMadeOf (xs : List Component) (y : Component) : Type 0 where
   measure : is_measure own ≡ true
   kind : own.kind ≡ y.kind
   number : is_number y.kind ≡ true
-
-kind_kept : (b : Bool) (kind : Kind) → unwrap_or (cond b (Some kind) None) kind ≡ kind
-kind_kept true kind = refl
-kind_kept false kind = refl
-
-no_measure : (r : Role) → same_role r role.Identifier ≡ true → same_role r role.Measure ≡ false
-no_measure role.Identifier h = refl
-no_measure role.Measure h = cc
-no_measure role.Attribute h = cc
 
 no_measures : (r : Role) → same_role r role.Attribute ≡ true → same_role r role.Measure ≡ false
 no_measures role.Identifier h = cc

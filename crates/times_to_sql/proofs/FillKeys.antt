@@ -7,6 +7,7 @@ use Rattle.std.specs.Map.{keys_of, lookup}
 use Rattle.vtl_lists.proofs.Aparts.{apart_parts}
 use Rattle.vtl_lists.proofs.Perms.{AllByRecursion-Perm, Perm-sym}
 use Rattle.vtl_lists.proofs.Sorts.{AllByRecursion-filter}
+use Rattle.vtl_lists.proofs.Alls.{all_back, all_filtered, all_front}
 use Rattle.grammar_forms.specs.Written.{Each}
 use Rattle.vtl_text.specs.Texts.{same_text}
 use Rattle.vtl_cell.specs.Kinds.{same_kind}
@@ -22,14 +23,15 @@ use Rattle.vtl_tree.specs.DataSet.{IsDataSet}
 use Rattle.vtl_tree.specs.Structure.{IsStructure, columns_of, names_of, same_name}
 use Rattle.vtl_tree.specs.declared.structure.Component.{Component}
 use Rattle.vtl_tree.specs.declared.structure.Structure.{Structure}
+use Rattle.vtl_tree.proofs.NotNullLemmas.{same_itself}
 use Rattle.vtl_meaning.specs.Made.{AreAmong, AreFor, IsColumnAt}
 use Rattle.vtl_meaning.specs.Points.{each_point, with_points}
-use Rattle.vtl_meaning.proofs.Lists.{passing}
 use Rattle.vtl_meaning.proofs.OwnColumns.{columns_apart, own_columns, own_identifiers}
-use Rattle.vtl_meaning.proofs.Places.{all_front, all_back, all_of_map, columns_split, identifiers_apart, same_name-refl, same_name-sym}
+use Rattle.vtl_meaning.proofs.Places.{all_of_map, columns_split, identifiers_apart, same_name-sym}
+use Rattle.vtl_meaning.proofs.LookUps.{named_cells}
 use Rattle.vtl_timing.specs.Timed.{extent_of}
 use Rattle.vtl_timing.specs.Times.{HasTime, filled_keys, is_time, other_identifiers, series_columns, time_place}
-use Rattle.vtl_timing.proofs.FilledPoints.{named_cells, series_points}
+use Rattle.vtl_timing.proofs.FilledPoints.{series_points}
 use Rattle.vtl_timing.proofs.SeriesColumns.{IsOnly, identifiers_among, series_apart, series_perm, time_only}
 use Rattle.sql_tree.specs.Formed.{IsName}
 use Rattle.sql_tree.specs.Trees.{ItemTree, Text}
@@ -125,7 +127,7 @@ only_place t (y ∷ ys) x a e =
     go : (b : Bool) → t y ≡ b → cond b (y ∷ filter t ys) (filter t ys) ≡ x ∷ [] → AllByRecursion (λ n. same_name y.name n ≡ false) (names_of ys) → (filter t ys ≡ x ∷ [] → place_of x.name ys ≡ position_or_len t ys) → place_of x.name (y ∷ ys) ≡ position_or_len t (y ∷ ys)
     go true f g others later =
         let same : y ≡ x = cc in
-        let found : same_name y.name x.name ≡ true = ap (λ (z : Component). same_name y.name z.name) (sym same) ∙ same_name-refl y.name in
+        let found : same_name y.name x.name ≡ true = ap (λ (z : Component). same_name y.name z.name) (sym same) ∙ same_itself y.name in
         ap (λ b. cond (not b) (1 + place_of x.name ys) 0) found ∙ sym (ap (λ b. cond (not b) (1 + position_or_len t ys) 0) f)
     go false f g others later =
         let other : same_name y.name x.name ≡ false = among_passing (λ z. same_name y.name z.name ≡ false) t ys x g (all_of_map (λ z. z.name) (λ n. same_name y.name n ≡ false) ys others) in
@@ -144,7 +146,7 @@ own_columns_are : (p : Settings) (xs ys : List Component) → all_to_sql p of_on
 own_columns_are p xs [] = refl
 own_columns_are p xs (y ∷ ys) = ap (λ l. first_column y.name ∷ l) (own_columns_are p xs ys)
 
-names_each : (ys : List Component) → HaveNames ys → Each IsName (names_of ys)
+pub names_each : (ys : List Component) → HaveNames ys → Each IsName (names_of ys)
 names_each [] all = tt
 names_each (y ∷ ys) all = (all.0, names_each ys all.1)
 
@@ -184,7 +186,7 @@ module _ (a : Structure) (w : IsStructure a) (timed : HasTime a) where
 
   time_passes : is_time time ≡ true
   time_passes =
-      let all : AllByRecursion (λ (x : Component). is_time x ≡ true) (time ∷ []) = subst (AllByRecursion (λ (x : Component). is_time x ≡ true)) only.only (passing is_time ids) in
+      let all : AllByRecursion (λ (x : Component). is_time x ≡ true) (time ∷ []) = subst (AllByRecursion (λ (x : Component). is_time x ≡ true)) only.only (all_filtered is_time ids) in
       all.0
 
   time_among : IsColumnAt (place_of time.name xs) time.name time.kind xs

@@ -3,6 +3,8 @@ use Rattle.std.proofs.Common.{◌≡◌, ◌<◌, ◌+◌, ◌^◌, ℕ, true, L
 use Rattle.std.specs.List.{AllByRecursion}
 use Rattle.vtl_lists.specs.Perm.{Perm, chain}
 use Rattle.vtl_lists.proofs.Perms.{AllByRecursion-Perm, Perm-map, Perm-same, Perm-sym}
+use Rattle.vtl_lists.proofs.Sorts.{AllByRecursion-map}
+use Rattle.vtl_lists.proofs.Alls.{all_more}
 use Rattle.vtl_decimal.specs.Settings.{Settings}
 use Rattle.vtl_text.specs.Words.{is_word}
 use Rattle.vtl_cell.specs.Outcome.{Outcome, after}
@@ -22,7 +24,7 @@ use Rattle.vtl_meaning.specs.Joined.{tuple_at, tuple_point}
 use Rattle.vtl_meaning.specs.Made.{HasIdentifiers, attributes_of, component_kinds}
 use Rattle.vtl_meaning.specs.Points.{with_points}
 use Rattle.vtl_meaning.proofs.OwnColumns.{own_identifiers}
-use Rattle.vtl_meaning.proofs.Places.{all_map, all_more, are_identifiers}
+use Rattle.vtl_meaning.proofs.Places.{are_identifiers}
 use Rattle.vtl_timing.specs.Timed.{extent_of}
 use Rattle.vtl_timing.specs.Times.{HasTime, fill_of, filled_keys, in_order, other_identifiers, series_columns, time_place}
 use Rattle.vtl_timing.proofs.FillOrders.{fill_respects}
@@ -112,7 +114,7 @@ module _ (p : Settings) (law : Translates p) (a : Structure) (na : HaveNames (co
 
   are_keys : (points : List Row) → IsDataSet a points → AllByRecursion (λ k. is_point (identifiers_of a) k ≡ true) (keys points)
   are_keys points h =
-      all_map (in_order a) (λ k. is_point (identifiers_of a) k ≡ true) (series_rows e (time_place a) by points)
+      AllByRecursion-map (in_order a) (λ k. is_point (identifiers_of a) k ≡ true) (series_rows e (time_place a) by points)
       (all_more (λ r. is_point (series_columns a) r ≡ true) (λ r. is_point (identifiers_of a) (in_order a r) ≡ true) (key_is a well timed) (series_rows e (time_place a) by points) (series_points a well timed e points h.typed))
 
   pub keys_mean : (now : Data) (x : Text) → StandsAs now x a d → Means p now (fill_keys_query f a x) t (Ok (keys d))

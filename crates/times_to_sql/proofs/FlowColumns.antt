@@ -1,12 +1,12 @@
 -- The columns of a result of flows and stocks: the operand's identifiers, and a measure of the same name and kind for each of its measures.
 use Rattle.std.proofs.Common.{◌≡◌, Bool, true, false, ◌&&◌, cond, List, [], ◌∷◌, ◌++◌, map, Some, None, refl, ap, sym, ◌∙◌, subst}
-use Rattle.std.specs.Prelude.{unwrap_or}
-use Rattle.std.specs.List.{AllByRecursion, filter, list_all}
+use Rattle.std.specs.List.{AllByRecursion, filter}
 use Rattle.std.specs.Option.{option_map_or}
 use Rattle.std.proofs.lemmas.List.{append-nil}
 use Rattle.std.proofs.lemmas.List.Elements.{filter-append}
 use Rattle.vtl_lists.proofs.Perms.{AllByRecursion-Perm}
 use Rattle.vtl_lists.proofs.Sorts.{AllByRecursion-filter}
+use Rattle.vtl_lists.proofs.Alls.{all_back, all_both, all_more, test_from_all}
 use Rattle.vtl_cell.specs.AggregateKinds.{is_number}
 use Rattle.vtl_cell.specs.Kinds.{same_kind}
 use Rattle.vtl_cell.specs.Literals.{is_null_kind}
@@ -28,10 +28,11 @@ use Rattle.vtl_tree.specs.declared.structure.Role.TheVariants as role
 use Rattle.vtl_tree.specs.declared.structure.Structure.{Structure}
 use Rattle.vtl_meaning.specs.Made.{IsColumnAt}
 use Rattle.vtl_meaning.proofs.AnalyticColumns.{by_roles, own_found}
-use Rattle.vtl_meaning.proofs.Kept.{both_all}
 use Rattle.vtl_meaning.proofs.OwnColumns.{columns_apart, own_measures}
-use Rattle.vtl_meaning.proofs.Places.{all_back, all_more}
+use Rattle.vtl_meaning.proofs.AggregateShaped.{no_attribute}
+use Rattle.vtl_meaning.proofs.AnalyticShaped.{no_measure}
 use Rattle.vtl_timing.specs.TimeShapes.{IsFlowed}
+use Rattle.vtl_timing.proofs.FlowsKept.{kind_kept}
 use Rattle.selects_to_sql.proofs.Givens.{AreGiven}
 use Rattle.selects_to_sql.proofs.OneOperand.{kind_at}
 
@@ -44,10 +45,6 @@ IsKept x = (is_number x.kind ≡ true) × (is_null_kind x.kind ≡ false)
 -- the measure that a measure becomes
 abbrev pub kept : Component → Component
 kept x = given_measure flow_gives None x
-
-kind_kept : (b : Bool) (kind : Kind) → unwrap_or (cond b (Some kind) None) kind ≡ kind
-kind_kept true kind = refl
-kind_kept false kind = refl
 
 pub same_kind_kept : (x : Component) → (kept x).kind ≡ x.kind
 same_kind_kept x = kind_kept (is_number x.kind) x.kind
@@ -68,16 +65,6 @@ role_of_none (x ∷ xs) r h = go (same_role x.role role.Identifier) refl (role_o
     go : (b : Bool) → same_role x.role role.Identifier ≡ b → filter (λ y. same_role y.role r) rest ≡ [] → filter (λ y. same_role y.role r) (cond (b && true) (x ∷ rest) rest) ≡ []
     go true e ih = ap (λ b. cond b (x ∷ filter (λ y. same_role y.role r) rest) (filter (λ y. same_role y.role r) rest)) (h x.role e) ∙ ih
     go false e ih = ih
-
-no_measure : (t : Role) → same_role t role.Identifier ≡ true → same_role t role.Measure ≡ false
-no_measure role.Identifier e = refl
-no_measure role.Measure e = cc
-no_measure role.Attribute e = cc
-
-no_attribute : (t : Role) → same_role t role.Identifier ≡ true → same_role t role.Attribute ≡ false
-no_attribute role.Identifier e = refl
-no_attribute role.Measure e = cc
-no_attribute role.Attribute e = cc
 
 all_identify : (ys : List Component) → filter (λ x. same_role x.role role.Identifier) (chosen choice.Except [] ys) ≡ filter (λ x. same_role x.role role.Identifier) ys
 all_identify [] = refl
@@ -121,10 +108,6 @@ alike_itself z = go z.role z.kind
     go role.Measure kind = kinds kind
     go role.Attribute kind = kinds kind
 
-all_hold : {X : Type 0} (f : X → Bool) (xs : List X) → AllByRecursion (λ x. f x ≡ true) xs → list_all f xs ≡ true
-all_hold f [] all = refl
-all_hold f (x ∷ xs) all = λ i. all.0 i && all_hold f xs all.1 i
-
 -- a measure among the columns of the operand, and the one that it becomes among those of the result
 pub record IsBoth (a s : Structure) (x : Component) : Type 0 where
   pub kind : IsKept x
@@ -161,7 +144,7 @@ module _ (a s : Structure) (i : IsFlowed a s) where
   pub contains_all : contains a s ≡ true
   contains_all =
       let P : Component → Type 0 = λ z. is_there compared.Kinds a.components z ≡ true in
-      all_hold (is_there compared.Kinds a.components) (identifiers_of s)
+      test_from_all (is_there compared.Kinds a.components) (identifiers_of s)
       (subst (AllByRecursion P) (sym identifiers_same)
       (AllByRecursion-filter P (λ x. same_role x.role role.Identifier) a.components
       (all_more (λ z. component_of z.name a.components ≡ Some z) P (λ z e. ap (λ o. option_map_or (is_alike compared.Kinds z) o false) e ∙ alike_itself z) a.components (own_found (λ (x : Component). x.name) a.components i.operand.distinct))))
@@ -172,7 +155,7 @@ module _ (a s : Structure) (i : IsFlowed a s) where
     kept_kinds =
         let P : Component → Type 0 = λ y. is_null_kind y.kind ≡ false in
         let all : AllByRecursion P (flow_components a.components) = subst (AllByRecursion P) i.shape (AllByRecursion-Perm P (by_roles s.components) given.kinds) in
-        both_all (λ x. is_number x.kind ≡ true) P IsKept (λ x n z. (n, z)) (measures a.components) i.numbers (some_kinds (measures a.components) (all_back P front back all))
+        all_both (λ x. is_number x.kind ≡ true) P IsKept (λ x n z. (n, z)) (measures a.components) i.numbers (some_kinds (measures a.components) (all_back P front back all))
 
     abbrev AreOurs : Component → Type 0
     AreOurs x = IsColumnAt (place_of x.name (columns_of a)) x.name x.kind (columns_of a)
@@ -188,7 +171,7 @@ module _ (a s : Structure) (i : IsFlowed a s) where
     measures_both =
         let P : Component → Type 0 = λ y. IsColumnAt (place_of y.name (columns_of s)) y.name y.kind (columns_of s) in
         let made = made_there (measures_of a) (subst (AllByRecursion P) measures_made (own_measures s i.well_formed)) in
-        both_all (λ x. IsKept x × AreOurs x) IsMadeThere (IsBoth a s)
+        all_both (λ x. IsKept x × AreOurs x) IsMadeThere (IsBoth a s)
         (λ x h m.
         let there = subst (λ kind. IsColumnAt (place_of x.name (columns_of s)) x.name kind (columns_of s)) (same_kind_kept x) m in
         record {
@@ -198,4 +181,4 @@ module _ (a s : Structure) (i : IsFlowed a s) where
           made = there;
           made_kind = kind_at (place_of x.name (columns_of s)) x.name x.kind (columns_of s) there (columns_apart s i.well_formed);
         }) (measures_of a)
-        (both_all IsKept AreOurs (λ x. IsKept x × AreOurs x) (λ x h o. (h, o)) (measures_of a) kept_kinds (own_measures a i.operand)) made
+        (all_both IsKept AreOurs (λ x. IsKept x × AreOurs x) (λ x h o. (h, o)) (measures_of a) kept_kinds (own_measures a i.operand)) made

@@ -1,8 +1,7 @@
 -- The query of totals at the points of an operand, as it is written.
 use Rattle.std.proofs.Common.{◌≡◌, false, List, [], ◌∷◌, ◌++◌, length, map, None, append_assoc, refl, ap, ◌∙◌}
 use Rattle.vtl_decimal.specs.Settings.{Settings}
-use Rattle.vtl_tree.specs.Columns.{columns_named, identifiers_of, measures_of, place_of}
-use Rattle.vtl_tree.specs.CompExp.{CompExp}
+use Rattle.vtl_tree.specs.Columns.{identifiers_of, measures_of, place_of}
 use Rattle.vtl_tree.specs.Structure.{columns_of, of_role}
 use Rattle.vtl_tree.specs.declared.structure.Component.{Component}
 use Rattle.vtl_tree.specs.declared.structure.Role.TheVariants as role
@@ -17,14 +16,10 @@ use Rattle.expressions_to_sql.specs.ToSql.{to_sql}
 use Rattle.selects_to_sql.specs.Items.{for_each_two, items_for}
 use Rattle.selects_to_sql.specs.PairItems.{from_two, lead_column, lead_item}
 use Rattle.selects_to_sql.specs.Queries.{agree, item_as, of_two, second_alias, source_as}
-use Rattle.selects_to_sql.proofs.PairForms.{agreements, second_of}
+use Rattle.selects_to_sql.proofs.PairForms.{agreements, second_of, lead_first}
 use Rattle.times_to_sql.specs.Flows.{stock_query}
 use Rattle.times_to_sql.specs.Frequencies.{stock_exp, stock_exps}
 use Rattle.times_to_sql.specs.StockItems.{stock_item, stock_select}
-
-lead_first : (p : Settings) (xs ys zs : List Component) (es : List CompExp) → items_for p (of_two (length xs)) (columns_named xs ys ++ es) (ys ++ zs) ≡ map (lead_item xs) ys ++ items_for p (of_two (length xs)) es zs
-lead_first p xs [] zs es = refl
-lead_first p xs (y ∷ ys) zs es = ap (λ l. lead_item xs y ∷ l) (lead_first p xs ys zs es)
 
 -- a measure beside a column
 abbrev beside_null : List Component → Component → Column → Exp

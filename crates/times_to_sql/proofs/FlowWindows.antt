@@ -1,9 +1,10 @@
 -- `stock_to_flow` by windows: each value less the one before it in its series, which is the previous point's, or less zero at the first point.
 use Rattle.std.proofs.Common.{◌≡◌, ◌⊎◌, inl, inr, ◌*◌, ◌^◌, pos, arith, length, Bool, true, false, ◌&&◌, cond, List, [], ◌∷◌, ◌++◌, map, take, Ok, Option, Some, None, refl, sym, ap, ◌∙◌, subst}
 use Rattle.std.specs.Prelude.{IfSome, if◌then◌else◌}
-use Rattle.std.specs.List.{AllByRecursion, find, flat_map, list_all, list_any}
+use Rattle.std.specs.List.{AllByRecursion, flat_map, list_all, list_any}
 use Rattle.std.specs.Option.{option_map_or}
 use Rattle.vtl_lists.proofs.Sorts.{AllByRecursion-filter}
+use Rattle.vtl_lists.proofs.Filters.{found_has}
 use Rattle.vtl_cell.specs.AggregateKinds.{is_number}
 use Rattle.vtl_cell.specs.Conversion.{as_kind}
 use Rattle.vtl_cell.specs.Kinds.{same_kind}
@@ -92,7 +93,7 @@ role_self role.Identifier = refl
 role_self role.Measure = refl
 role_self role.Attribute = refl
 
-kind_self : (kind : Kind) → same_kind kind kind ≡ true
+pub kind_self : (kind : Kind) → same_kind kind kind ≡ true
 kind_self k.Null = refl
 kind_self k.Bool = refl
 kind_self k.Int = refl
@@ -112,14 +113,6 @@ contains_same a s well e =
     let P : Component → Type 0 = λ y. component_of y.name a.components ≡ Some y in
     ap (list_all (is_there compared.Kinds a.components)) e
     ∙ all_there a.components (identifiers_of a) (AllByRecursion-filter P (λ x. same_role x.role role.Identifier) a.components (own_found (λ (x : Component). x.name) a.components well.distinct))
-
-found_has : {X : Type 0} (P : X → Type 0) (test : X → Bool) (xs : List X) → AllByRecursion P xs → IfSome (find test xs) P
-found_has P test [] h = tt
-found_has P test (x ∷ xs) h = go (test x) (found_has P test xs h.1)
-  where
-    go : (b : Bool) → IfSome (find test xs) P → IfSome (if b then Some x else find test xs) P
-    go true ih = h.0
-    go false ih = ih
 
 -- ---- the operator
 module _ (p : Settings) (d : DataSet) (s : Structure) (i : IsFlowed d.structure s) (h : IsDataSet d.structure d.points) where

@@ -1,8 +1,9 @@
 -- The time among the columns, and the condition that it has a frequency.
-use Rattle.std.proofs.Common.{◌≡◌, ◌+◌, ℕ, zero, suc, ◌&&◌, Bool, true, false, not, cond, List, [], ◌∷◌, ◌++◌, length, filter, Some, None, Ok, refl, ap, sym, ◌∙◌, subst, arith}
+use Rattle.std.proofs.Common.{◌≡◌, ◌+◌, ℕ, zero, suc, Bool, true, false, not, cond, List, [], ◌∷◌, length, filter, Some, None, Ok, refl, ap, sym, ◌∙◌, subst, arith}
 use Rattle.std.specs.Prelude.{is_some}
-use Rattle.std.specs.List.{AllByRecursion, position_or_len}
+use Rattle.std.specs.List.{position_or_len}
 use Rattle.std.proofs.lemmas.Bool.{and_parts}
+use Rattle.vtl_lists.proofs.Alls.{all_filtered}
 use Rattle.vtl_cell.specs.Kinds.{is_null, is_of, same_kind}
 use Rattle.vtl_cell.specs.Outcome.{Outcome, unless}
 use Rattle.vtl_cell.specs.Row.{Row, column_of}
@@ -21,15 +22,15 @@ use Rattle.vtl_tree.specs.Columns.{identifiers_of, others_of}
 use Rattle.vtl_tree.specs.DataSet.{IsDataSet, is_point}
 use Rattle.vtl_tree.specs.Structure.{columns_of, same_role}
 use Rattle.vtl_tree.specs.declared.structure.Component.{Component}
-use Rattle.vtl_tree.specs.declared.structure.Role.{Role}
 use Rattle.vtl_tree.specs.declared.structure.Role.TheVariants as role
 use Rattle.vtl_tree.specs.declared.structure.Structure.{Structure}
 use Rattle.vtl_meaning.specs.Made.{IsColumnAt}
 use Rattle.vtl_meaning.proofs.Kept.{column_front}
 use Rattle.vtl_meaning.proofs.OwnColumns.{columns_apart}
-use Rattle.vtl_meaning.proofs.Places.{all_filtered, columns_split}
-use Rattle.vtl_meaning.proofs.ValueKinds.{cell_is_of, point_parts}
+use Rattle.vtl_meaning.proofs.Places.{columns_split}
+use Rattle.vtl_meaning.proofs.ValueKinds.{cell_is_of}
 use Rattle.vtl_timing.specs.Times.{HasTime, is_time, time_of, time_place}
+use Rattle.vtl_timing.proofs.ShiftKept.{period_kind}
 use Rattle.sql_tree.specs.Formed.{IsExp, IsName}
 use Rattle.sql_tree.specs.Trees.{Exp, ItemTree, Text}
 use Rattle.sql_check_laws.specs.Fits.{IsCondition}
@@ -48,15 +49,12 @@ use Rattle.selects_to_sql.proofs.Expressions.{Translates}
 use Rattle.selects_to_sql.proofs.OneOperand.{known_there, one_from, rows_there}
 use Rattle.selects_to_sql.proofs.SelectItems.{IsFrom}
 use Rattle.selects_to_sql.proofs.Sources.{one_formed, one_names, one_scope}
+use Rattle.selects_to_sql.proofs.Identifiers.{filled_at}
 use Rattle.groups_to_sql.proofs.ItemLists.{exactly_kept}
 use Rattle.times_to_sql.specs.Flows.{has_frequency, time_name}
 use Rattle.times_to_sql.specs.Frequencies.{is_of_frequency}
 
 -- ---- the time
-
-period_kind : (kind : Kind) → same_kind kind k.Period ≡ true → kind ≡ k.Period
-period_kind k.Period h = refl
-period_kind kind h = cc
 
 -- the first identifier that holds periods is the column of its name
 time_in : (ys : List Component) → length (filter is_time ys) ≡ 1 → IsColumnAt (position_or_len is_time ys) (name_of_first (filter is_time ys)) k.Period ys
@@ -69,19 +67,6 @@ time_in (y ∷ ys) e = go (is_time y) refl e (time_in ys)
     go false t e ih =
         let next : suc (position_or_len is_time ys) ≡ 1 + position_or_len is_time ys = omega arith in
         subst (λ n. IsColumnAt n (name_of_first (filter is_time ys)) k.Period (y ∷ ys)) next (ih e)
-
-not_null : (x : Role) (n : Bool) → same_role x role.Identifier ≡ true → not (same_role x role.Identifier && n) ≡ true → n ≡ false
-not_null role.Identifier false e h = refl
-not_null role.Identifier true e h = cc
-not_null role.Measure n e h = cc
-not_null role.Attribute n e h = cc
-
-filled_at : (place : ℕ) (name : List ℕ) (kind : Kind) (xs ys : List Component) (r : Row) → AllByRecursion (λ x. same_role x.role role.Identifier ≡ true) xs → IsColumnAt place name kind xs → is_point (xs ++ ys) r ≡ true → is_null (column_of place r) ≡ false
-filled_at place name kind [] ys r all i h = absurd i
-filled_at zero name kind (x ∷ xs) ys [] all i h = cc
-filled_at zero name kind (x ∷ xs) ys (v ∷ r) all i h = not_null x.role (is_null v) all.0 (point_parts x (xs ++ ys) v r h).1
-filled_at (suc place) name kind (x ∷ xs) ys [] all i h = cc
-filled_at (suc place) name kind (x ∷ xs) ys (v ∷ r) all i h = filled_at place name kind xs ys r all.1 i (point_parts x (xs ++ ys) v r h).2
 
 -- a period that is there
 frequency_text : (p : Settings) (v : Cell) (f : Frequency) → is_of k.Period v ≡ true → is_null v ≡ false

@@ -1,9 +1,11 @@
 -- Each point has one of the four frequencies, so the parts of a data set are its points.
 use Rattle.std.proofs.Common.{◌≡◌, Bool, true, not, ◌&&◌, cond, List, [], ◌∷◌, ◌++◌, Some, refl, sym, ap, ◌∙◌, subst, true≢false}
 use Rattle.std.specs.List.{AllByRecursion, filter, flat_map}
+use Rattle.std.proofs.lemmas.Bool.{and_parts}
 use Rattle.vtl_lists.specs.Perm.{Perm, chain, empty, keep}
 use Rattle.vtl_lists.proofs.Perms.{Perm-append_front, Perm-middle, Perm-same}
 use Rattle.vtl_lists.proofs.Sorts.{AllByRecursion-filter}
+use Rattle.vtl_lists.proofs.Alls.{all_filtered, all_front}
 use Rattle.vtl_cell.specs.Kinds.{is_null, same_kind}
 use Rattle.vtl_cell.specs.Order.{same_cell}
 use Rattle.vtl_cell.specs.Row.{Row, column_of}
@@ -13,7 +15,6 @@ use Rattle.vtl_cell.specs.declared.cell.Cell.TheVariants as c
 use Rattle.vtl_cell.specs.declared.kind.Kind.{Kind}
 use Rattle.vtl_cell.specs.declared.kind.Kind.TheVariants as k
 use Rattle.vtl_cell.proofs.Cells.{same_cell-refl}
-use Rattle.vtl_cell.proofs.Rows.{split_and}
 use Rattle.vtl_series.specs.Series.{frequencies}
 use Rattle.vtl_time.specs.Periods.{YearPart, letter_of}
 use Rattle.vtl_time.specs.declared.periods.Frequency.{Frequency}
@@ -27,10 +28,10 @@ use Rattle.vtl_tree.specs.declared.structure.Role.{Role}
 use Rattle.vtl_tree.specs.declared.structure.Role.TheVariants as role
 use Rattle.vtl_tree.specs.declared.structure.Structure.{Structure}
 use Rattle.vtl_meaning.specs.Points.{with_points}
-use Rattle.vtl_meaning.proofs.AnalyticColumns.{all_front, columns_found, columns_split}
+use Rattle.vtl_meaning.proofs.AnalyticColumns.{columns_found}
 use Rattle.vtl_meaning.proofs.GroupKinds.{IsOf}
 use Rattle.vtl_meaning.proofs.GroupPoints.{found_cell}
-use Rattle.vtl_meaning.proofs.Places.{all_filtered}
+use Rattle.vtl_meaning.proofs.Places.{columns_split}
 use Rattle.vtl_timing.specs.Times.{HasTime, is_time, time_of}
 use Rattle.vtl_timing.proofs.SeriesColumns.{time_only}
 use Rattle.times_to_sql.specs.Frequencies.{is_of_frequency, part_of}
@@ -66,7 +67,7 @@ module _ (a : Structure) (well : IsStructure a) (time : HasTime a) where
   pub period_is : (r : Row) → is_point xs r ≡ true → (q : YearPart) × (time_of a r ≡ c.Period q)
   period_is r h =
       let is = (subst (AllByRecursion (λ y. is_time y ≡ true)) (time_only a time).only (all_filtered is_time (identifiers_of a))).0 in
-      let parts = split_and (same_role t.role role.Identifier) (same_kind t.kind k.Period) is in
+      let parts = and_parts (same_role t.role role.Identifier) (same_kind t.kind k.Period) is in
       let cell = found_cell t.name t xs r found h in
       let period = period_there t.role t.kind (column_of (place_of t.name xs) r) parts.0 parts.1 cell.0 cell.1 in
       (period.0, sym (time_column a well time r h) ∙ period.1)

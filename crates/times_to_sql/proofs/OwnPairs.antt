@@ -1,5 +1,5 @@
 -- A data set beside a table of the same identifiers that was made of its points: each point stands beside its own row.
-use Rattle.std.proofs.Common.{◌≡◌, ℕ, suc, ◌+◌, ◌<◌, Bool, true, false, ◌&&◌, ◌||◌, cond, List, [], ◌∷◌, ◌++◌, length, map, take, Ok, Some, None, refl, sym, ap, ◌∙◌, subst, true≢false, arith}
+use Rattle.std.proofs.Common.{◌≡◌, ℕ, suc, ◌+◌, ◌<◌, Bool, true, false, ◌||◌, cond, List, [], ◌∷◌, ◌++◌, length, map, take, Ok, Some, None, refl, sym, ap, ◌∙◌, subst, true≢false, arith}
 use Rattle.std.specs.Prelude.{option_map}
 use Rattle.std.specs.List.{AllByRecursion, filter, flat_map, list_any}
 use Rattle.std.specs.Option.{option_to_list}
@@ -10,6 +10,8 @@ use Rattle.vtl_lists.specs.Apart.{all_apart}
 use Rattle.vtl_lists.specs.Perm.{Perm}
 use Rattle.vtl_lists.proofs.Aparts.{all_apart-Perm, apart_parts, list_any-Perm}
 use Rattle.vtl_lists.proofs.Perms.{AllByRecursion-Perm, Perm-sym}
+use Rattle.vtl_lists.proofs.Alls.{all_append, all_back, all_filtered, all_front, all_more}
+use Rattle.vtl_lists.proofs.Filters.{filter_all, filter_none}
 use Rattle.vtl_cell.specs.AggregateKinds.{is_number}
 use Rattle.vtl_cell.specs.Outcome.{Outcome, fault_in, faults_by, join, unless}
 use Rattle.vtl_cell.specs.Row.{Row, column_of, same_key, same_row}
@@ -18,7 +20,7 @@ use Rattle.vtl_cell.specs.declared.cell.Cell.TheVariants as c
 use Rattle.vtl_cell.proofs.Rows.{same_key-sym, same_row-is, same_row-refl}
 use Rattle.vtl_decimal.specs.Settings.{Settings}
 use Rattle.vtl_rows.specs.Tables.{cells_at}
-use Rattle.vtl_tree.specs.Choices.{chosen, is_identifier}
+use Rattle.vtl_tree.specs.Choices.{is_identifier}
 use Rattle.vtl_tree.specs.Columns.{columns_named, identifiers_of, measures_of, others_of, place_of, places_in}
 use Rattle.vtl_tree.specs.CompExp.{CompExp}
 use Rattle.vtl_tree.specs.DataSet.{IsDataSet, is_point, look}
@@ -27,9 +29,7 @@ use Rattle.vtl_tree.specs.Names.{component_of}
 use Rattle.vtl_tree.specs.Structure.{IsStructure, columns_of, key_width, of_role, same_name, same_role}
 use Rattle.vtl_tree.specs.Times.{flow_components, flow_gives}
 use Rattle.vtl_tree.specs.Value.{value}
-use Rattle.vtl_tree.specs.declared.choices.Choice.TheVariants as choice
 use Rattle.vtl_tree.specs.declared.structure.Component.{Component}
-use Rattle.vtl_tree.specs.declared.structure.Role.{Role}
 use Rattle.vtl_tree.specs.declared.structure.Role.TheVariants as role
 use Rattle.vtl_tree.specs.declared.structure.Structure.{Structure}
 use Rattle.vtl_meaning.specs.Aggregates.{Made, group_fault}
@@ -37,10 +37,12 @@ use Rattle.vtl_meaning.specs.Analytics.{each_point as each_made, point_of as mad
 use Rattle.vtl_meaning.specs.LookUps.{value_named}
 use Rattle.vtl_meaning.specs.Operators.{for_measures}
 use Rattle.vtl_meaning.specs.Points.{beside, cell_or_null, each_point, paired, partner, point_fault, point_of, with_points}
-use Rattle.vtl_meaning.proofs.AnalyticColumns.{all_filtered, columns_found, columns_split, identifier_cells}
-use Rattle.vtl_meaning.proofs.Places.{all_append, all_back, all_front, all_more, place_here, place_later, point_length}
+use Rattle.vtl_meaning.proofs.AnalyticColumns.{columns_found, identifier_cells}
+use Rattle.vtl_meaning.proofs.Places.{place_here, place_later, point_length, columns_split}
+use Rattle.vtl_meaning.proofs.AggregateShaped.{no_attribute}
+use Rattle.vtl_meaning.proofs.AnalyticShaped.{no_measure}
 use Rattle.vtl_timing.specs.Times.{by_measure}
-use Rattle.vtl_timing.proofs.FlowsKept.{IsOfMeasure, drop_all, free, identify, keep_all, others_are}
+use Rattle.vtl_timing.proofs.FlowsKept.{IsOfMeasure, free, identify, others_are, all_identify}
 use Rattle.times_to_sql.proofs.SeriesLists.{own_items}
 
 -- ---- look-up
@@ -94,24 +96,6 @@ pub back_cell : (xs ys : List Component) (name : List ℕ) (r q : Row) → is_po
 back_cell xs ys name r q h = ap (λ n. column_of (n + place_of name ys) (r ++ q)) (sym (point_length xs r h)) ∙ get_or-append-add r q (place_of name ys) c.Null
 
 -- ---- columns
-no_attribute : (r : Role) → same_role r role.Identifier ≡ true → same_role r role.Attribute ≡ false
-no_attribute role.Identifier e = refl
-no_attribute role.Measure e = cc
-no_attribute role.Attribute e = cc
-
-no_measure : (r : Role) → same_role r role.Identifier ≡ true → same_role r role.Measure ≡ false
-no_measure role.Identifier e = refl
-no_measure role.Measure e = cc
-no_measure role.Attribute e = cc
-
-identifiers_alone : (ys : List Component) → chosen choice.Except [] ys ≡ filter is_identifier ys
-identifiers_alone [] = refl
-identifiers_alone (y ∷ ys) = go (is_identifier y) (identifiers_alone ys)
-  where
-    go : (b : Bool) → chosen choice.Except [] ys ≡ filter is_identifier ys → cond (b && true) (y ∷ chosen choice.Except [] ys) (chosen choice.Except [] ys) ≡ cond b (y ∷ filter is_identifier ys) (filter is_identifier ys)
-    go true ih = ap (λ l. y ∷ l) ih
-    go false ih = ih
-
 abbrev pub given : Component → Component
 given x = given_measure flow_gives None x
 
@@ -128,22 +112,22 @@ module _ (a s : Structure) (shape : s.components ≡ flow_components a.component
   ids = filter is_identifier a.components
 
   parts : s.components ≡ ids ++ map given (measures a.components)
-  parts = shape ∙ ap (λ l. l ++ map given (measures a.components)) (identifiers_alone a.components)
+  parts = shape ∙ ap (λ l. l ++ map given (measures a.components)) (all_identify a.components)
 
   pub measures_given : measures_of s ≡ map given (measures_of a)
   measures_given =
       ap (filter is_measure) parts
       ∙ filter-append is_measure ids (map given (measures a.components))
-      ∙ (λ i. drop_all is_measure ids (all_more (λ y. is_identifier y ≡ true) (λ y. is_measure y ≡ false) (λ y e. no_measure y.role e) ids (all_filtered is_identifier a.components)) i
-      ++ keep_all is_measure (map given (measures a.components)) (are_measures (measures a.components)) i)
+      ∙ (λ i. filter_none is_measure ids (all_more (λ y. is_identifier y ≡ true) (λ y. is_measure y ≡ false) (λ y e. no_measure y.role e) ids (all_filtered is_identifier a.components)) i
+      ++ filter_all is_measure (map given (measures a.components)) (are_measures (measures a.components)) i)
 
   no_attributes : of_role role.Attribute s ≡ []
   no_attributes =
       let is : Component → Bool = λ y. same_role y.role role.Attribute in
       ap (filter is) parts
       ∙ filter-append is ids (map given (measures a.components))
-      ∙ (λ i. drop_all is ids (all_more (λ y. is_identifier y ≡ true) (λ y. is y ≡ false) (λ y e. no_attribute y.role e) ids (all_filtered is_identifier a.components)) i
-      ++ drop_all is (map given (measures a.components)) (are_no_attributes (measures a.components)) i)
+      ∙ (λ i. filter_none is ids (all_more (λ y. is_identifier y ≡ true) (λ y. is y ≡ false) (λ y e. no_attribute y.role e) ids (all_filtered is_identifier a.components)) i
+      ++ filter_none is (map given (measures a.components)) (are_no_attributes (measures a.components)) i)
 
   pub columns_given : columns_of s ≡ identifiers_of s ++ map given (measures_of a)
   columns_given =

@@ -7,8 +7,8 @@ use Rattle.vtl_lists.specs.Apart.{all_apart}
 use Rattle.vtl_lists.specs.Perm.{Perm, empty}
 use Rattle.vtl_lists.proofs.Aparts.{all_apart-Perm}
 use Rattle.vtl_lists.proofs.Perms.{Perm-append, Perm-filter, Perm-map}
+use Rattle.vtl_lists.proofs.Alls.{all_append, all_more}
 use Rattle.vtl_decimal.specs.declared.number.Fault.{Fault}
-use Rattle.vtl_decimal.specs.declared.number.Fault.TheVariants.{DivZero, Range}
 use Rattle.vtl_decimal.specs.Settings.{Settings}
 use Rattle.vtl_cell.specs.Outcome.{Outcome, fault_in, faults_by, join, unless}
 use Rattle.vtl_cell.specs.Outcomes.{Same}
@@ -27,9 +27,10 @@ use Rattle.vtl_meaning.specs.Points.{with_points}
 use Rattle.vtl_meaning.proofs.AnalyticOrders.{analytics_respect}
 use Rattle.vtl_meaning.proofs.AnalyticPoints.{key_of_point, result_is}
 use Rattle.vtl_meaning.proofs.Kept.{unless_ok}
-use Rattle.vtl_meaning.proofs.Places.{all_append, all_more}
 use Rattle.vtl_timing.specs.TimeShapes.{IsFlowed}
+use Rattle.vtl_timing.proofs.ShiftKept.{none_parts}
 use Rattle.sql_meaning.specs.Selects.{appended, rows_in}
+use Rattle.sql_meaning.proofs.Orders.{fault_same, rows_in-Perm}
 use Rattle.selects_to_sql.proofs.Givens.{AreGiven}
 use Rattle.times_to_sql.specs.Flows.{along_series}
 use Rattle.times_to_sql.specs.Frequencies.{is_of_frequency, part_of, within_frequencies}
@@ -38,26 +39,14 @@ use Rattle.times_to_sql.proofs.Parts.{IsAlong, along_analyzed, part_is_set}
 
 -- ---- the order of points
 
-same_fault : (m n : Outcome (List Row)) → Same m n → fault_in m ≡ fault_in n
-same_fault (Ok d) (Ok e) h = refl
-same_fault (Err f) (Err g) h = ap Some h
-same_fault (Ok d) (Err g) h = absurd h
-same_fault (Err f) (Ok e) h = absurd h
-
-same_rows : (m n : Outcome (List Row)) → Same m n → Perm (rows_in m) (rows_in n)
-same_rows (Ok d) (Ok e) h = h
-same_rows (Err f) (Err g) h = empty
-same_rows (Ok d) (Err g) h = absurd h
-same_rows (Err f) (Ok e) h = absurd h
-
 module _ {X : Type 0} (f g : X → Outcome (List Row)) (same : (x : X) → Same (f x) (g x)) where
   faults_same : (xs : List X) → faults_by fault_in (map f xs) ≡ faults_by fault_in (map g xs)
   faults_same [] = refl
-  faults_same (x ∷ xs) = λ i. join (same_fault (f x) (g x) (same x) i) (faults_same xs i)
+  faults_same (x ∷ xs) = λ i. join (fault_same (f x) (g x) (same x) i) (faults_same xs i)
 
   rows_same : (xs : List X) → Perm (flat_map rows_in (map f xs)) (flat_map rows_in (map g xs))
   rows_same [] = empty
-  rows_same (x ∷ xs) = Perm-append (same_rows (f x) (g x) (same x)) (rows_same xs)
+  rows_same (x ∷ xs) = Perm-append (rows_in-Perm (f x) (g x) (same x)) (rows_same xs)
 
   appended_same : (xs : List X) → Same (appended (map f xs)) (appended (map g xs))
   appended_same xs = Same_unless (faults_by fault_in (map f xs)) (faults_by fault_in (map g xs)) (flat_map rows_in (map f xs)) (flat_map rows_in (map g xs)) (faults_same xs) (rows_same xs)
@@ -77,12 +66,6 @@ apart_keys n (r ∷ rows) = λ i. not (any rows i) && apart_keys n rows i
     any [] = refl
     any (q ∷ qs) = λ i. same_key n r q || any qs i
 
-no_faults : (f g : Option Fault) → join f g ≡ None → (f ≡ None) × (g ≡ None)
-no_faults None g e = (refl, e)
-no_faults (Some DivZero) g e = cc
-no_faults (Some Range) None e = cc
-no_faults (Some Range) (Some g) e = cc
-
 module _ {X : Type 0} (n m : ℕ) (f : X → Outcome (List Row)) (part : X → List Row) (keys : (x : X) → IfOk (f x) (λ rows. map (take n) rows ≡ map (take m) (part x))) where
   one_key : (x : X) (o : Outcome (List Row)) → fault_in o ≡ None → IfOk o (λ rows. map (take n) rows ≡ map (take m) (part x)) → map (take n) (rows_in o) ≡ map (take m) (part x)
   one_key x (Ok rows) e h = h
@@ -91,7 +74,7 @@ module _ {X : Type 0} (n m : ℕ) (f : X → Outcome (List Row)) (part : X → L
   all_keys : (xs : List X) → faults_by fault_in (map f xs) ≡ None → map (take n) (flat_map rows_in (map f xs)) ≡ map (take m) (flat_map part xs)
   all_keys [] e = refl
   all_keys (x ∷ xs) e =
-      let parts = no_faults (fault_in (f x)) (faults_by fault_in (map f xs)) e in
+      let parts = none_parts (fault_in (f x)) (faults_by fault_in (map f xs)) e in
       map-append (take n) (rows_in (f x)) (flat_map rows_in (map f xs))
       ∙ (λ i. one_key x (f x) parts.0 (keys x) i ++ all_keys xs parts.1 i)
       ∙ sym (map-append (take m) (part x) (flat_map part xs))

@@ -6,7 +6,8 @@ use Rattle.std.proofs.Math.Nat.{pow-le-pow_right}
 use Rattle.std.proofs.lemmas.Bool.{lt-ltb}
 use Rattle.std.proofs.lemmas.List.{length-map}
 use Rattle.vtl_lists.proofs.Aparts.{all_apart-filter}
-use Rattle.vtl_lists.proofs.Sorts.{AllByRecursion-filter}
+use Rattle.vtl_lists.proofs.Sorts.{AllByRecursion-filter, AllByRecursion-map}
+use Rattle.vtl_lists.proofs.Alls.{all_more}
 use Rattle.vtl_cell.specs.AggregateKinds.{is_number}
 use Rattle.vtl_cell.specs.Held.{IsHeld}
 use Rattle.vtl_cell.specs.Literals.{is_null_kind}
@@ -37,7 +38,6 @@ use Rattle.vtl_meaning.specs.Made.{IsColumnAt, IsNamedColumn, IsWindowed, is_sui
 use Rattle.vtl_meaning.specs.Points.{with_points}
 use Rattle.vtl_meaning.specs.Reaches.{AreNear}
 use Rattle.vtl_meaning.proofs.AnalyticShaped.{fits}
-use Rattle.vtl_meaning.proofs.Places.{all_map, all_more}
 use Rattle.selects_to_sql.proofs.Identifiers.{IsIdentifierAt, own_there}
 use Rattle.vtl_timing.specs.TimeShapes.{IsFlowed}
 use Rattle.vtl_timing.specs.Times.{HasTime, is_time, other_identifiers}
@@ -137,8 +137,8 @@ module _ (a s : Structure) (i : IsFlowed a s) (given : AreGiven (columns_of s)) 
     along_windowed = record {
       analyzed = along_analyzed;
       values = record {
-        partition = all_map (λ x. x.name) (IsNamedColumn (columns_of a)) (other_identifiers a) (named_all (λ x. not (is_time x)));
-        order = all_map time_key (λ key. IsNamedColumn (columns_of a) key.component) (filter is_time (identifiers_of a)) (named_all is_time);
+        partition = AllByRecursion-map (λ x. x.name) (IsNamedColumn (columns_of a)) (other_identifiers a) (named_all (λ x. not (is_time x)));
+        order = AllByRecursion-map time_key (λ key. IsNamedColumn (columns_of a) key.component) (filter is_time (identifiers_of a)) (named_all is_time);
         suited = along.suited a i.time;
       };
     }

@@ -9,7 +9,7 @@ use Rattle.vtl_cell.specs.declared.kind.Kind.{Kind}
 use Rattle.vtl_cell.specs.declared.kind.Kind.TheVariants as k
 use Rattle.vtl_decimal.specs.Settings.{Settings}
 use Rattle.vtl_decimal.specs.declared.number.Fault.{Fault}
-use Rattle.vtl_decimal.specs.declared.number.Fault.TheVariants.{DivZero, Range}
+use Rattle.vtl_decimal.specs.declared.number.Fault.TheVariants.{Range}
 use Rattle.vtl_meaning.specs.Points.{cell_or_null}
 use Rattle.vtl_meaning.proofs.GroupKinds.{GivesOf, IsOf, null_is_of}
 
@@ -54,16 +54,6 @@ one_fault f g (inr e) (inr i) to from = e ∙ sym i
 
 none_joined : (f g : Option Fault) → f ≡ None → g ≡ None → join f g ≡ None
 none_joined f g e i = λ j. join (e j) (i j)
-
-pub join_parts : (f g : Option Fault) → join f g ≡ None → (f ≡ None) × (g ≡ None)
-join_parts None g e = (refl, e)
-join_parts (Some DivZero) g e = cc
-join_parts (Some Range) None e = cc
-join_parts (Some Range) (Some g) e = cc
-
-pub faults_none : {X : Type 0} (g : X → Option Fault) (xs : List X) → faults_by g xs ≡ None → AllByRecursion (λ x. g x ≡ None) xs
-faults_none g [] e = tt
-faults_none g (x ∷ xs) e = let parts = join_parts (g x) (faults_by g xs) e in (parts.0, faults_none g xs parts.1)
 
 pub none_faults : {X : Type 0} (g : X → Option Fault) (xs : List X) → AllByRecursion (λ x. g x ≡ None) xs → faults_by g xs ≡ None
 none_faults g [] all = refl

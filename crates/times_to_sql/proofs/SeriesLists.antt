@@ -5,11 +5,11 @@ use Rattle.std.specs.List.{AllByRecursion, filter, list_all, list_any}
 use Rattle.std.specs.Option.{option_map_or}
 use Rattle.std.proofs.lemmas.List.Elements.{filter-append}
 use Rattle.vtl_lists.specs.Sorting.{Rises}
+use Rattle.vtl_lists.proofs.Alls.{all_back, all_front}
+use Rattle.vtl_lists.proofs.Filters.{filter_all, filter_none}
 use Rattle.vtl_cell.specs.Row.{Row, same_row}
 use Rattle.vtl_cell.specs.declared.cell.Cell.{Cell}
 use Rattle.vtl_cell.proofs.Rows.{same_row-is, same_row-refl}
-use Rattle.vtl_meaning.proofs.Places.{all_back, all_front}
-use Rattle.vtl_timing.proofs.FlowsKept.{drop_all, keep_all}
 
 -- ---- an item of a list
 pub record Cut (rows : List Row) (r : Row) : Type 0 where
@@ -69,16 +69,16 @@ filter_twice p q g same (x ∷ xs) = go (q x) refl (filter_twice p q g same xs)
 pub filter_front : (p : Row → Bool) (front : List Row) (r : Row) (back : List Row) → AllByRecursion (λ q. p q ≡ true) front → p r ≡ true → AllByRecursion (λ q. p q ≡ false) back → filter p (front ++ r ∷ back) ≡ front ++ r ∷ []
 filter_front p front r back early here late =
     filter-append p front (r ∷ back)
-    ∙ ap (λ l. l ++ filter p (r ∷ back)) (keep_all p front early)
+    ∙ ap (λ l. l ++ filter p (r ∷ back)) (filter_all p front early)
     ∙ ap (λ b. front ++ cond b (r ∷ filter p back) (filter p back)) here
-    ∙ ap (λ l. front ++ r ∷ l) (drop_all p back late)
+    ∙ ap (λ l. front ++ r ∷ l) (filter_none p back late)
 
 pub filter_before : (p : Row → Bool) (front : List Row) (r : Row) (back : List Row) → AllByRecursion (λ q. p q ≡ true) front → p r ≡ false → AllByRecursion (λ q. p q ≡ false) back → filter p (front ++ r ∷ back) ≡ front
 filter_before p front r back early here late =
     filter-append p front (r ∷ back)
-    ∙ ap (λ l. l ++ filter p (r ∷ back)) (keep_all p front early)
+    ∙ ap (λ l. l ++ filter p (r ∷ back)) (filter_all p front early)
     ∙ ap (λ b. front ++ cond b (r ∷ filter p back) (filter p back)) here
-    ∙ ap (λ l. front ++ l) (drop_all p back late)
+    ∙ ap (λ l. front ++ l) (filter_none p back late)
     ∙ nothing_behind front
   where
     nothing_behind : (l : List Row) → l ++ [] ≡ l

@@ -6,12 +6,15 @@ use Rattle.std.specs.Ordering.{is_le, is_lt, ordering_reverse, ordering_then}
 use Rattle.std.specs.declared.cmp.Ordering.{Ordering}
 use Rattle.std.specs.declared.cmp.Ordering.TheVariants.{Less, Equal, Greater}
 use Rattle.std.proofs.lemmas.List.Sums.{length-filter}
+use Rattle.std.proofs.lemmas.Bool.{and_parts}
 use Rattle.vtl_lists.specs.Apart.{all_apart}
 use Rattle.vtl_lists.specs.Perm.{Perm, chain}
 use Rattle.vtl_lists.specs.Sorting.{IsOrder, Rises, le_by}
 use Rattle.vtl_lists.proofs.Aparts.{all_apart-Perm, all_apart-filter, apart_parts, list_any-Perm}
 use Rattle.vtl_lists.proofs.Perms.{AllByRecursion-Perm, Perm-filter, Perm-same}
 use Rattle.vtl_lists.proofs.Sorts.{AllByRecursion-filter, Rises-sorted_by}
+use Rattle.vtl_lists.proofs.Alls.{all_back, all_both, all_filtered, all_front, all_kept}
+use Rattle.vtl_lists.proofs.Filters.{filter_all}
 use Rattle.vtl_cell.specs.Order.{cell_cmp, same_cell}
 use Rattle.vtl_cell.specs.Row.{Row, column_of, row_cmp, same_key, same_row}
 use Rattle.vtl_cell.specs.ScalarPeriods.{frequency_of}
@@ -21,7 +24,7 @@ use Rattle.vtl_cell.specs.declared.cell.Cell.TheVariants as c
 use Rattle.vtl_cell.proofs.Cells.{same_cell-is, same_cell-refl}
 use Rattle.vtl_cell.proofs.Keys.{window_order}
 use Rattle.vtl_cell.proofs.Orders.{cell_cmp-ties, cell_cmp_total}
-use Rattle.vtl_cell.proofs.Rows.{same_key-sym, same_row-is, same_row-refl, split_and}
+use Rattle.vtl_cell.proofs.Rows.{same_key-sym, same_row-is, same_row-refl, is_Less}
 use Rattle.vtl_rows.specs.Tables.{cells_at}
 use Rattle.vtl_time.specs.Periods.{letter_of}
 use Rattle.vtl_time.specs.declared.periods.Frequency.{Frequency}
@@ -38,10 +41,9 @@ use Rattle.vtl_meaning.specs.LookUps.{value_named, values_named}
 use Rattle.vtl_meaning.specs.Points.{with_points}
 use Rattle.vtl_meaning.specs.Windows.{Stand, identifier_places, key_in, keys_in, partition_of, point_cmp, stand_of}
 use Rattle.vtl_meaning.proofs.Partitions.{count_by-Perm, ordered_perm}
-use Rattle.vtl_meaning.proofs.Places.{all_back, all_filtered, all_front}
+use Rattle.groups_to_sql.proofs.WindowOrders.{own_tie}
 use Rattle.vtl_timing.specs.Times.{HasTime, before, in_one_series, is_time, other_identifiers, previous, series_of, time_of, time_place, up_to}
-use Rattle.vtl_timing.proofs.FlowOrders.{all_both, kept_too, keys_same, own_time, previous_same, time_at}
-use Rattle.vtl_timing.proofs.FlowsKept.{keep_all}
+use Rattle.vtl_timing.proofs.FlowOrders.{keys_same, own_time, previous_same, time_at}
 use Rattle.vtl_timing.proofs.SeriesColumns.{IsOnly, time_only}
 use Rattle.times_to_sql.specs.Frequencies.{is_of_frequency, part_of, series_window, time_key}
 use Rattle.times_to_sql.proofs.SeriesLists.{Cut, cut_at, filter_before, filter_front, filter_twice, find_last, front_rises, item_has, last_of, passes_too, sides}
@@ -56,16 +58,6 @@ and_turned false false = refl
 and_self : (b : Bool) → (b && b) ≡ b
 and_self true = refl
 and_self false = refl
-
-less_is : (o : Ordering) → is_lt o ≡ true → o ≡ Less
-less_is Less e = refl
-less_is Equal e = absurd (true≢false (sym e))
-less_is Greater e = absurd (true≢false (sym e))
-
-tie_is : (o : Ordering) → o ≡ ordering_reverse o → o ≡ Equal
-tie_is Less e = cc
-tie_is Equal e = refl
-tie_is Greater e = cc
 
 -- ---- times
 abbrev pub earlier : Structure → Row → Row → Bool
@@ -87,13 +79,13 @@ pub record Standing (a : Structure) (us : List Row) (r : Row) (rows : List Row) 
 
 module _ (a : Structure) where
   at_once : (q : Row) → cell_cmp (time_of a q) (time_of a q) ≡ Equal
-  at_once q = tie_is (cell_cmp (time_of a q) (time_of a q)) (cell_cmp_total.antisymm (time_of a q) (time_of a q))
+  at_once q = own_tie (cell_cmp (time_of a q) (time_of a q)) (cell_cmp_total.antisymm (time_of a q) (time_of a q))
 
   turned : (q r : Row) → earlier a r q ≡ true → cell_cmp (time_of a q) (time_of a r) ≡ Greater
-  turned q r e = cell_cmp_total.antisymm (time_of a q) (time_of a r) ∙ ap ordering_reverse (less_is (cell_cmp (time_of a r) (time_of a q)) e)
+  turned q r e = cell_cmp_total.antisymm (time_of a q) (time_of a r) ∙ ap ordering_reverse (is_Less (cell_cmp (time_of a r) (time_of a q)) e)
 
   lax : (q r : Row) → earlier a q r ≡ true → no_later a q r ≡ true
-  lax q r e = ap is_le (less_is (cell_cmp (time_of a q) (time_of a r)) e)
+  lax q r e = ap is_le (is_Less (cell_cmp (time_of a q) (time_of a r)) e)
 
   stricter : (q r : Row) → earlier a q r ≡ true → no_later a r q ≡ false
   stricter q r e = ap is_le (turned r q e)
@@ -111,7 +103,7 @@ module _ (a : Structure) where
   pub one_series : (r q : Row) → in_one_series a r q ≡ true → in_one_series a q ≡ in_one_series a r
   one_series r q e =
       let vals = λ (z : Row). values_in a (other_identifiers a) z in
-      let parts = split_and (same_row (vals q) (vals r)) (same_cell (frequency_of (time_of a q)) (frequency_of (time_of a r))) e in
+      let parts = and_parts (same_row (vals q) (vals r)) (same_cell (frequency_of (time_of a q)) (frequency_of (time_of a r))) e in
       let values = same_row-is (vals q) (vals r) parts.0 in
       let letters = same_cell-is (frequency_of (time_of a q)) (frequency_of (time_of a r)) parts.1 in
       λ i z. same_row (vals z) (values i) && same_cell (frequency_of (time_of a z)) (letters i)
@@ -177,7 +169,7 @@ module _ (a : Structure) where
         in_front =
             let p : Row → Bool = λ q. earlier a q r in
             let both = sides (earlier a) front r back ordered in
-            ap (filter p) (keep_all (in_one_series a r) rows (more (λ q i. i.1) rows s.within))
+            ap (filter p) (filter_all (in_one_series a r) rows (more (λ q i. i.1) rows s.within))
             ∙ ap (filter p) s.cut.is
             ∙ filter_before p front r back both.0 (ap is_lt (at_once r)) (more (λ q. not_before r q) back both.1)
 
@@ -223,7 +215,7 @@ module _ (a : Structure) (well : IsStructure a) (time : HasTime a) where
   by_time q r h i = ap (λ f. f q r) cmp_is ∙ (λ j. behind q r (cell_cmp (time_column q h j) (time_column r i j)))
 
   stands_before : (q r : Row) → IsRow q → IsRow r → earlier a q r ≡ true → is_lt (cmp q r) ≡ true
-  stands_before q r h i e = ap is_lt (by_time q r h i ∙ ap (behind q r) (less_is (cell_cmp (time_of a q) (time_of a r)) e))
+  stands_before q r h i e = ap is_lt (by_time q r h i ∙ ap (behind q r) (is_Less (cell_cmp (time_of a q) (time_of a r)) e))
 
   stands_behind : (q r : Row) → IsRow q → IsRow r → earlier a r q ≡ true → is_lt (cmp q r) ≡ false
   stands_behind q r h i e = ap is_lt (by_time q r h i ∙ ap (behind q r) (turned a q r e))
@@ -293,7 +285,7 @@ module _ (a : Structure) (well : IsStructure a) (time : HasTime a) where
     series = subst (λ z. Perm z s.ordered) (partition_is us f r e) (ordered_perm part w r)
 
     within : AllByRecursion (InSeries a r) s.ordered
-    within = AllByRecursion-Perm (InSeries a r) series (kept_too IsRow (in_one_series a r) us h.typed)
+    within = AllByRecursion-Perm (InSeries a r) series (all_kept IsRow (in_one_series a r) us h.typed)
 
     rises : Rises (earlier a) s.ordered
     rises =

@@ -1,6 +1,6 @@
 -- `timeshift` is a select over the operand's table.
 use Rattle.std.proofs.Common.{◌≡◌, ◌≤◌, ◌^◌, ◌-◌, ℤ, pos, negsuc, suc, Bool, true, false, cond, List, [], ◌∷◌, map, Option, Some, None, Ok, Err, refl, ap, sym, ◌∙◌, subst, arith}
-use Rattle.std.proofs.lemmas.Bool.{lt-ltb}
+use Rattle.std.proofs.lemmas.Bool.{lt-ltb, and_parts}
 use Rattle.std.proofs.Math.Nat.{pow-le-pow_right}
 use Rattle.std.specs.Prelude.{IfOk, IsOk, is_some, unsigned_abs, if◌then◌else◌}
 use Rattle.vtl_decimal.specs.Settings.{Settings}
@@ -18,7 +18,6 @@ use Rattle.vtl_cell.specs.declared.cell.Cell.TheVariants as c
 use Rattle.vtl_cell.specs.declared.kind.Kind.{Kind}
 use Rattle.vtl_cell.specs.declared.kind.Kind.TheVariants as k
 use Rattle.vtl_cell.specs.declared.operator.ScalarOp.TheVariants as op
-use Rattle.vtl_cell.proofs.Rows.{split_and}
 use Rattle.vtl_time.specs.Periods.{YearPart, shift_of}
 use Rattle.vtl_tree.specs.Columns.{place_of}
 use Rattle.vtl_tree.specs.CompExp.{const}
@@ -33,6 +32,7 @@ use Rattle.vtl_meaning.specs.Reaches.{is_near}
 use Rattle.vtl_meaning.proofs.OwnColumns.{columns_apart, own_columns}
 use Rattle.vtl_meaning.proofs.ValueKinds.{cell_is_of}
 use Rattle.vtl_timing.specs.Times.{is_time, shifted_value, timeshift_of}
+use Rattle.vtl_timing.proofs.ShiftKept.{period_kind}
 use Rattle.sql_tree.specs.Trees.{Exp, ItemTree, Text}
 use Rattle.sql_check_parts.specs.Kinds.{given_kind, kind_in, operator_kind}
 use Rattle.sql_check_parts.specs.Literals.{is_shift}
@@ -95,17 +95,8 @@ fault_map : (f : Component → Valued) (ys : List Component) (r : Row) → value
 fault_map f [] r = refl
 fault_map f (y ∷ ys) r = ap (join (fault_in (f y r))) (fault_map f ys r)
 
-period_kind : (kind : Kind) → same_kind kind k.Period ≡ true → kind ≡ k.Period
-period_kind k.Null e = cc
-period_kind k.Bool e = cc
-period_kind k.Int e = cc
-period_kind k.Num e = cc
-period_kind k.Text e = cc
-period_kind k.Day e = cc
-period_kind k.Period e = refl
-
 pub time_kind : (y : Component) → is_time y ≡ true → y.kind ≡ k.Period
-time_kind y t = period_kind y.kind (split_and (same_role y.role role.Identifier) (same_kind y.kind k.Period) t).1
+time_kind y t = period_kind y.kind (and_parts (same_role y.role role.Identifier) (same_kind y.kind k.Period) t).1
 
 -- a period, or null
 shifted_period : (v : Cell) (o : Option ℤ) → IfOk (shifted_of v o) (λ w. is_of k.Period w ≡ true)

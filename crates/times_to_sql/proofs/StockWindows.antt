@@ -7,6 +7,7 @@ use Rattle.std.proofs.lemmas.List.{append-nil, map-append}
 use Rattle.std.proofs.lemmas.List.Elements.{filter-append}
 use Rattle.vtl_lists.proofs.Perms.{AllByRecursion-Perm, Perm-map}
 use Rattle.vtl_lists.proofs.Sorts.{AllByRecursion-filter}
+use Rattle.vtl_lists.proofs.Alls.{all_back, all_more}
 use Rattle.vtl_cell.specs.AggregateKinds.{is_number}
 use Rattle.vtl_cell.specs.Conversion.{as_kind}
 use Rattle.vtl_cell.specs.Groups.{aggregate, group_value, is_integer, numbers_of, values_of, wholes_of}
@@ -44,12 +45,12 @@ use Rattle.vtl_meaning.specs.LookUps.{value_named}
 use Rattle.vtl_meaning.specs.Points.{cell_or_null, each_point, paired, with_points}
 use Rattle.vtl_meaning.specs.Windows.{Stand, stand_of}
 use Rattle.vtl_meaning.proofs.GroupKinds.{GivesOf, IsOf, group_is, null_is_of}
-use Rattle.vtl_meaning.proofs.Places.{all_back, all_more}
 use Rattle.vtl_timing.specs.TimeShapes.{IsFlowed}
 use Rattle.vtl_timing.specs.Times.{by_measure, in_one_series, series_of, stock_of, stock_value, up_to}
-use Rattle.vtl_timing.proofs.FlowsKept.{IsOfMeasure, own_cells}
+use Rattle.vtl_timing.proofs.FlowsKept.{IsOfMeasure, own_cells, null_alone}
+use Rattle.vtl_timing.proofs.ShiftKept.{each_without}
 use Rattle.times_to_sql.specs.Frequencies.{part_of, series_window, stock_exp, stock_exps, within_frequencies}
-use Rattle.times_to_sql.proofs.RangeFaults.{IsRange, faults_none, faults_range, kind_stays, none_faults, one_fault, outcome_stays, there_is, value_is}
+use Rattle.times_to_sql.proofs.RangeFaults.{IsRange, faults_range, kind_stays, none_faults, one_fault, outcome_stays, there_is, value_is}
 use Rattle.times_to_sql.proofs.FrequencyParts.{frequency_is, parts_are}
 use Rattle.times_to_sql.proofs.OwnPairs.{IsFine, IsGiven, fine, back_cell, front_cell, given, keys_kept, made_cell, paired_is, values_are}
 use Rattle.times_to_sql.proofs.SeriesLists.{item_has, own_items}
@@ -57,10 +58,6 @@ use Rattle.times_to_sql.proofs.SeriesOrders.{InSeries, Standing, stands, up_to_a
 use Rattle.times_to_sql.proofs.WindowValues.{made_same, sums_within}
 
 -- ---- totals
-null_alone : (v : Cell) → IsOf k.Null v → is_null v ≡ true
-null_alone c.Null h = refl
-null_alone v h = cc
-
 no_values : (vs : List Cell) → AllByRecursion (IsOf k.Null) vs → values_of vs ≡ []
 no_values [] all = refl
 no_values (v ∷ vs) all = ap (λ b. cond (not b) (v ∷ values_of vs) (values_of vs)) (null_alone v all.0) ∙ no_values vs all.1
@@ -226,7 +223,7 @@ module _ (p : Settings) (d : DataSet) (s : Structure) (i : IsFlowed d.structure 
 
   -- no fault at any point, by columns
   all_shown : (made : Made) → faults_by (point_fault made ys) us ≡ None → AllByRecursion (AllShown made) us
-  all_shown made e = all_more (λ r. point_fault made ys r ≡ None) (AllShown made) (λ r f. faults_none (λ y. fault_in (made y r)) ys f) us (faults_none (point_fault made ys) us e)
+  all_shown made e = all_more (λ r. point_fault made ys r ≡ None) (AllShown made) (λ r f. each_without (λ y. fault_in (made y r)) ys f) us (each_without (point_fault made ys) us e)
 
   none_shown : (made : Made) → AllByRecursion (AllShown made) us → faults_by (point_fault made ys) us ≡ None
   none_shown made all = none_faults (point_fault made ys) us (all_more (AllShown made) (λ r. point_fault made ys r ≡ None) (λ r f. none_faults (λ y. fault_in (made y r)) ys f) us all)

@@ -5,6 +5,7 @@ use Rattle.std.specs.List.{AllByRecursion, flat_map, list_any}
 use Rattle.std.specs.Option.{option_map_or}
 use Rattle.std.proofs.lemmas.List.{map-append}
 use Rattle.vtl_lists.proofs.Perms.{Perm-map, Perm-sym}
+use Rattle.vtl_lists.proofs.Alls.{all_kept}
 use Rattle.vtl_cell.specs.Conversion.{as_kind}
 use Rattle.vtl_cell.specs.Frames.{frame_of, lag_of}
 use Rattle.vtl_cell.specs.Groups.{group_value}
@@ -36,10 +37,10 @@ use Rattle.vtl_meaning.specs.LookUps.{value_named}
 use Rattle.vtl_meaning.specs.Points.{cell_or_null, with_points}
 use Rattle.vtl_meaning.specs.Windows.{Stand, argument, bound_of, call_value, default_frame, framed, op_value, stand_of}
 use Rattle.vtl_timing.specs.Times.{HasTime, by_measure, previous, up_to}
-use Rattle.vtl_timing.proofs.FlowOrders.{kept_too}
+use Rattle.vtl_timing.proofs.ShiftKept.{none_parts}
 use Rattle.sql_meaning.specs.Selects.{appended, rows_in}
+use Rattle.sql_meaning.proofs.Faulted.{fault_unless}
 use Rattle.times_to_sql.specs.Frequencies.{is_of_frequency, part_of, series_window, within_frequencies}
-use Rattle.times_to_sql.proofs.RangeFaults.{join_parts}
 use Rattle.times_to_sql.proofs.SeriesLists.{one_before, own_items, take_front}
 use Rattle.times_to_sql.proofs.SeriesOrders.{Standing, order_is, previous_is, stands, up_to_is}
 
@@ -71,10 +72,6 @@ unless_same f g x y e same = ap (λ o. unless o x) e ∙ go g same
     go None s = ap Ok (s refl)
     go (Some v) s = refl
 
-fault_of : {X : Type 0} (f : Option Fault) (x : X) → fault_in (unless f x) ≡ f
-fault_of None x = refl
-fault_of (Some e) x = refl
-
 module _ (fault : Row → Option Fault) (point : Row → Row) (part : Frequency → List Row) where
   abbrev result : List Row → Outcome (List Row)
   result rows = unless (faults_by fault rows) (map point rows)
@@ -82,13 +79,13 @@ module _ (fault : Row → Option Fault) (point : Row → Row) (part : Frequency 
   appended_faults : (fs : List Frequency) → faults_by fault_in (map (λ f. result (part f)) fs) ≡ faults_by fault (flat_map part fs)
   appended_faults [] = refl
   appended_faults (f ∷ fs) =
-      (λ i. join (fault_of (faults_by fault (part f)) (map point (part f)) i) (appended_faults fs i))
+      (λ i. join (fault_unless (faults_by fault (part f)) (map point (part f)) i) (appended_faults fs i))
       ∙ sym (faults_by-append fault (part f) (flat_map part fs))
 
   appended_rows : (fs : List Frequency) → faults_by fault (flat_map part fs) ≡ None → flat_map rows_in (map (λ f. result (part f)) fs) ≡ map point (flat_map part fs)
   appended_rows [] e = refl
   appended_rows (f ∷ fs) e =
-      let parts = join_parts (faults_by fault (part f)) (faults_by fault (flat_map part fs)) (sym (faults_by-append fault (part f) (flat_map part fs)) ∙ e) in
+      let parts = none_parts (faults_by fault (part f)) (faults_by fault (flat_map part fs)) (sym (faults_by-append fault (part f) (flat_map part fs)) ∙ e) in
       (λ i. rows_in (unless (parts.0 i) (map point (part f))) ++ appended_rows fs parts.1 i)
       ∙ sym (map-append point (part f) (flat_map part fs))
 
@@ -139,7 +136,7 @@ module _ (p : Settings) (a : Structure) (well : IsStructure a) (time : HasTime a
   called_on o y = record { op = o; component = Some y.name; window = w }
 
   those : (f : Frequency) → AllByRecursion (IsThere f) (part_of f d).points
-  those f = kept_too (λ r. list_any (same_row r) us ≡ true) (is_of_frequency a f) us (own_items us)
+  those f = all_kept (λ r. list_any (same_row r) us ≡ true) (is_of_frequency a f) us (own_items us)
 
   -- what a call gives in each part, it gives within the frequencies
   pub within_is : (o : AnalyticOp) (v : Component → Row → Outcome Cell) → ((f : Frequency) (r : Row) → IsThere f r → (y : Component) → call_value p (part_of f d) (called_on o y) r ≡ v y r)

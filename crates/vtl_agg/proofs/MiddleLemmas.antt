@@ -6,7 +6,6 @@ use Rattle.std.specs.List.{AllByRecursion}
 use Rattle.std.specs.List.Sorted.{IsSorted}
 use Rattle.std.specs.Ordering.{int_cmp}
 use Rattle.std.proofs.lemmas.Cmp.{int_cmp_total}
-use Rattle.std.proofs.lemmas.Int.{ints}
 use Rattle.vtl_decimal.specs.Range.{fit_number}
 use Rattle.vtl_decimal.specs.Rounding.{rounds_up, rounded_size, rounded_quotient}
 use Rattle.vtl_decimal.specs.Settings.{Settings}
@@ -14,7 +13,8 @@ use Rattle.vtl_decimal.specs.declared.settings.Rounding.{Rounding}
 use Rattle.vtl_decimal.proofs.RoundingLemmas.{rounds_up_no_rest}
 use Rattle.vtl_cell.specs.Groups.{at, middle_of}
 use Rattle.vtl_cell.specs.ScalarArithmetic.{number}
-use Rattle.vtl_lists.specs.Sorting.{IsOrder, Rises, le_by}
+use Rattle.vtl_cell.proofs.Aggregates.{int_order}
+use Rattle.vtl_lists.specs.Sorting.{Rises, le_by}
 use Rattle.vtl_lists.proofs.Perms.{Perm-from_IsPermutation}
 use Rattle.vtl_lists.proofs.Sorts.{Rises-from_IsSorted, sorted_is}
 use Rattle.vtl_agg.specs.Added.{median_value}
@@ -58,13 +58,6 @@ int_one_way (pos a) (pos b) = nat_one_way a b
 int_one_way (pos a) (negsuc b) = inr refl
 int_one_way (negsuc a) (pos b) = inl refl
 int_one_way (negsuc a) (negsuc b) = nat_one_way b a
-
-pub int_order : IsOrder int_le
-int_order = record {
-  total = int_one_way;
-  trans = λ x y z e h. grind (arith, ints);
-  antisym = λ x y e h. grind (arith, ints);
-}
 
 rises_by : (x y : ℤ) → le_by int_cmp x y ≡ true → int_le x y ≡ true
 rises_by (pos a) (pos b) e = grind (arith, e)

@@ -22,9 +22,9 @@ use Rattle.vtl_cell.specs.declared.operator.AggKind.TheVariants as agg
 use Rattle.vtl_lists.proofs.Perms.{AllByRecursion-Perm, Perm-sym}
 use Rattle.vtl_lists.proofs.Sorts.{AllByRecursion-filter, Perm-sorted_by}
 use Rattle.vtl_cell.specs.Kinds.{is_null}
+use Rattle.vtl_cell.proofs.Aggregates.{int_order}
 use Rattle.vtl_agg.specs.Added.{IsProper, may_be_out_of_range}
 use Rattle.vtl_agg.proofs.KnownLemmas.{mean_of_some, some_count}
-use Rattle.vtl_agg.proofs.MiddleLemmas.{int_order}
 
 -- ---- the one fault
 number_fault : (k : ℤ) → IfErr (number (fit_number k)) (λ e. e ≡ Range)

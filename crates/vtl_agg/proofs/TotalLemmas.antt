@@ -5,6 +5,7 @@ use Rattle.std.specs.List.{list_all}
 use Rattle.std.proofs.Math.IntN.{*ℤ-zero, zero-*ℤ, *ℤ_comm, suc_ℤ-*ℤ, +ℤ_comm, +ℤ_assoc}
 use Rattle.std.proofs.lemmas.Int.{ints}
 use Rattle.std.proofs.lemmas.List.{length_push, map-append}
+use Rattle.vtl_lists.proofs.Tests.{and_true}
 use Rattle.vtl_cell.specs.Groups.{is_integer, numbers_of, units_of, whole_of}
 use Rattle.vtl_cell.specs.declared.cell.Cell.{Cell}
 use Rattle.vtl_cell.specs.declared.cell.Cell.TheVariants as c
@@ -60,10 +61,6 @@ fold_at_end a (m ∷ ns) n = fold_at_end (a +ℤ m) ns n
 
 total_at_end : (f : Cell → ℤ) (xs : List Cell) (x : Cell) → total_by f xs +ℤ f x ≡ total_by f (xs ++ x ∷ [])
 total_at_end f xs x = sym (ap (fold ◌+ℤ◌ (pos 0)) (map-append f xs (x ∷ [])) ∙ fold_at_end (pos 0) (map f xs) (f x))
-
-and_true : (b : Bool) → (b && true) ≡ b
-and_true true = refl
-and_true false = refl
 
 whole_at_end : (xs : List Cell) (x : Cell) → (list_all is_integer xs && is_integer x) ≡ list_all is_integer (xs ++ x ∷ [])
 whole_at_end [] x = sym (and_true (is_integer x))

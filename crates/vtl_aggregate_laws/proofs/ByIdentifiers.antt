@@ -1,9 +1,11 @@
--- By all identifiers each point is a group of its own.
-use Rattle.std.proofs.Common.{◌≡◌, ℕ, true, List, [], ◌∷◌, ◌++◌, map, take, Some, None, Ok, Err, Option, refl, sym, ap, ◌∙◌, subst, true≢false}
+-- By all identifiers all_each point is a group of its own.
+use Rattle.std.proofs.Common.{◌≡◌, ℕ, true, List, [], ◌∷◌, ◌++◌, map, take, Some, None, Ok, Err, refl, sym, ap, ◌∙◌, subst, true≢false}
 use Rattle.std.specs.List.{AllByRecursion, filter, find}
 use Rattle.std.specs.Prelude.{IfOk}
 use Rattle.std.specs.Option.{option_and_then, option_map_or, option_to_list}
 use Rattle.std.proofs.Math.IntN.{+ℤ_idl}
+use Rattle.vtl_lists.proofs.Alls.{all_both, all_each, all_more}
+use Rattle.vtl_lists.proofs.Tests.{then_some}
 use Rattle.vtl_cell.specs.AggregateKinds.{aggregate_kind}
 use Rattle.vtl_cell.specs.Groups.{group_value}
 use Rattle.vtl_cell.specs.Kinds.{is_of}
@@ -40,8 +42,8 @@ use Rattle.vtl_meaning.specs.Points.{cell_or_null}
 use Rattle.vtl_meaning.proofs.GroupPoints.{found_cell}
 use Rattle.vtl_meaning.proofs.JoinAgreements.{only_one, own_found}
 use Rattle.vtl_meaning.proofs.JoinKept.{apart_map}
-use Rattle.vtl_meaning.proofs.Kept.{both_all, shown_split}
-use Rattle.vtl_meaning.proofs.Places.{all_more, all_of_map, each, key_cells, key_within, places_by_names, places_of_namesakes}
+use Rattle.vtl_meaning.proofs.Kept.{shown_split}
+use Rattle.vtl_meaning.proofs.Places.{all_of_map, key_cells, key_within, places_by_names, places_of_namesakes}
 use Rattle.vtl_aggregate_laws.specs.Parts.{grouped}
 use Rattle.vtl_aggregate_laws.proofs.Evaluated.{all_kept, made_are}
 use Rattle.vtl_aggregate_laws.proofs.Sums.{integer_given, number_given}
@@ -98,17 +100,13 @@ added kind given (c.Day t) e h = absurd (true≢false (sym h))
 added k.Period given (c.Period t) e h = cc
 added kind given (c.Period t) e h = absurd (true≢false (sym h))
 
-then_some : {A B : Type 0} (o : Option A) (f : A → Option B) (y : B) → option_and_then f o ≡ Some y → (x : A) × (o ≡ Some x) × (f x ≡ Some y)
-then_some None f y e = cc
-then_some (Some x) f y e = (x, refl, e)
-
 -- ---- groups of one point
 -- of points with other keys, the one with the key of one of them is that one
 own_group : (n : ℕ) (d : List Row) → Distinct n d → AllByRecursion (λ q. filter (λ r. same_row (take n r) (take n q)) d ≡ q ∷ []) d
 own_group n d apart = all_more (λ q. find (λ r. same_key n r q) d ≡ Some q) (λ q. filter (λ r. same_row (take n r) (take n q)) d ≡ q ∷ []) one d found
   where
     any : AllByRecursion (λ q. Unit {0}) d
-    any = each (λ q. Unit {0}) (λ q. tt) d
+    any = all_each (λ q. Unit {0}) (λ q. tt) d
 
     turned : (r q : Row) → same_key n r q ≡ true → same_key n q r ≡ true
     turned r q e = ap (same_row (take n q)) (same_row-is (take n r) (take n q) e) ∙ same_row-refl (take n q)
@@ -163,7 +161,7 @@ module _ (p : Settings) (f : AggKind) (d : DataSet) (s : Structure) (called : (n
       ap (λ call. option_map_or (λ b. aggregated p xs b.kind b.component (points_with places d.points (take n q))) (Some call) (Ok c.Null)) (called y.name)
       ∙ ap (λ l. group_value p f (map (cell y) l)) e
 
-  -- the aggregate gives each value of a point as it is
+  -- the aggregate gives all_each value of a point as it is
   abbrev Keeps : List Component → Row → Type 0
   Keeps ys q = AllByRecursion (λ y. group_value p f (cell y q ∷ []) ≡ Ok (cell y q)) ys
 
@@ -183,7 +181,7 @@ module _ (p : Settings) (f : AggKind) (d : DataSet) (s : Structure) (called : (n
   IsAlone q = (is_point xs q ≡ true) × (points_with places d.points (take n q) ≡ q ∷ [])
 
   are_alone : AllByRecursion IsAlone d.points
-  are_alone = both_all (λ q. is_point xs q ≡ true) (λ q. points_with places d.points (take n q) ≡ q ∷ []) IsAlone (λ q w e. (w, e)) d.points h.typed group
+  are_alone = all_both (λ q. is_point xs q ≡ true) (λ q. points_with places d.points (take n q) ≡ q ∷ []) IsAlone (λ q w e. (w, e)) d.points h.typed group
 
   point_there : (q : Row) → IsAlone q → Keeps (others_of s) q → group_point made (others_of s) (take n q) ≡ cells_at (places_in xs (columns_of s)) q
   point_there q alone k =
@@ -199,9 +197,9 @@ module _ (p : Settings) (f : AggKind) (d : DataSet) (s : Structure) (called : (n
       ∙ ap Ok
       (map-map (group_point made (others_of s)) (take n) d.points
       ∙ map_same (λ q. group_point made (others_of s) (take n q)) (cells_at (places_in xs (columns_of s))) d.points
-      (both_all IsAlone (Keeps (others_of s)) (λ q. group_point made (others_of s) (take n q) ≡ cells_at (places_in xs (columns_of s)) q) point_there d.points are_alone keeps))
+      (all_both IsAlone (Keeps (others_of s)) (λ q. group_point made (others_of s) (take n q) ≡ cells_at (places_in xs (columns_of s)) q) point_there d.points are_alone keeps))
 
-  -- where each group has its values, these are the values of its point
+  -- where all_each group has its values, these are the values of its point
   whole_values : (out : List Row) → aggregate_of p (grouped f names) d s ≡ Ok out → AllByRecursion (λ q. AllByRecursion (λ y. made y (take n q) ≡ Ok (cell_or_null (made y (take n q)))) (others_of s)) d.points
   whole_values out e =
       all_of_map (take n) (λ key. AllByRecursion (λ y. made y key ≡ Ok (cell_or_null (made y key))) (others_of s)) d.points
@@ -210,14 +208,14 @@ module _ (p : Settings) (f : AggKind) (d : DataSet) (s : Structure) (called : (n
 pub least_by_identifiers : (p : Settings) (d : DataSet) (s : Structure) → IsAggregated (grouped agg.Min (names_of (identifiers_of d.structure))) d.structure s → IsDataSet d.structure d.points → aggregate_of p (grouped agg.Min (names_of (identifiers_of d.structure))) d s ≡ Ok (left_of d s)
 least_by_identifiers p d s i h =
     by_identifiers p agg.Min d s (λ name. refl) i h
-    (each (λ q. AllByRecursion (λ y. group_value p agg.Min (column_of (place_of y.name (columns_of d.structure)) q ∷ []) ≡ Ok (column_of (place_of y.name (columns_of d.structure)) q)) (others_of s))
-    (λ q. each (λ y. group_value p agg.Min (column_of (place_of y.name (columns_of d.structure)) q ∷ []) ≡ Ok (column_of (place_of y.name (columns_of d.structure)) q)) (λ y. least_of_one p (column_of (place_of y.name (columns_of d.structure)) q)) (others_of s)) d.points)
+    (all_each (λ q. AllByRecursion (λ y. group_value p agg.Min (column_of (place_of y.name (columns_of d.structure)) q ∷ []) ≡ Ok (column_of (place_of y.name (columns_of d.structure)) q)) (others_of s))
+    (λ q. all_each (λ y. group_value p agg.Min (column_of (place_of y.name (columns_of d.structure)) q ∷ []) ≡ Ok (column_of (place_of y.name (columns_of d.structure)) q)) (λ y. least_of_one p (column_of (place_of y.name (columns_of d.structure)) q)) (others_of s)) d.points)
 
 pub greatest_by_identifiers : (p : Settings) (d : DataSet) (s : Structure) → IsAggregated (grouped agg.Max (names_of (identifiers_of d.structure))) d.structure s → IsDataSet d.structure d.points → aggregate_of p (grouped agg.Max (names_of (identifiers_of d.structure))) d s ≡ Ok (left_of d s)
 greatest_by_identifiers p d s i h =
     by_identifiers p agg.Max d s (λ name. refl) i h
-    (each (λ q. AllByRecursion (λ y. group_value p agg.Max (column_of (place_of y.name (columns_of d.structure)) q ∷ []) ≡ Ok (column_of (place_of y.name (columns_of d.structure)) q)) (others_of s))
-    (λ q. each (λ y. group_value p agg.Max (column_of (place_of y.name (columns_of d.structure)) q ∷ []) ≡ Ok (column_of (place_of y.name (columns_of d.structure)) q)) (λ y. greatest_of_one p (column_of (place_of y.name (columns_of d.structure)) q)) (others_of s)) d.points)
+    (all_each (λ q. AllByRecursion (λ y. group_value p agg.Max (column_of (place_of y.name (columns_of d.structure)) q ∷ []) ≡ Ok (column_of (place_of y.name (columns_of d.structure)) q)) (others_of s))
+    (λ q. all_each (λ y. group_value p agg.Max (column_of (place_of y.name (columns_of d.structure)) q ∷ []) ≡ Ok (column_of (place_of y.name (columns_of d.structure)) q)) (λ y. greatest_of_one p (column_of (place_of y.name (columns_of d.structure)) q)) (others_of s)) d.points)
 
 pub sum_by_identifiers : (p : Settings) (d : DataSet) (s : Structure) → IsAggregated (grouped agg.Sum (names_of (identifiers_of d.structure))) d.structure s → IsDataSet d.structure d.points → IfOk (aggregate_of p (grouped agg.Sum (names_of (identifiers_of d.structure))) d s) (λ out. out ≡ left_of d s)
 sum_by_identifiers p d s i h = go (aggregate_of p (grouped agg.Sum (names_of (identifiers_of d.structure))) d s) refl
@@ -248,7 +246,7 @@ sum_by_identifiers p d s i h = go (aggregate_of p (grouped agg.Sum (names_of (id
     go : (m : Outcome (List Row)) → aggregate_of p spec d s ≡ m → IfOk m (λ out. out ≡ left_of d s)
     go (Err g) e = tt
     go (Ok out) e =
-        let keeps = both_all (λ q. IsAlone p agg.Sum d s (λ name. refl) i h q) (λ q. AllByRecursion (λ y. made_of p spec xs d.points y (take (key_width d.structure) q) ≡ Ok (cell_or_null (made_of p spec xs d.points y (take (key_width d.structure) q)))) (others_of s)) (λ q. AllByRecursion (λ y. group_value p agg.Sum (cell y q ∷ []) ≡ Ok (cell y q)) (others_of s))
+        let keeps = all_both (λ q. IsAlone p agg.Sum d s (λ name. refl) i h q) (λ q. AllByRecursion (λ y. made_of p spec xs d.points y (take (key_width d.structure) q) ≡ Ok (cell_or_null (made_of p spec xs d.points y (take (key_width d.structure) q)))) (others_of s)) (λ q. AllByRecursion (λ y. group_value p agg.Sum (cell y q ∷ []) ≡ Ok (cell y q)) (others_of s))
         (λ q alone all. kept q (others_of s) alone.1 (addable q alone.0 (others_of s) i.columns) all) d.points (are_alone p agg.Sum d s (λ name. refl) i h) (whole_values p agg.Sum d s (λ name. refl) i h out e) in
         let same : Ok out ≡ Ok (left_of d s) = sym e ∙ by_identifiers p agg.Sum d s (λ name. refl) i h keeps in
         cc same

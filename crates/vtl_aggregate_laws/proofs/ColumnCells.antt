@@ -9,12 +9,7 @@ use Rattle.vtl_tree.specs.declared.structure.Component.{Component}
 use Rattle.vtl_tree.specs.Columns.{place_of}
 use Rattle.vtl_tree.specs.Names.{is_among}
 use Rattle.vtl_meaning.specs.Groups.{places_named}
-
-here : (name : List ℕ) (x : Component) (xs : List Component) → same_name x.name name ≡ true → place_of name (x ∷ xs) ≡ zero
-here name x xs e = rw e refl
-
-later : (name : List ℕ) (x : Component) (xs : List Component) → same_name x.name name ≡ false → place_of name (x ∷ xs) ≡ suc (place_of name xs)
-later name x xs e = rw e (omega arith)
+use Rattle.vtl_meaning.proofs.Places.{place_here, place_later}
 
 -- a value by name for each component
 pub by_name : (g : List ℕ → Cell) (name : List ℕ) (xs more : List Component) (rest : Row) → is_among name (names_of xs) ≡ true → column_of (place_of name (xs ++ more)) (map (λ x. g x.name) xs ++ rest) ≡ g name
@@ -26,8 +21,8 @@ by_name g name (x ∷ xs) more rest e = go (same_name x.name name) refl e (by_na
 
     go : (b : Bool) → same_name x.name name ≡ b → (b || is_among name (names_of xs)) ≡ true → (is_among name (names_of xs) ≡ true → column_of (place_of name (xs ++ more)) (map (λ y. g y.name) xs ++ rest) ≡ g name)
         → column_of (place_of name (x ∷ (xs ++ more))) row ≡ g name
-    go true h f ih = ap (λ i. column_of i row) (here name x (xs ++ more) h) ∙ ap g ((bytes_eq-Decides x.name name).0 h)
-    go false h f ih = ap (λ i. column_of i row) (later name x (xs ++ more) h) ∙ ih f
+    go true h f ih = ap (λ i. column_of i row) (place_here name x (xs ++ more) h) ∙ ap g ((bytes_eq-Decides x.name name).0 h)
+    go false h f ih = ap (λ i. column_of i row) (place_later name x (xs ++ more) h) ∙ ih f
 
 -- a component behind others of other names
 pub behind : (name : List ℕ) (xs more : List Component) (key rest : Row) → length key ≡ length xs → is_among name (names_of xs) ≡ false → column_of (place_of name (xs ++ more)) (key ++ rest) ≡ column_of (place_of name more) rest
@@ -39,7 +34,7 @@ behind name (x ∷ xs) more (v ∷ key) rest n e = go (same_name x.name name) re
     go : (b : Bool) → same_name x.name name ≡ b → (b || is_among name (names_of xs)) ≡ false → (is_among name (names_of xs) ≡ false → column_of (place_of name (xs ++ more)) (key ++ rest) ≡ column_of (place_of name more) rest)
         → column_of (place_of name (x ∷ (xs ++ more))) (v ∷ (key ++ rest)) ≡ column_of (place_of name more) rest
     go true h f ih = absurd (true≢false f)
-    go false h f ih = ap (λ i. column_of i (v ∷ (key ++ rest))) (later name x (xs ++ more) h) ∙ ih f
+    go false h f ih = ap (λ i. column_of i (v ∷ (key ++ rest))) (place_later name x (xs ++ more) h) ∙ ih f
 
 -- a key has a cell for each name, that of its column
 pub key_is : (ids xs : List Component) (r : Row) → cells_at (places_named (names_of ids) xs) r ≡ map (λ x. column_of (place_of x.name xs) r) ids

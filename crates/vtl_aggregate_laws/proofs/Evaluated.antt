@@ -1,6 +1,7 @@
 -- Groups that are all kept: their faults, their values, and that these depend on nothing else.
 use Rattle.std.proofs.Common.{◌≡◌, List, [], ◌∷◌, ◌++◌, map, Ok, Err, Option, Some, None, refl, sym, ap, ◌∙◌}
 use Rattle.std.specs.List.{AllByRecursion}
+use Rattle.vtl_lists.proofs.Filters.{filter_true}
 use Rattle.vtl_decimal.specs.declared.number.Fault.{Fault}
 use Rattle.vtl_decimal.specs.declared.number.Fault.TheVariants.{DivZero, Range}
 use Rattle.vtl_cell.specs.Outcome.{Outcome, after, fault_in, faults_by, join, unless}
@@ -11,7 +12,6 @@ use Rattle.vtl_tree.specs.declared.structure.Component.{Component}
 use Rattle.vtl_tuples.proofs.Lists.{map_same}
 use Rattle.vtl_meaning.specs.Aggregates.{Condition, Made, each_group, group_fault, group_point}
 use Rattle.vtl_meaning.specs.Points.{cell_or_null}
-use Rattle.vtl_aggregate_laws.proofs.Pieces.{filter_true}
 
 -- ---- faults
 pub faults_same : {X : Type 0} (f g : X → Option Fault) (xs : List X) → AllByRecursion (λ x. f x ≡ g x) xs → faults_by f xs ≡ faults_by g xs

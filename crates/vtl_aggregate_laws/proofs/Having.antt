@@ -7,6 +7,7 @@ use Rattle.std.proofs.lemmas.Cmp.{nat_list_eq_equiv}
 use Rattle.std.proofs.lemmas.List.{append-nil}
 use Rattle.std.proofs.lemmas.Slice.Eq.{bytes_eq-Decides}
 use Rattle.vtl_lists.proofs.Sorts.{AllByRecursion-filter}
+use Rattle.vtl_lists.proofs.Alls.{all_both, all_more}
 use Rattle.vtl_cell.specs.Outcome.{Outcome, fault_in, faults_by, join, unless}
 use Rattle.vtl_cell.specs.Outcomes.{is_true}
 use Rattle.vtl_cell.specs.Row.{Row, column_of}
@@ -14,7 +15,6 @@ use Rattle.vtl_cell.specs.declared.cell.Cell.{Cell}
 use Rattle.vtl_cell.specs.declared.cell.Cell.TheVariants.{Null}
 use Rattle.vtl_decimal.specs.Settings.{Settings}
 use Rattle.vtl_decimal.specs.declared.number.Fault.{Fault}
-use Rattle.vtl_decimal.specs.declared.number.Fault.TheVariants.{DivZero, Range}
 use Rattle.vtl_tree.specs.Clauses.{filter_of}
 use Rattle.vtl_tree.specs.Columns.{identifiers_of, others_of, place_of}
 use Rattle.vtl_tree.specs.CompExp.{CompExp, CompExps, aggregate, call, column, comp_exp, const, no_comp_exps}
@@ -27,18 +27,18 @@ use Rattle.vtl_tree.specs.declared.specifications.AggItems.TheVariants as items
 use Rattle.vtl_tree.specs.declared.specifications.AggTarget.{AggTarget}
 use Rattle.vtl_tree.specs.declared.structure.Component.{Component}
 use Rattle.vtl_tree.specs.declared.structure.Structure.{Structure}
+use Rattle.vtl_tree.proofs.Faults.{join_none}
 use Rattle.vtl_tuples.proofs.Lists.{filter-map, filter_same}
 use Rattle.vtl_meaning.specs.Aggregates.{Condition, Made, aggregate_of, call_for, condition_of, each_group, group_fault, group_point, made_of}
 use Rattle.vtl_meaning.specs.AggregateShapes.{IsAggregated}
 use Rattle.vtl_meaning.specs.GroupExpressions.{aggregated, grouped_cell, value_at_group, values_over}
 use Rattle.vtl_meaning.specs.Groups.{keys_by, places_named, points_with}
 use Rattle.vtl_meaning.specs.Points.{cell_or_null}
-use Rattle.vtl_meaning.proofs.GroupPoints.{all_more, keys_are}
-use Rattle.vtl_meaning.proofs.Places.{point_length}
+use Rattle.vtl_meaning.proofs.GroupPoints.{keys_are}
+use Rattle.vtl_meaning.proofs.Places.{point_length, columns_split}
 use Rattle.vtl_aggregate_laws.specs.Filters.{AreFiltersOf, IsFilterOf, targets_where}
 use Rattle.vtl_aggregate_laws.proofs.ColumnCells.{behind, by_name}
 use Rattle.vtl_aggregate_laws.proofs.Evaluated.{IsValue, faults_same, made_are}
-use Rattle.vtl_aggregate_laws.proofs.Structures.{columns_split}
 
 -- ---- the cell of a grouping identifier
 key_cell : (name : List ℕ) (ids more : List Component) (key rest : Row) → length key ≡ length ids → is_among name (names_of ids) ≡ true → column_of (place_of name (ids ++ more)) (key ++ rest) ≡ column_of (position_or_len (same_name name) (names_of ids)) key
@@ -63,18 +63,13 @@ key_cell name (x ∷ ids) more (v ∷ key) rest n e = go (same_name x.name name)
         ap (λ i. column_of i (v ∷ (key ++ rest))) left ∙ ih h ∙ sym (ap (λ i. column_of i (v ∷ key)) right)
 
 -- what holds of the names of columns holds of a name among them
-at_name : (P : List ℕ → Type 0) (name : List ℕ) (ys : List Component) → AllByRecursion (λ y. P y.name) ys → is_among name (names_of ys) ≡ true → P name
+pub at_name : (P : List ℕ → Type 0) (name : List ℕ) (ys : List Component) → AllByRecursion (λ y. P y.name) ys → is_among name (names_of ys) ≡ true → P name
 at_name P name [] all e = absurd (true≢false (sym e))
 at_name P name (y ∷ ys) all e = go (same_name y.name name) refl e (at_name P name ys all.1)
   where
     go : (b : Bool) → same_name y.name name ≡ b → (b || is_among name (names_of ys)) ≡ true → (is_among name (names_of ys) ≡ true → P name) → P name
     go true f h ih = subst P ((bytes_eq-Decides y.name name).0 f) all.0
     go false f h ih = ih h
-
-no_more : (m : Option Fault) → join m None ≡ m
-no_more None = refl
-no_more (Some DivZero) = refl
-no_more (Some Range) = refl
 
 -- ---- the condition at a group and at its point
 module _ (p : Settings) (ts : List AggTarget) (names : List (List ℕ)) (d : DataSet) (s : Structure) (i : IsAggregated (targets_where ts names None) d.structure s) where
@@ -136,10 +131,6 @@ whole_groups : (at : Made) (ys : List Component) (keys : List Row) → AllByRecu
 whole_groups at ys [] all = refl
 whole_groups at ys (key ∷ keys) all = ap (λ m. join m (faults_by (group_fault at ys) keys)) (whole_group at ys key all.0) ∙ whole_groups at ys keys all.1
 
-both_all : {X : Type 0} (P Q R : X → Type 0) → ((x : X) → P x → Q x → R x) → (xs : List X) → AllByRecursion P xs → AllByRecursion Q xs → AllByRecursion R xs
-both_all P Q R h [] a b = tt
-both_all P Q R h (x ∷ xs) a b = (h x a.0 b.0, both_all P Q R h xs a.1 b.1)
-
 pub having_is_filter : (p : Settings) (ts : List AggTarget) (names : List (List ℕ)) (e f : CompExp) (d : DataSet) (s : Structure) → IsAggregated (targets_where ts names None) d.structure s → IsFilterOf ts s e f → IsDataSet d.structure d.points
     → IfOk (aggregate_of p (targets_where ts names None) d s) (λ out. aggregate_of p (targets_where ts names (Some e)) d s ≡ filter_of p f out)
 having_is_filter p ts names e f d s i is h = go (aggregate_of p (targets_where ts names None) d s) refl
@@ -167,10 +158,10 @@ having_is_filter p ts names e f d s i is h = go (aggregate_of p (targets_where t
         let are = made_are at made (others_of s) keys out g in
         let kept = filter (λ key. is_true (at e key)) keys in
         let same : AllByRecursion (λ key. at e key ≡ value p f (point key)) keys =
-        both_all (λ key. is_point (identifiers_of s) key ≡ true) (λ key. AllByRecursion (λ y. IsValue (made y key)) (others_of s)) (λ key. at e key ≡ value p f (point key))
+        all_both (λ key. is_point (identifiers_of s) key ≡ true) (λ key. AllByRecursion (λ y. IsValue (made y key)) (others_of s)) (λ key. at e key ≡ value p f (point key))
         (λ key w all. same_value p ts names d s i key (point_length (identifiers_of s) key w) all e f is) keys (keys_are p (targets_where ts names None) d s i h) are.values in
         ap (λ m. unless (join (faults_by (λ key. fault_in (at e key)) keys) m) (map point kept)) (whole_groups made (others_of s) kept (AllByRecursion-filter (λ key. AllByRecursion (λ y. IsValue (made y key)) (others_of s)) (λ key. is_true (at e key)) keys are.values))
-        ∙ ap (λ m. unless m (map point kept)) (no_more (faults_by (λ key. fault_in (at e key)) keys))
+        ∙ ap (λ m. unless m (map point kept)) (join_none (faults_by (λ key. fault_in (at e key)) keys))
         ∙ ap (λ m. unless m (map point kept)) (faults_same (λ key. fault_in (at e key)) (λ key. fault_in (value p f (point key))) keys (all_more (λ key. at e key ≡ value p f (point key)) (λ key. fault_in (at e key) ≡ fault_in (value p f (point key))) (λ key g. ap fault_in g) keys same) ∙ sym (faults_of_map (λ r. fault_in (value p f r)) point keys))
         ∙ ap (unless (faults_by (λ r. fault_in (value p f r)) (map point keys)))
         (ap (map point) (filter_same (λ key. is_true (at e key)) (λ key. is_true (value p f (point key))) keys (all_more (λ key. at e key ≡ value p f (point key)) (λ key. is_true (at e key) ≡ is_true (value p f (point key))) (λ key g. ap is_true g) keys same))

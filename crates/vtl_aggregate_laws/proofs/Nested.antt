@@ -3,7 +3,6 @@ use Rattle.std.proofs.Common.{◌≡◌, ℕ, Bool, true, false, ◌||◌, cond,
 use Rattle.std.specs.Prelude.{IfOk}
 use Rattle.std.specs.List.{AllByRecursion, filter, flat_map, list_any}
 use Rattle.std.proofs.lemmas.List.{append-nil, length-map}
-use Rattle.std.proofs.lemmas.Slice.Eq.{bytes_eq-Decides}
 use Rattle.vtl_cell.specs.Groups.{group_value}
 use Rattle.vtl_cell.specs.Outcome.{Outcome}
 use Rattle.vtl_cell.specs.Outcomes.{all_of}
@@ -16,9 +15,10 @@ use Rattle.vtl_cell.specs.declared.operator.AggKind.TheVariants as agg
 use Rattle.vtl_cell.proofs.Aggregates.{count-Perm, group-Perm}
 use Rattle.vtl_lists.proofs.Perms.{Perm-map}
 use Rattle.vtl_lists.proofs.Sorts.{AllByRecursion-filter}
+use Rattle.vtl_lists.proofs.Alls.{all_more}
 use Rattle.vtl_rows.specs.Tables.{cells_at}
 use Rattle.vtl_tree.specs.Environment.{DataSet}
-use Rattle.vtl_tree.specs.Structure.{columns_of, names_of, same_name}
+use Rattle.vtl_tree.specs.Structure.{columns_of, names_of}
 use Rattle.vtl_tree.specs.declared.expression.AggCall.{AggCall}
 use Rattle.vtl_tree.specs.declared.structure.Component.{Component}
 use Rattle.vtl_tree.specs.declared.structure.Structure.{Structure}
@@ -33,16 +33,18 @@ use Rattle.vtl_meaning.specs.Points.{cell_or_null}
 use Rattle.vtl_meaning.specs.GroupExpressions.{aggregated}
 use Rattle.vtl_meaning.specs.Groups.{keys_by, places_named, points_with}
 use Rattle.vtl_meaning.specs.AggregateShapes.{IsAggregated, made_components, of_measure}
-use Rattle.vtl_meaning.proofs.GroupPoints.{all_more, all_once}
+use Rattle.vtl_meaning.proofs.GroupPoints.{all_once}
+use Rattle.vtl_meaning.proofs.Places.{columns_split}
 use Rattle.vtl_aggregate_laws.specs.Parts.{gathered_by, grouped}
 use Rattle.vtl_aggregate_laws.proofs.ColumnCells.{behind, by_name, key_is}
 use Rattle.vtl_aggregate_laws.proofs.Counts.{count_of_parts}
 use Rattle.vtl_aggregate_laws.proofs.Evaluated.{IsValue, Are, all_values, made_are, made_same}
 use Rattle.vtl_aggregate_laws.proofs.Firsts.{greatest_of_parts, least_of_parts}
 use Rattle.vtl_aggregate_laws.proofs.Pieces.{each_among, passing_parts}
-use Rattle.vtl_aggregate_laws.proofs.Structures.{IsMeasureOf, coarse_known, columns_known, columns_split}
+use Rattle.vtl_aggregate_laws.proofs.Structures.{IsMeasureOf, coarse_known, columns_known}
 use Rattle.vtl_aggregate_laws.proofs.Sums.{sum_of_sums}
 use Rattle.vtl_aggregate_laws.proofs.Twice.{once_of_once}
+use Rattle.vtl_aggregate_laws.proofs.Having.{at_name}
 
 -- ---- what gathers
 -- of each measure, in its order
@@ -90,15 +92,6 @@ module _ (p : Settings) (xs : List Component) where
   gathered agg.Median g e name points k ks vs h = cc
 
 -- ---- lists
--- what holds of each name of a list holds of each that is among them
-of_name : (P : List ℕ → Type 0) (name : List ℕ) (ys : List Component) → AllByRecursion (λ y. P y.name) ys → is_among name (names_of ys) ≡ true → P name
-of_name P name [] all e = absurd (true≢false (sym e))
-of_name P name (y ∷ ys) all e = go (same_name y.name name) refl e (of_name P name ys all.1)
-  where
-    go : (b : Bool) → same_name y.name name ≡ b → (b || is_among name (names_of ys)) ≡ true → (is_among name (names_of ys) ≡ true → P name) → P name
-    go true h f ih = subst P ((bytes_eq-Decides y.name name).0 h) all.0
-    go false h f ih = ih f
-
 -- where some row of a list passes, some is left
 record SomeLeft (rows : List Row) : Type 0 where
   first : Row
@@ -199,7 +192,7 @@ module _ (p : Settings) (f g : AggKind) (fine coarse : List (List ℕ)) (d : Dat
       where
         walk : (ks : List Row) → AllByRecursion (λ k. AllByRecursion (λ y. IsValue (value p columns f y.name (in_group k))) others) ks → AllByRecursion (λ k. IsValue (value p columns f name (in_group k))) ks
         walk [] all = tt
-        walk (k ∷ ks) all = (of_name (λ n. IsValue (value p columns f n (in_group k))) name others all.0 m.measure, walk ks all.1)
+        walk (k ∷ ks) all = (at_name (λ n. IsValue (value p columns f n (in_group k))) name others all.0 m.measure, walk ks all.1)
 
     cells_there : (name : List ℕ) → IsMeasureOf g coarse middle s j name → AllByRecursion (λ k. column_of (place_of name (columns_of middle)) (point k) ≡ cell k name) keys
     cells_there name m = all_more IsKey (λ k. column_of (place_of name (columns_of middle)) (point k) ≡ cell k name) (λ k w. cell_there name k m w) keys keys_wide

@@ -2,13 +2,13 @@
 use Rattle.std.proofs.Common.{◌≡◌, ℕ, Bool, true, false, not, cond, ◌&&◌, ◌||◌, List, [], ◌∷◌, refl, sym, ap, ◌∙◌, true≢false}
 use Rattle.std.specs.List.{AllByRecursion, filter}
 use Rattle.std.proofs.lemmas.Slice.Eq.{bytes_eq-Decides}
+use Rattle.vtl_lists.proofs.Alls.{all_more}
 use Rattle.vtl_tree.specs.Choices.{chosen, is_chosen, is_identifier}
 use Rattle.vtl_tree.specs.Names.{is_among}
 use Rattle.vtl_tree.specs.Structure.{names_of, same_name}
 use Rattle.vtl_tree.specs.declared.choices.Choice.TheVariants as choice
 use Rattle.vtl_tree.specs.declared.structure.Component.{Component}
 use Rattle.vtl_tuples.proofs.Lists.{filter_same}
-use Rattle.vtl_meaning.proofs.GroupPoints.{all_more}
 
 module _ (names : List (List ℕ)) where
   abbrev is_left : Component → Bool

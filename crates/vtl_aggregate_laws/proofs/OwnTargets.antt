@@ -4,6 +4,7 @@ use Rattle.std.specs.List.{AllByRecursion, filter}
 use Rattle.std.specs.Prelude.{option_map}
 use Rattle.std.specs.Option.{option_map_or}
 use Rattle.std.proofs.lemmas.Slice.Eq.{bytes_eq-Decides}
+use Rattle.vtl_lists.proofs.Alls.{all_more}
 use Rattle.vtl_cell.specs.Outcome.{fault_in, faults_by, join, unless}
 use Rattle.vtl_cell.specs.Row.{Row}
 use Rattle.vtl_cell.specs.declared.cell.Cell.TheVariants.{Null}
@@ -28,7 +29,6 @@ use Rattle.vtl_meaning.specs.AggregateShapes.{IsAggregated, made_components, of_
 use Rattle.vtl_meaning.specs.GroupExpressions.{aggregated}
 use Rattle.vtl_meaning.specs.Groups.{keys_by, places_named, points_with}
 use Rattle.vtl_meaning.specs.Points.{cell_or_null}
-use Rattle.vtl_meaning.proofs.GroupPoints.{all_more}
 use Rattle.vtl_aggregate_laws.specs.Targets.{of_all_measures, of_own_targets, own_target, own_targets}
 use Rattle.vtl_aggregate_laws.proofs.Evaluated.{faults_same}
 use Rattle.vtl_aggregate_laws.proofs.Structures.{IsOther, both, chosen_other, of_others, own_names}

@@ -6,13 +6,14 @@ use Rattle.vtl_lists.specs.Perm.{Perm, empty, keep, chain}
 use Rattle.vtl_cell.specs.Row.{Row, same_row}
 use Rattle.vtl_lists.proofs.Aparts.{all_apart-filter, apart_parts, none_is}
 use Rattle.vtl_lists.proofs.Perms.{Perm-append_front, Perm-middle, Perm-same}
+use Rattle.vtl_lists.proofs.Alls.{all_more}
+use Rattle.vtl_lists.proofs.Filters.{filter_true}
 use Rattle.vtl_cell.proofs.Rows.{same_row-is, same_row-refl, same_row-sym}
 use Rattle.vtl_rows.specs.Tables.{cells_at}
-use Rattle.vtl_tuples.specs.Keys.{TellsApart}
 use Rattle.vtl_tuples.proofs.Lists.{filter_same}
 use Rattle.vtl_tuples.proofs.Onces.{alike, among_once, once_apart}
 use Rattle.vtl_meaning.specs.Groups.{keys_by, points_with}
-use Rattle.vtl_meaning.proofs.GroupPoints.{all_more}
+use Rattle.vtl_meaning.proofs.JoinOrders.{rows_apart}
 
 -- what either of two tests keeps, where none keeps what the other does
 filter_either : {X : Type 0} (p q : X → Bool) → ((x : X) → p x ≡ true → q x ≡ false) → (xs : List X) → Perm (filter p xs ++ filter q xs) (filter (λ x. p x || q x) xs)
@@ -52,9 +53,6 @@ each_among (k ∷ ks) = (ap (λ b. b || list_any (λ j. same_row j k) ks) (same_
     or_true : (b : Bool) → (b || true) ≡ true
     or_true true = refl
     or_true false = refl
-
-rows_apart : TellsApart same_row
-rows_apart = record { is = same_row-is; self = same_row-refl }
 
 module _ (places : List ℕ) where
   abbrev key_of : Row → Row
@@ -101,10 +99,6 @@ module _ (places : List ℕ) where
       let ks = filter t (keys_by places d) in
       chain (by_keys d ks (all_apart-filter same_row t (keys_by places d) (once_apart same_row (map key_of d))))
       (Perm-same (filter (has_one_of ks) d) (filter (λ r. t (key_of r)) d) (filter_same (has_one_of ks) (λ r. t (key_of r)) d (passes t d d (own_key d))))
-
-pub filter_true : {X : Type 0} (xs : List X) → filter (λ x. true) xs ≡ xs
-filter_true [] = refl
-filter_true (x ∷ xs) = ap (λ l. x ∷ l) (filter_true xs)
 
 pub parts : (places : List ℕ) (d : List Row) → Perm (flat_map (points_with places d) (keys_by places d)) d
 parts places d =

@@ -1,5 +1,5 @@
 -- The structures of aggregates one after the other: which columns of the first the second names.
-use Rattle.std.proofs.Common.{◌≡◌, ℕ, Bool, true, false, ◌&&◌, ◌||◌, cond, List, [], ◌∷◌, ◌++◌, map, Some, None, refl, sym, ap, ◌∙◌, subst, append_assoc, true≢false}
+use Rattle.std.proofs.Common.{◌≡◌, ℕ, Bool, true, false, ◌&&◌, ◌||◌, cond, List, [], ◌∷◌, ◌++◌, map, Some, None, refl, sym, ap, ◌∙◌, subst, true≢false}
 use Rattle.std.specs.List.{AllByRecursion, filter}
 use Rattle.std.proofs.lemmas.Cmp.{nat_list_eq_equiv}
 use Rattle.std.proofs.lemmas.List.Elements.{filter_passes, recursion_from_All}
@@ -8,6 +8,7 @@ use Rattle.vtl_lists.specs.Apart.{all_apart}
 use Rattle.vtl_cell.specs.declared.operator.AggKind.{AggKind}
 use Rattle.vtl_lists.proofs.Aparts.{apart_parts}
 use Rattle.vtl_lists.proofs.Sorts.{AllByRecursion-filter}
+use Rattle.vtl_lists.proofs.Alls.{all_more}
 use Rattle.vtl_tree.specs.Structure.{IsStructure, columns_of, names_of, of_role, same_name, same_role}
 use Rattle.vtl_tree.specs.declared.structure.Component.{Component}
 use Rattle.vtl_tree.specs.declared.structure.Role.{Role}
@@ -20,7 +21,7 @@ use Rattle.vtl_tree.specs.Measures.{given_measure, measures}
 use Rattle.vtl_tree.specs.Names.{component_of, is_among}
 use Rattle.vtl_tree.specs.declared.choices.Choice.TheVariants as choice
 use Rattle.vtl_meaning.specs.AggregateShapes.{IsAggregated, made_components, of_measure}
-use Rattle.vtl_meaning.proofs.GroupPoints.{all_more}
+use Rattle.vtl_meaning.proofs.Places.{columns_split}
 use Rattle.vtl_aggregate_laws.specs.Parts.{grouped}
 
 -- ---- names
@@ -105,10 +106,6 @@ are_others : (s : Structure) → AllByRecursion IsOther (others_of s)
 are_others s = both IsOther (of_role role.Measure s) (of_role role.Attribute s)
     (all_more (λ x. same_role x.role role.Measure ≡ true) IsOther measure_is_other (of_role role.Measure s) (of_its_role role.Measure s))
     (all_more (λ x. same_role x.role role.Attribute ≡ true) IsOther attribute_is_other (of_role role.Attribute s) (of_its_role role.Attribute s))
-
--- columns are identifiers, then the others
-pub columns_split : (s : Structure) → columns_of s ≡ identifiers_of s ++ others_of s
-columns_split s = append_assoc (of_role role.Identifier s) (of_role role.Measure s) (of_role role.Attribute s)
 
 -- what holds of components that are no identifiers holds of the columns behind the identifiers
 pub of_others : (P : Component → Type 0) (s : Structure) → AllByRecursion (λ x. IsOther x → P x) s.components → AllByRecursion P (others_of s)

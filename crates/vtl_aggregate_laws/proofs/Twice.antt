@@ -1,20 +1,12 @@
 -- The keys of what was grouped once.
-use Rattle.std.proofs.Common.{◌≡◌, Bool, true, false, not, cond, List, [], ◌∷◌, map, refl, sym, ap, ◌∙◌, true≢false}
+use Rattle.std.proofs.Common.{◌≡◌, Bool, true, false, not, cond, List, [], ◌∷◌, map, refl, sym, ap, ◌∙◌}
 use Rattle.std.specs.List.{filter}
+use Rattle.std.proofs.lemmas.Bool.{not-false}
+use Rattle.vtl_lists.proofs.Filters.{filter_swap}
 use Rattle.vtl_cell.specs.Row.{Row, same_row}
 use Rattle.vtl_cell.proofs.Rows.{same_row-is, same_row-refl}
 use Rattle.vtl_tuples.specs.Keys.{each_once}
 use Rattle.vtl_tuples.proofs.Lists.{filter-map}
-
-filters_turned : {X : Type 0} (p q : X → Bool) (xs : List X) → filter p (filter q xs) ≡ filter q (filter p xs)
-filters_turned p q [] = refl
-filters_turned p q (x ∷ xs) = go (p x) refl (q x) refl (filters_turned p q xs)
-  where
-    go : (b : Bool) → p x ≡ b → (d : Bool) → q x ≡ d → filter p (filter q xs) ≡ filter q (filter p xs) → filter p (cond d (x ∷ filter q xs) (filter q xs)) ≡ filter q (cond b (x ∷ filter p xs) (filter p xs))
-    go true e true f ih = rw (e, f) (ap (λ l. x ∷ l) ih)
-    go true e false f ih = rw f ih
-    go false e true f ih = rw e ih
-    go false e false f ih = ih
 
 -- a filter that keeps what a narrower one keeps
 filter_wider : {X : Type 0} (p q : X → Bool) → ((x : X) → q x ≡ false → p x ≡ false) → (xs : List X) → filter p (filter q xs) ≡ filter p xs
@@ -24,10 +16,6 @@ filter_wider p q h (x ∷ xs) = go (q x) refl (filter_wider p q h xs)
     go : (b : Bool) → q x ≡ b → filter p (filter q xs) ≡ filter p xs → filter p (cond b (x ∷ filter q xs) (filter q xs)) ≡ cond (p x) (x ∷ filter p xs) (filter p xs)
     go true e ih = ap (λ l. cond (p x) (x ∷ l) l) ih
     go false e ih = ih ∙ sym (ap (λ b. cond b (x ∷ filter p xs) (filter p xs)) (h x e))
-
-same_from : (b : Bool) → not b ≡ false → b ≡ true
-same_from true e = refl
-same_from false e = absurd (true≢false e)
 
 -- what passes, each once
 once_passing : (p : Row → Bool) (xs : List Row) → filter p (each_once same_row xs) ≡ each_once same_row (filter p xs)
@@ -39,9 +27,9 @@ once_passing p (x ∷ xs) = go (p x) refl (once_passing p xs)
 
     go : (b : Bool) → p x ≡ b → filter p (each_once same_row xs) ≡ each_once same_row (filter p xs)
         → cond b (x ∷ filter p (others (each_once same_row xs))) (filter p (others (each_once same_row xs))) ≡ each_once same_row (cond b (x ∷ filter p xs) (filter p xs))
-    go true e ih = ap (λ l. x ∷ l) (filters_turned p (λ y. not (same_row x y)) (each_once same_row xs) ∙ ap others ih)
+    go true e ih = ap (λ l. x ∷ l) (filter_swap p (λ y. not (same_row x y)) (each_once same_row xs) ∙ ap others ih)
     go false e ih =
-        let gone : (y : Row) → not (same_row x y) ≡ false → p y ≡ false = λ y h. ap p (sym (same_row-is x y (same_from (same_row x y) h))) ∙ e in
+        let gone : (y : Row) → not (same_row x y) ≡ false → p y ≡ false = λ y h. ap p (sym (same_row-is x y (not-false (same_row x y) h))) ∙ e in
         filter_wider p (λ y. not (same_row x y)) gone (each_once same_row xs) ∙ ih
 
 -- what is made of items that come once gives the same as what is made of all
@@ -51,7 +39,7 @@ once_of_once f (x ∷ xs) =
     let other : Row → Bool = λ y. not (same_row (f x) y) in
     let once = each_once same_row xs in
     let gone : (y : Row) → not (same_row x y) ≡ false → other (f y) ≡ false =
-    λ y h. ap (λ z. not (same_row (f x) z)) (ap f (sym (same_row-is x y (same_from (same_row x y) h)))) ∙ ap not (same_row-refl (f x)) in
+    λ y h. ap (λ z. not (same_row (f x) z)) (ap f (sym (same_row-is x y (not-false (same_row x y) h)))) ∙ ap not (same_row-refl (f x)) in
     ap (λ l. f x ∷ l)
     (once_passing other (map f (filter (λ y. not (same_row x y)) once))
     ∙ ap (each_once same_row)

@@ -67,7 +67,7 @@ int_trans x y z e h = grind (arith, ints)
 int_antisym : (x y : ℤ) → int_le x y ≡ true → int_le y x ≡ true → x ≡ y
 int_antisym x y e h = grind (arith, ints)
 
-int_order : IsOrder int_le
+pub int_order : IsOrder int_le
 int_order = record { total = int_one_way; trans = int_trans; antisym = int_antisym }
 
 median-Perm : (p : Settings) {xs ys : List Cell} → Perm xs ys → median_of p xs ≡ median_of p ys

@@ -5,7 +5,7 @@ use Rattle.std.specs.Hash.{le_bytes}
 use Rattle.std.specs.Int.{w16, w64, from_le_bytes}
 use Rattle.std.specs.Int.RustNames.{FitsSigned}
 use Rattle.std.specs.Str.{all_scalars}
-use Rattle.std.proofs.lemmas.Bool.{leb-true}
+use Rattle.std.proofs.lemmas.Bool.{leb-true, and_parts}
 use Rattle.std.proofs.lemmas.Int.{to_z-of_z}
 use Rattle.std.proofs.lemmas.Nat.{from_le_bytes-to_le_bytes_2, from_le_bytes-to_le_bytes_8}
 use Rattle.std.proofs.lemmas.Str.{chars-encodes}
@@ -14,7 +14,6 @@ use Rattle.vtl_time.specs.Days.{CalendarDay, is_calendar_day}
 use Rattle.vtl_time.specs.Periods.{YearPart, is_year_part, frequency_rank}
 use Rattle.vtl_time.specs.declared.periods.Frequency.{Frequency}
 use Rattle.vtl_time.specs.declared.periods.Frequency.TheVariants.{Annual, Semester, Quarter, Month}
-use Rattle.vtl_cell.proofs.Rows.{split_and}
 use Rattle.vtl_cell.proofs.Times.{day_of_parts, period_of_parts, rank_apart}
 use Rattle.vtl_cell.specs.Held.{IsHeld}
 use Rattle.vtl_cell.specs.Order.{kind_rank}
@@ -89,7 +88,7 @@ bool_same false true e = cc
 
 year_of_day : (d : CalendarDay) → IsTrue (is_calendar_day d.year d.month d.day) → d.year < 2 ^ 16
 unfolding is_calendar_day
-year_of_day d h = omega (arith, leb-true d.year 9999 (split_and (nat_le d.year 9999) _ h).0)
+year_of_day d h = omega (arith, leb-true d.year 9999 (and_parts (nat_le d.year 9999) _ h).0)
 
 day_same : (d e : CalendarDay) → d.year < 2 ^ 16 → e.year < 2 ^ 16 → fed (c.Day d) ≡ fed (c.Day e) → d ≡ e
 day_same d e h k s =
@@ -100,7 +99,7 @@ day_same d e h k s =
 
 year_of_period : (q : YearPart) → IsTrue (is_year_part q.frequency q.year q.part) → q.year < 2 ^ 16
 unfolding is_year_part
-year_of_period q h = omega (arith, leb-true q.year 9999 (split_and (nat_le q.year 9999) _ h).0)
+year_of_period q h = omega (arith, leb-true q.year 9999 (and_parts (nat_le q.year 9999) _ h).0)
 
 frequency_fed : (q : YearPart) → first (later (fed (c.Period q))) ≡ le_bytes 8 (frequency_rank q.frequency)
 frequency_fed q = elim q.frequency as (λ f. first (later (fed (c.Period (record { frequency = f; year = q.year; part = q.part })))) ≡ le_bytes 8 (frequency_rank f)) [

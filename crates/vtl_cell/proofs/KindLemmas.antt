@@ -1,13 +1,10 @@
 -- Operands that meet kinds.
-use Rattle.std.proofs.Common.{◌≡◌, ◌∙◌, ◌<◌, ◌-◌, ◌+◌, ◌&&◌, ℕ, List, [], ◌∷◌, Bool, true, false, length, drop, get_or, refl, ap, arith}
+use Rattle.std.proofs.Common.{◌≡◌, ◌∙◌, ◌<◌, ◌-◌, ◌+◌, ◌&&◌, ℕ, List, [], ◌∷◌, false, length, drop, get_or, refl, ap, arith}
 use Rattle.std.proofs.lemmas.List.{drop_more}
 use Rattle.std.specs.Prelude.{option_and_then}
+use Rattle.vtl_lists.proofs.Tests.{and_false}
 use Rattle.vtl_cell.specs.ScalarKinds.{common_kind, meet, meets, shared_kind}
 use Rattle.vtl_cell.specs.declared.kind.Kind.{Kind}
-
-none-after : (b : Bool) → b && false ≡ false
-none-after true = refl
-none-after false = refl
 
 -- more operands than are wanted
 pub meet_long : (ws gs : List Kind) → length ws < length gs → meet ws gs ≡ false
@@ -15,7 +12,7 @@ meet_long [] [] h = absurd (omega (arith, h))
 meet_long [] (g ∷ gs) h = refl
 meet_long (w ∷ ws) [] h = refl
 meet_long (w ∷ ws) (g ∷ gs) h =
-    let rest : meet ws gs ≡ false = meet_long ws gs (omega (arith, h)) in ap (λ b. meets w g && b) rest ∙ none-after (meets w g)
+    let rest : meet ws gs ≡ false = meet_long ws gs (omega (arith, h)) in ap (λ b. meets w g && b) rest ∙ and_false (meets w g)
 
 -- one more of the kinds from the end
 pub kinds_step : (kinds : List Kind) (i : ℕ) (d : Kind) → i < length kinds

@@ -78,7 +78,7 @@ bool_ties true false e = cc
 bool_ties false true e = cc
 bool_ties false false e = refl
 
-then_ties : (o p : Ordering) → ordering_then o p ≡ Equal → (o ≡ Equal) × (p ≡ Equal)
+pub then_ties : (o p : Ordering) → ordering_then o p ≡ Equal → (o ≡ Equal) × (p ≡ Equal)
 then_ties Less p e = cc
 then_ties Equal p e = (refl, e)
 then_ties Greater p e = cc

@@ -8,6 +8,7 @@ use Rattle.std.specs.declared.cmp.Ordering.TheVariants.{Less, Equal, Greater}
 use Rattle.std.specs.Cmp.{IsTotalOrder}
 use Rattle.std.specs.Cmp.Lexicographic.{lists_total}
 use Rattle.std.specs.FinMap.{slice_cmp-IsAntisymmetric}
+use Rattle.std.proofs.lemmas.Bool.{and_parts}
 use Rattle.vtl_lists.specs.Sorting.{IsOrder, le_by}
 use Rattle.vtl_lists.proofs.Sorts.{IsOrder-le_by}
 use Rattle.vtl_cell.specs.Order.{cell_cmp, same_cell}
@@ -15,16 +16,12 @@ use Rattle.vtl_cell.specs.Row.{Row, same_row, same_key, row_cmp}
 use Rattle.vtl_cell.proofs.Cells.{same_cell-is, same_cell-refl}
 use Rattle.vtl_cell.proofs.Orders.{cell_cmp_total, cell_cmp-ties}
 
-pub split_and : (a b : Bool) → (a && b) ≡ true → (a ≡ true) × (b ≡ true)
-split_and true b e = (refl, e)
-split_and false b e = absurd (true≢false (sym e))
-
 pub same_row-is : (x y : Row) → same_row x y ≡ true → x ≡ y
 same_row-is [] [] e = refl
 same_row-is [] (y ∷ ys) e = absurd (true≢false (sym e))
 same_row-is (x ∷ xs) [] e = absurd (true≢false (sym e))
 same_row-is (x ∷ xs) (y ∷ ys) e =
-    let h = split_and (same_cell x y) (same_row xs ys) e in ap (λ z. z ∷ xs) (same_cell-is x y h.0) ∙ ap (λ zs. y ∷ zs) (same_row-is xs ys h.1)
+    let h = and_parts (same_cell x y) (same_row xs ys) e in ap (λ z. z ∷ xs) (same_cell-is x y h.0) ∙ ap (λ zs. y ∷ zs) (same_row-is xs ys h.1)
 
 pub same_row-refl : (x : Row) → same_row x x ≡ true
 same_row-refl [] = refl
@@ -64,7 +61,7 @@ less_by_front (suc n) [] (y ∷ ys) e = refl
 less_by_front (suc n) (x ∷ xs) [] e = e
 less_by_front (suc n) (x ∷ xs) (y ∷ ys) e = first_differs (cell_cmp x y) (row_cmp xs ys) (row_cmp (take n xs) (take n ys)) (less_by_front n xs ys) e
 
-is_Less : (o : Ordering) → is_lt o ≡ true → o ≡ Less
+pub is_Less : (o : Ordering) → is_lt o ≡ true → o ≡ Less
 is_Less Less e = refl
 is_Less Equal e = absurd (true≢false (sym e))
 is_Less Greater e = absurd (true≢false (sym e))

@@ -1,26 +1,12 @@
 -- Points that are chosen by the identifiers that another operand has.
-use Rattle.std.proofs.Common.{◌≡◌, ℕ, ◌+◌, ◌<◌, length, get_or, List, [], ◌∷◌, ◌++◌, Bool, true, false, ◌||◌, ◌&&◌, cond, map, take, Some, refl, sym, ap, ◌∙◌}
-use Rattle.std.specs.Prelude.{is_some}
-use Rattle.std.specs.List.{filter, find, flat_map, list_all, list_any}
+use Rattle.std.proofs.Common.{◌≡◌, ℕ, ◌+◌, ◌<◌, length, get_or, List, [], ◌∷◌, ◌++◌, Bool, true, false, ◌&&◌, cond, map, take, refl, sym, ap, ◌∙◌}
+use Rattle.std.specs.List.{filter, flat_map, list_all}
 use Rattle.std.proofs.lemmas.Grind.{flat_map-append}
 use Rattle.std.proofs.lemmas.List.{append-nil, append_assoc, map_more, take_more}
 use Rattle.std.proofs.lemmas.List.Folds.{list_all-map, list_all_more}
+use Rattle.vtl_lists.proofs.Filters.{filter-filter}
 use Rattle.vtl_cell.specs.Row.{Row}
 use Rattle.vtl_tuples.proofs.Lists.{filter_each}
-use Rattle.vtl_combine.proofs.RowLemmas.{filter-filter}
-
--- one is found where there is one
-pub found_by_test : {X : Type 0} (p : X → Bool) (xs : List X) → is_some (find p xs) ≡ list_any p xs
-found_by_test p [] = refl
-found_by_test p (x ∷ xs) = go (p x) (found_by_test p xs)
-  where
-    go : (b : Bool) → is_some (find p xs) ≡ list_any p xs → is_some (cond b (Some x) (find p xs)) ≡ (b || list_any p xs)
-    go true ih = refl
-    go false ih = ih
-
-pub list_any-map : {X Y : Type 0} (p : Y → Bool) (f : X → Y) (xs : List X) → list_any p (map f xs) ≡ list_any (λ x. p (f x)) xs
-list_any-map p f [] = refl
-list_any-map p f (x ∷ xs) = ap (λ b. p (f x) || b) (list_any-map p f xs)
 
 -- one item more
 pub each_more : {X Y : Type 0} (f : X → List Y) (xs : List X) (i : ℕ) (x : X) → i < length xs → x ≡ get_or xs i x → flat_map f (take (i + 1) xs) ≡ flat_map f (take i xs) ++ f x

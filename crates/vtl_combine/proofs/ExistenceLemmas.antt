@@ -1,6 +1,8 @@
 -- What `exists_in` makes of rows.
 use Rattle.std.proofs.Common.{◌≡◌, ℕ, ◌<◌, List, [], ◌∷◌, ◌++◌, Bool, true, cond, map, length, get_or, refl, sym, ap, ◌∙◌, subst}
 use Rattle.std.specs.List.{AllByRecursion, flat_map, list_any, range_with_len}
+use Rattle.vtl_lists.proofs.Alls.{all_more}
+use Rattle.vtl_lists.proofs.Filters.{find_any}
 use Rattle.vtl_cell.specs.Row.{Row, same_row}
 use Rattle.vtl_cell.specs.declared.cell.Cell.TheVariants as c
 use Rattle.vtl_rows.specs.Tables.{cells_at, fits}
@@ -20,18 +22,18 @@ use Rattle.vtl_meaning.specs.Made.{IsExistence}
 use Rattle.vtl_meaning.specs.Points.{with_points}
 use Rattle.vtl_meaning.specs.Sets.{existence_of, is_retained, with_answer}
 use Rattle.vtl_meaning.proofs.LookUps.{named_cells}
-use Rattle.vtl_meaning.proofs.Places.{all_more, key_within}
+use Rattle.vtl_meaning.proofs.Places.{key_within}
 use Rattle.vtl_meaning.proofs.SetsKept.{existence_kept}
 use Rattle.vtl_expr.proofs.PointLemmas.{holds_at}
 use Rattle.vtl_combine.specs.Existence.{answered, sought_common}
-use Rattle.vtl_combine.proofs.ChosenLemmas.{found_by_test, taken_where}
+use Rattle.vtl_combine.proofs.ChosenLemmas.{taken_where}
 use Rattle.vtl_combine.proofs.RowLemmas.{first_cells}
 
 -- the answer
 pub agreeing_is : (a : Structure) (e : DataSet) (r : Row) → is_any_meant (sought_common a e) r ≡ has_agreeing a e r
 agreeing_is a e r =
     let common = common_identifiers a e.structure in
-    sym (found_by_test (agree_in a e.structure r) e.points
+    sym (find_any (agree_in a e.structure r) e.points
     ∙ ap (λ (f : Row → Bool). list_any f e.points) (λ j q. same_row (sym (named_cells (columns_of e.structure) common q) j) (sym (named_cells (columns_of a) common r) j)))
 
 -- the identifiers of a point, which are its first cells

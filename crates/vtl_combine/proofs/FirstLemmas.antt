@@ -7,6 +7,8 @@ use Rattle.std.proofs.lemmas.List.Elements.{All-filter}
 use Rattle.std.proofs.lemmas.List.FromFn.{length-range_with_len}
 use Rattle.std.proofs.lemmas.List.Sums.{count_by-le-length, length-filter}
 use Rattle.std.proofs.lemmas.List.Folds.{list_any-append}
+use Rattle.vtl_lists.proofs.Filters.{filter-filter, first_within, map_cond}
+use Rattle.vtl_lists.proofs.Alls.{all_more}
 use Rattle.vtl_cell.specs.Row.{Row, same_key, same_row}
 use Rattle.vtl_cell.proofs.Rows.{same_row-refl}
 use Rattle.vtl_index.specs.Groups.{AreLeads, firsts, is_first, rows_led}
@@ -16,9 +18,8 @@ use Rattle.vtl_rows.specs.Places.{row_at}
 use Rattle.vtl_rows.specs.Tables.{cells_at}
 use Rattle.vtl_tuples.specs.Keys.{each_once}
 use Rattle.vtl_tuples.proofs.Lists.{filter_each, filter_same}
-use Rattle.vtl_meaning.proofs.Places.{all_more}
 use Rattle.vtl_meaning.proofs.JoinKept.{once_hold}
-use Rattle.vtl_combine.proofs.RowLemmas.{all_below, filter-filter, first_cells}
+use Rattle.vtl_combine.proofs.RowLemmas.{first_cells}
 
 -- ---- the first row of a group is the one by which it is known
 module _ (leads : List ℕ) (are : AreLeads leads) (g : ℕ) (within : g < length (firsts leads)) where
@@ -87,16 +88,12 @@ not_met key before r q = ap not (list_any-append (λ s. same_row (key s) (key q)
     not_either false true = refl
     not_either false false = refl
 
-map_choice : {X Y : Type 0} (f : X → Y) (b : Bool) (x : X) (xs : List X) → map f (cond b (x ∷ xs) xs) ≡ cond b (f x ∷ map f xs) (map f xs)
-map_choice f true x xs = refl
-map_choice f false x xs = refl
-
 module _ (key : Row → Row) (rows : List Row) where
   rows_behind : (before behind : List Row) → before ++ behind ≡ rows → (i : ℕ) → length before ≡ i
       → map (row_at rows) (filter (is_first (leads_of key rows)) (range_with_len i (length behind))) ≡ filter (λ q. not (met key before (key q))) (each_once (same_by key) behind)
   rows_behind before [] e i at = refl
   rows_behind before (r ∷ behind) e i at =
-      map_choice (row_at rows) (is_first (leads_of key rows) i) i (filter (is_first (leads_of key rows)) (range_with_len (i + 1) (length behind)))
+      map_cond (row_at rows) (is_first (leads_of key rows) i) i (filter (is_first (leads_of key rows)) (range_with_len (i + 1) (length behind)))
       ∙ ap (λ b. cond b (row_at rows i ∷ map (row_at rows) (filter (is_first (leads_of key rows)) (range_with_len (i + 1) (length behind)))) (map (row_at rows) (filter (is_first (leads_of key rows)) (range_with_len (i + 1) (length behind))))) here
       ∙ ap (λ q. cond (not (met key before (key r))) (q ∷ map (row_at rows) (filter (is_first (leads_of key rows)) (range_with_len (i + 1) (length behind)))) (map (row_at rows) (filter (is_first (leads_of key rows)) (range_with_len (i + 1) (length behind))))) row_here
       ∙ ap (λ l. cond (not (met key before (key r))) (r ∷ l) l) (rows_behind (before ++ r ∷ []) behind (append_assoc before (r ∷ []) behind ∙ e) (i + 1) (length_push before r ∙ ap (λ n. n + 1) at) ∙ rest)
@@ -144,7 +141,7 @@ firsts_once n rows wide =
 pub firsts_below : (key : Row → Row) (rows : List Row) → All (λ i. i < length rows) (firsts (leads_of key rows))
 firsts_below key rows =
     let count : length (leads_of key rows) ≡ length rows = length-map rows (λ r. lead_of key rows (key r)) in
-    subst (λ n. All (λ i. i < n) (firsts (leads_of key rows))) count (All-filter (is_first (leads_of key rows)) (λ i. i < length (leads_of key rows)) (range_with_len 0 (length (leads_of key rows))) (all_below (length (leads_of key rows))))
+    subst (λ n. All (λ i. i < n) (firsts (leads_of key rows))) count (All-filter (is_first (leads_of key rows)) (λ i. i < length (leads_of key rows)) (range_with_len 0 (length (leads_of key rows))) (first_within (length (leads_of key rows))))
 
 -- where each row is the first of its group
 whole : {X : Type 0} (p : X → Bool) (xs : List X) → length (filter p xs) ≡ length xs → filter p xs ≡ xs

@@ -5,6 +5,9 @@ use Rattle.std.specs.List.{AllByRecursion, flat_map, list_all, list_any, range_w
 use Rattle.std.proofs.lemmas.List.{length-map, take_all, take_at}
 use Rattle.std.proofs.lemmas.List.Elements.{All-from_recursion, recursion_from_All}
 use Rattle.std.proofs.lemmas.List.Folds.{list_all-map}
+use Rattle.vtl_lists.proofs.Alls.{all_append, all_each as each}
+use Rattle.vtl_lists.proofs.Sorts.{AllByRecursion-map}
+use Rattle.vtl_lists.proofs.Filters.{list_any-map}
 use Rattle.vtl_cell.specs.Row.{Row, column_of, same_key, same_row}
 use Rattle.vtl_rows.specs.Places.{row_at}
 use Rattle.vtl_rows.specs.Tables.{cells_at, column_at}
@@ -26,11 +29,9 @@ use Rattle.vtl_meaning.specs.Made.{AreCombined, IsAlternative, IsCombined}
 use Rattle.vtl_meaning.specs.Operators.{left_of}
 use Rattle.vtl_meaning.specs.Sets.{all_left_of, has_point, intersected, is_retained}
 use Rattle.vtl_meaning.proofs.Kept.{shown_split}
-use Rattle.vtl_meaning.proofs.Places.{all_append, all_map, each}
 use Rattle.vtl_meaning.proofs.SetsKept.{IsKeyed, alternative_tells, combined_is, has_any}
 use Rattle.vtl_expr.proofs.ColumnPlaces.{chosen_columns}
 use Rattle.vtl_combine.specs.Operands.{HasColumns, all_have, left_at, retained, retained_by, sought_by_key}
-use Rattle.vtl_combine.proofs.ChosenLemmas.{list_any-map}
 use Rattle.vtl_combine.proofs.RowLemmas.{chosen_rows}
 
 -- ---- an operand has the columns of the result
@@ -117,7 +118,7 @@ all_points_wide (d ∷ ds) s =
     let P : Row → Type 0 = λ r. key_width s ≤ length r in
     let f : Row → Row = cells_at (places_in (columns_of d.now.structure) (columns_of s)) in
     all_append P (left_of d.now s) (flat_map (λ (e : Bor DataSet). left_of e.now s) ds)
-    (all_map f P d.now.points (each (λ r. P (f r)) (λ r. let l = cells_count (columns_of d.now.structure) (columns_of s) r in let few = few_keys s in omega (arith, l, few)) d.now.points))
+    (AllByRecursion-map f P d.now.points (each (λ r. P (f r)) (λ r. let l = cells_count (columns_of d.now.structure) (columns_of s) r in let few = few_keys s in omega (arith, l, few)) d.now.points))
     (all_points_wide ds s)
 
 -- each is a data set

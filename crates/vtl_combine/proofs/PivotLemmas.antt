@@ -2,6 +2,8 @@
 use Rattle.std.proofs.Common.{◌≡◌, ℕ, ◌+◌, ◌<◌, get_or, take, List, [], ◌∷◌, ◌++◌, Bool, true, false, ◌&&◌, length, map, refl, sym, ap, ◌∙◌, subst, arith}
 use Rattle.std.specs.List.{AllByRecursion, position_or_len, range_with_len}
 use Rattle.std.proofs.lemmas.List.{length-map, length_push, map-append}
+use Rattle.vtl_lists.proofs.Alls.{all_more}
+use Rattle.vtl_lists.proofs.Tests.{and_true}
 use Rattle.vtl_cell.specs.Order.{same_cell}
 use Rattle.vtl_cell.specs.Row.{Row, column_of, same_row}
 use Rattle.vtl_cell.specs.declared.cell.Cell.{Cell}
@@ -26,7 +28,7 @@ use Rattle.vtl_meaning.specs.LookUps.{value_named}
 use Rattle.vtl_meaning.specs.Made.{IsPivoted}
 use Rattle.vtl_meaning.specs.Turned.{coded_value, codes_of, is_coded, other_identifiers, pivot_of, pivoted_point}
 use Rattle.vtl_meaning.proofs.LookUps.{named_cells}
-use Rattle.vtl_meaning.proofs.Places.{all_more, all_of_map}
+use Rattle.vtl_meaning.proofs.Places.{all_of_map}
 use Rattle.vtl_meaning.proofs.TurnedKept.{pivot_kept}
 use Rattle.vtl_index.proofs.Ranges.{all_indexed}
 use Rattle.vtl_combine.specs.Pivots.{AreCoded, coded, other_places, pivoted, sought_codes}
@@ -35,10 +37,6 @@ use Rattle.vtl_combine.proofs.ChosenLemmas.{mapped_more}
 use Rattle.vtl_combine.proofs.RowLemmas.{at_first}
 
 -- ---- keys with a cell behind them
-and_true : (b : Bool) → (b && true) ≡ b
-and_true true = refl
-and_true false = refl
-
 and_assoc : (a b c : Bool) → (a && (b && c)) ≡ (a && b && c)
 and_assoc true b c = refl
 and_assoc false b c = refl

@@ -1,10 +1,10 @@
 -- Rows of a table that are taken by their numbers.
-use Rattle.std.proofs.Common.{◌≡◌, ℕ, zero, suc, ◌<◌, ◌≤◌, List, [], ◌∷◌, Bool, true, false, cond, ◌&&◌, map, take, length, Option, refl, sym, ap, ◌∙◌, arith}
+use Rattle.std.proofs.Common.{◌≡◌, ℕ, zero, suc, ◌<◌, ◌≤◌, List, [], ◌∷◌, Bool, map, take, length, Option, refl, sym, ap, ◌∙◌, arith}
 use Rattle.std.specs.Prelude.{All, slice_get}
 use Rattle.std.specs.List.{filter, find, position_or_len, range_with_len}
 use Rattle.std.specs.Option.{option_map_or}
 use Rattle.std.proofs.lemmas.List.Folds.{find_at}
-use Rattle.std.proofs.lemmas.List.FromFn.{get_or-range_with_len, length-range_with_len, take-map-range_with_len}
+use Rattle.std.proofs.lemmas.List.FromFn.{take-map-range_with_len}
 use Rattle.vtl_cell.specs.Row.{Row, column_of}
 use Rattle.vtl_cell.specs.declared.cell.Cell.TheVariants as cell
 use Rattle.vtl_rows.specs.Gathered.{picked, picked_kind, pieces}
@@ -16,15 +16,6 @@ use Rattle.vtl_tuples.proofs.Lists.{filter-map, map-map}
 use Rattle.vtl_index.proofs.Ranges.{all_indexed}
 use Rattle.vtl_combine.specs.Operands.{pick_at}
 
--- one test after the other
-pub filter-filter : {X : Type 0} (p q : X → Bool) (xs : List X) → filter p (filter q xs) ≡ filter (λ x. q x && p x) xs
-filter-filter p q [] = refl
-filter-filter p q (x ∷ xs) = go (q x) (filter-filter p q xs)
-  where
-    go : (b : Bool) → filter p (filter q xs) ≡ filter (λ y. q y && p y) xs → filter p (cond b (x ∷ filter q xs) (filter q xs)) ≡ cond (b && p x) (x ∷ filter (λ y. q y && p y) xs) (filter (λ y. q y && p y) xs)
-    go true ih = ap (λ l. cond (p x) (x ∷ l) l) ih
-    go false ih = ih
-
 -- the rows that pass a test, by their numbers
 pub chosen_rows : {X : Type 0} (f : Row → X) (p : Row → Bool) (rows : List Row) → map (λ i. f (row_at rows i)) (filter (λ i. p (row_at rows i)) (range_with_len 0 (length rows))) ≡ map f (filter p rows)
 chosen_rows f p rows =
@@ -34,13 +25,6 @@ chosen_rows f p rows =
 -- the cells at the first places of a row that has them
 pub first_cells : (n : ℕ) (r : Row) → n ≤ length r → cells_at (range_with_len 0 n) r ≡ take n r
 first_cells n r h = sym (take-map-range_with_len (λ i. column_of i r) 0 (length r) n h) ∙ ap (take n) (all_indexed r cell.Null)
-
--- the numbers below a bound
-pub all_below : (n : ℕ) → All (λ i. i < n) (range_with_len 0 n)
-all_below n k d h =
-    let count = length-range_with_len 0 n in
-    let at = get_or-range_with_len 0 n k d (omega (arith, count, h)) in
-    omega (arith, count, h, at)
 
 -- ---- rows that are put together from one part
 single_pieces : {X : Type 0} (xs : List X) → pieces 1 xs ≡ map (λ x. x ∷ []) xs

@@ -5,6 +5,8 @@ use Rattle.std.specs.List.{AllByRecursion, cons_option, filter_map, flat_map, ra
 use Rattle.std.specs.Option.{option_to_list}
 use Rattle.std.proofs.lemmas.List.{map_more}
 use Rattle.std.proofs.lemmas.List.Elements.{filter_map-append}
+use Rattle.vtl_lists.proofs.Alls.{all_front, all_more}
+use Rattle.vtl_lists.proofs.Filters.{filter_map-map}
 use Rattle.vtl_cell.specs.Kinds.{is_null}
 use Rattle.vtl_cell.specs.Row.{Row}
 use Rattle.vtl_cell.specs.declared.cell.Cell.TheVariants as c
@@ -21,17 +23,12 @@ use Rattle.vtl_meaning.specs.LookUps.{value_named}
 use Rattle.vtl_meaning.specs.Made.{IsUnpivoted}
 use Rattle.vtl_meaning.specs.Points.{with_points}
 use Rattle.vtl_meaning.specs.Turned.{named_point, unpivot_of, unpivoted_points}
-use Rattle.vtl_meaning.proofs.Places.{all_front, all_more}
 use Rattle.vtl_meaning.proofs.TurnedKept.{unpivot_kept}
 use Rattle.vtl_expr.proofs.PointLemmas.{holds_at}
 use Rattle.vtl_combine.specs.Unpivots.{measure_in, named_row, unpivoted}
 use Rattle.vtl_combine.proofs.ExistenceLemmas.{own_key}
 
 -- ---- lists
-filter_map-map : {X Y Z : Type 0} (h : Y → Option Z) (f : X → Y) (xs : List X) → filter_map h (map f xs) ≡ filter_map (λ x. h (f x)) xs
-filter_map-map h f [] = refl
-filter_map-map h f (x ∷ xs) = ap (cons_option (h (f x))) (filter_map-map h f xs)
-
 filter_map_each : {X Y : Type 0} (g h : X → Option Y) → ((x : X) → g x ≡ h x) → (xs : List X) → filter_map g xs ≡ filter_map h xs
 filter_map_each g h e xs = let same : g ≡ h = λ j x. e x j in ap (λ f. filter_map f xs) same
 

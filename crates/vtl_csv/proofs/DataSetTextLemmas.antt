@@ -6,6 +6,7 @@ use Rattle.std.specs.declared.cmp.Ordering.{Ordering}
 use Rattle.std.specs.declared.cmp.Ordering.TheVariants.{Less, Equal, Greater}
 use Rattle.std.proofs.lemmas.List.{length-map, map-append}
 use Rattle.std.proofs.lemmas.Simd.{map-map}
+use Rattle.std.proofs.lemmas.Bool.{and_parts}
 use Rattle.csv.specs.Writing.{default_writer, row_text}
 use Rattle.vtl_decimal.specs.Settings.{Settings}
 use Rattle.vtl_lists.specs.Perm.{Perm}
@@ -14,7 +15,7 @@ use Rattle.vtl_cell.specs.Kinds.{is_null, is_of}
 use Rattle.vtl_cell.specs.Row.{Row, row_cmp}
 use Rattle.vtl_cell.specs.Sorted.{by_keys, rising}
 use Rattle.vtl_cell.specs.Writing.{text_of}
-use Rattle.vtl_cell.proofs.Rows.{row_order, split_and}
+use Rattle.vtl_cell.proofs.Rows.{row_order}
 use Rattle.vtl_lists.proofs.Sorts.{sorted_by-Perm}
 use Rattle.vtl_rows.specs.declared.column.SortKey.{SortKey}
 use Rattle.vtl_rows.specs.Keys.{key_of, ordered}
@@ -36,7 +37,7 @@ point_wide [] [] e = refl
 point_wide [] (v ∷ vs) e = absurd (true≢false (sym e))
 point_wide (x ∷ xs) [] e = absurd (true≢false (sym e))
 point_wide (x ∷ xs) (v ∷ vs) e =
-    let h = point_wide xs vs (split_and (is_of x.kind v && not (same_role x.role role.Identifier && is_null v)) (is_point xs vs) e).1 in
+    let h = point_wide xs vs (and_parts (is_of x.kind v && not (same_role x.role role.Identifier && is_null v)) (is_point xs vs) e).1 in
     omega (arith, h)
 
 points_wide : (xs : List Component) (rows : List Row) → AllByRecursion (λ r. is_point xs r ≡ true) rows → AllByRecursion (λ r. length r ≡ length xs) rows

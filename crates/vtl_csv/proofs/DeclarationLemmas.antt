@@ -4,7 +4,7 @@ use Rattle.std.proofs.lemmas.List.{take_all}
 use Rattle.std.specs.List.{list_all, position_or_len}
 use Rattle.std.specs.Option.{option_and_then, option_map_or}
 use Rattle.std.specs.Str.{IsUtf8, is_utf8}
-use Rattle.std.proofs.lemmas.Bool.{and_from}
+use Rattle.std.proofs.lemmas.Bool.{and_from, not_from_false}
 use Rattle.std.proofs.lemmas.Bool.Decides.{nat_tests}
 use Rattle.std.proofs.lemmas.Str.{IsUtf8-from_is_utf8, is_utf8-from_IsUtf8}
 use Rattle.std.specs.Bool.{OnTrue}
@@ -122,7 +122,7 @@ module _ (front : List (List ℕ)) (whole : Option (List (List ℕ))) (xs part :
   code_takes code e = sym (ap (λ l. onto front (each_some code_in l)) first ∙ each_takes code_in part others code front e) ∙ before
 
 -- what a rule that is kept gives
-or_rule-kept : {X Y : Type 0} (n : ℕ) (o : Option X) (f : X → Result Y ℕ) (y : Y) → (ok_or o n >>= f) ≡ Ok y → (v : X) × (o ≡ Some v) × (f v ≡ Ok y)
+pub or_rule-kept : {X Y : Type 0} (n : ℕ) (o : Option X) (f : X → Result Y ℕ) (y : Y) → (ok_or o n >>= f) ≡ Ok y → (v : X) × (o ≡ Some v) × (f v ≡ Ok y)
 or_rule-kept n None f y e = cc
 or_rule-kept n (Some v) f y e = (v, refl, e)
 
@@ -217,9 +217,6 @@ not_full : (v : Version) (n : ℕ) → nat_le (most_in v) n ≡ false → n < mo
 not_full ve.First n e = grind (arith, nat_tests)
 not_full ve.Second n e = grind (arith, nat_tests)
 
-negated : (b : Bool) → b ≡ false → not b ≡ true
-negated b e = ap not e
-
 -- only a component that is no identifier stands on the list
 listed_is : (role : Role) (nullable : Option (List ℕ)) (listed : Bool) → listed_by role nullable ≡ Some listed → OnTrue listed (is_identifier_role role ≡ false)
 listed_is role None listed e = let same : false ≡ listed = cc in subst (λ b. OnTrue b (is_identifier_role role ≡ false)) same tt
@@ -248,7 +245,7 @@ declared_fits version so_far d n e =
     let same : m ≡ n = ok_same m n s11.2 in
     let good : is_declarable_component x ≡ true =
     and_from (is_component_name s4.0 && not (is_null_kind s6.0)) (codes_fit x)
-    (and_from (is_component_name s4.0) (not (is_null_kind s6.0)) (text_passes is_component_name d.component s4.0 s4.1) (negated (is_null_kind s6.0) (kind_in-is d.kind s6.0 s6.1)))
+    (and_from (is_component_name s4.0) (not (is_null_kind s6.0)) (text_passes is_component_name d.component s4.0 s4.1) (not_from_false (is_null_kind s6.0) (kind_in-is d.kind s6.0 s6.1)))
     (codes_of-fit s5.0 s6.0 d.code_list s8.0 s8.1) in
     subst (λ (k : NewComponent). Fits k.component (components_of k.dataset so_far) × OnTrue k.is_listed (is_identifier_role k.component.role ≡ false)) same
     ((good, s7.0, not_full version (length (components_of s3.0 so_far)) s9.0), listed_is s5.0 d.nullable s11.0 s11.1)

@@ -3,6 +3,7 @@ use Rattle.std.proofs.Common.{◌≡◌, ℕ, zero, suc, ◌+◌, ◌<◌, inl, 
 use Rattle.std.proofs.lemmas.Bool.{cases_eq, cases_order}
 use Rattle.std.proofs.lemmas.List.{get_or-set_same, get_or-set_other}
 use Rattle.vtl_lists.specs.Apart.{all_apart}
+use Rattle.vtl_lists.proofs.Tests.{and_false}
 use Rattle.vtl_cell.specs.Order.{same_cell}
 use Rattle.vtl_cell.specs.Row.{Row, column_of}
 use Rattle.vtl_cell.specs.declared.cell.Cell.{Cell}
@@ -13,10 +14,6 @@ use Rattle.vtl_rows.proofs.Firsts.{all_before, all_rows}
 use Rattle.vtl_csv.specs.Distinct.{AreDistinct, distance_of}
 
 -- ---- keys
-and_false : (b : Bool) → (b && false) ≡ false
-and_false true = refl
-and_false false = refl
-
 differ : (keys : List ℕ) (m : ℕ) (r s : Row) → m < length keys → same_cell (column_of (get_or keys m 0) r) (column_of (get_or keys m 0) s) ≡ false → agree keys r s ≡ false
 differ [] m r s h e = absurd (omega (arith, h))
 differ (k ∷ ks) zero r s h e = ap (λ b. b && agree ks r s) e

@@ -3,7 +3,7 @@ use Rattle.std.proofs.Common.{◌≡◌, ◌≢◌, ◌∷◌, ◌++◌, ◌+◌
 use Rattle.std.specs.List.{AllByRecursion}
 use Rattle.std.specs.Str.{IsAscii, all_scalars, is_utf8}
 use Rattle.std.proofs.Math.Nat.{div-le_self}
-use Rattle.std.proofs.lemmas.Bool.{leb-true}
+use Rattle.std.proofs.lemmas.Bool.{leb-true, and_parts}
 use Rattle.std.proofs.lemmas.Fmt.{IsAscii-decimal_wide}
 use Rattle.std.proofs.lemmas.Int.{ints}
 use Rattle.std.specs.Fmt.{decimal, signed_decimal}
@@ -35,8 +35,8 @@ use Rattle.vtl_tree.specs.declared.structure.Role.TheVariants as role
 use Rattle.vtl_decimal.proofs.WrittenLemmas.{reads_back as number_back}
 use Rattle.vtl_time.proofs.DayLemmas.{reads_back as day_back}
 use Rattle.vtl_time.proofs.PeriodLemmas.{reads_back as period_back}
-use Rattle.vtl_cell.proofs.Rows.{split_and}
 use Rattle.vtl_cell.proofs.Texts.{day_reads_back, integer_reads_back, period_reads_back}
+use Rattle.vtl_scalar.proofs.NullLemmas.{null_is}
 use Rattle.vtl_csv.specs.declared.input.InputKind.TheVariants as i
 use Rattle.vtl_csv.specs.InputFields.{field_cell, read_column, text_cell}
 use Rattle.vtl_csv.specs.ReadAgain.{AreTold, IsShown, IsTold}
@@ -90,12 +90,9 @@ no_number : (p : Settings) → number_read p [] ≡ None
 no_number p = refl
 
 -- ---- texts of numbers
-decimal_ascii : (n : ℕ) → n < 10 ^ 64 → IsAscii (decimal n)
-decimal_ascii n h = IsAscii-decimal_wide n h
-
 signed_ascii : (n : ℤ) → FitsSigned w64 n → IsAscii (signed_decimal n)
-signed_ascii (pos n) h = decimal_ascii n (omega (arith, ints, h))
-signed_ascii (negsuc n) h = IsAscii-cons 45 (decimal (suc n)) (lit< tt) (decimal_ascii (suc n) (omega (arith, ints, h)))
+signed_ascii (pos n) h = IsAscii-decimal_wide n (omega (arith, ints, h))
+signed_ascii (negsuc n) h = IsAscii-cons 45 (decimal (suc n)) (lit< tt) (IsAscii-decimal_wide (suc n) (omega (arith, ints, h)))
 
 last_ascii : (w n : ℕ) → IsAscii (last_digits w n)
 unfolding last_digits
@@ -127,7 +124,7 @@ number_ascii s k h =
     let less = div-le_self (unsigned_abs k) (10 ^ s) in
     let few : unsigned_abs k / 10 ^ s < 10 ^ 64 = omega (arith, less, h) in
     IsAscii-append (sign_text k) (decimal (unsigned_abs k / 10 ^ s) ++ behind_point (shortest_digits s (unsigned_abs k % 10 ^ s))) (sign_ascii k)
-    (IsAscii-append (decimal (unsigned_abs k / 10 ^ s)) (behind_point (shortest_digits s (unsigned_abs k % 10 ^ s))) (decimal_ascii (unsigned_abs k / 10 ^ s) few)
+    (IsAscii-append (decimal (unsigned_abs k / 10 ^ s)) (behind_point (shortest_digits s (unsigned_abs k % 10 ^ s))) (IsAscii-decimal_wide (unsigned_abs k / 10 ^ s) few)
     (point_ascii (shortest_digits s (unsigned_abs k % 10 ^ s)) (shortest_ascii s (unsigned_abs k % 10 ^ s))))
 
 day_ascii : (d : CalendarDay) → IsAscii (day_text d)
@@ -141,7 +138,7 @@ part_ascii Month n h = IsAscii-cons 77 (two_digits n) (lit< tt) (two_ascii n [] 
 
 few_parts : (f : Frequency) (y n : ℕ) → is_year_part f y n ≡ true → n ≤ parts_in_year f
 unfolding is_year_part
-few_parts f y n e = leb-true n (parts_in_year f) (split_and (nat_le 1 n) (nat_le n (parts_in_year f)) (split_and (nat_le y 9999) (nat_le 1 n && nat_le n (parts_in_year f)) e).1).1
+few_parts f y n e = leb-true n (parts_in_year f) (and_parts (nat_le 1 n) (nat_le n (parts_in_year f)) (and_parts (nat_le y 9999) (nat_le 1 n && nat_le n (parts_in_year f)) e).1).1
 
 period_ascii : (q : YearPart) → IsTrue (is_year_part q.frequency q.year q.part) → IsAscii (period_text q)
 period_ascii q h =
@@ -180,15 +177,6 @@ some_text p (c.Text (a ∷ t)) n shown back e = let r = encodes_same (a ∷ t) [
 some_text p (c.Day d) n shown back e = cc
 some_text p (c.Period q) n shown back e = cc
 
-null_is : (v : Cell) → is_null v ≡ true → v ≡ c.Null
-null_is c.Null n = refl
-null_is (c.Bool x) n = absurd (true≢false (sym n))
-null_is (c.Int x) n = absurd (true≢false (sym n))
-null_is (c.Num x) n = absurd (true≢false (sym n))
-null_is (c.Text x) n = absurd (true≢false (sym n))
-null_is (c.Day x) n = absurd (true≢false (sym n))
-null_is (c.Period x) n = absurd (true≢false (sym n))
-
 field_again : (p : Settings) (x : Component) (v : Cell) → is_of x.kind v ≡ true → not (same_role x.role role.Identifier && is_null v) ≡ true → p.scale ≤ 9 → IsTold p x v → field_cell p (read_column [] x) (text_of p v) ≡ Ok v
 field_again p x v of_kind no_null few told = rw (held_utf8 p v told.held) (go (is_null v) refl)
   where
@@ -214,8 +202,8 @@ fields_again p [] [] few e all = tt
 fields_again p [] (v ∷ vs) few e all = absurd (true≢false (sym e))
 fields_again p (x ∷ xs) [] few e all = absurd (true≢false (sym e))
 fields_again p (x ∷ xs) (v ∷ vs) few e all =
-    let parts = split_and (is_of x.kind v && not (same_role x.role role.Identifier && is_null v)) (is_point xs vs) e in
-    let first = split_and (is_of x.kind v) (not (same_role x.role role.Identifier && is_null v)) parts.0 in
+    let parts = and_parts (is_of x.kind v && not (same_role x.role role.Identifier && is_null v)) (is_point xs vs) e in
+    let first = and_parts (is_of x.kind v) (not (same_role x.role role.Identifier && is_null v)) parts.0 in
     (field_again p x v first.0 first.1 few all.0, fields_again p xs vs few parts.1 all.1)
 
 pub points_again : (p : Settings) (columns : List Component) (rows : List Row) → p.scale ≤ 9 → AllByRecursion (λ r. is_point columns r ≡ true) rows → AllByRecursion (AreTold p columns) rows → AllByRecursion (AreReadAgain p columns) rows

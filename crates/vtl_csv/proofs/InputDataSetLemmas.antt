@@ -6,6 +6,7 @@ use Rattle.vtl_lists.specs.Aliases.{Name}
 use Rattle.vtl_lists.specs.Results.{◌>>=◌}
 use Rattle.vtl_decimal.specs.Settings.{Settings}
 use Rattle.vtl_lists.specs.Apart.{all_apart}
+use Rattle.vtl_lists.proofs.Alls.{all_push}
 use Rattle.vtl_cell.specs.Profile.{IsOfProfile}
 use Rattle.vtl_cell.specs.Row.{Row, column_of, same_key, same_row}
 use Rattle.vtl_rows.specs.Keys.{agree, apart}
@@ -21,7 +22,7 @@ use Rattle.vtl_csv.specs.InputFile.{Fault, Layout, dataset_rows, is_repeat, layo
 use Rattle.vtl_csv.specs.InputSteps.{IsLayout}
 use Rattle.vtl_csv.specs.StructuresFile.{◌at_line◌, records_in}
 use Rattle.vtl_csv.proofs.InputLayoutLemmas.{layout_points}
-use Rattle.vtl_csv.proofs.InputPointLemmas.{ArePoints, all_more, ok_same, record_good}
+use Rattle.vtl_csv.proofs.InputPointLemmas.{ArePoints, ok_same, record_good}
 use Rattle.vtl_csv.proofs.ProfileLemmas.{record_of_profile, rows_of_profile}
 use Rattle.vtl_csv.proofs.RepeatLemmas.{still_apart}
 
@@ -50,8 +51,8 @@ rows_good p columns keys (fields ∷ rest) before rows are e = go (record_row p 
         new false s u =
             ih (before ++ row ∷ []) (record {
               apart = still_apart keys before row are.apart s;
-              points = all_more (λ r. is_point (components_in columns) r ≡ true) before row are.points (record_good p columns (length before) fields row t);
-              of_profile = all_more (AllByRecursion (IsOfProfile p)) before row are.of_profile (record_of_profile p columns (length before) fields row t);
+              points = all_push (λ r. is_point (components_in columns) r ≡ true) before row are.points (record_good p columns (length before) fields row t);
+              of_profile = all_push (AllByRecursion (IsOfProfile p)) before row are.of_profile (record_of_profile p columns (length before) fields row t);
             }) u
 
 -- ---- the rows in column order

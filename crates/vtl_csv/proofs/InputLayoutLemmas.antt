@@ -6,13 +6,13 @@ use Rattle.std.specs.Prelude.{encode_utf8_all, ok_or}
 use Rattle.std.proofs.lemmas.List.{get_or-map}
 use Rattle.std.proofs.lemmas.List.Elements.{All-take}
 use Rattle.std.specs.Option.{is_some}
+use Rattle.std.proofs.lemmas.Bool.{and_parts}
 use Rattle.vtl_lists.specs.Results.{◌>>=◌}
 use Rattle.vtl_lists.specs.Apart.{all_apart}
 use Rattle.vtl_lists.specs.Each.{cons_if, each_some}
 use Rattle.vtl_lists.proofs.Aparts.{apart_parts}
 use Rattle.vtl_cell.specs.declared.kind.Kind.TheVariants as k
 use Rattle.vtl_cell.specs.Row.{Row, column_of}
-use Rattle.vtl_cell.proofs.Rows.{split_and}
 use Rattle.vtl_rows.specs.Tables.{cells_at, column_at}
 use Rattle.vtl_tree.specs.DataSet.{is_point}
 use Rattle.vtl_tree.specs.declared.structure.Component.{Component}
@@ -208,8 +208,8 @@ some_below n (i ∷ is) h all = let b = all.0 in omega (arith, b)
 good_at : (ys : List Component) (row : Row) (i : ℕ) (d : Component) → is_point ys row ≡ true → i < length ys → is_good (get_or ys i d) (column_of i row) ≡ true
 good_at [] row i d e h = absurd (omega arith)
 good_at (y ∷ ys) [] i d e h = cc
-good_at (y ∷ ys) (v ∷ vs) zero d e h = (split_and (is_good y v) (is_point ys vs) e).0
-good_at (y ∷ ys) (v ∷ vs) (suc i) d e h = good_at ys vs i d (split_and (is_good y v) (is_point ys vs) e).1 (omega arith)
+good_at (y ∷ ys) (v ∷ vs) zero d e h = (and_parts (is_good y v) (is_point ys vs) e).0
+good_at (y ∷ ys) (v ∷ vs) (suc i) d e h = good_at ys vs i d (and_parts (is_good y v) (is_point ys vs) e).1 (omega arith)
 
 -- ---- what the places say
 module _ (ys : List Component) where

@@ -5,10 +5,10 @@ use Rattle.std.specs.List.{zip, AllByRecursion}
 use Rattle.std.specs.Str.{is_utf8}
 use Rattle.std.proofs.lemmas.Bool.Decides.{nat_tests}
 use Rattle.std.proofs.lemmas.List.{append-nil}
+use Rattle.std.proofs.lemmas.Bool.{and_from}
 use Rattle.vtl_decimal.specs.Settings.{Settings}
 use Rattle.vtl_cell.specs.declared.cell.Cell.{Cell}
 use Rattle.vtl_cell.specs.declared.cell.Cell.TheVariants as c
-use Rattle.vtl_cell.specs.declared.kind.Kind.{Kind}
 use Rattle.vtl_cell.specs.declared.kind.Kind.TheVariants as k
 use Rattle.vtl_cell.specs.Kinds.{is_null, is_of}
 use Rattle.vtl_cell.specs.Reading.{reads}
@@ -16,6 +16,7 @@ use Rattle.vtl_cell.specs.Row.{Row}
 use Rattle.vtl_cell.proofs.Readings.{read_kind}
 use Rattle.vtl_rows.specs.declared.column.Column.{Column}
 use Rattle.vtl_rows.specs.Tables.{fits}
+use Rattle.vtl_rows.proofs.Gathered.{null_is_of}
 use Rattle.vtl_tree.specs.DataSet.{is_point}
 use Rattle.vtl_tree.specs.declared.structure.Component.{Component}
 use Rattle.vtl_tree.specs.declared.structure.Role.TheVariants as role
@@ -46,27 +47,15 @@ ok_unless false m e x q = (refl, q)
 abbrev pub is_good : Component → Cell → Bool
 is_good x v = is_of x.kind v && not (same_role x.role role.Identifier && is_null v)
 
-and_true : (a b : Bool) → a ≡ true → b ≡ true → (a && b) ≡ true
-and_true a b e h = ap (λ t. t && b) e ∙ h
-
 no_null : (b : Bool) → not (b && false) ≡ true
 no_null true = refl
 no_null false = refl
 
-null_fits : (kind : Kind) → is_of kind c.Null ≡ true
-null_fits k.Null = refl
-null_fits k.Bool = refl
-null_fits k.Int = refl
-null_fits k.Num = refl
-null_fits k.Text = refl
-null_fits k.Day = refl
-null_fits k.Period = refl
-
 null_good : (x : Component) → is_identifier x ≡ false → is_good x c.Null ≡ true
-null_good x e = and_true (is_of x.kind c.Null) (not (is_identifier x && true)) (null_fits x.kind) (ap (λ b. not (b && true)) e)
+null_good x e = and_from (is_of x.kind c.Null) (not (is_identifier x && true)) (null_is_of x.kind) (ap (λ b. not (b && true)) e)
 
 value_good : (x : Component) (v : Cell) → is_of x.kind v ≡ true → is_null v ≡ false → is_good x v ≡ true
-value_good x v e h = and_true (is_of x.kind v) (not (is_identifier x && is_null v)) e (ap (λ b. not (is_identifier x && b)) h ∙ no_null (is_identifier x))
+value_good x v e h = and_from (is_of x.kind v) (not (is_identifier x && is_null v)) e (ap (λ b. not (is_identifier x && b)) h ∙ no_null (is_identifier x))
 
 coded_good : (p : Settings) (x : Component) (f : List ℕ) (o : Option Cell) (v : Cell) → reads p x.kind f ≡ o → coded_cell x o ≡ Ok v → is_good x v ≡ true
 coded_good p x f None v t e = cc
@@ -97,9 +86,9 @@ row_good p (x ∷ xs) row out e = go (field_cell p x.0 x.1) refl (λ longer. row
     go (Err kind) t ih q = cc
     go (Ok v) t ih q =
         let g = ih (row ++ v ∷ []) q in
-        (v ∷ g.0, g.1 ∙ append_assoc row (v ∷ []) g.0, and_true (is_good x.0.component v) (is_point (map (λ x. x.0.component) xs) g.0) (field_good p x.0 x.1 v t) g.2)
+        (v ∷ g.0, g.1 ∙ append_assoc row (v ∷ []) g.0, and_from (is_good x.0.component v) (is_point (map (λ x. x.0.component) xs) g.0) (field_good p x.0 x.1 v t) g.2)
 
-first_of_pairs : {B : Type 0} (xs : List ReadColumn) (ys : List B) → length ys ≡ length xs → map (λ p. p.0.component) (zip xs ys) ≡ components_in xs
+pub first_of_pairs : {B : Type 0} (xs : List ReadColumn) (ys : List B) → length ys ≡ length xs → map (λ p. p.0.component) (zip xs ys) ≡ components_in xs
 first_of_pairs [] [] e = refl
 first_of_pairs [] (y ∷ ys) e = cc
 first_of_pairs (x ∷ xs) [] e = cc
@@ -117,10 +106,6 @@ record_good p columns count fields row e =
 -- ---- the rows
 abbrev pub ArePoints : List Component → List Row → Type 0
 ArePoints columns rows = AllByRecursion (λ r. is_point columns r ≡ true) rows
-
-pub all_more : {X : Type 0} (P : X → Type 0) (xs : List X) (x : X) → AllByRecursion P xs → P x → AllByRecursion P (xs ++ x ∷ [])
-all_more P [] x all h = (h, tt)
-all_more P (y ∷ ys) x all h = (all.0, all_more P ys x all.1 h)
 
 -- ---- a row fits a table of the columns
 pub record_fits : (p : Settings) (columns : List ReadColumn) (count : ℕ) (fields : List (List ℕ)) (row : Row) (below : List Column) → below ≡ map column_for (components_in columns) → record_row p columns count fields ≡ Ok row → fits below row ≡ true

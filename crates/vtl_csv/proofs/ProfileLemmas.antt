@@ -4,6 +4,7 @@ use Rattle.std.specs.Prelude.{◌==◌, ◌/◌, ◌%◌, IsOk, Result, ℤ, cha
 use Rattle.std.specs.List.{zip, AllByRecursion}
 use Rattle.std.specs.Result.{result_ok}
 use Rattle.std.specs.Str.{is_utf8}
+use Rattle.vtl_lists.proofs.Alls.{all_push}
 use Rattle.vtl_decimal.specs.declared.number.Fault.{Fault}
 use Rattle.vtl_decimal.specs.declared.number.Fault.TheVariants.{Range}
 use Rattle.vtl_decimal.specs.Numeral.{denominator, integer_of, integer_read, integer_spelled, number_read, numeral_of, numerator, signed}
@@ -25,7 +26,7 @@ use Rattle.vtl_csv.specs.declared.input.InputKind.{InputKind}
 use Rattle.vtl_csv.specs.declared.input.InputKind.TheVariants as i
 use Rattle.vtl_csv.specs.InputFields.{ReadColumn, at_column, coded_cell, field_cell, is_coded, most_points, record_row, row_with, text_cell}
 use Rattle.vtl_csv.specs.StructuresFile.{is_identifier}
-use Rattle.vtl_csv.proofs.InputPointLemmas.{all_more, ok_if, ok_same, ok_unless}
+use Rattle.vtl_csv.proofs.InputPointLemmas.{ok_if, ok_same, ok_unless}
 
 -- ---- integers that are read
 some_if : {X : Type 0} (b : Bool) (o : Option X) (x : X) → cond b o None ≡ Some x → o ≡ Some x
@@ -89,7 +90,7 @@ row_fits p (x ∷ xs) row out all e = go (field_cell p x.0 x.1) refl (λ longer.
         → ((longer : Row) → AllByRecursion (IsOfProfile p) longer → row_with p longer xs ≡ Ok out → AllByRecursion (IsOfProfile p) out)
         → at_column row (λ longer. row_with p longer xs) r ≡ Ok out → AllByRecursion (IsOfProfile p) out
     go (Err kind) t ih q = cc
-    go (Ok v) t ih q = ih (row ++ v ∷ []) (all_more (IsOfProfile p) row v all (field_fits p x.0 x.1 v t)) q
+    go (Ok v) t ih q = ih (row ++ v ∷ []) (all_push (IsOfProfile p) row v all (field_fits p x.0 x.1 v t)) q
 
 pub record_of_profile : (p : Settings) (columns : List ReadColumn) (count : ℕ) (fields : List (List ℕ)) (row : Row) → record_row p columns count fields ≡ Ok row → AllByRecursion (IsOfProfile p) row
 record_of_profile p columns count fields row e =

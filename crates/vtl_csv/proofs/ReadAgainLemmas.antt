@@ -20,11 +20,13 @@ use Rattle.vtl_lists.proofs.Aparts.{all_apart-Perm, apart_parts}
 use Rattle.vtl_lists.specs.Sorting.{le_by, sorted_by}
 use Rattle.vtl_lists.proofs.Perms.{AllByRecursion-Perm, Perm-append_back, Perm-middle, Perm-sym, length-Perm}
 use Rattle.vtl_lists.proofs.Sorts.{Perm-sorted_by}
+use Rattle.vtl_lists.proofs.Tests.{and_false}
 use Rattle.vtl_cell.specs.Row.{Row, column_of, row_cmp, same_key, same_row}
 use Rattle.vtl_cell.specs.Writing.{text_of}
 use Rattle.vtl_cell.proofs.Rows.{row_order, same_key-sym}
 use Rattle.vtl_rows.specs.Keys.{agree}
 use Rattle.vtl_rows.specs.Tables.{cells_at}
+use Rattle.vtl_rows.proofs.PlacesStay.{cells_stay}
 use Rattle.vtl_tree.specs.DataSet.{IsDataSet}
 use Rattle.vtl_tree.specs.Structure.{IsStructure, columns_of, key_width, names_of, same_name, same_role}
 use Rattle.vtl_tree.specs.declared.structure.Role.{Role}
@@ -38,7 +40,7 @@ use Rattle.vtl_csv.specs.StructuresFile.{records_in}
 use Rattle.vtl_csv.specs.ReadAgain.{IsReadable, IsUnmarked}
 use Rattle.vtl_csv.proofs.FieldAgainLemmas.{AreReadAgain, points_again}
 use Rattle.vtl_csv.proofs.RecordsLeftLemmas.{records_from-none}
-use Rattle.vtl_csv.proofs.TableTextLemmas.{whole_each, whole_row}
+use Rattle.vtl_csv.proofs.TableTextLemmas.{whole_each}
 
 -- ---- the records of a text that is written
 written_records : (n : ℕ) (rows : List (List (List ℕ))) → length rows ≤ n → records_from default_config n st.StartRecord (flat_map (row_text default_writer) rows) ≡ map read_back rows
@@ -89,7 +91,7 @@ record_again p columns count r few all =
 
 -- the identifiers at the first places are the first cells
 first_cells : (n k : ℕ) (r : Row) → length r ≡ n → cells_at (take k (range_with_len 0 n)) r ≡ take k r
-first_cells n k r e = sym (take-map (λ i. column_of i r) k (range_with_len 0 n)) ∙ ap (take k) (whole_row n r e)
+first_cells n k r e = sym (take-map (λ i. column_of i r) k (range_with_len 0 n)) ∙ ap (take k) (cells_stay n r e)
 
 no_repeat : (n k : ℕ) (rows : List Row) (r : Row) → length r ≡ n → AllByRecursion (λ q. length q ≡ n) rows → AllByRecursion (λ b. same_key k r b ≡ false) rows → is_repeat (take k (range_with_len 0 n)) rows r ≡ false
 no_repeat n k [] r e wide differ = refl
@@ -261,11 +263,7 @@ records_again fields unmarked back =
     ap (records default_config) unmarked ∙ written_records (length (flat_map (row_text default_writer) fields) + 1) fields (omega (arith, l)) ∙ back
 
 -- ---- no mark at the start
-and_no : (b : Bool) → (b && false) ≡ false
-and_no true = refl
-and_no false = refl
-
-no_mark_here : (a b c : ℕ) (rest : List ℕ) → strip_bom (a ∷ b ∷ c ∷ rest) ≡ a ∷ b ∷ c ∷ rest → is_bom a b c ≡ false
+pub no_mark_here : (a b c : ℕ) (rest : List ℕ) → strip_bom (a ∷ b ∷ c ∷ rest) ≡ a ∷ b ∷ c ∷ rest → is_bom a b c ≡ false
 unfolding strip_bom
 no_mark_here a b c rest e = go (is_bom a b c) e
   where
@@ -273,37 +271,37 @@ no_mark_here a b c rest e = go (is_bom a b c) e
     go false h = refl
     go true h = absurd (let l = ap length h in omega (arith, l))
 
-empty_unmarked : strip_bom [] ≡ []
+pub empty_unmarked : strip_bom [] ≡ []
 unfolding strip_bom
 empty_unmarked = refl
 
 -- a text with no mark has none where a byte of ASCII follows
-goes_on : (f : List ℕ) (h : ℕ) (t : List ℕ) → h < 128 → strip_bom f ≡ f → strip_bom (f ++ h ∷ t) ≡ f ++ h ∷ t
+pub goes_on : (f : List ℕ) (h : ℕ) (t : List ℕ) → h < 128 → strip_bom f ≡ f → strip_bom (f ++ h ∷ t) ≡ f ++ h ∷ t
 unfolding strip_bom
 goes_on [] h [] few e = refl
 goes_on [] h (b ∷ []) few e = refl
 goes_on [] h (b ∷ c ∷ t) few e = let n : (h == 239) ≡ false = ne_eqb h 239 (λ z. omega (arith, z, few)) in rw n refl
 goes_on (a ∷ []) h [] few e = refl
-goes_on (a ∷ []) h (c ∷ t) few e = let n : (h == 187) ≡ false = ne_eqb h 187 (λ z. omega (arith, z, few)) in rw (n, and_no (a == 239)) refl
-goes_on (a ∷ b ∷ []) h t few e = let n : (h == 191) ≡ false = ne_eqb h 191 (λ z. omega (arith, z, few)) in rw (n, and_no ((a == 239) && (b == 187))) refl
+goes_on (a ∷ []) h (c ∷ t) few e = let n : (h == 187) ≡ false = ne_eqb h 187 (λ z. omega (arith, z, few)) in rw (n, and_false (a == 239)) refl
+goes_on (a ∷ b ∷ []) h t few e = let n : (h == 191) ≡ false = ne_eqb h 191 (λ z. omega (arith, z, few)) in rw (n, and_false ((a == 239) && (b == 187))) refl
 goes_on (a ∷ b ∷ c ∷ f) h t few e = rw (no_mark_here a b c f e) refl
 
 -- a field begins with no mark, nor does a record
-field_goes_on : (f : List ℕ) (h : ℕ) (t : List ℕ) → h < 128 → strip_bom f ≡ f → strip_bom (field_text default_writer f ++ h ∷ t) ≡ field_text default_writer f ++ h ∷ t
+pub field_goes_on : (f : List ℕ) (h : ℕ) (t : List ℕ) → h < 128 → strip_bom f ≡ f → strip_bom (field_text default_writer f ++ h ∷ t) ≡ field_text default_writer f ++ h ∷ t
 field_goes_on f h t few e = go (needs_quotes default_writer f)
   where
     go : (b : Bool) → strip_bom (cond b (quoted default_writer f) f ++ h ∷ t) ≡ cond b (quoted default_writer f) f ++ h ∷ t
     go false = goes_on f h t few e
     go true = goes_on [] 34 ((escaped default_writer f ++ (34 ∷ [])) ++ h ∷ t) (lit< tt) empty_unmarked
 
-followed : (fields : List (List ℕ)) (blank : Bool) (rest : List ℕ)
+pub followed : (fields : List (List ℕ)) (blank : Bool) (rest : List ℕ)
     → (h : ℕ) × (t : List ℕ) × ((fields_text default_writer fields ++ (cond blank (34 ∷ 34 ∷ []) [] ++ (10 ∷ []))) ++ rest ≡ h ∷ t) × (h < 128)
 unfolding fields_text
 followed [] true rest = (34, 34 ∷ 10 ∷ rest, refl, lit< tt)
 followed [] false rest = (10, rest, refl, lit< tt)
 followed (g ∷ gs) blank rest = (44, ((field_text default_writer g ++ fields_text default_writer gs) ++ (cond blank (34 ∷ 34 ∷ []) [] ++ (10 ∷ []))) ++ rest, refl, lit< tt)
 
-record_unmarked : (f : List ℕ) (fs : List (List ℕ)) (rest : List ℕ) → strip_bom f ≡ f → strip_bom (row_text default_writer (f ∷ fs) ++ rest) ≡ row_text default_writer (f ∷ fs) ++ rest
+pub record_unmarked : (f : List ℕ) (fs : List (List ℕ)) (rest : List ℕ) → strip_bom f ≡ f → strip_bom (row_text default_writer (f ∷ fs) ++ rest) ≡ row_text default_writer (f ∷ fs) ++ rest
 record_unmarked f fs rest e =
     let blank = is_blank default_writer (f ∷ fs) in
     let tail = cond blank (34 ∷ 34 ∷ []) [] ++ (10 ∷ []) in

@@ -7,13 +7,13 @@ use Rattle.std.specs.declared.cmp.Ordering.TheVariants.{Less, Equal, Greater}
 use Rattle.std.proofs.Math.Seq.{drop-cons}
 use Rattle.std.proofs.lemmas.List.{length-map, get_or-map, map-append}
 use Rattle.std.proofs.lemmas.List.Elements.{All-append, recursion_from_All}
-use Rattle.std.proofs.lemmas.List.FromFn.{fill_by_all, get_or-range_with_len, length-range_with_len}
 use Rattle.vtl_decimal.specs.Settings.{Settings}
 use Rattle.vtl_lists.specs.Apart.{all_apart}
 use Rattle.vtl_lists.specs.Sorting.{insert_by, le_by, sorted_by}
 use Rattle.vtl_lists.proofs.Aparts.{apart_parts}
 use Rattle.vtl_lists.proofs.Perms.{AllByRecursion-Perm, Perm-sym}
 use Rattle.vtl_lists.proofs.Sorts.{Perm-sorted_by}
+use Rattle.vtl_lists.proofs.Filters.{first_within}
 use Rattle.vtl_cell.specs.declared.cell.Cell.TheVariants as c
 use Rattle.vtl_cell.specs.Row.{Row, column_of, row_cmp, same_key, same_row}
 use Rattle.vtl_cell.specs.Sorted.{by_keys, rising}
@@ -24,15 +24,13 @@ use Rattle.vtl_rows.specs.Keys.{agree, key_of, ordered}
 use Rattle.vtl_rows.specs.Tables.{Listed, cells_at}
 use Rattle.vtl_rows.proofs.AllColumns.{first_keys}
 use Rattle.vtl_rows.proofs.Ties.{ties_agree}
+use Rattle.vtl_rows.proofs.PlacesStay.{cells_stay}
 use Rattle.vtl_csv.specs.TableText.{all_places, in_listed_order, rows_text, table_text, whole_rows}
 
 -- ---- all cells of a row
-pub whole_row : (n : ℕ) (r : Row) → length r ≡ n → cells_at (range_with_len 0 n) r ≡ r
-whole_row n r e = sym (fill_by_all (λ i. column_of i r) r n c.Null e (λ k h. refl))
-
 pub whole_each : (n : ℕ) (rows : List Row) → AllByRecursion (λ r. length r ≡ n) rows → map (cells_at (range_with_len 0 n)) rows ≡ rows
 whole_each n [] all = refl
-whole_each n (r ∷ rows) all = ap (λ x. x ∷ map (cells_at (range_with_len 0 n)) rows) (whole_row n r all.0) ∙ ap (λ l. r ∷ l) (whole_each n rows all.1)
+whole_each n (r ∷ rows) all = ap (λ x. x ∷ map (cells_at (range_with_len 0 n)) rows) (cells_stay n r all.0) ∙ ap (λ l. r ∷ l) (whole_each n rows all.1)
 
 whole_is : (columns : List Column) (rows : List Row) → All (λ r. length r ≡ length columns) rows → whole_rows columns rows ≡ rows
 whole_is columns rows wide = whole_each (length columns) rows (recursion_from_All (λ r. length r ≡ length columns) rows wide)
@@ -48,13 +46,6 @@ key_places keys places n k d e all h =
 -- keys of columns that there are
 keys_within : (keys : List SortKey) (places : List ℕ) (n : ℕ) → map key_of keys ≡ map rising places → All (λ i. i < n) places → All (λ k. k.column < n) keys
 keys_within keys places n e all k d h = key_places keys places n k d e all h
-
-first_within : (n : ℕ) → All (λ i. i < n) (range_with_len 0 n)
-first_within n k d h =
-    let l = length-range_with_len 0 n in
-    let k' : k < n = omega (arith, l, h) in
-    let e = get_or-range_with_len 0 n k d k' in
-    omega (arith, e, k')
 
 -- the keys of all places are those of columns that there are
 pub first_keys_within : (keys : List SortKey) (m n : ℕ) → map key_of keys ≡ map rising (range_with_len 0 m) → m ≤ n → All (λ k. k.column < n) keys

@@ -1,5 +1,5 @@
 -- The numbers that digits write.
-use Rattle.std.proofs.Common.{ℕ, zero, suc, ◌+◌, ◌-◌, ◌*◌, ◌^◌, ◌<◌, ◌≤◌, ◌≡◌, Bool, true, false, List, [], ◌∷◌, ◌++◌, length, drop, take, get_or, refl, ap, arith, sym, ◌∙◌, drop-cons, add-one, pow-suc}
+use Rattle.std.proofs.Common.{ℕ, zero, suc, ◌+◌, ◌-◌, ◌*◌, ◌^◌, ◌<◌, ◌≤◌, ◌≡◌, true, List, [], ◌∷◌, ◌++◌, length, drop, take, get_or, refl, ap, arith, sym, ◌∙◌, drop-cons, add-one, pow-suc}
 use Rattle.std.specs.Prelude.{IsTrue, ◌&&◌}
 use Rattle.std.specs.Char.{is_ascii_digit, digit_value}
 use Rattle.std.specs.List.{list_all}
@@ -10,6 +10,7 @@ use Rattle.std.proofs.lemmas.List.Recursion.{and_at}
 use Rattle.std.proofs.lemmas.Str.Parse.{numerals_by_value, tells_all_ascii_digits}
 use Rattle.std.specs.Cmp.Derive.{both_true}
 use Rattle.std.specs.Str.{all_ascii_digits}
+use Rattle.std.proofs.lemmas.Bool.{and_parts}
 
 -- more digits make no number smaller
 pub value_after-grows : (n : ℕ) (ds : List ℕ) → n ≤ digits_value_after 10 n ds
@@ -48,18 +49,14 @@ all_digits ds h = (numerals_by_value (λ t. all_ascii_digits t ≡ true) tells_a
 pub value-lt : (ds : List ℕ) → IsTrue (all_ascii_digits ds) → digits_value 10 ds < 10 ^ length ds
 value-lt ds h = digits_value-lt 10 ds (all_digits ds h)
 
-both_hold : (a b : Bool) → (a && b) ≡ true → (a ≡ true) × (b ≡ true)
-both_hold true b h = (refl, h)
-both_hold false b h = cc
-
 -- the digits behind the first
 pub digits_tail : (d : ℕ) (ds : List ℕ) → IsTrue (all_ascii_digits (d ∷ ds)) → IsTrue (all_ascii_digits ds)
-digits_tail d ds h = (both_hold (is_ascii_digit d) (all_ascii_digits ds) h).1
+digits_tail d ds h = (and_parts (is_ascii_digit d) (all_ascii_digits ds) h).1
 
 pub all_ascii_digits-append : (xs ys : List ℕ) → IsTrue (all_ascii_digits xs) → IsTrue (all_ascii_digits ys) → IsTrue (all_ascii_digits (xs ++ ys))
 all_ascii_digits-append [] ys h k = k
 all_ascii_digits-append (x ∷ xs) ys h k =
-    let parts = both_hold (is_ascii_digit x) (all_ascii_digits xs) h in
+    let parts = and_parts (is_ascii_digit x) (all_ascii_digits xs) h in
     both_true parts.0 (all_ascii_digits-append xs ys parts.1 k)
 
 -- digits behind digits
@@ -111,7 +108,7 @@ pub digits_taken : (i : ℕ) (ds : List ℕ) → IsTrue (all_ascii_digits ds) �
 digits_taken zero ds h = refl
 digits_taken (suc i) [] h = refl
 digits_taken (suc i) (d ∷ ds) h =
-    let parts = both_hold (is_ascii_digit d) (all_ascii_digits ds) h in
+    let parts = and_parts (is_ascii_digit d) (all_ascii_digits ds) h in
     both_true parts.0 (digits_taken i ds parts.1)
 
 pub digits_dropped : (i : ℕ) (ds : List ℕ) → IsTrue (all_ascii_digits ds) → IsTrue (all_ascii_digits (drop i ds))

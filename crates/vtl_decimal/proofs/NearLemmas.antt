@@ -1,7 +1,7 @@
 -- A rounded quotient is near, and turns its sign with the dividend.
 use Rattle.std.proofs.Common.{ℕ, zero, suc, ℤ, pos, negsuc, neg_ℤ, ◌-ℤ◌, ◌*ℤ◌, ◌≡◌, ◌+◌, ◌-◌, ◌*◌, ◌/◌, ◌%◌, ◌<◌, ◌≤◌, inl, inr, Bool, true, false, cond, refl, ap, sym, subst, ◌∙◌, arith}
 use Rattle.std.specs.Prelude.{unsigned_abs, nat_lt, ◌==◌, ◌&&◌, ◌||◌}
-use Rattle.std.proofs.lemmas.Bool.{and_parts, or_cases, eq-eqb, eqb-true, eqb-false, ltb-true, ltb-false, leb-true, leb-false, false≢true}
+use Rattle.std.proofs.lemmas.Bool.{and_parts, or_cases, eq-eqb, eqb-true, eqb-false, ltb-true, ltb-false, leb-true, leb-false, false≢true, or_parts}
 use Rattle.std.proofs.lemmas.Int.{ints, unsigned_abs-mul}
 use Rattle.std.proofs.lemmas.Nat.{div-add-mod'}
 use Rattle.std.proofs.Math.IntN.{negsuc-*ℤ-pos, pos-*ℤ-negsuc, *ℤ-negsuc, zero-*ℤ, neg_ℤ-neg_ℤ}
@@ -11,10 +11,6 @@ use Rattle.vtl_decimal.specs.Rounding.{rounds_up, rounded_size, rounded_quotient
 use Rattle.vtl_decimal.proofs.RoundingLemmas.{rounded_size_within}
 
 -- ---- sizes
-neither : (a b : Bool) → (a || b) ≡ false → (a ≡ false) × (b ≡ false)
-neither true b h = absurd (false≢true (sym h))
-neither false b h = (refl, h)
-
 even_at_tie : (z r q : ℕ) → 2 * r ≡ q → ((2 * r == q) && (z % 2 == 1)) ≡ false → z % 2 ≡ 0
 even_at_tie z r q tie no_ =
     let not_odd : (z % 2 == 1) ≡ false = ap (λ b. b && (z % 2 == 1)) (sym (eq-eqb (2 * r) q tie)) ∙ no_ in
@@ -25,7 +21,7 @@ even_at_tie z r q tie no_ =
 as_it_is : (m : Rounding) (z r q : ℕ) → r < q → rounds_up m z r q ≡ false → IsNearBySizes m (z * q + r) q z (z * q) r
 as_it_is HalfUp z r q small down = let low = leb-false q (2 * r) down in (omega arith, λ tie. absurd (omega arith))
 as_it_is HalfEven z r q small down =
-    let no_ = neither (nat_lt q (2 * r)) ((2 * r == q) && (z % 2 == 1)) down in
+    let no_ = or_parts (nat_lt q (2 * r)) ((2 * r == q) && (z % 2 == 1)) down in
     (ltb-false q (2 * r) no_.0, λ tie. even_at_tie z r q tie no_.1)
 as_it_is Down z r q small down = (small, omega arith)
 
@@ -144,7 +140,7 @@ rounded_near m (negsuc p) (negsuc q) h =
     (sym (ap (λ x. unsigned_abs (negsuc p -ℤ x)) (by_negative k q) ∙ away)) s.near
 
 -- ---- the sign turns with the dividend
-nothing_rounded : (m : Rounding) (q : ℕ) → 0 < q → rounded_size m 0 q ≡ 0
+pub nothing_rounded : (m : Rounding) (q : ℕ) → 0 < q → rounded_size m 0 q ≡ 0
 nothing_rounded m q h = omega (arith, rounded_size_within m 0 q 0 h (omega arith))
 
 pub rounded_odd : (m : Rounding) (p q : ℤ) → 0 < unsigned_abs q → rounded_quotient m (neg_ℤ p) q ≡ neg_ℤ (rounded_quotient m p q)

@@ -1,17 +1,14 @@
 -- What every numeral that is read keeps.
-use Rattle.std.proofs.Common.{ℕ, ℤ, ◌≡◌, ◌<◌, List, Option, Some, None, sym, arith, Bool, true, false, refl}
+use Rattle.std.proofs.Common.{ℕ, ℤ, ◌≡◌, ◌<◌, List, Option, Some, None, sym, arith, refl}
 use Rattle.std.specs.Prelude.{unsigned_abs, IfSome}
 use Rattle.std.specs.Option.{option_map}
 use Rattle.std.specs.Str.Parse.{digits_value}
-use Rattle.vtl_decimal.specs.Numeral.{Numeral, signed, IsExponent, no_exponent, times_ten_to, numeral_of}
+use Rattle.vtl_decimal.specs.Numeral.{Numeral, IsExponent, no_exponent, times_ten_to, numeral_of}
 use Rattle.vtl_decimal.specs.declared.parse.Numeral.{Numeral as Parsed}
 use Rattle.vtl_decimal.specs.Parsed.{IsTakenApart, numeral_view}
 use Rattle.vtl_decimal.proofs.DigitLemmas.{value_of_three}
 use Rattle.vtl_decimal.proofs.SpellingLemmas.{numeral_spelled}
-
-signed_size : (negative : Bool) (n : ℕ) → unsigned_abs (signed negative n) ≡ n
-signed_size false n = refl
-signed_size true n = grind arith
+use Rattle.vtl_decimal.proofs.ValueLemmas.{signed_size}
 
 exponent_small : (power : List ℕ) (e : ℤ) → IsExponent power e → unsigned_abs e < 1000
 exponent_small _ _ no_exponent = omega arith

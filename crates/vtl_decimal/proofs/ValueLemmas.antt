@@ -13,8 +13,8 @@ use Rattle.vtl_decimal.specs.Range.{fit_number}
 use Rattle.vtl_decimal.specs.Rounding.{rounds_up, rounded_size, rounded_quotient}
 use Rattle.vtl_decimal.specs.Settings.{Settings}
 use Rattle.vtl_decimal.proofs.ReadingLemmas.{spelled_numeral}
-use Rattle.vtl_decimal.proofs.RoundingLemmas.{rounded_size_within}
 use Rattle.vtl_decimal.proofs.SpellingLemmas.{and_then_some, numeral_spelled}
+use Rattle.vtl_decimal.proofs.NearLemmas.{nothing_rounded}
 
 pub denominator_some : (n : Numeral) → 0 < denominator n
 denominator_some n = one-le-pow _ 10 (omega arith)
@@ -22,14 +22,11 @@ denominator_some n = one-le-pow _ 10 (omega arith)
 one_after : (n : ℕ) → n + 1 ≡ suc n
 one_after n = omega arith
 
-rounded_zero : (m : Rounding) (q : ℕ) → 0 < q → rounded_size m 0 q ≡ 0
-rounded_zero m q h = omega (arith, rounded_size_within m 0 q 0 h (omega arith))
-
 -- the sign stands before the rounded size
 pub rounded_signed : (m : Rounding) (negative : Bool) (p q : ℕ) → 0 < q → rounded_quotient m (signed negative p) (pos q) ≡ signed negative (rounded_size m p q)
 rounded_signed m false p q h = refl
 rounded_signed m true zero q h =
-    let none = rounded_zero m q h in
+    let none = nothing_rounded m q h in
     ap pos none ∙ ap (λ v. neg_ℤ (pos v)) (sym none)
 rounded_signed m true (suc p) q h = ap (λ v. neg_ℤ (pos (rounded_size m v q))) (one_after p)
 

@@ -34,7 +34,7 @@ last_digits_done w i n t h =
     ap (λ k. last_digits k n ++ t) none ∙ ap (λ l. l ++ t) (last_digits-none n)
 
 -- ---- behind the point
-shortest_digits-suc : (w n : ℕ) → shortest_digits (suc w) n ≡ cond (n % 10 == 0) (shortest_digits w (n / 10)) (last_digits (suc w) n)
+pub shortest_digits-suc : (w n : ℕ) → shortest_digits (suc w) n ≡ cond (n % 10 == 0) (shortest_digits w (n / 10)) (last_digits (suc w) n)
 unfolding shortest_digits
 shortest_digits-suc w n = refl
 

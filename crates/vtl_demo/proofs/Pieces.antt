@@ -3,7 +3,7 @@ use Rattle.std.proofs.Common.{◌≡◌, ◌+◌, ◌∷◌, ◌++◌, ◌&&◌,
 use Rattle.std.specs.Char.{is_ascii_alphabetic, is_ascii_digit}
 use Rattle.std.specs.List.{list_all, slice_get}
 use Rattle.std.specs.Option.{is_none, is_some, unwrap_or}
-use Rattle.std.proofs.lemmas.Bool.{and_parts, false≢true}
+use Rattle.std.proofs.lemmas.Bool.{and_parts, false≢true, not-true}
 use Rattle.vtl_text.specs.Words.{is_name, is_word_character}
 use Rattle.vtl_lists.specs.Runs.{begins_with}
 use Rattle.vtl_lexer.specs.Found.{IsTokenOf, IsWordKind}
@@ -104,10 +104,6 @@ token-before at kind bytes rest tokens token more =
 letter-lead : (word rest : List ℕ) → begins_with is_ascii_alphabetic word ≡ true → lead_of (word ++ rest) ≡ lead_of (65 ∷ [])
 letter-lead [] rest e = absurd (false≢true e)
 letter-lead (byte ∷ word) rest e = rw e refl
-
-not-true : (b : Bool) → not b ≡ true → b ≡ false
-not-true true e = absurd (false≢true e)
-not-true false e = refl
 
 apart-run : (word rest : List ℕ) → list_all is_word_character word ≡ true → begins_with is_word_character rest ≡ false → IsRun is_word_character (word ++ rest) (length word)
 apart-run word rest all stops = record {

@@ -4,13 +4,14 @@ use Rattle.std.specs.Prelude.{slice_get}
 use Rattle.std.specs.List.{position_or_len}
 use Rattle.std.proofs.lemmas.List.Folds.{find_at}
 use Rattle.std.proofs.lemmas.Option.{slice_get-get_or, slice_get_past}
+use Rattle.vtl_lists.proofs.Alls.{all_more}
 use Rattle.vtl_cell.specs.Row.{Row, same_row}
 use Rattle.vtl_rows.specs.Tables.{cells_at}
 use Rattle.vtl_tree.specs.DataSet.{IsDataSet, is_point, look}
 use Rattle.vtl_tree.specs.Structure.{columns_of, key_width}
 use Rattle.vtl_tree.specs.declared.structure.Structure.{Structure}
 use Rattle.vtl_tree.specs.Columns.{identifiers_of, places_in}
-use Rattle.vtl_meaning.proofs.Places.{all_more, key_cells, key_within}
+use Rattle.vtl_meaning.proofs.Places.{key_cells, key_within}
 use Rattle.vtl_expr.specs.Partners.{AreFirst}
 
 -- the first point whose cells at these columns are sought is the one that a look-up gives

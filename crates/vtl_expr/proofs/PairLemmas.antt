@@ -3,6 +3,7 @@ use Rattle.std.proofs.Common.{◌≡◌, ℕ, ◌+◌, Bool, List, ◌++◌, tru
 use Rattle.std.specs.List.{flat_map}
 use Rattle.std.specs.Option.{option_map, option_to_list}
 use Rattle.std.proofs.lemmas.List.{length-map}
+use Rattle.vtl_lists.proofs.Alls.{all_more}
 use Rattle.vtl_decimal.specs.Settings.{Settings}
 use Rattle.vtl_cell.specs.Row.{Row}
 use Rattle.vtl_cell.specs.declared.operator.ScalarOp.{ScalarOp}
@@ -21,7 +22,7 @@ use Rattle.vtl_meaning.specs.Made.{AreFor}
 use Rattle.vtl_meaning.specs.Operators.{for_measures, pair_columns, pair_exps, pairs_of, with_namesake}
 use Rattle.vtl_meaning.specs.Points.{beside, paired, point_of}
 use Rattle.vtl_meaning.proofs.Kept.{look_is}
-use Rattle.vtl_meaning.proofs.Places.{all_more, point_append}
+use Rattle.vtl_meaning.proofs.Places.{point_append}
 use Rattle.vtl_expr.specs.Partners.{AllFit, Sought, found, sought_by, with_found}
 use Rattle.vtl_expr.specs.Sides.{left_column, right_column, side_column}
 use Rattle.vtl_expr.specs.declared.namesakes.Side.{Side}

@@ -1,7 +1,7 @@
 -- What stands between two tokens is white space, and keeps them apart.
 use Rattle.std.proofs.Common.{◌≡◌, ◌-◌, ◌*◌, ◌∷◌, ◌++◌, ◌∙◌, ◌==◌, ◌||◌, ◌&&◌, ◌⊎◌, [], ℕ, zero, suc, List, Bool, true, false, not, cond, replicate, ap, refl, arith, inl, inr}
 use Rattle.std.specs.List.{list_all}
-use Rattle.std.proofs.lemmas.Bool.{and_parts, false≢true}
+use Rattle.std.proofs.lemmas.Bool.{and_parts, or_left, or_right}
 use Rattle.std.proofs.lemmas.Bool.Decides.{nat_tests}
 use Rattle.vtl_lists.specs.Runs.{begins_with}
 use Rattle.vtl_text.specs.Words.{is_word_character}
@@ -120,14 +120,6 @@ tight-parts true on call e = inr (inl refl)
 tight-parts false true call e = inl refl
 tight-parts false false call e = inr (inr e)
 
-or-left : (a b : Bool) → a ≡ true → (a || b) ≡ true
-or-left true b e = refl
-or-left false b e = absurd (false≢true e)
-
-or-right : (a b : Bool) → b ≡ true → (a || b) ≡ true
-or-right true b e = refl
-or-right false b e = e
-
 mark-apart : (a b : TokenKind) (bytes rest : List ℕ) → is_mark b ≡ true → Spells b bytes → begins_with (joins a) (bytes ++ rest) ≡ false
 mark-apart a b bytes rest mark spelled =
     let quiet = mark-quiet b bytes mark spelled in
@@ -138,8 +130,8 @@ tight-apart a b bytes rest tight spelled = by (tight-parts (leans_back b) (leans
   where
     by : (leans_on a ≡ true) ⊎ ((leans_back b ≡ true) ⊎ ((is_open_bracket b && is_call a) ≡ true)) → begins_with (joins a) (bytes ++ rest) ≡ false
     by (inl on) = leans-joins a (bytes ++ rest) on
-    by (inr (inl back)) = mark-apart a b bytes rest (or-left (leans_back b) (is_open_bracket b) back) spelled
-    by (inr (inr call)) = mark-apart a b bytes rest (or-right (leans_back b) (is_open_bracket b) (and_parts (is_open_bracket b) (is_call a) call).0) spelled
+    by (inr (inl back)) = mark-apart a b bytes rest (or_left (leans_back b) (is_open_bracket b) back) spelled
+    by (inr (inr call)) = mark-apart a b bytes rest (or_right (leans_back b) (is_open_bracket b) (and_parts (is_open_bracket b) (is_call a) call).0) spelled
 
 -- with its gap before it, a token does not go on the one before
 pub apart : (way : Style) (depth : ℕ) (a b : TokenKind) (bytes rest : List ℕ) → Spells b bytes → begins_with (joins a) (gap_text (gap_between way depth a b) ++ (bytes ++ rest)) ≡ false

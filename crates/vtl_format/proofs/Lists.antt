@@ -17,21 +17,8 @@ use Rattle.vtl_format.specs.declared.gaps.Style.{Style}
 
 -- ---- what holds of each
 
-pub all-drop : {X : Type 0} (P : X → Type 0) (i : ℕ) (xs : List X) → AllByRecursion P xs → AllByRecursion P (drop i xs)
-all-drop P zero xs all = all
-all-drop P (suc i) [] all = tt
-all-drop P (suc i) (x ∷ xs) all = all-drop P i xs all.1
-
-pub all-more : {X : Type 0} (P : X → Type 0) (xs : List X) (x : X) → AllByRecursion P xs → P x → AllByRecursion P (xs ++ x ∷ [])
-all-more P [] x all one = (one, tt)
-all-more P (first ∷ xs) x all one = (all.0, all-more P xs x all.1 one)
-
 pub all-front : {X : Type 0} (P : X → Type 0) (xs : List X) (x : X) (rest : List X) → xs ≡ x ∷ rest → AllByRecursion P xs → P x × AllByRecursion P rest
 all-front P xs x rest e all = subst (AllByRecursion P) e all
-
-pub none-left : {X : Type 0} (xs : List X) → length xs ≡ 0 → xs ≡ []
-none-left [] e = refl
-none-left (x ∷ xs) e = absurd (omega arith)
 
 pub drop-past : {X : Type 0} (i : ℕ) (xs : List X) → length xs ≤ i → drop i xs ≡ []
 drop-past zero [] past = refl

@@ -2,12 +2,12 @@
 use Rattle.std.proofs.Common.{◌≡◌, ◌<◌, ◌+◌, ◌∷◌, ◌++◌, ◌∙◌, ◌==◌, [], ℕ, List, Bool, true, false, cond, append_assoc, append-nil, sym, ap, subst, refl, arith}
 use Rattle.std.specs.List.{AllByRecursion}
 use Rattle.std.proofs.lemmas.Bool.Decides.{nat_tests}
+use Rattle.vtl_lists.proofs.Alls.{all_push}
 use Rattle.vtl_lexer.specs.Pieces.{IsRemark, IsWritable, Piece, Stands, a_comment, a_token, stands_comment, stands_nothing, stands_space}
 use Rattle.vtl_format.specs.Form.{Remark, ends_statement, form_from, is_inside, lexeme, lexemes, remark, remark_lines, remarks_from, statements, with_first}
 use Rattle.vtl_format.specs.Layout.{Lexeme, statement_form, statement_style}
 use Rattle.vtl_format.specs.Written.{last_form, written}
 use Rattle.vtl_format.proofs.Laid.{IsSpelled, laid-stands, token_pieces}
-use Rattle.vtl_format.proofs.Lists.{all-more}
 
 -- ---- the pieces in the order in which they are written: the comments of a statement before its tokens
 
@@ -40,7 +40,7 @@ written-stands inside held (a_comment bytes ∷ pieces) spelled writable =
     comment-stands bytes (written inside held pieces) (order inside held pieces) writable.0 (written-stands inside held pieces spelled writable.1)
 written-stands inside held (a_token kind bytes ∷ pieces) spelled writable =
     let whole = held ++ lexeme kind bytes ∷ [] in
-    let more : AllByRecursion IsSpelled whole = all-more IsSpelled held (lexeme kind bytes) spelled writable.0 in
+    let more : AllByRecursion IsSpelled whole = all_push IsSpelled held (lexeme kind bytes) spelled writable.0 in
     choice-stands (ends_statement inside kind) (statement_form whole ++ 10 ∷ written false [] pieces) (written (is_inside inside kind) whole pieces) (token_pieces whole ++ order false [] pieces)
     (order (is_inside inside kind) whole pieces)
     (laid-stands (statement_style whole) 0 whole (written false [] pieces) (order false [] pieces) more (written-stands false [] pieces tt writable.1))

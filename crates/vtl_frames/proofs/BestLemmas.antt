@@ -18,6 +18,7 @@ use Rattle.vtl_frames.specs.Picks.{cell_or}
 use Rattle.std.specs.Option.{option_to_list}
 use Rattle.std.proofs.lemmas.List.{append-nil, length_push}
 use Rattle.std.proofs.lemmas.List.Elements.{All-pop}
+use Rattle.vtl_lists.proofs.Tests.{or_false}
 
 -- ---- the end of a queue
 last_more : (beaten : ℕ → Bool) (ks : List ℕ) (k : ℕ) → is_last_beaten beaten (ks ++ k ∷ []) ≡ beaten k
@@ -96,10 +97,6 @@ without_front le at place ks all = go (not (is_null (at place)) && not (is_beate
     go false = other_stays place (best_places le at ks) (best_all (λ k. place < k) le at ks all)
 
 -- ---- one place more
-or_false : (b : Bool) → (b || false) ≡ b
-or_false true = refl
-or_false false = refl
-
 or_assoc : (a b d : Bool) → (a || (b || d)) ≡ ((a || b) || d)
 or_assoc true b d = refl
 or_assoc false b d = refl

@@ -1,10 +1,10 @@
 -- Lists by their places, filtered, and in rising order.
-use Rattle.std.proofs.Common.{◌≡◌, ℕ, zero, suc, ◌+◌, ◌<◌, ◌≤◌, Bool, true, false, cond, List, [], ◌∷◌, length, get_or, map, refl, sym, ap, ◌∙◌, arith}
-use Rattle.std.specs.Prelude.{filter}
+use Rattle.std.proofs.Common.{◌≡◌, ℕ, zero, suc, ◌+◌, ◌<◌, ◌≤◌, Bool, true, List, [], ◌∷◌, length, get_or, map, refl, sym, ap, ◌∙◌, arith}
 use Rattle.std.specs.List.{AllByRecursion, range_with_len}
 use Rattle.std.proofs.lemmas.List.{get_or-map, length-map}
 use Rattle.std.proofs.lemmas.List.FromFn.{fill_by_all}
 use Rattle.vtl_lists.specs.Sorting.{Rises}
+use Rattle.vtl_lists.proofs.Alls.{all_get}
 
 -- ---- what is made at each place
 map_from : {X : Type 0} (f g : ℕ → X) (a n : ℕ) → ((i : ℕ) → a ≤ i → i < a + n → f i ≡ g i) → map f (range_with_len a n) ≡ map g (range_with_len a n)
@@ -20,35 +20,9 @@ pub listed : {X Y : Type 0} (f : X → Y) (xs : List X) (d : X) → map (λ i. f
 listed f xs d = sym (fill_by_all (λ i. f (get_or xs i d)) (map f xs) (length xs) (f d) (length-map xs f) (λ k l. get_or-map f xs k d (f d) l))
 
 -- ---- what holds of all
-pub all_get : {X : Type 0} (P : X → Type 0) (xs : List X) (k : ℕ) (d : X) → k < length xs → AllByRecursion P xs → P (get_or xs k d)
-all_get P [] k d h all = absurd (omega (arith, h))
-all_get P (x ∷ xs) zero d h all = all.0
-all_get P (x ∷ xs) (suc k) d h all = all_get P xs k d (omega (arith, h)) all.1
-
-pub all_more : {X : Type 0} (P Q : X → Type 0) → ((x : X) → P x → Q x) → (xs : List X) → AllByRecursion P xs → AllByRecursion Q xs
-all_more P Q f [] all = tt
-all_more P Q f (x ∷ xs) all = (f x all.0, all_more P Q f xs all.1)
-
 pub all_true : {X : Type 0} (xs : List X) → AllByRecursion (λ x. Unit {0}) xs
 all_true [] = tt
 all_true (x ∷ xs) = (tt, all_true xs)
-
--- ---- filters
-pub all_filtered : {X : Type 0} (p : X → Bool) (xs : List X) → AllByRecursion (λ x. p x ≡ true) (filter p xs)
-all_filtered p [] = tt
-all_filtered p (x ∷ xs) = go (p x) refl (all_filtered p xs)
-  where
-    go : (b : Bool) → p x ≡ b → AllByRecursion (λ y. p y ≡ true) (filter p xs) → AllByRecursion (λ y. p y ≡ true) (cond b (x ∷ filter p xs) (filter p xs))
-    go true e ih = (e, ih)
-    go false e ih = ih
-
-pub filter-map : {X Y : Type 0} (f : X → Y) (p : Y → Bool) (xs : List X) → map f (filter (λ x. p (f x)) xs) ≡ filter p (map f xs)
-filter-map f p [] = refl
-filter-map f p (x ∷ xs) = go (p (f x)) (filter-map f p xs)
-  where
-    go : (b : Bool) → map f (filter (λ y. p (f y)) xs) ≡ filter p (map f xs) → map f (cond b (x ∷ filter (λ y. p (f y)) xs) (filter (λ y. p (f y)) xs)) ≡ cond b (f x ∷ filter p (map f xs)) (filter p (map f xs))
-    go true ih = ap (λ l. f x ∷ l) ih
-    go false ih = ih
 
 -- ---- rising order
 -- what rises rises by another order that holds where the first does, between such items

@@ -10,6 +10,8 @@ use Rattle.vtl_cell.specs.Sorted.{by_keys, rising}
 use Rattle.vtl_lists.proofs.Perms.{Perm-filter, Perm-from_IsPermutation, Perm-map, Perm-sym}
 use Rattle.vtl_cell.proofs.Rows.{same_row-is, same_row-refl}
 use Rattle.vtl_lists.proofs.Sorts.{AllByRecursion-filter, Rises-filter}
+use Rattle.vtl_lists.proofs.Alls.{all_filtered, all_get, all_more}
+use Rattle.vtl_lists.proofs.Filters.{map-filter}
 use Rattle.vtl_rows.specs.Keys.{agree, key_of, tie_by}
 use Rattle.vtl_rows.specs.Places.{IsOrderOf, row_at}
 use Rattle.vtl_rows.specs.Tables.{cells_at}
@@ -17,7 +19,6 @@ use Rattle.vtl_rows.specs.declared.column.SortKey.{SortKey}
 use Rattle.vtl_rows.proofs.Placed.{all_places, order_within}
 use Rattle.vtl_rows.proofs.Ties.{ties_agree}
 use Rattle.vtl_frames.specs.Ranked.{AreInOrder}
-use Rattle.vtl_frames.proofs.ListLemmas.{all_filtered, all_get, all_more, filter-map}
 use Rattle.vtl_frames.proofs.OrderLemmas.{at_most, first_order, last_order, sort_order}
 use Rattle.vtl_frames.proofs.StretchLemmas.{IsStretch, stretch_is}
 
@@ -76,7 +77,7 @@ module _ (agreed : List ℕ) (keys : List SortKey) (named : map key_of keys ≡ 
     -- the rows that agree with one of them, in some order
     partition_perm : (r : Row) → cells_at agreed r ≡ cells_at agreed start → Perm (filter (λ q. agree agreed q r) rows) (map (row_at rows) run)
     partition_perm r one =
-        subst (Perm (filter (λ q. agree agreed q r) rows)) (sym (filter-map (row_at rows) (λ q. agree agreed q r) places) ∙ ap (map (row_at rows)) (run_is r one))
+        subst (Perm (filter (λ q. agree agreed q r) rows)) (sym (map-filter (row_at rows) (λ q. agree agreed q r) places) ∙ ap (map (row_at rows)) (run_is r one))
         (Perm-sym (Perm-filter (λ q. agree agreed q r) sorted_perm))
 
     pub perm_at : (i : ℕ) → i < length run → Perm (filter (λ q. agree agreed q (row_at rows (get_or run i 0))) rows) (map (row_at rows) run)

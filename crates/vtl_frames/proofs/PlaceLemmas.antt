@@ -5,6 +5,7 @@ use Rattle.std.specs.List.{AllByRecursion, range_with_len}
 use Rattle.std.proofs.lemmas.List.{drop_more, drop-take, drop_min, length-map, length-take, map-append, take_all, take_min}
 use Rattle.std.proofs.lemmas.List.Elements.{All-from_recursion}
 use Rattle.std.proofs.lemmas.List.FromFn.{length-range_with_len, map-range_with_len_more}
+use Rattle.vtl_lists.proofs.Filters.{range_more}
 use Rattle.vtl_cell.specs.Frames.{before, up_to}
 use Rattle.vtl_cell.specs.Outcome.{Outcome}
 use Rattle.vtl_cell.specs.Row.{column_of}
@@ -69,15 +70,6 @@ pub no_places : (a b : ℕ) → a ≡ b → places_from a b ≡ []
 no_places a b e =
     let none : b - a ≡ 0 = omega (arith, e) in
     ap (range_with_len a) none
-
-range_more : (a n : ℕ) → range_with_len a (n + 1) ≡ range_with_len a n ++ (a + n) ∷ []
-range_more a zero =
-    let same : a ≡ a + 0 = omega arith in
-    ap (λ k. k ∷ []) same
-range_more a (suc n) =
-    let more : suc n + 1 ≡ suc (n + 1) = omega arith in
-    let last : (a + 1) + n ≡ a + suc n = omega arith in
-    ap (range_with_len a) more ∙ ap (λ l. a ∷ l) (range_more (a + 1) n) ∙ ap (λ k. a ∷ (range_with_len (a + 1) n ++ k ∷ [])) last
 
 pub places_more : (a b : ℕ) → a ≤ b → places_from a (b + 1) ≡ places_from a b ++ b ∷ []
 places_more a b h =

@@ -8,6 +8,7 @@ use Rattle.std.specs.declared.cmp.Ordering.{Ordering}
 use Rattle.std.specs.declared.cmp.Ordering.TheVariants.{Less, Equal, Greater}
 use Rattle.std.proofs.lemmas.Cmp.{upto}
 use Rattle.std.proofs.lemmas.List.Sums.{length-filter, sum_by-cons}
+use Rattle.std.proofs.lemmas.Bool.{cases_lt}
 use Rattle.vtl_lists.specs.Perm.{Perm}
 use Rattle.vtl_cell.specs.Outcome.{Outcome}
 use Rattle.vtl_cell.specs.Row.{Row}
@@ -58,9 +59,6 @@ module _ {X : Type 0} {R : X → X → Ordering} (o : IsTotalOrder R) where
   pub tie_le : (x y : X) → is_eq (R x y) ≡ true → le_by R y x ≡ true
   tie_le x y e = tied_back (R x y) e
 
-pub below_or_not : (a b : ℕ) → (a < b) ⊎ (b ≤ a)
-below_or_not a b = search arith
-
 -- ---- counts
 pub count_cons : {X : Type 0} (p : X → Bool) (x : X) (xs : List X) → count_by p (x ∷ xs) ≡ cond (p x) 1 0 + count_by p xs
 count_cons p x xs = sum_by-cons (λ y. cond (p y) 1 0) x xs
@@ -97,7 +95,7 @@ module _ (p : ℕ → Bool) (i s : ℕ) (here : s ≤ i) (start : p s ≡ true) 
 
   up_to_start : (a n m : ℕ) → a ≤ s → s < a + n → m ≤ s → kept_to m (filter p (range_with_len a n)) ≡ s
   up_to_start a zero m h l k = absurd (omega (arith, h, l))
-  up_to_start a (suc n) m h l k = go (below_or_not a s) (p a) refl (λ j e f. up_to_start (a + 1) n j e (omega (arith, l)) f)
+  up_to_start a (suc n) m h l k = go (cases_lt a s) (p a) refl (λ j e f. up_to_start (a + 1) n j e (omega (arith, l)) f)
     where
       among : nat_le a i ≡ true
       among = grind (arith, h, here)
@@ -140,7 +138,7 @@ last_of p first (suc i) = go (p (suc i)) refl (last_of p first i)
 
     go : (b : Bool) → p (suc i) ≡ b → Last p i → Last p (suc i)
     go true e x = record { at = suc i; here = omega arith; start = e; none = λ k h l. absurd (omega (arith, h, l)) }
-    go false e x = record { at = x.at; here = omega (arith, x.here); start = x.start; none = λ k h l. one_more x e k h l (below_or_not k (suc i)) }
+    go false e x = record { at = x.at; here = omega (arith, x.here); start = x.start; none = λ k h l. one_more x e k h l (cases_lt k (suc i)) }
 
 -- ---- ranks
 -- a rank is one whatever order the rows stand in
@@ -170,7 +168,7 @@ module _ (keys : List SortKey) (rows : List Row) (run : List ℕ) (order : AreIn
   le_self r = self_le (R r r) (total.antisymm r r)
 
   pub le_at : (j k : ℕ) → j ≤ k → k < length run → le_by R (at j) (at k) ≡ true
-  le_at j k h l = go (below_or_not j k)
+  le_at j k h l = go (cases_lt j k)
     where
       go : (j < k) ⊎ (k ≤ j) → le_by R (at j) (at k) ≡ true
       go (inl below) = rises_get (λ a b. le_by R (row_at rows a) (row_at rows b)) run j k 0 below l order
@@ -232,7 +230,7 @@ module _ (keys : List SortKey) (rows : List Row) (run : List ℕ) (order : AreIn
           absurd (true≢false (sym tie ∙ starts_apart s e))
 
   stands_behind : (i k : ℕ) (x : Last (is_start keys rows run) i) → i < length run → x.at ≤ k → k < length run → is_lt (R (at k) (at i)) ≡ false
-  stands_behind i k x l h m = not_lt (is_lt (R (at k) (at i))) (go (below_or_not k i))
+  stands_behind i k x l h m = not_lt (is_lt (R (at k) (at i))) (go (cases_lt k i))
     where
       go : (k < i) ⊎ (i ≤ k) → le_by R (at i) (at k) ≡ true
       go (inl below) =

@@ -5,11 +5,11 @@ use Rattle.std.specs.List.{concat, range_with_len}
 use Rattle.std.proofs.lemmas.List.{get_or_past, length-map, map-append, take_all, take_more}
 use Rattle.std.proofs.lemmas.List.Folds.{concat-append}
 use Rattle.std.proofs.lemmas.List.FromFn.{get_or-map-range_with_len, length-range_with_len}
+use Rattle.std.proofs.lemmas.Bool.{cases_lt}
 use Rattle.vtl_rows.specs.Runs.{is_start}
 use Rattle.vtl_rows.specs.declared.column.SortKey.{SortKey}
 use Rattle.vtl_cell.specs.Row.{Row}
 use Rattle.vtl_frames.specs.Stretches.{AreStarts, cut_at, start_at, stretch_at, stretches_of}
-use Rattle.vtl_frames.proofs.RankLemmas.{below_or_not}
 use Rattle.vtl_frames.proofs.StretchLemmas.{IsStretch}
 
 module _ (p : ℕ → Bool) where
@@ -48,7 +48,7 @@ module _ (p : ℕ → Bool) where
       go false f x = record {
         low = let l = x.low in omega (arith, l);
         high = x.high;
-        none = λ k l q. one_more (get_or rest 0 m) x f k l q (below_or_not a k);
+        none = λ k l q. one_more (get_or rest 0 m) x f k l q (cases_lt a k);
         start = x.start;
       }
 

@@ -5,6 +5,7 @@ use Rattle.vtl_lexer.specs.declared.token.TokenKind.TheVariants as token
 use Rattle.vtl_syntax.specs.Depth.{exp_depth}
 use Rattle.vtl_syntax.specs.Trees as tree
 use Rattle.vtl_syntax.specs.Trees.{Exp}
+use Rattle.vtl_syntax.proofs.DepthLemmas.{some_depth}
 use Rattle.vtl_grammar.specs.Fits.{Fits}
 use Rattle.vtl_grammar.specs.Grammar.{Tokens, exp_onto}
 use Rattle.vtl_grammar.specs.Levels.{Within}
@@ -19,11 +20,6 @@ use Rattle.vtl_grammar.proofs.CompletePrimary.{primary_complete}
 
 abbrev pub AllComplete : ℕ → (Level → Gets Exp) → Type 0
 AllComplete n inner = (l : Level) → CompleteAt n l (inner l)
-
-depth_some : (e : Exp) → 1 ≤ exp_depth e
-depth_some (tree.component c) = omega arith
-depth_some (tree.constant c) = omega arith
-depth_some _ = omega arith
 
 module _ (n : ℕ) (inner : Level → Gets Exp) (reads : AllComplete n inner) where
   part_complete : CompleteGets n (inner level.Expression) exp_onto Fits exp_depth (goes_on level.Expression)
@@ -87,5 +83,5 @@ module _ (n : ℕ) (inner : Level → Gets Exp) (reads : AllComplete n inner) wh
 -- ---- every expression is read
 pub read_complete : (n : ℕ) → AllComplete n (read n)
 unfolding read
-read_complete zero l e rest within fits shallow stops = absurd (omega (arith, depth_some e))
+read_complete zero l e rest within fits shallow stops = absurd (omega (arith, some_depth e))
 read_complete (suc n) l e rest within fits shallow stops = level_complete n (read n) (read_complete n) l e rest within fits shallow stops

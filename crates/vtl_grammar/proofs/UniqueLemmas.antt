@@ -56,7 +56,7 @@ kinds-append : (a b : List Token) → kinds (a ++ b) ≡ kinds a ++ kinds b
 unfolding kinds
 kinds-append a b = map-append (λ t. t.kind) a b
 
-kinds-length : (a : List Token) → length (kinds a) ≡ length a
+pub kinds-length : (a : List Token) → length (kinds a) ≡ length a
 unfolding kinds
 kinds-length a = length-map a (λ t. t.kind)
 

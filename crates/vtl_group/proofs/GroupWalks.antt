@@ -1,13 +1,11 @@
 -- A walk over groups that makes a point of each that is kept, and joins the faults.
-use Rattle.std.proofs.Common.{◌≡◌, ℕ, ◌+◌, ◌<◌, List, [], ◌∷◌, ◌++◌, Bool, true, false, cond, length, get_or, map, take, filter, Option, None, Some, refl, sym, ap, ◌∙◌}
+use Rattle.std.proofs.Common.{◌≡◌, ℕ, ◌+◌, ◌<◌, List, [], ◌∷◌, ◌++◌, Bool, true, false, cond, length, get_or, map, take, filter, Option, None, refl, sym, ap, ◌∙◌}
 use Rattle.std.proofs.lemmas.List.{map-append}
 use Rattle.std.proofs.lemmas.List.Elements.{filter_more}
-use Rattle.vtl_decimal.specs.declared.number.Fault.TheVariants.{DivZero, Range}
 use Rattle.vtl_decimal.specs.declared.number.Fault.{Fault}
 use Rattle.vtl_cell.specs.Outcome.{faults_by, join}
 use Rattle.vtl_cell.specs.Row.{Row}
-use Rattle.vtl_tree.proofs.Faults.{join_assoc}
-use Rattle.vtl_expr.proofs.ValueWalks.{faults_next}
+use Rattle.vtl_tree.proofs.Faults.{join_assoc, faults_by_more, join_swap}
 
 map_choice : {X Y : Type 0} (f : X → Y) (b : Bool) (x : X) → map f (cond b (x ∷ []) []) ≡ cond b (f x ∷ []) []
 map_choice f true x = refl
@@ -27,18 +25,9 @@ module _ (f : Row → Row) (p : Row → Bool) (keys : List Row) (i : ℕ) (h : i
 pub faults_more : (f : Row → Option Fault) (keys : List Row) (i : ℕ) → i < length keys → (now then : Option Fault) → now ≡ faults_by f (take i keys) → then ≡ join now (f (get_or keys i [])) → then ≡ faults_by f (take (i + 1) keys)
 faults_more f keys i h now then n a =
     a ∙ ap (λ s. join s (f (get_or keys i []))) n
-    ∙ sym (faults_next f keys i [] h)
+    ∙ sym (faults_by_more f keys i [] h)
 
 -- ---- faults of two kinds
-join_swap : (f g h : Option Fault) → join f (join g h) ≡ join g (join f h)
-join_swap None g h = refl
-join_swap (Some DivZero) None h = refl
-join_swap (Some DivZero) (Some DivZero) h = refl
-join_swap (Some DivZero) (Some Range) h = refl
-join_swap (Some Range) None h = refl
-join_swap (Some Range) (Some DivZero) h = refl
-join_swap (Some Range) (Some Range) h = refl
-
 both_pairs : (a b f g : Option Fault) → join (join a b) (join f g) ≡ join (join a f) (join b g)
 both_pairs a b f g = join_assoc a b (join f g) ∙ ap (join a) (join_swap b f g) ∙ sym (join_assoc a f (join b g))
 

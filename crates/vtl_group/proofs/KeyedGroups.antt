@@ -1,8 +1,10 @@
 -- The groups that are found are those of the points: their keys, their rows, and the first row of each.
-use Rattle.std.proofs.Common.{◌≡◌, ℕ, zero, suc, ◌+◌, ◌<◌, ◌≤◌, Bool, true, false, not, cond, List, [], ◌∷◌, length, get_or, map, filter, refl, sym, ap, ◌∙◌, arith, subst, eqb, eq-eqb, ne_eqb}
-use Rattle.std.specs.List.{AllByRecursion, position_or_len, range_with_len}
+use Rattle.std.proofs.Common.{◌≡◌, ℕ, zero, suc, ◌<◌, Bool, not, List, [], ◌∷◌, length, get_or, map, filter, refl, sym, ap, ◌∙◌, arith, subst, eqb, eq-eqb, ne_eqb}
+use Rattle.std.specs.List.{position_or_len, range_with_len}
 use Rattle.std.proofs.lemmas.List.{get_or-map, length-map}
 use Rattle.vtl_lists.proofs.Sorts.{AllByRecursion-filter}
+use Rattle.vtl_lists.proofs.Filters.{map-filter}
+use Rattle.vtl_lists.proofs.Alls.{numbers_within}
 use Rattle.vtl_cell.specs.Row.{Row, same_row}
 use Rattle.vtl_rows.specs.Places.{row_at}
 use Rattle.vtl_rows.specs.Tables.{cells_at}
@@ -19,20 +21,8 @@ same_once : (ks : List Row) → each_once same_row ks ≡ tuples.each_once same_
 same_once [] = refl
 same_once (x ∷ ks) = ap (λ l. x ∷ filter (λ y. not (same_row x y)) l) (same_once ks)
 
-filter-map : {X Y : Type 0} (f : X → Y) (p : Y → Bool) (xs : List X) → map f (filter (λ x. p (f x)) xs) ≡ filter p (map f xs)
-filter-map f p [] = refl
-filter-map f p (x ∷ xs) = go (p (f x)) (filter-map f p xs)
-  where
-    go : (b : Bool) → map f (filter (λ y. p (f y)) xs) ≡ filter p (map f xs) → map f (cond b (x ∷ filter (λ y. p (f y)) xs) (filter (λ y. p (f y)) xs)) ≡ cond b (f x ∷ filter p (map f xs)) (filter p (map f xs))
-    go true ih = ap (λ l. f x ∷ l) ih
-    go false ih = ih
-
 passing_rows : (p : Row → Bool) (rows : List Row) → rows_at rows (passing (λ i. p (row_at rows i)) (length rows)) ≡ filter p rows
-passing_rows p rows = filter-map (row_at rows) p (range_with_len 0 (length rows)) ∙ ap (filter p) (all_indexed rows [])
-
-numbers_within : (a n m : ℕ) → a + n ≤ m → AllByRecursion (λ i. i < m) (range_with_len a n)
-numbers_within a zero m h = tt
-numbers_within a (suc n) m h = (omega (arith, h), numbers_within (a + 1) n m (omega (arith, h)))
+passing_rows p rows = map-filter (row_at rows) p (range_with_len 0 (length rows)) ∙ ap (filter p) (all_indexed rows [])
 
 module _ (places : List ℕ) (rows : List Row) where
   abbrev key : Row → Row

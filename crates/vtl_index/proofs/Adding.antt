@@ -5,10 +5,11 @@ use Rattle.std.proofs.Math.Seq.{get_or-append_seam}
 use Rattle.std.proofs.lemmas.List.{drop-append-le, drop_all, get_or-set_other, get_or-set_same, get_or_append_left, get_or_default, take-append-le, take_all}
 use Rattle.std.proofs.lemmas.Nat.{mul-le}
 use Rattle.std.proofs.lemmas.Option.{none-some}
+use Rattle.std.proofs.lemmas.Bool.{and_parts}
 use Rattle.vtl_cell.proofs.Rows.{same_row-is, same_row-refl}
 use Rattle.vtl_cell.specs.Row.{Row, same_row}
 use Rattle.vtl_cell.specs.declared.cell.Cell.{Cell}
-use Rattle.vtl_index.proofs.Finding.{seek_passes, some_same, split_and}
+use Rattle.vtl_index.proofs.Finding.{seek_passes, some_same}
 use Rattle.vtl_index.specs.Entries.{IsIndexed, place_in, rows_at, rows_in}
 use Rattle.vtl_index.specs.Keys.{is_at, key_at}
 use Rattle.vtl_index.specs.Lookup.{with_row}
@@ -17,7 +18,7 @@ use Rattle.vtl_index.specs.declared.bucket.Bucket.{Bucket}
 use Rattle.vtl_index.specs.declared.entries.Entries.{Entries}
 
 pub is_at-true : (cells : List Cell) (w n : ℕ) (k : Row) (e : ℕ) → is_at cells w n k e ≡ true → (e < n) × (key_at cells w e ≡ k)
-is_at-true cells w n k e h = let both = split_and (ltb e n) (same_row (key_at cells w e) k) h in (ltb-true e n both.0, same_row-is (key_at cells w e) k both.1)
+is_at-true cells w n k e h = let both = and_parts (ltb e n) (same_row (key_at cells w e) k) h in (ltb-true e n both.0, same_row-is (key_at cells w e) k both.1)
 
 pub is_at-past : (cells : List Cell) (w n : ℕ) (k : Row) (e : ℕ) → n ≤ e → is_at cells w n k e ≡ false
 is_at-past cells w n k e h = ap (λ b. b && same_row (key_at cells w e) k) (le-ltb e n h)

@@ -1,8 +1,9 @@
 -- What seeking finds.
-use Rattle.std.proofs.Common.{◌≡◌, ℕ, Bool, true, false, cond, ◌&&◌, ◌==◌, ◌^◌, ◌-◌, List, [], ◌∷◌, find, Option, Some, None, option_map, refl, sym, ap, ◌∙◌, subst, true≢false, eqb-true, eq-eqb}
+use Rattle.std.proofs.Common.{◌≡◌, ℕ, Bool, true, false, cond, ◌&&◌, ◌==◌, ◌^◌, ◌-◌, List, [], ◌∷◌, find, Option, Some, None, option_map, refl, sym, ap, ◌∙◌, subst, eqb-true, eq-eqb}
 use Rattle.std.proofs.lemmas.Option.{none-some}
 use Rattle.std.specs.List.{list_any}
 use Rattle.std.specs.Option.{option_or}
+use Rattle.std.proofs.lemmas.Bool.{and_parts, and_right}
 use Rattle.vtl_cell.specs.Row.{Row}
 use Rattle.vtl_index.specs.Buckets.{filled, in_slots, is_free, is_match, slots_at}
 use Rattle.vtl_index.specs.Keys.{key_hash}
@@ -10,14 +11,6 @@ use Rattle.vtl_index.specs.Places.{Others, other_place, passing, seek}
 use Rattle.vtl_index.specs.declared.bucket.Bucket.{Bucket}
 use Rattle.vtl_index.specs.declared.bucket.Slot.{Slot}
 use Rattle.vtl_index.proofs.Slots.{find_filled, found_filled, Found}
-
-pub split_and : (a b : Bool) → (a && b) ≡ true → (a ≡ true) × (b ≡ true)
-split_and true b e = (refl, e)
-split_and false b e = absurd (true≢false (sym e))
-
-pub and_false : (a b : Bool) → b ≡ false → (a && b) ≡ false
-and_false true b e = e
-and_false false b e = refl
 
 pub some_same : (a b : ℕ) → Some a ≡ Some b → a ≡ b
 some_same a b e = cc
@@ -42,7 +35,7 @@ in_slots_passes passes hash ss e h = go (find (is_match passes hash) ss) refl
     go None f = absurd (none-some e (sym (ap (option_map (λ s. s.place)) f) ∙ h))
     go (Some s) f =
         let at : Some s.place ≡ Some e = sym (ap (option_map (λ z. z.place)) f) ∙ h in
-        subst (λ z. passes z ≡ true) (some_same s.place e at) (split_and (s.hash == hash) (passes s.place) (find_passes (is_match passes hash) ss s f)).1
+        subst (λ z. passes z ≡ true) (some_same s.place e at) (and_parts (s.hash == hash) (passes s.place) (find_passes (is_match passes hash) ss s f)).1
 
 passing_passes : (passes : ℕ → Bool) (o : Option ℕ) (e : ℕ) → passing passes o ≡ Some e → passes e ≡ true
 passing_passes passes None e h = absurd (none-some e h)
@@ -75,10 +68,10 @@ sought_filled passes hash slot ss o h test free none =
     ∙ ap (option_or (in_slots passes hash ss)) (nothing (list_any is_free (filled slot ss)) ∙ sym (nothing (list_any is_free ss)))
   where
     unfit : (s : Slot) → is_free s ≡ true → is_match passes hash s ≡ false
-    unfit s e = and_false (s.hash == hash) (passes s.place) (ap passes (eqb-true s.place (2 ^ 64 - 1) e) ∙ test)
+    unfit s e = and_right (s.hash == hash) (passes s.place) (ap passes (eqb-true s.place (2 ^ 64 - 1) e) ∙ test)
 
     same : find (is_match passes hash) (filled slot ss) ≡ find (is_match passes hash) ss
-    same = find_filled (is_match passes hash) slot ss (and_false (slot.hash == hash) (passes slot.place) h) unfit
+    same = find_filled (is_match passes hash) slot ss (and_right (slot.hash == hash) (passes slot.place) h) unfit
 
     nothing : (b : Bool) → cond b None (passing passes o) ≡ None
     nothing true = refl
@@ -88,7 +81,7 @@ sought_filled passes hash slot ss o h test free none =
 pub sought_taken : (passes : ℕ → Bool) (slot : Slot) (ss : List Slot) (o : Option ℕ) → list_any is_free ss ≡ true → passes slot.place ≡ true → ((e : ℕ) → passes e ≡ true → e ≡ slot.place) → sought passes slot.hash (filled slot ss) o ≡ Some slot.place
 sought_taken passes slot ss o free h one =
     ap (λ r. option_or (option_map (λ s. s.place) r) (cond (list_any is_free (filled slot ss)) None (passing passes o))) found.1
-    ∙ ap Some (one found.0.place (split_and (found.0.hash == slot.hash) (passes found.0.place) found.2).1)
+    ∙ ap Some (one found.0.place (and_parts (found.0.hash == slot.hash) (passes found.0.place) found.2).1)
   where
     fits : is_match passes slot.hash slot ≡ true
     fits = ap (λ b. b && passes slot.place) (eq-eqb slot.hash slot.hash refl) ∙ h

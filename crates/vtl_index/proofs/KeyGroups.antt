@@ -8,6 +8,7 @@ use Rattle.std.proofs.lemmas.List.Sums.{fails_before_first, passes_at_first}
 use Rattle.vtl_lists.specs.Apart.{all_apart}
 use Rattle.vtl_cell.specs.Row.{Row, same_row}
 use Rattle.vtl_lists.proofs.Aparts.{all_apart-filter, apart_more}
+use Rattle.vtl_lists.proofs.Filters.{map_cond}
 use Rattle.vtl_cell.proofs.Rows.{same_row-is, same_row-refl}
 use Rattle.vtl_index.proofs.Ranges.{passing_agree, same_tests}
 use Rattle.vtl_index.specs.Groups.{AreLeads, each_once, firsts, is_first, rows_led}
@@ -121,10 +122,6 @@ filter_by : {X : Type 0} (p q : X → Bool) → ((x : X) → p x ≡ q x) → (x
 filter_by p q h [] = refl
 filter_by p q h (x ∷ xs) = ap (λ b. cond b (x ∷ filter p xs) (filter p xs)) (h x) ∙ ap (λ l. cond (q x) (x ∷ l) l) (filter_by p q h xs)
 
-map_choice : {X Y : Type 0} (f : X → Y) (b : Bool) (x : X) (xs : List X) → map f (cond b (x ∷ xs) xs) ≡ cond b (f x ∷ map f xs) (map f xs)
-map_choice f true x xs = refl
-map_choice f false x xs = refl
-
 module _ (key : Row → Row) (rows : List Row) where
   abbrev first_key : ℕ → Row
   first_key i = key (row_at rows i)
@@ -133,7 +130,7 @@ module _ (key : Row → Row) (rows : List Row) where
       → map first_key (filter (is_first (leads_of key rows)) (range_with_len i (length behind))) ≡ filter (λ k. not (met key before k)) (each_once same_row (map key behind))
   keys_behind before [] e i at = refl
   keys_behind before (r ∷ behind) e i at =
-      map_choice first_key (is_first (leads_of key rows) i) i (filter (is_first (leads_of key rows)) (range_with_len (i + 1) (length behind)))
+      map_cond first_key (is_first (leads_of key rows) i) i (filter (is_first (leads_of key rows)) (range_with_len (i + 1) (length behind)))
       ∙ ap (λ b. cond b (first_key i ∷ map first_key (filter (is_first (leads_of key rows)) (range_with_len (i + 1) (length behind)))) (map first_key (filter (is_first (leads_of key rows)) (range_with_len (i + 1) (length behind))))) here
       ∙ ap (λ k. cond (not (met key before (key r))) (k ∷ map first_key (filter (is_first (leads_of key rows)) (range_with_len (i + 1) (length behind)))) (map first_key (filter (is_first (leads_of key rows)) (range_with_len (i + 1) (length behind))))) (ap key row_here)
       ∙ ap (λ l. cond (not (met key before (key r))) (key r ∷ l) l) (keys_behind (before ++ r ∷ []) behind (append_assoc before (r ∷ []) behind ∙ e) (i + 1) (length_push before r ∙ ap (λ n. n + 1) at) ∙ rest)

@@ -1,6 +1,6 @@
 -- Keys in order, cell by cell, and rows in the order of their keys.
-use Rattle.std.proofs.Common.{All, ◌≡◌, ℕ, ◌+◌, ◌-◌, ◌<◌, ◌≤◌, inl, inr, List, [], ◌∷◌, ◌++◌, Bool, true, false, ◌||◌, min, map, length, get_or, drop, arith, refl, sym, ap, ◌∙◌, true≢false}
-use Rattle.std.specs.List.{Contains, list_any, range_with_len}
+use Rattle.std.proofs.Common.{All, ◌≡◌, ℕ, ◌+◌, ◌-◌, ◌<◌, ◌≤◌, inl, inr, List, [], ◌∷◌, ◌++◌, Bool, true, false, min, map, length, get_or, drop, arith, refl, sym, ap, ◌∙◌, true≢false}
+use Rattle.std.specs.List.{Contains, range_with_len}
 use Rattle.std.specs.List.Sorted.{IsNonDecreasingBy, IsPartitionedBy, IsPartitionPoint, IsSortedBy}
 use Rattle.std.specs.Ordering.{is_eq, is_lt, nat_cmp, on, ordering_index, ordering_then, then_cmp}
 use Rattle.std.specs.Cmp.{Equal-is, IsStrictWeakOrder, nat_cmp_is, nat_cmp_total, tied_itself}
@@ -21,10 +21,6 @@ use Rattle.vtl_index.specs.FirstRows.{IsFirst, IsKeyOrder}
 -- ---- two keys
 pub ties_same : (a b : Row) → is_eq (row_cmp a b) ≡ same_row a b
 ties_same a b = sym (lists_ties {E = same_cell} cell_cmp (λ x y. refl) a b)
-
-pub list_any_map : {X Y : Type 0} (p : Y → Bool) (f : X → Y) (xs : List X) → list_any p (map f xs) ≡ list_any (λ x. p (f x)) xs
-list_any_map p f [] = refl
-list_any_map p f (x ∷ xs) = ap (λ b. p (f x) || b) (list_any_map p f xs)
 
 -- ---- a comparison along two lists of columns
 module _ {X : Type 0} (f g : X → Cell) where

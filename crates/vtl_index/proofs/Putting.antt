@@ -1,5 +1,5 @@
 -- A place that is put: into a slot, or into the map where no slot is free.
-use Rattle.std.proofs.Common.{◌≡◌, ℕ, zero, suc, ◌<◌, ◌-◌, Bool, true, false, cond, List, [], ◌∷◌, length, slice_get, get_or, Option, Some, None, Result, Ok, Err, OnErr, Vec, IsSome, Ordering, Less, Equal, Greater, is_eq, is_some, refl, sym, ap, ◌∙◌, subst, arith, true≢false, eqb, eqb-true, eq-eqb}
+use Rattle.std.proofs.Common.{◌≡◌, ℕ, zero, suc, ◌<◌, ◌-◌, Bool, true, false, cond, List, [], ◌∷◌, length, slice_get, get_or, Option, Some, None, Vec, IsSome, Ordering, Less, Equal, Greater, is_eq, is_some, refl, sym, ap, ◌∙◌, subst, arith, true≢false, eqb, eqb-true, eq-eqb}
 use Rattle.std.proofs.lemmas.Nat.{and_le_r}
 use Rattle.std.specs.BTreeMap.{get_by, insert_entry}
 use Rattle.std.specs.Cmp.Lexicographic.{slice_cmp}
@@ -71,10 +71,6 @@ module _ (slot : Slot) (bs bs' : List Bucket) (others : Others) (put : IsFilled 
       (ap (λ ss. sought passes slot.hash ss (other_place key others)) (put.here slot.hash refl) ∙ sought_taken passes slot (slots_at bs slot.hash) (other_place key others) free h one)
 
 -- ---- no slot was free
-pub on_err : {T E P : Type 0} (r : Result T E) → P → OnErr r P
-on_err (Ok x) p = tt
-on_err (Err e) p = p
-
 pub same_slots : (slot : Slot) (bs bs' : List Bucket) → IsFilled slot bs bs' → list_any is_free (slots_at bs slot.hash) ≡ false → (hash : ℕ) → slots_at bs' hash ≡ slots_at bs hash
 same_slots slot bs bs' put full hash = by_bucket (bucket_at hash (length bs)) (bucket_at slot.hash (length bs)) (λ e. put.here hash e ∙ filled_full slot (slots_at bs hash) (ap (list_any is_free) (slots_at_same bs hash slot.hash e) ∙ full)) (put.there hash)
 

@@ -1,9 +1,9 @@
 -- Equal keys have one hash, so the first row of each is met where it is looked for.
 use Rattle.std.proofs.Common.{◌≡◌, ◌≢◌, ℕ, ◌+◌, ◌-◌, ◌<◌, ◌≤◌, ◌^◌, inl, inr, List, Bool, true, false, ◌==◌, ◌&&◌, None, Some, eq-eqb, length, min, replicate, set, arith, refl, sym, ap, subst, ◌∙◌, true≢false}
-use Rattle.std.proofs.lemmas.Bool.{cases_eq, cases_lt}
+use Rattle.std.proofs.lemmas.Bool.{cases_eq, cases_lt, and_parts}
 use Rattle.std.proofs.lemmas.List.{get_or-replicate, get_or-set_other, get_or-set_same, get_or_past, length-replicate, length-set}
 use Rattle.vtl_cell.specs.Row.{Row, same_row}
-use Rattle.vtl_cell.proofs.Rows.{same_row-is, same_row-refl, split_and}
+use Rattle.vtl_cell.proofs.Rows.{same_row-is, same_row-refl}
 use Rattle.vtl_index.specs.FirstRows.{FindsFirst, IsFirst}
 use Rattle.vtl_index.specs.RowKeys.{hash_by, tag_of}
 use Rattle.vtl_index.specs.RowSlots.{AreUsed, IsFilled, IsFree, IsHeld, NoneMatches, Stands, end_of, is_match, slot_at, start_of}
@@ -70,7 +70,7 @@ module _ (hashing : Hashing) (keys : ℕ → Row) (n mask : ℕ) (slots : List R
     -- a row that is held is the first that has its key
     pub held_first : (key : Row) (row : ℕ) → IsHeld hashing keys n mask slots key row → IsFirst keys n key row
     held_first key row held =
-        let match = split_and ((slot_at slots held.stands.place).tag == tag_of (hash_by hashing key)) (same_row (keys (slot_at slots held.stands.place).row) key) held.stands.matching in
+        let match = and_parts ((slot_at slots held.stands.place).tag == tag_of (hash_by hashing key)) (same_row (keys (slot_at slots held.stands.place).row) key) held.stands.matching in
         let here : same_row (keys row) key ≡ true = subst (λ r. same_row (keys r) key ≡ true) held.there match.1 in
         let in_use : (slot_at slots held.stands.place).row < n = held.stands.used held.stands.place held.stands.behind (omega arith) in
         record {

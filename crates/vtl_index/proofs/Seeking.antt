@@ -3,6 +3,7 @@ use Rattle.std.proofs.Common.{◌≡◌, ℕ, zero, suc, ◌+◌, Bool, true, fa
 use Rattle.std.specs.Prelude.{nat_lt, slice_get}
 use Rattle.std.specs.List.{list_any, position_or_len, range_with_len}
 use Rattle.std.specs.Option.{unwrap_or}
+use Rattle.vtl_lists.proofs.Filters.{list_any-map}
 use Rattle.vtl_cell.specs.Row.{Row}
 use Rattle.vtl_rows.specs.Places.{row_at}
 use Rattle.vtl_rows.specs.Tables.{cells_at}
@@ -13,7 +14,6 @@ use Rattle.vtl_index.specs.Seekers.{Sought, columns_in, first_meant, is_any_mean
 use Rattle.vtl_index.specs.declared.row_keys.KeyColumn.{KeyColumn}
 use Rattle.vtl_index.specs.declared.row_keys.NullKeys.TheVariants.{Found}
 use Rattle.vtl_index.proofs.KeyForms.{plain_keys}
-use Rattle.vtl_index.proofs.KeyOrder.{list_any_map}
 use Rattle.vtl_index.proofs.Ranges.{all_indexed}
 
 -- ---- the numbers that pass a test
@@ -53,7 +53,7 @@ module _ {X : Type 0} (p : X → Bool) (xs : List X) (d : X) where
   any_place : nat_lt 0 (length (filter (λ i. p (get_or xs i d)) (range_with_len 0 (length xs)))) ≡ list_any p xs
   any_place =
       any_number (λ i. p (get_or xs i d)) (range_with_len 0 (length xs))
-      ∙ sym (list_any_map p (λ i. get_or xs i d) (range_with_len 0 (length xs)))
+      ∙ sym (list_any-map p (λ i. get_or xs i d) (range_with_len 0 (length xs)))
       ∙ ap (list_any p) (all_indexed xs d)
 
 -- ---- the rows that are found by cells as they are

@@ -1,12 +1,9 @@
 -- Slots of a bucket, of which the first free one is filled.
 use Rattle.std.proofs.Common.{◌≡◌, ℕ, zero, suc, ◌<◌, Bool, true, false, cond, ◌||◌, List, [], ◌∷◌, length, find, get_or, set, take, Some, refl, sym, ap, ◌∙◌, subst, arith, true≢false}
 use Rattle.std.specs.List.{list_any}
+use Rattle.std.proofs.lemmas.Bool.{or_parts}
 use Rattle.vtl_index.specs.Buckets.{filled, is_free}
 use Rattle.vtl_index.specs.declared.bucket.Slot.{Slot}
-
-pub split_or : (a b : Bool) → (a || b) ≡ false → (a ≡ false) × (b ≡ false)
-split_or true b e = absurd (true≢false e)
-split_or false b e = (refl, e)
 
 -- a search that finds one that passes
 abbrev pub Found : (Slot → Bool) → List Slot → Type 0
@@ -39,12 +36,12 @@ find_filled p slot (s ∷ ss) h k = by_free (is_free s) refl (find_filled p slot
 pub filled_full : (slot : Slot) (ss : List Slot) → list_any is_free ss ≡ false → filled slot ss ≡ ss
 filled_full slot [] h = refl
 filled_full slot (s ∷ ss) h =
-    let both = split_or (is_free s) (list_any is_free ss) h in
+    let both = or_parts (is_free s) (list_any is_free ss) h in
     ap (λ c. cond c (slot ∷ ss) (s ∷ filled slot ss)) both.0 ∙ ap (λ l. s ∷ l) (filled_full slot ss both.1)
 
 pub filled_here : (slot : Slot) (ss : List Slot) (i : ℕ) (d : Slot) → i < length ss → list_any is_free (take i ss) ≡ false → is_free (get_or ss i d) ≡ true → set ss i slot ≡ filled slot ss
 filled_here slot [] i d h none free = absurd (omega arith)
 filled_here slot (s ∷ ss) zero d h none free = sym (ap (λ c. cond c (slot ∷ ss) (s ∷ filled slot ss)) free)
 filled_here slot (s ∷ ss) (suc i) d h none free =
-    let both = split_or (is_free s) (list_any is_free (take i ss)) none in
+    let both = or_parts (is_free s) (list_any is_free (take i ss)) none in
     ap (λ l. s ∷ l) (filled_here slot ss i d (omega arith) both.1 free) ∙ sym (ap (λ c. cond c (slot ∷ ss) (s ∷ filled slot ss)) both.0)

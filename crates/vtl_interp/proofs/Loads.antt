@@ -1,12 +1,13 @@
 -- The inputs of a script, one after the other.
 use Rattle.std.proofs.Common.{◌≡◌, ℕ, zero, suc, ◌+◌, ◌<◌, Bool, true, false, cond, not, ◌||◌, List, [], ◌∷◌, ◌++◌, map, length, take, get_or, slice_get, Some, refl, sym, ap, subst, ◌∙◌, arith}
-use Rattle.std.specs.List.{AllByRecursion, list_any}
+use Rattle.std.specs.List.{list_any}
 use Rattle.std.specs.Map.{keys_of, lookup}
 use Rattle.std.specs.Cmp.Lexicographic.{bytes_decides, nat_list_eq_equiv}
 use Rattle.std.proofs.lemmas.Bool.{and_parts}
 use Rattle.std.proofs.lemmas.List.{map-append, take-map, take_more}
 use Rattle.std.proofs.lemmas.Option.{get_or_from_slice_get, slice_get_within}
 use Rattle.vtl_lists.specs.Apart.{all_apart}
+use Rattle.vtl_lists.proofs.Alls.{all_at}
 use Rattle.vtl_cell.specs.Row.{Row}
 use Rattle.vtl_rows.specs.Named.{NamedTables, table_of}
 use Rattle.vtl_tree.specs.Environment.{DataSet, Environment, known_in}
@@ -77,11 +78,6 @@ still_found name s known (t ∷ ts) (m ∷ ns) e = still_found name s (with_new 
     go : (b : Bool) → lookup (same_name name) (cond b known (known ++ (t.name, structure_of m) ∷ [])) ≡ Some s
     go true = e
     go false = found_in_front name known ((t.name, structure_of m) ∷ []) s e
-
-all_at : {X : Type 0} (P : X → Type 0) (xs : List X) (i : ℕ) (x : X) → AllByRecursion P xs → slice_get xs i ≡ Some x → P x
-all_at P [] i x h e = cc
-all_at P (y ∷ ys) zero x h e = let same : y ≡ x = cc in subst P same h.0
-all_at P (y ∷ ys) (suc i) x h e = all_at P ys i x h.1 e
 
 pub is_input : (t : TypedScript) (tables : NamedTables) (i : ℕ) (name : List ℕ) → AreInputs t tables → IsEntryAt (inputs_of t) i name → IsInput t tables name
 is_input t tables i name are it =

@@ -3,6 +3,7 @@ use Rattle.std.proofs.Common.{◌≡◌, ℕ, cond, List, [], ◌∷◌, ◌++�
 use Rattle.std.specs.List.{AllByRecursion, flat_map}
 use Rattle.std.specs.Map.{lookup}
 use Rattle.std.specs.Option.{option_map_or}
+use Rattle.vtl_lists.proofs.Alls.{all_back, all_front, all_more}
 use Rattle.vtl_decimal.specs.Settings.{Settings}
 use Rattle.vtl_cell.specs.Outcome.{Outcome, after}
 use Rattle.vtl_cell.specs.Row.{Row}
@@ -32,23 +33,6 @@ use Rattle.vtl_timing.specs.Timed.{timed_of}
 use Rattle.check_laws.specs.Scripts.{AreKnownAlike}
 use Rattle.check_laws.proofs.Over.{made_over}
 
--- ---- lists
-pub all_front : {X : Type 0} (P : X → Type 0) (xs ys : List X) → AllByRecursion P (xs ++ ys) → AllByRecursion P xs
-all_front P [] ys h = tt
-all_front P (x ∷ xs) ys h = (h.0, all_front P xs ys h.1)
-
-pub all_back : {X : Type 0} (P : X → Type 0) (xs ys : List X) → AllByRecursion P (xs ++ ys) → AllByRecursion P ys
-all_back P [] ys h = h
-all_back P (x ∷ xs) ys h = all_back P xs ys h.1
-
-pub all_both : {X : Type 0} (P : X → Type 0) (xs ys : List X) → AllByRecursion P xs → AllByRecursion P ys → AllByRecursion P (xs ++ ys)
-all_both P [] ys h k = k
-all_both P (x ∷ xs) ys h k = (h.0, all_both P xs ys h.1 k)
-
-pub all_so : {X : Type 0} (P Q : X → Type 0) → ((x : X) → P x → Q x) → (xs : List X) → AllByRecursion P xs → AllByRecursion Q xs
-all_so P Q f [] h = tt
-all_so P Q f (x ∷ xs) h = (f x h.0, all_so P Q f xs h.1)
-
 -- ---- names have the same data sets
 abbrev pub SameData : Environment → Environment → List (List ℕ) → Type 0
 SameData e f names = AllByRecursion (λ name. data_of name e ≡ data_of name f) names
@@ -65,11 +49,11 @@ data_parts e f xs ys h = data_in e f (names_at xs) (names_at ys) (subst (SameDat
 
 data_more : (e f : Environment) (new : List ℕ) (d : DataSet) (names : List (List ℕ)) → SameData e f names → SameData ((new, d) ∷ e) ((new, d) ∷ f) names
 data_more e f new d names h =
-    all_so (λ name. data_of name e ≡ data_of name f) (λ name. data_of name ((new, d) ∷ e) ≡ data_of name ((new, d) ∷ f)) (λ name same. ap (cond (same_name new name) (Some d)) same) names h
+    all_more (λ name. data_of name e ≡ data_of name f) (λ name. data_of name ((new, d) ∷ e) ≡ data_of name ((new, d) ∷ f)) (λ name same. ap (cond (same_name new name) (Some d)) same) names h
 
 known_more : (k l : Named) (new : List ℕ) (s : Structure) (names : List (List ℕ)) → AreKnownAlike k l names → AreKnownAlike ((new, s) ∷ k) ((new, s) ∷ l) names
 known_more k l new s names h =
-    all_so (λ name. lookup (same_name name) k ≡ lookup (same_name name) l) (λ name. lookup (same_name name) ((new, s) ∷ k) ≡ lookup (same_name name) ((new, s) ∷ l)) (λ name same. ap (cond (same_name name new) (Some s)) same) names h
+    all_more (λ name. lookup (same_name name) k ≡ lookup (same_name name) l) (λ name. lookup (same_name name) ((new, s) ∷ k) ≡ lookup (same_name name) ((new, s) ∷ l)) (λ name same. ap (cond (same_name name new) (Some s)) same) names h
 
 -- ---- the value of an expression
 -- of an operator between two

@@ -273,10 +273,6 @@ module _ (p : Settings) (env : Environment) (a : NodeTree) (e : CompExp) (s : St
   filter_stops view other err.Range h = ap (λ (m : Outcome (List Row)). with_structure s (after m (filter_of p e))) h
   filter_stops view other err.OutOfMemory h = tt
 
--- a filter of a join, from what its operands give
-pub joined_structure : (n : Node) → structure_of (node_tree n) ≡ n.structure
-joined_structure n = ap structure_of (node_tree-is n)
-
 module _ (p : Settings) (env : Environment) (n : Node) (os : Vec JoinOperand Global) (spec : JoinSpec) (is : n.form ≡ form.Join os spec) (e : CompExp) (s : Structure) where
   abbrev trees : OperandTrees
   trees = operands_of (map operand_tree os.items)

@@ -3,13 +3,13 @@ use Rattle.std.proofs.Common.{◌≡◌, ◌⊎◌, inl, inr, ◌||◌, ℕ, zer
 use Rattle.std.specs.List.{AllByRecursion, list_any}
 use Rattle.std.specs.Map.{lookup}
 use Rattle.std.specs.Cmp.Lexicographic.{bytes_decides, nat_list_eq_equiv}
+use Rattle.vtl_lists.proofs.Alls.{all_append, all_more}
 use Rattle.vtl_tree.specs.Environment.{DataSet, Environment, data_of}
 use Rattle.vtl_tree.specs.Structure.{same_name}
 use Rattle.vtl_tree.specs.Trees.{NodeTree}
 use Rattle.vtl_check.specs.Names.{names_in, names_of}
 use Rattle.vtl_interp.specs.Reads.{AreRead, AreReadThere, IsFrom, IsReadFrom, LastPlaces, NotedAs, reads_at}
 use Rattle.vtl_interp.proofs.Environments.{data_looked}
-use Rattle.vtl_interp.proofs.NamesRead.{all_both, all_so}
 
 -- ---- what is read at a place or behind it is read from an earlier one on
 from_earlier : (i j : ℕ) (o : Option ℕ) → i ≤ j → IsFrom j o → IsFrom i o
@@ -19,8 +19,8 @@ from_earlier i j (Some place) h k = omega (arith, h, k)
 pub all_read : (last : LastPlaces) (i : ℕ) (ns : List NodeTree) → AreRead last i ns → AllByRecursion (IsReadFrom i last) (names_of ns)
 all_read last i [] h = tt
 all_read last i (n ∷ ns) h =
-    all_both (IsReadFrom i last) (names_in n) (names_of ns) h.0
-    (all_so (IsReadFrom (i + 1) last) (IsReadFrom i last) (λ name k. from_earlier i (i + 1) (lookup (same_name name) last) (omega arith) k) (names_of ns) (all_read last (i + 1) ns h.1))
+    all_append (IsReadFrom i last) (names_in n) (names_of ns) h.0
+    (all_more (IsReadFrom (i + 1) last) (IsReadFrom i last) (λ name k. from_earlier i (i + 1) (lookup (same_name name) last) (omega arith) k) (names_of ns) (all_read last (i + 1) ns h.1))
 
 -- ---- one name more is noted
 any_front : (f : List ℕ → Bool) (xs ys : List (List ℕ)) → list_any f xs ≡ true → list_any f (xs ++ ys) ≡ true
@@ -70,7 +70,7 @@ reads_more last now j i [] n e old new h =
     let same : i ≡ j = omega (arith, e) in
     (subst (λ k. AllByRecursion (IsReadFrom k now) (names_in n)) same new, tt)
 reads_more last now j i (x ∷ ns) n e old new h = (
-  all_so (IsReadFrom j last) (IsReadFrom j now) (λ name k. old j name (omega (arith, e)) k) (names_in x) h.0,
+  all_more (IsReadFrom j last) (IsReadFrom j now) (λ name k. old j name (omega (arith, e)) k) (names_in x) h.0,
   reads_more last now (j + 1) i ns n (omega (arith, e)) old new h.1,
 )
 

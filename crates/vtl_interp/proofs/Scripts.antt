@@ -10,6 +10,7 @@ use Rattle.vtl_tree.specs.Structures.{has_name}
 use Rattle.vtl_tree.specs.declared.structure.Structure.{Structure}
 use Rattle.vtl_tree.specs.Trees.{NodeTree, structure_of}
 use Rattle.vtl_lists.specs.Results.{◌>>=◌}
+use Rattle.vtl_lists.proofs.Alls.{all_append, all_back, all_front}
 use Rattle.check_faults.specs.Rules.{number_of, ruled}
 use Rattle.check_faults.specs.declared.rules.Rule.{Rule}
 use Rattle.check_faults.specs.declared.rules.Rule.TheVariants as rule
@@ -21,14 +22,14 @@ use Rattle.vtl_check.specs.Transformations.{Transformation, transformations_from
 use Rattle.vtl_scripts.specs.Meaning.{Statement}
 use Rattle.vtl_backend.specs.Statements.{statements_of, with_nodes}
 use Rattle.vtl_interp.specs.Results.{AreNew}
-use Rattle.vtl_interp.proofs.NamesRead.{all_back, all_both, all_front, names_read}
+use Rattle.vtl_interp.proofs.NamesRead.{names_read}
 
 -- ---- the nodes of statements are nodes of the script
 pub names_statements : (P : List ℕ → Type 0) (ts : List Transformation) (ns : List NodeTree) → AllByRecursion P (names_of ns) → AllByRecursion P (names_read (with_nodes ts ns))
 names_statements P [] ns h = tt
 names_statements P (t ∷ ts) [] h = tt
 names_statements P (t ∷ ts) (n ∷ ns) h =
-    all_both P (names_in n) (names_read (with_nodes ts ns)) (all_front P (names_in n) (names_of ns) h) (names_statements P ts ns (all_back P (names_in n) (names_of ns) h))
+    all_append P (names_in n) (names_read (with_nodes ts ns)) (all_front P (names_in n) (names_of ns) h) (names_statements P ts ns (all_back P (names_in n) (names_of ns) h))
 
 -- ---- results have new names
 -- a typed assignment's name is none that is known

@@ -1,6 +1,7 @@
 -- A typed script can be evaluated from its inputs on.
 use Rattle.std.proofs.Common.{◌≡◌, List, [], map, refl, sym, ap, subst, ◌∙◌}
 use Rattle.std.specs.Map.{keys_of, lookup}
+use Rattle.vtl_lists.proofs.Alls.{all_more}
 use Rattle.vtl_decimal.specs.Settings.{Settings}
 use Rattle.vtl_rows.specs.Named.{NamedTables}
 use Rattle.vtl_syntax.specs.View.{statement_tree}
@@ -21,7 +22,7 @@ use Rattle.vtl_check.specs.Transformations.{transformations}
 use Rattle.check_laws.specs.Scripts.{AreKnownAlike}
 use Rattle.vtl_interp.specs.Results.{AreReady}
 use Rattle.vtl_interp.proofs.InputsRead.{known_inputs, reads_same}
-use Rattle.vtl_interp.proofs.NamesRead.{all_so, statements_made_same}
+use Rattle.vtl_interp.proofs.NamesRead.{statements_made_same}
 use Rattle.vtl_interp.proofs.Scripts.{names_statements, new_among_fewer, results_new}
 
 known_loaded : (t : TypedScript) (tables : NamedTables) (env : Environment) → env ≡ environment_of t tables → known_in env ≡ inputs_of t
@@ -31,7 +32,7 @@ pub ready_at_start : (t : TypedScript) (tables : NamedTables) (env : Environment
 ready_at_start t tables env typed made loaded =
     let ss = statements_of t in
     let same : AreKnownAlike t.declared (inputs_of t) (names_of (nodes_of t)) =
-    all_so (λ name. lookup (same_name name) (inputs_of t) ≡ lookup (same_name name) t.declared) (λ name. lookup (same_name name) t.declared ≡ lookup (same_name name) (inputs_of t)) (λ name e. sym e) (names_of (nodes_of t)) (reads_same t.declared (nodes_of t)) in
+    all_more (λ name. lookup (same_name name) (inputs_of t) ≡ lookup (same_name name) t.declared) (λ name. lookup (same_name name) t.declared ≡ lookup (same_name name) (inputs_of t)) (λ name e. sym e) (names_of (nodes_of t)) (reads_same t.declared (nodes_of t)) in
     let read = names_statements (λ name. lookup (same_name name) t.declared ≡ lookup (same_name name) (inputs_of t)) (transformations (tree_of t)) (nodes_of t) same in
     record {
       made = subst (λ (k : Named). AreMadeStatements t.settings k ss) (sym (known_loaded t tables env loaded)) (statements_made_same t.settings ss t.declared (inputs_of t) read made);

@@ -5,6 +5,7 @@ use Rattle.std.specs.List.{list_any}
 use Rattle.std.specs.Map.{keys_of, lookup}
 use Rattle.std.specs.Option.{option_map}
 use Rattle.std.proofs.lemmas.List.{append-nil, map-append}
+use Rattle.vtl_lists.proofs.Alls.{all_more}
 use Rattle.vtl_decimal.specs.Settings.{Settings}
 use Rattle.vtl_decimal.specs.declared.number.Fault.{Fault}
 use Rattle.vtl_cell.specs.Outcome.{after}
@@ -23,7 +24,7 @@ use Rattle.vtl_interp.specs.Evaluated.{Gives}
 use Rattle.vtl_interp.specs.Results.{AreNew, AreReady, Remain, behind}
 use Rattle.vtl_interp.specs.Written.{IsBehind, IsWritten}
 use Rattle.vtl_interp.proofs.Environments.{data_looked, known_looked}
-use Rattle.vtl_interp.proofs.NamesRead.{SameData, all_so, meaning_same, names_read, statements_made_same}
+use Rattle.vtl_interp.proofs.NamesRead.{SameData, meaning_same, names_read, statements_made_same}
 use Rattle.vtl_interp.proofs.Scripts.{new_among_fewer, none_of_each}
 
 -- what a statement leaves of the data sets: those that the statements behind it read
@@ -36,7 +37,7 @@ pub record IsStep (p : Settings) (before now : Environment) (tables more : Named
 -- the same data sets have the same structures
 known_same : (e f : Environment) (names : List (List ℕ)) → SameData e f names → AreKnownAlike (known_in e) (known_in f) names
 known_same e f names h =
-    all_so (λ name. data_of name e ≡ data_of name f) (λ name. lookup (same_name name) (known_in e) ≡ lookup (same_name name) (known_in f))
+    all_more (λ name. data_of name e ≡ data_of name f) (λ name. lookup (same_name name) (known_in e) ≡ lookup (same_name name) (known_in f))
     (λ name same. known_looked name e ∙ ap (λ (o : Option DataSet). option_map (λ d. d.structure) o) (sym (data_looked name e) ∙ same ∙ data_looked name f) ∙ sym (known_looked name f)) names h
 
 -- ---- the tables

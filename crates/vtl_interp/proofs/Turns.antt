@@ -2,6 +2,7 @@
 use Rattle.std.proofs.Common.{◌≡◌, ℕ, ◌+◌, ◌<◌, List, ◌∷◌, drop, get_or, length, map, Result, Err, sym, ap, subst, ◌∙◌, arith}
 use Rattle.std.proofs.lemmas.List.{drop_more}
 use Rattle.std.specs.Map.{keys_of}
+use Rattle.vtl_lists.proofs.Alls.{all_more}
 use Rattle.vtl_decimal.specs.Settings.{Settings}
 use Rattle.vtl_decimal.specs.declared.number.Fault.TheVariants.{DivZero, Range}
 use Rattle.vtl_decimal.specs.declared.number.Fault.{Fault}
@@ -22,7 +23,7 @@ use Rattle.vtl_interp.specs.Reads.{AreRead, IsReadFrom, LastPlaces}
 use Rattle.vtl_interp.specs.Results.{Adds, AreReady, FaultIs, IsAdded, Remain, result_named}
 use Rattle.vtl_interp.specs.declared.held.Held.{Held}
 use Rattle.vtl_check.proofs.LeftLemmas.{assigned_at, left}
-use Rattle.vtl_interp.proofs.NamesRead.{all_so, names_read}
+use Rattle.vtl_interp.proofs.NamesRead.{names_read}
 use Rattle.vtl_interp.proofs.PlacesRead.{all_read}
 use Rattle.vtl_interp.proofs.Scripts.{names_statements}
 use Rattle.vtl_interp.proofs.Steps.{IsStep, meaning_step, meaning_stops, ready_step}
@@ -78,7 +79,7 @@ module _ (p : Settings) (ss : List Statement) (ns : List Node) (i j : ℕ) (name
         record {
           made = d;
           gives = added.gives;
-          kept = all_so (IsReadFrom (j + 1) last) (λ other. data_of other ((name, d) ∷ before) ≡ data_of other now) (λ other h. sym (kept other h ∙ added.held other)) (names_read (left_from ss ns (i + 1) (j + 1)))
+          kept = all_more (IsReadFrom (j + 1) last) (λ other. data_of other ((name, d) ∷ before) ≡ data_of other now) (λ other h. sym (kept other h ∙ added.held other)) (names_read (left_from ss ns (i + 1) (j + 1)))
               (names_statements (IsReadFrom (j + 1) last) (left ss (i + 1)) (map node_tree (drop (j + 1) ns)) (all_read last (j + 1) (map node_tree (drop (j + 1) ns)) (still_reads last reads)));
           written = added.written;
         }

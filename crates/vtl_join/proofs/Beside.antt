@@ -6,6 +6,8 @@ use Rattle.std.proofs.lemmas.List.{length-map}
 use Rattle.std.proofs.lemmas.Option.{slice_get-get_or}
 use Rattle.vtl_cell.specs.Row.{Row, same_row}
 use Rattle.vtl_lists.proofs.Sorts.{AllByRecursion-filter}
+use Rattle.vtl_lists.proofs.Alls.{all_back, all_each, all_more}
+use Rattle.vtl_lists.proofs.Filters.{filter_true}
 use Rattle.vtl_rows.specs.Gathered.{picked}
 use Rattle.vtl_rows.specs.Places.{row_at}
 use Rattle.vtl_rows.specs.Tables.{Listed, cells_at}
@@ -23,12 +25,11 @@ use Rattle.vtl_meaning.proofs.Agreements.{own_values}
 use Rattle.vtl_meaning.proofs.JoinAgreements.{agreeing_own}
 use Rattle.vtl_meaning.proofs.LookUps.{named_cells}
 use Rattle.vtl_meaning.proofs.JoinParts.{AreSets}
-use Rattle.vtl_meaning.proofs.Places.{all_back, each, all_more}
 use Rattle.vtl_join.specs.Finding.{all_numbers, is_kept, number, numbers, sought_beside, sources_around}
 use Rattle.vtl_join.specs.Picks.{joined_rows, picks_at, picks_behind, places_of, table_of}
 use Rattle.vtl_join.proofs.Found.{AllFind, Finds, all_found, as_many, find_append, find_each, own_finds, parts_found, sought_finds}
 use Rattle.vtl_join.proofs.Picked.{parts_at, picked_behind, picked_lead}
-use Rattle.vtl_join.proofs.Pieced.{all_at, around, by_places, every, pieces_of_tuples}
+use Rattle.vtl_join.proofs.Pieced.{all_at, around, by_places, pieces_of_tuples}
 
 -- ---- the rows that are joined, for any lead
 -- the identifiers of a row of the lead and the parts that it finds
@@ -57,14 +58,14 @@ module _ (lead : Listed) (ds : List DataSet) (xs : List (Option Sought)) (places
       let wide : (i : ℕ) → length (numbers xs i (row_at lead.rows i)) ≡ length ds + 1 = λ i. let l = length-map xs (number i (row_at lead.rows i)) in omega (arith, l, many) in
       let row : List ℕ → Row = picked (lead ∷ map table_of ds) (picks_behind (picks_at 0 places) (structures_of ds)) in
       let on : (k : ℕ) → 0 + k ≡ k = λ k. zero-add k in
-      ap (map row) (pieces_of_tuples (λ i. is_kept whole xs i (row_at lead.rows i)) (λ i. numbers xs i (row_at lead.rows i)) (length ds + 1) (range_with_len 0 (length lead.rows)) (omega arith) (each (λ i. length (numbers xs i (row_at lead.rows i)) ≡ length ds + 1) wide (range_with_len 0 (length lead.rows))))
+      ap (map row) (pieces_of_tuples (λ i. is_kept whole xs i (row_at lead.rows i)) (λ i. numbers xs i (row_at lead.rows i)) (length ds + 1) (range_with_len 0 (length lead.rows)) (omega arith) (all_each (λ i. length (numbers xs i (row_at lead.rows i)) ≡ length ds + 1) wide (range_with_len 0 (length lead.rows))))
       ∙ map-map row (λ i. numbers xs i (row_at lead.rows i)) (filter (λ i. is_kept whole xs i (row_at lead.rows i)) (range_with_len 0 (length lead.rows)))
       ∙ by_places (λ i. is_kept whole xs i (row_at lead.rows i)) (λ i. row (numbers xs i (row_at lead.rows i))) (λ r. not whole || is_whole (made r)) (λ r. tuple_point (made r)) [] 0 lead.rows
       (λ k h. ap (λ i. is_kept whole xs i (row_at lead.rows i)) (on k) ∙ kept_row whole k h)
       (λ k h. ap (λ i. row (numbers xs i (row_at lead.rows i))) (on k) ∙ one_row k h)
 
 pub all_rows : {X Y : Type 0} (f : X → Y) (p : X → Bool) (xs : List X) → map f (filter (λ x. not false || p x) xs) ≡ map f xs
-all_rows f p xs = ap (map f) (every xs)
+all_rows f p xs = ap (map f) (filter_true xs)
 
 -- ---- left and inner joins: the lead is the reference
 beside_finds : (i : ℕ) (q : Row) (a : Structure) (d : DataSet) → Finds i q (λ e. first_agreeing a e q) (Some (sought_beside a d)) d
@@ -95,8 +96,8 @@ module _ (ds : List DataSet) (place : ℕ) (r : DataSet) (there : slice_get ds p
       let f : DataSet → Option Sought = λ d. Some (sought_beside a d) in
       let own = own_finds i q part r (slice_get-get_or r.points i [] h) (all_at (λ t. first_agreeing a r t ≡ Some t) r.points i [] (agreeing_own r reference_is) h) in
       subst (AllFind i q part (sources_around a ds place)) (sym (around ds place r there))
-      (find_append i q part (map f pre) (None ∷ map f post) pre (r ∷ post) (find_each i q part f pre (each (λ d. Finds i q part (f d) d) (beside_finds i q a) pre))
-      (own, find_each i q part f post (each (λ d. Finds i q part (f d) d) (beside_finds i q a) post)))
+      (find_append i q part (map f pre) (None ∷ map f post) pre (r ∷ post) (find_each i q part f pre (all_each (λ d. Finds i q part (f d) d) (beside_finds i q a) pre))
+      (own, find_each i q part f post (all_each (λ d. Finds i q part (f d) d) (beside_finds i q a) post)))
 
   as_many_sources : length (sources_around a ds place) ≡ length ds
   as_many_sources =

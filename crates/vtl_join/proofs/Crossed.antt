@@ -4,6 +4,9 @@ use Rattle.std.specs.Prelude.{slice_get}
 use Rattle.std.specs.List.{AllByRecursion, flat_map}
 use Rattle.std.proofs.lemmas.List.{length-map}
 use Rattle.std.proofs.lemmas.List.Folds.{flat_map-map}
+use Rattle.vtl_lists.proofs.Alls.{all_append, all_more}
+use Rattle.vtl_lists.proofs.Sorts.{AllByRecursion-map}
+use Rattle.vtl_lists.proofs.Filters.{filter_true}
 use Rattle.vtl_cell.specs.Row.{Row}
 use Rattle.vtl_rows.specs.Gathered.{picked, pieces}
 use Rattle.vtl_rows.specs.Tables.{Listed}
@@ -16,18 +19,17 @@ use Rattle.vtl_meaning.specs.Joined.{Part, attributes_in, cross_tuples, crossed,
 use Rattle.vtl_meaning.proofs.Agreements.{own_values}
 use Rattle.vtl_meaning.proofs.JoinKept.{IsCombination, IsOperandPoint, combinations_are}
 use Rattle.vtl_meaning.proofs.JoinParts.{AreSets}
-use Rattle.vtl_meaning.proofs.Places.{all_append, all_map, all_more}
 use Rattle.vtl_join.specs.Crossing.{all_combinations, row_counts, row_numbers, tuples_behind, up_to}
 use Rattle.vtl_join.specs.Picks.{joined_rows, picks_behind, picks_from, table_of}
 use Rattle.vtl_join.proofs.Picked.{parts_at, picked_behind, picked_identifiers, values_of}
-use Rattle.vtl_join.proofs.Pieced.{every, items_by_places, pieces_of_tuples}
+use Rattle.vtl_join.proofs.Pieced.{items_by_places, pieces_of_tuples}
 
 -- ---- combinations of numbers
 fronts_long : (n : ℕ) (ns : List ℕ) (ts : List (List ℕ)) → AllByRecursion (λ t. length t ≡ n) ts → AllByRecursion (λ t. length t ≡ suc n) (flat_map (λ m. map (λ t. m ∷ t) ts) ns)
 fronts_long n [] ts all = tt
 fronts_long n (m ∷ ns) ts all =
     all_append (λ t. length t ≡ suc n) (map (λ t. m ∷ t) ts) (flat_map (λ k. map (λ t. k ∷ t) ts) ns)
-    (all_map (λ t. m ∷ t) (λ t. length t ≡ suc n) ts (all_more (λ t. length t ≡ n) (λ t. length (m ∷ t) ≡ suc n) (λ t e. ap suc e) ts all)) (fronts_long n ns ts all)
+    (AllByRecursion-map (λ t. m ∷ t) (λ t. length t ≡ suc n) ts (all_more (λ t. length t ≡ n) (λ t. length (m ∷ t) ≡ suc n) (λ t e. ap suc e) ts all)) (fronts_long n ns ts all)
 
 as_long : (nss : List (List ℕ)) → AllByRecursion (λ t. length t ≡ length nss) (combinations nss)
 as_long [] = (refl, tt)
@@ -97,5 +99,5 @@ module _ (lead : Listed) (ds : List DataSet) (all : AreSets ds) where
   cross_rows =
       ap (λ nss. map row (pieces (length ds + 1) (flat_map (λ t. (0 ∷ []) ++ t) (combinations nss)))) (counted ds)
       ∙ ap (map row) (pieces_of_tuples (λ t. true) (λ t. 0 ∷ t) (length ds + 1) C (omega arith) (all_more (λ t. length t ≡ length ds) (λ t. length (0 ∷ t) ≡ length ds + 1) (λ t e. omega (arith, e)) C long))
-      ∙ ap (λ l. map row (map (λ t. 0 ∷ t) l)) (every C)
+      ∙ ap (λ l. map row (map (λ t. 0 ∷ t) l)) (filter_true C)
       ∙ ap (map row) (sym tuples_are) ∙ cross_points

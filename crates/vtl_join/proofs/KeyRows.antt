@@ -1,7 +1,8 @@
--- A full join is led by the tuples of identifiers that operands have, each once.
+-- A full join is led by the tuples of identifiers that operands have, all_each once.
 use Rattle.std.proofs.Common.{◌≡◌, ℕ, ◌+◌, false, not, List, [], ◌∷◌, ◌++◌, length, length-append, get_or, map, Option, Some, refl, sym, ap, ◌∙◌, append_assoc, arith}
 use Rattle.std.specs.List.{filter, find, flat_map, range_with_len}
 use Rattle.std.proofs.lemmas.List.{length-map, map-append}
+use Rattle.vtl_lists.proofs.Alls.{all_each}
 use Rattle.vtl_cell.specs.Row.{Row, column_of, same_row}
 use Rattle.vtl_cell.specs.declared.cell.Cell.{Cell}
 use Rattle.vtl_rows.specs.Places.{row_at}
@@ -21,7 +22,6 @@ use Rattle.vtl_tree.specs.Columns.{identifiers_of, places_in}
 use Rattle.vtl_meaning.specs.Joined.{all_keys, full_tuples, is_whole, keys_in, tuple_at, tuple_point}
 use Rattle.vtl_meaning.specs.LookUps.{value_named}
 use Rattle.vtl_meaning.proofs.LookUps.{named_cells}
-use Rattle.vtl_meaning.proofs.Places.{each}
 use Rattle.vtl_join.specs.Finding.{all_numbers, sought_at}
 use Rattle.vtl_join.specs.Keys.{all_key_rows, key_cells, key_places, key_rows}
 use Rattle.vtl_join.specs.Picks.{joined_rows, picks_at}
@@ -58,7 +58,7 @@ same_once : (rows : List Row) → each_once same_row rows ≡ tuples.each_once s
 same_once [] = refl
 same_once (r ∷ rows) = ap (λ l. r ∷ filter (λ y. not (same_row r y)) l) (same_once rows)
 
--- the first rows of the groups by identifiers have each tuple of identifiers once
+-- the first rows of the groups by identifiers have all_each tuple of identifiers once
 pub lead_keys : (ids : List Component) (ds : List DataSet) → map (key_cells ids) (map (row_at (all_key_rows ids ds)) (firsts (leads_of (key_cells ids) (all_key_rows ids ds)))) ≡ all_keys ids ds
 lead_keys ids ds =
     let rows = all_key_rows ids ds in
@@ -79,7 +79,7 @@ full_rows lead r ds keys =
     let ids = identifiers_of r.structure in
     let f : DataSet → Option Sought = λ d. Some (sought_at ids d) in
     rows_by_lead lead ds (map f ds) (range_with_len 0 (length ids)) (part_at_key ids)
-    (λ i h. find_each i (get_or lead.rows i []) (part_at_key ids (get_or lead.rows i [])) f ds (each (λ d. Finds i (get_or lead.rows i []) (part_at_key ids (get_or lead.rows i [])) (f d) d) (at_key_finds ids i (get_or lead.rows i [])) ds))
+    (λ i h. find_each i (get_or lead.rows i []) (part_at_key ids (get_or lead.rows i [])) f ds (all_each (λ d. Finds i (get_or lead.rows i []) (part_at_key ids (get_or lead.rows i [])) (f d) d) (at_key_finds ids i (get_or lead.rows i [])) ds))
     (length-map ds f) false
     ∙ all_rows (λ k. tuple_point (tuple_by (key_cells ids) (part_at_key ids) ds k)) (λ k. is_whole (tuple_by (key_cells ids) (part_at_key ids) ds k)) lead.rows
     ∙ sym (map-map (λ k. tuple_point (tuple_at ids ds k)) (key_cells ids) lead.rows) ∙ ap (map (λ k. tuple_point (tuple_at ids ds k))) keys

@@ -4,8 +4,9 @@ use Rattle.std.specs.List.{AllByRecursion, filter, flat_map, position_or_len, ra
 use Rattle.std.proofs.lemmas.Bool.{eqb-true}
 use Rattle.std.proofs.lemmas.Grind.{flat_map-append}
 use Rattle.std.proofs.lemmas.List.{append-nil, get_or_default, get_or_past, length-map, map-append, map_more, take_more}
+use Rattle.vtl_lists.proofs.Alls.{all_each}
+use Rattle.vtl_lists.proofs.Filters.{filter_true}
 use Rattle.vtl_cell.specs.Row.{Row, same_row}
-use Rattle.vtl_cell.specs.declared.kind.Kind.{Kind}
 use Rattle.vtl_cell.specs.declared.kind.Kind.TheVariants as k
 use Rattle.vtl_rows.specs.Gathered.{picked, picked_kind, pieces}
 use Rattle.vtl_rows.specs.Tables.{Listed, cells_at, column_at, column_kinds}
@@ -20,29 +21,19 @@ use Rattle.vtl_tree.specs.Environment.{DataSet}
 use Rattle.vtl_tree.specs.Structure.{columns_of}
 use Rattle.vtl_tree.specs.declared.structure.Component.{Component}
 use Rattle.vtl_tree.specs.declared.structure.Structure.{Structure}
-use Rattle.vtl_tree.specs.Columns.{identifiers_of, others_of, place_of, places_in}
-use Rattle.vtl_meaning.specs.Made.{AreAmong, IsColumnAt, component_kinds}
-use Rattle.vtl_meaning.proofs.Kept.{column_within, place_front}
-use Rattle.vtl_meaning.proofs.Places.{columns_split, each}
+use Rattle.vtl_tree.specs.Columns.{identifiers_of, others_of, places_in}
+use Rattle.vtl_meaning.specs.Made.{AreAmong, component_kinds}
+use Rattle.vtl_meaning.proofs.Places.{columns_split}
+use Rattle.vtl_meaning.proofs.OwnColumns.{among_front}
 use Rattle.vtl_join.specs.declared.joined.Operand.{Operand}
 use Rattle.vtl_join.specs.Joining.{sets_of}
 use Rattle.vtl_join.specs.Keys.{all_key_rows, key_kinds, key_places, key_rows}
 use Rattle.vtl_join.specs.Picks.{picks_at}
 use Rattle.vtl_join.proofs.PickKinds.{named_kinds}
 use Rattle.vtl_join.proofs.Picked.{picked_lead}
-use Rattle.vtl_join.proofs.Pieced.{by_places, every, pieces_of_tuples}
+use Rattle.vtl_join.proofs.Pieced.{by_places, pieces_of_tuples}
 
 -- ---- columns
-column_front : (place : ℕ) (name : List ℕ) (kind : Kind) (xs ys : List Component) → IsColumnAt place name kind xs → IsColumnAt place name kind (xs ++ ys)
-column_front place name kind [] ys h = absurd h
-column_front zero name kind (x ∷ xs) ys h = h
-column_front (suc place) name kind (x ∷ xs) ys h = column_front place name kind xs ys h
-
-among_front : (zs xs ys : List Component) → AreAmong zs xs → AreAmong zs (xs ++ ys)
-among_front [] xs ys all = tt
-among_front (z ∷ zs) xs ys all =
-    (subst (λ n. IsColumnAt n z.name z.kind (xs ++ ys)) (sym (place_front z.name xs ys (column_within (place_of z.name xs) z.name z.kind xs all.0))) (column_front (place_of z.name xs) z.name z.kind xs ys all.0), among_front zs xs ys all.1)
-
 -- what is among the identifiers is among the columns
 pub among_columns : (zs : List Component) (a : Structure) → AreAmong zs (identifiers_of a) → AreAmong zs (columns_of a)
 among_columns zs a all = subst (AreAmong zs) (sym (columns_split a)) (among_front zs (identifiers_of a) (others_of a) all)
@@ -77,10 +68,10 @@ rows_of_part t places =
     let ns = range_with_len 0 (length t.rows) in
     let row : List ℕ → Row = picked (t ∷ []) (picks_at 0 places) in
     let on : (k : ℕ) → 0 + k ≡ k = λ k. zero-add k in
-    ap (λ l. map row (pieces 1 l)) (sym (singles ns)) ∙ ap (map row) (pieces_of_tuples (λ n. true) (λ n. n ∷ []) 1 ns (omega arith) (each (λ n. length (n ∷ []) ≡ 1) (λ n. refl) ns))
+    ap (λ l. map row (pieces 1 l)) (sym (singles ns)) ∙ ap (map row) (pieces_of_tuples (λ n. true) (λ n. n ∷ []) 1 ns (omega arith) (all_each (λ n. length (n ∷ []) ≡ 1) (λ n. refl) ns))
     ∙ map-map row (λ n. n ∷ []) (filter (λ n. true) ns)
     ∙ by_places (λ n. true) (λ n. row (n ∷ [])) (λ r. true) (cells_at places) [] 0 t.rows (λ k h. refl) (λ k h. ap (λ n. row (n ∷ [])) (on k) ∙ picked_lead t [] places k [])
-    ∙ ap (map (cells_at places)) (every t.rows)
+    ∙ ap (map (cells_at places)) (filter_true t.rows)
 
 pub part_below : (places : List ℕ) → All (λ p. p.part < 1) (picks_at 0 places)
 part_below [] k d h = absurd (omega (arith, h))

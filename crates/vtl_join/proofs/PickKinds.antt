@@ -2,6 +2,7 @@
 use Rattle.std.proofs.Common.{◌≡◌, ℕ, zero, suc, ◌+◌, ◌<◌, ◌≤◌, List, [], ◌∷◌, ◌++◌, length, length-append, map, All, refl, sym, ap, ◌∙◌, arith}
 use Rattle.std.specs.List.{AllByRecursion}
 use Rattle.std.proofs.lemmas.List.{append_assoc, map-append}
+use Rattle.vtl_lists.proofs.Alls.{all_append, all_back, all_front}
 use Rattle.vtl_cell.specs.declared.kind.Kind.{Kind}
 use Rattle.vtl_rows.specs.Gathered.{part_at, picked_kind}
 use Rattle.vtl_rows.specs.Tables.{Listed, column_at}
@@ -19,7 +20,6 @@ use Rattle.vtl_meaning.specs.Joined.{structures_of}
 use Rattle.vtl_meaning.specs.Made.{AreAmong, IsColumnAt, attributes_of, component_kinds, kinds_of_all}
 use Rattle.vtl_meaning.proofs.JoinParts.{AreSets}
 use Rattle.vtl_meaning.proofs.OwnColumns.{own_columns}
-use Rattle.vtl_meaning.proofs.Places.{all_append, all_back, all_front}
 use Rattle.vtl_join.specs.Picks.{picks_at, picks_from, places_of, table_of}
 use Rattle.vtl_join.proofs.Picked.{part_behind}
 

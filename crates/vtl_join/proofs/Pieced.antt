@@ -6,10 +6,6 @@ use Rattle.vtl_rows.specs.Gathered.{pieces}
 use Rattle.vtl_rows.proofs.Gathered.{pieces-next, pieces-none}
 
 -- ---- tuples
-pub every : {X : Type 0} (xs : List X) → filter (λ x. true) xs ≡ xs
-every [] = refl
-every (x ∷ xs) = ap (λ l. x ∷ l) (every xs)
-
 -- a tuple for each item that passes a test
 pub pieces_of_tuples : {X : Type 0} (p : X → Bool) (t : X → List ℕ) (w : ℕ) (xs : List X) → 0 < w → AllByRecursion (λ x. length (t x) ≡ w) xs → pieces w (flat_map (λ x. cond (p x) (t x) []) xs) ≡ map t (filter p xs)
 pieces_of_tuples p t w [] some wide = pieces-none w [] some

@@ -7,6 +7,7 @@ use Rattle.std.proofs.lemmas.Grind.{flat_map-append}
 use Rattle.std.proofs.lemmas.List.{append-nil, drop-map, get_or-map, length-map, length-take-le, map-append, map_more, take-map}
 use Rattle.std.proofs.lemmas.List.Elements.{All-from_recursion}
 use Rattle.std.proofs.lemmas.List.FromFn.{map-range_with_len_more}
+use Rattle.vtl_lists.proofs.Alls.{all_append}
 use Rattle.vtl_cell.specs.Row.{Row}
 use Rattle.vtl_rows.specs.Gathered.{picked, picked_kind, pieces}
 use Rattle.vtl_rows.specs.Places.{row_at}
@@ -25,7 +26,6 @@ use Rattle.vtl_tree.specs.Columns.{identifiers_of, measures_of}
 use Rattle.vtl_meaning.specs.Joined.{structures_of}
 use Rattle.vtl_meaning.specs.Made.{attributes_of, component_kinds, kinds_of_all}
 use Rattle.vtl_meaning.proofs.JoinParts.{AreSets}
-use Rattle.vtl_meaning.proofs.Places.{all_append}
 use Rattle.vtl_join.specs.declared.joined.Operand.{Operand}
 use Rattle.vtl_join.specs.Finding.{Found, all_numbers, found_by, is_found, is_listed, is_past, is_within, listed_number, listed_numbers, number, numbers_for, sought_beside, sources_around}
 use Rattle.vtl_join.specs.Joining.{sets_of}

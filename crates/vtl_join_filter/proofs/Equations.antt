@@ -1,6 +1,5 @@
 -- Where a condition is true, so are the parts that `and` joins, and an equality of two columns has equal values.
-use Rattle.std.proofs.Common.{rules, Global, Vec, Result, ◌≡◌, ℕ, zero, suc, ◌<◌, Bool, true, false, List, [], ◌∷◌, ◌++◌, length, get_or, map, Option, Some, None, Ok, Err, refl, sym, ap, ◌∙◌, subst, arith, true≢false}
-use Rattle.std.specs.Prelude.{OnOk}
+use Rattle.std.proofs.Common.{rules, Global, Vec, ◌≡◌, ℕ, zero, suc, ◌<◌, Bool, true, false, List, [], ◌∷◌, length, get_or, map, Option, Some, None, Ok, Err, refl, sym, ap, ◌∙◌, subst, arith, true≢false}
 use Rattle.std.specs.List.{AllByRecursion}
 use Rattle.std.specs.Ordering.{is_eq}
 use Rattle.vtl_decimal.specs.Settings.{Settings}
@@ -108,10 +107,6 @@ operands_implied p e kind es h = go es (λ r t. each_true p es r (and_true p kin
     go (f ∷ fs) h = ((λ r t. (h r t).0), go fs (λ r t. (h r t).1))
 
 -- ---- lists
-pub all_push : {X : Type 0} (P : X → Type 0) (xs : List X) (x : X) → AllByRecursion P xs → P x → AllByRecursion P (xs ++ x ∷ [])
-all_push P [] x h one = (one, tt)
-all_push P (y ∷ ys) x h one = (h.0, all_push P ys x h.1 one)
-
 pub all_at : {X Y : Type 0} (P : Y → Type 0) (f : X → Y) (xs : List X) (i : ℕ) (x : X) → AllByRecursion P (map f xs) → i < length xs → x ≡ get_or xs i x → P (f x)
 all_at P f [] i x h within e = absurd (omega arith)
 all_at P f (y ∷ ys) zero x h within e = subst (λ z. P (f z)) (sym e) h.0
@@ -121,10 +116,6 @@ pub each_of : {X : Type 0} (P : X → Type 0) (xs : List X) (i : ℕ) (d : X) �
 each_of P [] i d h within = absurd (omega (arith, within))
 each_of P (x ∷ xs) zero d h within = h.0
 each_of P (x ∷ xs) (suc i) d h within = each_of P xs i d h.1 (omega (arith, within))
-
-pub on_ok : {A E P Q : Type 0} (r : Result A E) → (P → Q) → OnOk r P → OnOk r Q
-on_ok (Ok x) f h = f h
-on_ok (Err e) f h = h
 
 -- ---- a call, as the program holds it
 pub call_is : (o : ScalarOp) (kind : Kind) (args : Vec CompExpr Global) → comp_exp_of (Apply o kind args) ≡ call o kind (comp_exps_of (map comp_exp_of args.items))

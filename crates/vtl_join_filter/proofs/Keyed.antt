@@ -1,10 +1,9 @@
 -- Cells of two columns that are equal are one in keys.
-use Rattle.std.proofs.Common.{◌≡◌, ℕ, ◌^◌, ◌<◌, ◌≤◌, Bool, true, false, not, ◌&&◌, cond, ℤ, pos, List, [], length, get_or, map, Some, None, option_map, Ok, inl, inr, refl, sym, ap, ◌∙◌, subst, arith, true≢false}
+use Rattle.std.proofs.Common.{◌≡◌, ℕ, ◌^◌, ◌<◌, ◌≤◌, Bool, true, false, not, ◌&&◌, cond, ℤ, pos, List, [], length, get_or, map, Some, None, option_map, refl, sym, ap, ◌∙◌, subst, true≢false}
 use Rattle.std.specs.Prelude.{◌==◌, slice_get, slice_index, unsigned_abs}
 use Rattle.std.specs.Ordering.{is_eq}
 use Rattle.std.specs.declared.cmp.Ordering.{Ordering}
 use Rattle.std.proofs.Math.ListN.{get_or-eq_default}
-use Rattle.std.proofs.lemmas.Bool.{cases_lt}
 use Rattle.std.proofs.lemmas.List.{get_or_default}
 use Rattle.std.proofs.lemmas.Option.{get_or_from_slice_get, slice_get-map}
 use Rattle.vtl_decimal.specs.Range.{fit_number}
@@ -21,17 +20,17 @@ use Rattle.vtl_cell.specs.declared.cell.Cell.TheVariants as c
 use Rattle.vtl_cell.specs.declared.kind.Kind.{Kind}
 use Rattle.vtl_cell.specs.declared.kind.Kind.TheVariants as k
 use Rattle.vtl_cell.proofs.Cells.{same_cell-is}
+use Rattle.vtl_scalar.proofs.FaultLemmas.{number_fits}
 use Rattle.vtl_rows.specs.Gathered.{part_at, picked_cell}
 use Rattle.vtl_rows.specs.Places.{row_at}
 use Rattle.vtl_rows.specs.Tables.{AllFit, column_at}
 use Rattle.vtl_rows.specs.declared.column.Column.{Column}
 use Rattle.vtl_rows.specs.declared.gather.Pick.{Pick}
-use Rattle.vtl_rows.proofs.Gathers.{cell_fits}
+use Rattle.vtl_rows.proofs.Gathered.{cell_at_fits}
 use Rattle.vtl_index.specs.RowKeys.{or_null}
 use Rattle.vtl_index.specs.declared.row_keys.KeyForm.{KeyForm}
 use Rattle.vtl_index.specs.declared.row_keys.KeyForm.TheVariants.{AsIs, AsNumber}
 use Rattle.vtl_tree.specs.CompExp.{CompExp}
-use Rattle.vtl_meaning.proofs.ValueKinds.{null_is_of}
 use Rattle.vtl_expr.specs.Prepared.{SameValue, prepared_exp}
 use Rattle.vtl_expr.proofs.PointValues.{same_at}
 use Rattle.vtl_join.specs.Gatherings.{point_of}
@@ -90,9 +89,6 @@ meet_as_is a b v w plain x y p h =
     same_within v w ((λ i. option_map is_eq (order_within (sym one i) (sym two i))) ∙ h)
 
 -- ---- integers beside numbers
-number_fits : (m : ℤ) → unsigned_abs m < 10 ^ 18 → fit_number m ≡ Ok m
-number_fits m h = grind arith
-
 abbrev units_in : Cell → ℤ
 units_in (c.Num m) = m
 units_in v = pos 0
@@ -123,20 +119,14 @@ meet_as_number k.Num k.Int v w mixed x y in_v in_w = number_meets v w x y in_v
 meet_as_number a b v w mixed x y in_v in_w = cc
 
 -- ---- columns
-kind_in : (columns : List Column) (rows : List Row) (column i : ℕ) → AllFit columns rows → is_of (column_at columns column).kind (column_of column (row_at rows i)) ≡ true
-kind_in columns rows column i fit = elim (cases_lt i (length rows)) [
-  | inl within ↦ cell_fits columns (row_at rows i) (fit i [] within) column
-  | inr past ↦ ap (λ (r : Row). is_of (column_at columns column).kind (column_of column r)) (get_or-eq_default rows [] past) ∙ null_is_of (column_at columns column).kind
-]
-
 pub kind_within : (columns : List Column) (rows : List Row) (column i : ℕ) (x : Column) → AllFit columns rows → column < length columns → x ≡ get_or columns column x → is_of x.kind (column_of column (row_at rows i)) ≡ true
 kind_within columns rows column i x fit within at =
     let same : x ≡ column_at columns column = at ∙ get_or_default columns column x (record { name = []; kind = k.Null }) within in
-    subst (λ (y : Column). is_of y.kind (column_of column (row_at rows i)) ≡ true) (sym same) (kind_in columns rows column i fit)
+    subst (λ (y : Column). is_of y.kind (column_of column (row_at rows i)) ≡ true) (sym same) (cell_at_fits columns rows column i fit)
 
 pub kind_past : (columns : List Column) (rows : List Row) (column i : ℕ) → AllFit columns rows → length columns ≤ column → is_of k.Null (column_of column (row_at rows i)) ≡ true
 kind_past columns rows column i fit past =
-    subst (λ (y : Column). is_of y.kind (column_of column (row_at rows i)) ≡ true) (get_or-eq_default columns (record { name = []; kind = k.Null }) past) (kind_in columns rows column i fit)
+    subst (λ (y : Column). is_of y.kind (column_of column (row_at rows i)) ≡ true) (get_or-eq_default columns (record { name = []; kind = k.Null }) past) (cell_at_fits columns rows column i fit)
 
 -- ---- cells of points
 cell_picked : {X : Type 0} (f : X → Cell) (xs : List X) (i : ℕ) (x : X) → slice_get xs i ≡ Some x → column_of i (map f xs) ≡ f x

@@ -3,7 +3,7 @@ use Rattle.std.proofs.Common.{◌≡◌, ◌≤◌, ◌<◌, ◌+◌, ◌∷◌,
 use Rattle.std.specs.Char.{is_ascii_digit}
 use Rattle.std.specs.List.{list_all}
 use Rattle.std.proofs.Math.Seq.{take-append_seam, drop-append_seam}
-use Rattle.std.proofs.lemmas.Bool.{cases_Bool, false≢true}
+use Rattle.std.proofs.lemmas.Bool.{cases_Bool, false≢true, or_parts}
 use Rattle.std.proofs.lemmas.Str.{chars-IsAscii}
 use Rattle.vtl_lists.specs.Runs.{begins_with}
 use Rattle.vtl_lists.proofs.Runs.{run-longest}
@@ -60,17 +60,13 @@ word-alone kind bytes rest lead spelled stops ends = record {
 
 -- ---- numbers
 
-or-parts : (a b : Bool) → (a || b) ≡ false → (a ≡ false) × (b ≡ false)
-or-parts true b e = absurd (false≢true (sym e))
-or-parts false b e = (refl, e)
-
 no-digit : (rest : List ℕ) → begins_with (λ byte. is_ascii_digit byte || byte == 46) rest ≡ false → begins_with is_ascii_digit rest ≡ false
 no-digit [] quiet = refl
-no-digit (byte ∷ rest) quiet = (or-parts (is_ascii_digit byte) (byte == 46) quiet).0
+no-digit (byte ∷ rest) quiet = (or_parts (is_ascii_digit byte) (byte == 46) quiet).0
 
 no-point : (rest more : List ℕ) → begins_with (λ byte. is_ascii_digit byte || byte == 46) rest ≡ false → rest ≡ 46 ∷ more → ⊥
 no-point [] more quiet e = cc e
-no-point (byte ∷ rest) more quiet e = let heads : byte ≡ 46 = cc e in false≢true (sym (or-parts (is_ascii_digit byte) (byte == 46) quiet).1 ∙ eq-eqb byte 46 heads)
+no-point (byte ∷ rest) more quiet e = let heads : byte ≡ 46 = cc e in false≢true (sym (or_parts (is_ascii_digit byte) (byte == 46) quiet).1 ∙ eq-eqb byte 46 heads)
 
 digits-chars : (bytes : List ℕ) → list_all is_ascii_digit bytes ≡ true → chars bytes ≡ bytes
 digits-chars bytes digits = chars-IsAscii bytes (all-ascii is_ascii_digit bytes digit-ascii digits)
@@ -182,8 +178,8 @@ string-alone held inner rest named quiet =
 
 less-alone : (byte : ℕ) → (byte == 45 || (byte == 62 || byte == 61)) ≡ false → sign_of_two 60 byte ≡ None
 less-alone byte e =
-    let first = or-parts (byte == 45) _ e in
-    let second = or-parts (byte == 62) (byte == 61) first.1 in
+    let first = or_parts (byte == 45) _ e in
+    let second = or_parts (byte == 62) (byte == 61) first.1 in
     rw (first.0, second.0, second.1) refl
 
 equal-alone : (first byte : ℕ) → (byte == 61) ≡ false → sign_of_two 62 byte ≡ None

@@ -3,15 +3,16 @@ use Rattle.std.proofs.Common.{◌≡◌, ◌≤◌, ◌<◌, ◌+◌, ◌∷◌,
 use Rattle.std.specs.List.{list_all, prefix_len}
 use Rattle.std.proofs.Math.Seq.{split_at}
 use Rattle.std.proofs.lemmas.Bool.{and_from, cases_Bool}
-use Rattle.std.proofs.lemmas.List.{take-append-drop, drop_at, length-take-le}
-use Rattle.std.proofs.lemmas.List.Prefix.{at_reads, at_from_reads}
+use Rattle.std.proofs.lemmas.List.{take-append-drop, length-take-le}
+use Rattle.std.proofs.lemmas.List.Prefix.{at_from_reads}
 use Rattle.std.proofs.lemmas.List.Sums.{prefix_len-le-length}
-use Rattle.memchr.specs.Find.{FindsNeedle, IsFirstByte, OccursAt, is_byte}
+use Rattle.memchr.specs.Find.{FindsNeedle, IsFirstByte, is_byte}
 use Rattle.vtl_lexer.specs.Gaps.{HasNoEnd}
 use Rattle.vtl_lexer.specs.Searches.{EndsFirst, StandsFirst}
 use Rattle.vtl_lexer.specs.Spelling.{Lacks}
 use Rattle.vtl_lists.specs.Runs.{begins_with}
 use Rattle.vtl_lists.proofs.Runs.{prefix-passes, prefix-stops}
+use Rattle.vtl_text.proofs.Occurrences.{occurs_after}
 
 -- the bytes at the front that pass a test
 pub record IsRun (test : ℕ → Bool) (text : List ℕ) (size : ℕ) : Type 0 where
@@ -49,12 +50,6 @@ take-whole (byte ∷ rest) = ap (λ l. byte ∷ l) (take-whole rest)
 
 pub stands-nowhere : (byte : ℕ) (text : List ℕ) → IsFirstByte (is_byte byte) text None → Lacks byte text
 stands-nowhere byte text none = subst (Lacks byte) (take-whole text) (lacks-below byte text (length text) (λ i lt. none i (omega arith) lt))
-
-occurs_after : (hay front needle back : List ℕ) → hay ≡ front ++ (needle ++ back) → OccursAt hay needle (length front)
-occurs_after hay front needle back e = record {
-  fits = omega (arith, ap length e, length-append front (needle ++ back), length-append needle back);
-  reads = at_reads 0 hay needle (length front) back (ap (drop (length front)) e ∙ drop_at front (needle ++ back) (length front) refl);
-}
 
 pub ends-first : (text : List ℕ) (place : ℕ) → FindsNeedle text (codes "*/") 0 (Some place) → EndsFirst text place
 ends-first text place found =

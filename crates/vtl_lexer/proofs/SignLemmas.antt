@@ -16,6 +16,7 @@ use Rattle.vtl_lexer.specs.declared.token.TokenKind.{TokenKind}
 use Rattle.vtl_lexer.specs.declared.token.TokenKind.TheVariants as k
 use Rattle.vtl_lexer.proofs.GapLemmas.{comment, first_of, second_of, token-no_opening}
 use Rattle.vtl_lexer.proofs.SpellingLemmas.{front-lead, lead_kind, sign_of, sign_of-spelling}
+use Rattle.vtl_lexer.proofs.NumberLemmas.{never}
 
 -- one choice of many
 choose : (b : Bool) (sign found : Sign) (rest : Option Sign) (P : Sign → Type 0) → (b ≡ true → P sign) → (rest ≡ Some found → P found) → cond b (Some sign) rest ≡ Some found → P found
@@ -92,10 +93,6 @@ pub other-sign : (kind : TokenKind) (text bytes rest : List ℕ) → lead_of tex
 other-sign kind text bytes rest lead e spelled =
     let (sign, is) = other-kind kind (sym (front-lead kind text bytes rest e spelled) ∙ lead) in
     (sign, is, subst (λ kind. Spells kind bytes) is spelled)
-
-never : (rest : List ℕ) → begins_with (λ byte. false) rest ≡ false
-never [] = refl
-never (byte ∷ rest) = refl
 
 sign-ends : (sign : Sign) (rest : List ℕ) → (sign ≡ s.Slash → begins_with (λ byte. byte == 42 || byte == 47) rest ≡ false) → begins_with (goes_on (k.Sign sign)) rest ≡ false
 sign-ends s.Slash rest h = h refl

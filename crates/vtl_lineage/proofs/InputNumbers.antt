@@ -1,18 +1,20 @@
 -- The numbers of the components that are read: data sets behind one another.
 use Rattle.std.proofs.Common.{◌≡◌, ℕ, suc, ◌+◌, Bool, true, false, not, cond, ◌&&◌, ◌||◌, List, [], ◌∷◌, ◌++◌, append_assoc, length, length-append, map, refl, sym, ap, ◌∙◌, subst, arith}
-use Rattle.std.proofs.lemmas.Bool.{and_parts}
+use Rattle.std.proofs.lemmas.Bool.{and_parts, not-true, or_parts, or_right}
 use Rattle.std.proofs.lemmas.List.{append-nil, length-map, map-append}
 use Rattle.std.specs.List.{AllByRecursion, list_any}
 use Rattle.std.specs.Map.{keys_of}
 use Rattle.std.specs.Cmp.Lexicographic.{nat_list_eq_equiv}
 use Rattle.vtl_lists.specs.Apart.{all_apart}
+use Rattle.vtl_lists.proofs.Alls.{all_append}
 use Rattle.vtl_tree.specs.Columns.{identifiers_of, others_of}
 use Rattle.vtl_tree.specs.Structure.{IsStructure, columns_of, key_width, names_of, same_name}
 use Rattle.vtl_tree.specs.Structures.{Named}
 use Rattle.vtl_tree.specs.declared.structure.Component.{Component}
 use Rattle.vtl_tree.specs.declared.structure.Structure.{Structure}
+use Rattle.vtl_tree.proofs.NotNullLemmas.{same_itself}
 use Rattle.vtl_meaning.proofs.OwnColumns.{columns_apart}
-use Rattle.vtl_meaning.proofs.Places.{columns_split, same_name-refl}
+use Rattle.vtl_meaning.proofs.Places.{columns_split}
 use Rattle.vtl_sources.specs.Links.{Pair, Pairs, input_sources, inputs_lineage, is_in, pairs_of, pairs_of_set}
 use Rattle.vtl_sources.specs.Sources.{sources}
 use Rattle.vtl_lineage.specs.Numbers.{Numbers, each_alone, input_numbers, inputs_numbers, numbered, numbered_past, numbers_of, places_from, run}
@@ -67,11 +69,7 @@ others_set name xs (q ∷ qs) h = (other_set name xs q h.0, others_set name xs q
 -- within one data set the names of the components decide
 by_name : (name : List ℕ) (xs : List Component) (y : Component) → is_in (map (pair_with name) xs) (pair_with name y) ≡ list_any (λ x. same_name y.name x.name) xs
 by_name name [] y = refl
-by_name name (x ∷ xs) y = λ i. (same_name-refl name i && same_name y.name x.name) || by_name name xs y i
-
-right : (b c : Bool) → c ≡ true → (b || c) ≡ true
-right true c e = refl
-right false c e = e
+by_name name (x ∷ xs) y = λ i. (same_itself name i && same_name y.name x.name) || by_name name xs y i
 
 own_there : (name : List ℕ) (front xs : List Component) → AllByRecursion (λ q. is_in (map (pair_with name) (front ++ xs)) q ≡ true) (map (pair_with name) xs)
 own_there name front [] = tt
@@ -79,8 +77,8 @@ own_there name front (x ∷ xs) =
     (by_name name (front ++ x ∷ xs) x ∙ at front, subst (λ l. AllByRecursion (λ q. is_in (map (pair_with name) l) q ≡ true) (map (pair_with name) xs)) (append_assoc front (x ∷ []) xs) (own_there name (front ++ x ∷ []) xs))
   where
     at : (us : List Component) → list_any (λ u. same_name x.name u.name) (us ++ x ∷ xs) ≡ true
-    at [] = ap (λ b. b || list_any (λ u. same_name x.name u.name) xs) (same_name-refl x.name)
-    at (u ∷ us) = right (same_name x.name u.name) (list_any (λ v. same_name x.name v.name) (us ++ x ∷ xs)) (at us)
+    at [] = ap (λ b. b || list_any (λ u. same_name x.name u.name) xs) (same_itself x.name)
+    at (u ∷ us) = or_right (same_name x.name u.name) (list_any (λ v. same_name x.name v.name) (us ++ x ∷ xs)) (at us)
 
 -- ---- names that stand apart
 abbrev IsNone : List ℕ → List Component → Type 0
@@ -89,14 +87,6 @@ IsNone name xs = list_any (λ x. same_name name x.name) xs ≡ false
 abbrev AreApart : List Component → Type 0
 AreApart xs = all_apart same_name (names_of xs) ≡ true
 
-or_parts : (b c : Bool) → (b || c) ≡ false → (b ≡ false) × (c ≡ false)
-or_parts true c e = cc
-or_parts false c e = (refl, e)
-
-not_true : (b : Bool) → not b ≡ true → b ≡ false
-not_true true e = cc
-not_true false e = refl
-
 named_any : (name : List ℕ) (xs : List Component) → list_any (same_name name) (names_of xs) ≡ list_any (λ x. same_name name x.name) xs
 named_any name [] = refl
 named_any name (x ∷ xs) = ap (λ b. same_name name x.name || b) (named_any name xs)
@@ -104,7 +94,7 @@ named_any name (x ∷ xs) = ap (λ b. same_name name x.name || b) (named_any nam
 apart_first : (x : Component) (xs : List Component) → AreApart (x ∷ xs) → IsNone x.name xs × AreApart xs
 apart_first x xs h =
     let parts = and_parts (not (list_any (same_name x.name) (names_of xs))) (all_apart same_name (names_of xs)) h in
-    (sym (named_any x.name xs) ∙ not_true (list_any (same_name x.name) (names_of xs)) parts.0, parts.1)
+    (sym (named_any x.name xs) ∙ not-true (list_any (same_name x.name) (names_of xs)) parts.0, parts.1)
 
 none_back : (name : List ℕ) (xs ys : List Component) → IsNone name (xs ++ ys) → IsNone name xs × IsNone name ys
 none_back name [] ys h = (refl, h)
@@ -172,7 +162,7 @@ module _ (name : List ℕ) (s : Structure) (w : IsStructure s) (before behind : 
   one_number us x vs h =
       let n = length before in
       let f = is_in (map (pair_with name) (x ∷ [])) in
-      let here : f (pair_with name x) ≡ true = by_name name (x ∷ []) x ∙ ap (λ b. b || false) (same_name-refl x.name) in
+      let here : f (pair_with name x) ≡ true = by_name name (x ∷ []) x ∙ ap (λ b. b || false) (same_itself x.name) in
       ap (places_from n f) (map-append (pair_with name) us (x ∷ vs))
       ∙ places_append n f (map (pair_with name) us) (pair_with name x ∷ map (pair_with name) vs)
       ∙ (λ i. none_here n f (map (pair_with name) us) (pairs_none name (x ∷ []) us (fronts us h)) i
@@ -209,10 +199,6 @@ of_set : (name other : List ℕ) → same_name other name ≡ false → (xs : Li
 of_set name other h [] = tt
 of_set name other h (x ∷ xs) = (h, of_set name other h xs)
 
-all_append : {X : Type 0} (Q : X → Type 0) (xs ys : List X) → AllByRecursion Q xs → AllByRecursion Q ys → AllByRecursion Q (xs ++ ys)
-all_append Q [] ys h k = k
-all_append Q (x ∷ xs) ys h k = (h.0, all_append Q xs ys h.1 k)
-
 abbrev AreNew : Pairs → Named → Type 0
 AreNew before es = AllByRecursion (λ e. AllByRecursion (IsOf e.0) before) es
 
@@ -234,7 +220,7 @@ inputs_same before [] h w new = refl
 inputs_same before (e ∷ es) h w new =
     let own = pairs_of_set e.0 e.1 in
     let parts = and_parts (not (list_any (same_name e.0) (keys_of es))) (all_apart same_name (keys_of es)) h in
-    let alone = not_true (list_any (same_name e.0) (keys_of es)) parts.0 in
+    let alone = not-true (list_any (same_name e.0) (keys_of es)) parts.0 in
     let rest = inputs_same (before ++ own) es parts.1 w.1 (still_new before e.0 e.1 es alone new.1) in
     let first = input_same e.0 e.1 w.0 before (pairs_of es) new.0 (behind_of e.0 es alone) in
     λ i. (e.0, first i) ∷ (ap (λ l. numbered_past l (inputs_lineage es)) (sym (append_assoc before own (pairs_of es))) ∙ rest ∙ ap (λ m. inputs_numbers m es) (length-append before own)) i

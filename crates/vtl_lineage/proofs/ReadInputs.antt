@@ -1,7 +1,7 @@
 -- The data sets that a script reads are those that the program comes to.
 use Rattle.std.proofs.Common.{◌≡◌, ℕ, ◌+◌, ◌<◌, ◌≤◌, get_or, take, Bool, true, false, not, cond, ◌&&◌, ◌||◌, List, [], ◌∷◌, ◌++◌, append_assoc, length, length-append, map, Option, None, Some, refl, sym, ap, ◌∙◌, arith}
 use Rattle.std.specs.Prelude.{nat_le}
-use Rattle.std.proofs.lemmas.Bool.{and_parts, leb-true}
+use Rattle.std.proofs.lemmas.Bool.{and_parts, leb-true, not-true, or_parts}
 use Rattle.std.specs.Borrow.{Bor}
 use Rattle.std.proofs.lemmas.List.{append-nil, length-map, map-append, take_all, take_more}
 use Rattle.std.proofs.lemmas.List.Concat.{flat_map-append}
@@ -63,7 +63,7 @@ all_behind : (es : Named) (e : List ℕ × Structure) → HaveStructures es → 
 all_behind [] e h i = (i, tt)
 all_behind (x ∷ es) e h i = (h.0, all_behind es e h.1 i)
 
-declared_structure : (s : Structure) → is_declarable s ≡ true → IsStructure s
+pub declared_structure : (s : Structure) → is_declarable s ≡ true → IsStructure s
 declared_structure s h =
     let three = and_parts (nat_le 1 (length s.components) && nat_le (length s.components) most_components && all_apart same_name (names_of s.components)) (list_all is_declarable_component s.components) h in
     let two = and_parts (nat_le 1 (length s.components) && nat_le (length s.components) most_components) (all_apart same_name (names_of s.components)) three.0 in
@@ -106,14 +106,6 @@ still_found name s known (t ∷ ts) (m ∷ ns) e = still_found name s (with_new 
     go true = e
     go false = found_first name known ((t.name, structure_of m) ∷ []) s e
 
-or_parts : (b c : Bool) → (b || c) ≡ false → (b ≡ false) × (c ≡ false)
-or_parts true c e = cc
-or_parts false c e = (refl, e)
-
-not_true : (b : Bool) → not b ≡ true → b ≡ false
-not_true true e = cc
-not_true false e = refl
-
 -- entries that stand apart are found each under its own name, in any list whose look-ups they have
 abbrev AreFound : Named → Named → Type 0
 AreFound es known = AllByRecursion (λ e. lookup (same_name e.0) known ≡ Some e.1) es
@@ -128,7 +120,7 @@ own_found : (es : Named) → all_apart same_name (keys_of es) ≡ true → AreFo
 own_found [] h = tt
 own_found (e ∷ es) h =
     let parts = and_parts (not (list_any (same_name e.0) (keys_of es))) (all_apart same_name (keys_of es)) h in
-    (ap (λ b. cond b (Some e.1) (lookup (same_name e.0) es)) ((bytes_decides e.0 e.0).1 refl), found_later e.0 e.1 es es (not_true (list_any (same_name e.0) (keys_of es)) parts.0) (own_found es parts.1))
+    (ap (λ b. cond b (Some e.1) (lookup (same_name e.0) es)) ((bytes_decides e.0 e.0).1 refl), found_later e.0 e.1 es es (not-true (list_any (same_name e.0) (keys_of es)) parts.0) (own_found es parts.1))
 
 found_behind_results : (es known : Named) (ts : List Transformation) (ns : List NodeTree) → AreFound es known → AreFound es (results_behind known ts ns)
 found_behind_results [] known ts ns h = tt
@@ -175,7 +167,7 @@ held_all first past (e ∷ es) h k =
     let next = first + length (pairs_of_set e.0 e.1) in
     let put : with_sources past e.0 from ≡ past ++ (e.0, from) ∷ [] = ap (λ b. cond b (set_value (same_name e.0) past from) (past ++ (e.0, from) ∷ [])) k.0 in
     ap (λ z. held_inputs next z es) put
-    ∙ held_all next (past ++ (e.0, from) ∷ []) es parts.1 (still_none past e.0 from es (not_true (list_any (same_name e.0) (keys_of es)) parts.0) k.1)
+    ∙ held_all next (past ++ (e.0, from) ∷ []) es parts.1 (still_none past e.0 from es (not-true (list_any (same_name e.0) (keys_of es)) parts.0) k.1)
     ∙ append_assoc past ((e.0, from) ∷ []) (inputs_numbers next es)
 
 none_yet : (es : Named) → none_held [] es

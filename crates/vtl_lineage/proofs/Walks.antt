@@ -4,7 +4,7 @@ use Rattle.std.proofs.Common.{◌≡◌, ℕ, ◌≤◌, List, [], ◌∷◌, �
 use Rattle.std.proofs.lemmas.List.{drop_all, length-map}
 use Rattle.vtl_tree.specs.NodeView.{form_tree, node_tree}
 use Rattle.vtl_tree.specs.Trees as nodes
-use Rattle.vtl_tree.specs.Trees.{FormTree, MaybeNode, NodeTree, NodeTrees, OperandTrees, structure_of}
+use Rattle.vtl_tree.specs.Trees.{FormTree, MaybeNode, NodeTree, NodeTrees, OperandTrees}
 use Rattle.vtl_tree.specs.declared.nodes.Node as node
 use Rattle.vtl_tree.specs.declared.nodes.Node.{Node}
 use Rattle.vtl_tree.specs.declared.structure.Structure.{Structure}
@@ -71,6 +71,3 @@ as_many past ds ns e = ap length e ∙ length-map ns (traced_node past)
 -- ---- the structure of a node is that of its tree
 node_tree-is : (n : Node) → node_tree n ≡ nodes.node n.structure (form_tree n.form)
 node_tree-is n = search (rules, node.the_lemmas)
-
-pub own_structure : (n : Node) → structure_of (node_tree n) ≡ n.structure
-own_structure n = ap structure_of (node_tree-is n)

@@ -5,16 +5,16 @@ use Rattle.std.specs.List.{AllByRecursion, filter, find}
 use Rattle.std.proofs.lemmas.List.{append-nil, map-append}
 use Rattle.std.proofs.lemmas.List.Elements.{filter-append}
 use Rattle.std.proofs.lemmas.Cmp.{nat_list_eq_equiv}
-use Rattle.std.proofs.lemmas.Slice.Eq.{bytes_eq-Decides}
 use Rattle.vtl_lists.specs.Apart.{all_apart}
-use Rattle.vtl_lists.specs.Perm.{Perm, empty, keep, chain}
 use Rattle.vtl_cell.specs.declared.kind.Kind.{Kind}
 use Rattle.vtl_cell.specs.declared.kind.Kind.TheVariants as k
 use Rattle.vtl_cell.specs.declared.operator.AggKind.{AggKind}
 use Rattle.vtl_cell.specs.declared.operator.AggKind.TheVariants as agg
 use Rattle.vtl_lists.proofs.Aparts.{all_apart-Perm, apart_parts}
-use Rattle.vtl_lists.proofs.Perms.{AllByRecursion-Perm, Perm-append_back, Perm-map, Perm-middle}
+use Rattle.vtl_lists.proofs.Perms.{AllByRecursion-Perm, Perm-map}
 use Rattle.vtl_lists.proofs.Sorts.{AllByRecursion-filter}
+use Rattle.vtl_lists.proofs.Alls.{all_more}
+use Rattle.vtl_lists.proofs.Filters.{filter_all, filter_none}
 use Rattle.vtl_cell.specs.AggregateKinds.{aggregate_kind}
 use Rattle.vtl_tree.specs.Structure.{IsStructure, columns_of, names_of, of_role, same_name, same_role}
 use Rattle.vtl_tree.specs.declared.structure.Component.{Component}
@@ -30,19 +30,14 @@ use Rattle.vtl_tree.specs.Columns.{identifiers_of}
 use Rattle.vtl_tree.specs.Measures.{given_measure, is_measure, measures}
 use Rattle.vtl_tree.specs.Names.{component_of, is_among}
 use Rattle.vtl_tree.specs.declared.choices.Choice.TheVariants as choice
+use Rattle.vtl_tree.proofs.NotNullLemmas.{same_itself}
 use Rattle.vtl_meaning.specs.Aggregates.{measure_call, target_named}
 use Rattle.vtl_meaning.specs.AggregateShapes.{AreTaken, IsAggregated, IsMadeColumn, IsTypedAggregate, given_kind, given_of, made_components, of_measure, target_component}
+use Rattle.vtl_meaning.proofs.AnalyticColumns.{by_roles}
+use Rattle.vtl_meaning.proofs.AnalyticShaped.{no_measure}
+use Rattle.vtl_meaning.proofs.Places.{same_name-is, same_name-sym}
 
 -- ---- names
-same-refl : (a : List ℕ) → same_name a a ≡ true
-same-refl a = (bytes_eq-Decides a a).1 refl
-
-same-is : (a b : List ℕ) → same_name a b ≡ true → a ≡ b
-same-is a b e = (bytes_eq-Decides a b).0 e
-
-same-sym : (a b : List ℕ) → same_name a b ≡ same_name b a
-same-sym a b = nat_list_eq_equiv.symm a b
-
 -- of items with distinct names each is found by its own
 module _ {X : Type 0} (name : X → List ℕ) where
   abbrev by_name : List ℕ → List X → Option X
@@ -56,7 +51,7 @@ module _ {X : Type 0} (name : X → List ℕ) where
   own_found [] e = tt
   own_found (x ∷ xs) e =
       let parts = apart_parts same_name (name x) (map name xs) e in
-      (ap (λ b. cond b (Some x) (by_name (name x) xs)) (same-refl (name x)), later x xs xs parts.0 (own_found xs parts.1))
+      (ap (λ b. cond b (Some x) (by_name (name x) xs)) (same_itself (name x)), later x xs xs parts.0 (own_found xs parts.1))
 
   -- what holds of each item holds of the one that is found, which has the name
   found_holds : (P : X → Type 0) (n : List ℕ) (xs : List X) (x : X) → AllByRecursion P xs → by_name n xs ≡ Some x → P x × (name x ≡ n)
@@ -66,29 +61,14 @@ module _ {X : Type 0} (name : X → List ℕ) where
       go : (b : Bool) → same_name (name y) n ≡ b → cond b (Some y) (by_name n ys) ≡ Some x → (by_name n ys ≡ Some x → P x × (name x ≡ n)) → P x × (name x ≡ n)
       go true h f ih =
           let same : y ≡ x = cc in
-          (subst P same all.0, ap name (sym same) ∙ same-is (name y) n h)
+          (subst P same all.0, ap name (sym same) ∙ same_name-is (name y) n h)
       go false h f ih = ih f
 
 -- ---- columns are the components, ordered by their roles
-by_roles : (xs : List Component) → Perm (filter (λ x. same_role x.role role.Identifier) xs ++ filter (λ x. same_role x.role role.Measure) xs ++ filter (λ x. same_role x.role role.Attribute) xs) xs
-by_roles [] = empty
-by_roles (x ∷ xs) = go x.role (by_roles xs)
-  where
-    of : Role → List Component
-    of r = filter (λ y. same_role y.role r) xs
-
-    put : Role → Role → List Component
-    put r t = cond (same_role r t) (x ∷ of t) (of t)
-
-    go : (r : Role) → Perm (of role.Identifier ++ of role.Measure ++ of role.Attribute) xs → Perm (put r role.Identifier ++ put r role.Measure ++ put r role.Attribute) (x ∷ xs)
-    go role.Identifier ih = keep x ih
-    go role.Measure ih = chain (Perm-append_back (of role.Attribute) (Perm-middle (of role.Identifier) x (of role.Measure))) (keep x ih)
-    go role.Attribute ih = chain (Perm-middle (of role.Identifier ++ of role.Measure) x (of role.Attribute)) (keep x ih)
-
 -- each component is found among the columns
 components_found : (a : Structure) → IsStructure a → AllByRecursion (λ y. component_of y.name (columns_of a) ≡ Some y) a.components
 components_found a w =
-    let apart : all_apart same_name (names_of (columns_of a)) ≡ true = all_apart-Perm same_name same-sym (Perm-map (λ (x : Component). x.name) (by_roles a.components)) ∙ w.distinct in
+    let apart : all_apart same_name (names_of (columns_of a)) ≡ true = all_apart-Perm same_name same_name-sym (Perm-map (λ (x : Component). x.name) (by_roles a.components)) ∙ w.distinct in
     AllByRecursion-Perm (λ y. component_of y.name (columns_of a) ≡ Some y) (by_roles a.components) (own_found (λ (x : Component). x.name) (columns_of a) apart)
 
 some_is : {A : Type 0} (o : Option A) (d : A) → IsSome o → o ≡ Some (unwrap_or o d)
@@ -147,18 +127,6 @@ module _ (a : Structure) (w : IsStructure a) where
 abbrev HasRole : Role → Bool → Component → Type 0
 HasRole r b x = same_role x.role r ≡ b
 
-all_weaker : {X : Type 0} (P Q : X → Type 0) → ((x : X) → P x → Q x) → (xs : List X) → AllByRecursion P xs → AllByRecursion Q xs
-all_weaker P Q f [] all = tt
-all_weaker P Q f (x ∷ xs) all = (f x all.0, all_weaker P Q f xs all.1)
-
-keep_all : {X : Type 0} (p : X → Bool) (xs : List X) → AllByRecursion (λ x. p x ≡ true) xs → filter p xs ≡ xs
-keep_all p [] all = refl
-keep_all p (x ∷ xs) all = ap (λ b. cond b (x ∷ filter p xs) (filter p xs)) all.0 ∙ ap (λ l. x ∷ l) (keep_all p xs all.1)
-
-drop_all : {X : Type 0} (p : X → Bool) (xs : List X) → AllByRecursion (λ x. p x ≡ false) xs → filter p xs ≡ []
-drop_all p [] all = refl
-drop_all p (x ∷ xs) all = ap (λ b. cond b (x ∷ filter p xs) (filter p xs)) all.0 ∙ drop_all p xs all.1
-
 chosen_identify : (names : List (List ℕ)) (xs : List Component) → AllByRecursion (HasRole role.Identifier true) (chosen choice.By names xs)
 chosen_identify names [] = tt
 chosen_identify names (x ∷ xs) = go (is_identifier x) refl (is_among x.name names) (chosen_identify names xs)
@@ -168,12 +136,7 @@ chosen_identify names (x ∷ xs) = go (is_identifier x) refl (is_among x.name na
     go true e false ih = ih
     go false e d ih = ih
 
-no_measure : (r : Role) → same_role r role.Identifier ≡ true → same_role r role.Measure ≡ false
-no_measure role.Identifier h = refl
-no_measure role.Measure h = cc
-no_measure role.Attribute h = cc
-
-no_attribute : (r : Role) → same_role r role.Identifier ≡ true → same_role r role.Attribute ≡ false
+pub no_attribute : (r : Role) → same_role r role.Identifier ≡ true → same_role r role.Attribute ≡ false
 no_attribute role.Identifier h = refl
 no_attribute role.Measure h = cc
 no_attribute role.Attribute h = cc
@@ -216,8 +179,8 @@ module _ (spec : AggTree) (a s : Structure) (w : IsStructure a) (v : IsStructure
   identifiers_are : identifiers_of s ≡ ids
   identifiers_are =
       of_roles role.Identifier
-      ∙ ap (λ l. l ++ filter (λ x. same_role x.role role.Identifier) made) (keep_all (λ x. same_role x.role role.Identifier) ids identify)
-      ∙ ap (λ l. ids ++ l) (drop_all (λ x. same_role x.role role.Identifier) made (made_roles spec.items a.components taken))
+      ∙ ap (λ l. l ++ filter (λ x. same_role x.role role.Identifier) made) (filter_all (λ x. same_role x.role role.Identifier) ids identify)
+      ∙ ap (λ l. ids ++ l) (filter_none (λ x. same_role x.role role.Identifier) made (made_roles spec.items a.components taken))
       ∙ append-nil ids
 
   apart : TargetsApart a w spec.items
@@ -235,7 +198,7 @@ module _ (spec : AggTree) (a s : Structure) (w : IsStructure a) (v : IsStructure
 
   of_role_made : (r : Role) → ((x : Component) → HasRole role.Identifier true x → HasRole r false x) → AllByRecursion P (of_role r s)
   of_role_made r other =
-      subst (AllByRecursion P) (sym (of_roles r ∙ ap (λ l. l ++ filter (λ x. same_role x.role r) made) (drop_all (λ x. same_role x.role r) ids (all_weaker (HasRole role.Identifier true) (HasRole r false) other ids identify))))
+      subst (AllByRecursion P) (sym (of_roles r ∙ ap (λ l. l ++ filter (λ x. same_role x.role r) made) (filter_none (λ x. same_role x.role r) ids (all_more (HasRole role.Identifier true) (HasRole r false) other ids identify))))
       (AllByRecursion-filter P (λ x. same_role x.role r) made made_all)
 
   both : (xs ys : List Component) → AllByRecursion P xs → AllByRecursion P ys → AllByRecursion P (xs ++ ys)

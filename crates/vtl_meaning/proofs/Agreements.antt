@@ -3,6 +3,7 @@ use Rattle.std.proofs.Common.{◌≡◌, List, [], ◌∷◌, Bool, true, false,
 use Rattle.std.specs.List.{AllByRecursion, filter, find, list_all}
 use Rattle.std.specs.Option.{option_map_or}
 use Rattle.std.proofs.lemmas.Bool.{and_parts}
+use Rattle.vtl_lists.proofs.Alls.{all_filtered, all_more}
 use Rattle.vtl_cell.specs.Kinds.{same_kind}
 use Rattle.vtl_cell.specs.Row.{Row, same_row}
 use Rattle.vtl_tree.specs.DataSet.{IsDataSet, is_point, look}
@@ -20,9 +21,9 @@ use Rattle.vtl_tree.specs.Columns.{common_identifiers, has_identifier, identifie
 use Rattle.vtl_meaning.specs.Agreement.{first_agreeing, values_in}
 use Rattle.vtl_meaning.specs.Points.{partner}
 use Rattle.vtl_meaning.proofs.LookUps.{named_cells}
-use Rattle.vtl_meaning.proofs.Places.{all_filtered, all_more, key_cells, key_within}
+use Rattle.vtl_meaning.proofs.Places.{key_cells, key_within}
 
-like_an_identifier : (a b : Role) → same_role a role.Identifier ≡ true → same_role a b ≡ true → same_role b role.Identifier ≡ true
+pub like_an_identifier : (a b : Role) → same_role a role.Identifier ≡ true → same_role a b ≡ true → same_role b role.Identifier ≡ true
 like_an_identifier role.Identifier b e f = go b f
   where
     go : (c : Role) → same_role role.Identifier c ≡ true → same_role c role.Identifier ≡ true

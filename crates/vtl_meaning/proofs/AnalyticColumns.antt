@@ -1,8 +1,7 @@
 -- Where columns stand, and what stands in them.
-use Rattle.std.proofs.Common.{◌≡◌, ℕ, zero, suc, Bool, true, false, not, cond, ◌&&◌, List, [], ◌∷◌, ◌++◌, length, map, take, Option, Some, refl, sym, ap, ◌∙◌, arith, append_assoc}
+use Rattle.std.proofs.Common.{◌≡◌, ℕ, zero, suc, Bool, true, false, not, cond, ◌&&◌, List, [], ◌∷◌, ◌++◌, length, map, take, Option, Some, refl, sym, ap, ◌∙◌}
 use Rattle.std.specs.List.{AllByRecursion, filter, find}
 use Rattle.std.proofs.lemmas.Cmp.{nat_list_eq_equiv}
-use Rattle.std.proofs.lemmas.Slice.Eq.{bytes_eq-Decides}
 use Rattle.vtl_lists.specs.Apart.{all_apart}
 use Rattle.vtl_cell.specs.Kinds.{is_null, is_of}
 use Rattle.vtl_lists.specs.Perm.{Perm, empty, keep, chain}
@@ -10,6 +9,7 @@ use Rattle.vtl_cell.specs.Row.{Row, column_of}
 use Rattle.vtl_cell.specs.declared.cell.Cell.{Cell}
 use Rattle.vtl_lists.proofs.Aparts.{all_apart-Perm, apart_parts}
 use Rattle.vtl_lists.proofs.Perms.{Perm-append_back, Perm-map, Perm-middle}
+use Rattle.vtl_lists.proofs.Alls.{all_append, all_filtered, all_more}
 use Rattle.vtl_rows.specs.Tables.{cells_at}
 use Rattle.vtl_tree.specs.DataSet.{is_point}
 use Rattle.vtl_tree.specs.Structure.{IsStructure, columns_of, names_of, of_role, same_name, same_role}
@@ -17,20 +17,13 @@ use Rattle.vtl_tree.specs.declared.structure.Component.{Component}
 use Rattle.vtl_tree.specs.declared.structure.Role.{Role}
 use Rattle.vtl_tree.specs.declared.structure.Role.TheVariants as role
 use Rattle.vtl_tree.specs.declared.structure.Structure.{Structure}
-use Rattle.vtl_tree.specs.Columns.{identifiers_of, others_of, place_of, places_in}
+use Rattle.vtl_tree.specs.Columns.{identifiers_of, others_of, places_in}
 use Rattle.vtl_tree.specs.Names.{component_of}
-use Rattle.vtl_meaning.proofs.GroupPoints.{HasCell, all_more}
+use Rattle.vtl_tree.proofs.NotNullLemmas.{same_itself}
+use Rattle.vtl_meaning.proofs.GroupPoints.{HasCell}
+use Rattle.vtl_meaning.proofs.Places.{cells_behind, columns_split, place_here, same_name-sym}
 
 -- ---- names
-pub same-refl : (a : List ℕ) → same_name a a ≡ true
-same-refl a = (bytes_eq-Decides a a).1 refl
-
-pub same-is : (a b : List ℕ) → same_name a b ≡ true → a ≡ b
-same-is a b e = (bytes_eq-Decides a b).0 e
-
-same-sym : (a b : List ℕ) → same_name a b ≡ same_name b a
-same-sym a b = nat_list_eq_equiv.symm a b
-
 -- of items with distinct names each is found by its own
 module _ {X : Type 0} (name : X → List ℕ) where
   abbrev by_name : List ℕ → List X → Option X
@@ -44,7 +37,7 @@ module _ {X : Type 0} (name : X → List ℕ) where
   own_found [] e = tt
   own_found (x ∷ xs) e =
       let parts = apart_parts same_name (name x) (map name xs) e in
-      (ap (λ b. cond b (Some x) (by_name (name x) xs)) (same-refl (name x)), later x xs xs parts.0 (own_found xs parts.1))
+      (ap (λ b. cond b (Some x) (by_name (name x) xs)) (same_itself (name x)), later x xs xs parts.0 (own_found xs parts.1))
 
 -- ---- columns are the components, ordered by their roles
 pub by_roles : (xs : List Component) → Perm (filter (λ x. same_role x.role role.Identifier) xs ++ filter (λ x. same_role x.role role.Measure) xs ++ filter (λ x. same_role x.role role.Attribute) xs) xs
@@ -63,37 +56,13 @@ by_roles (x ∷ xs) = go x.role (by_roles xs)
     go role.Attribute ih = chain (Perm-middle (of role.Identifier ++ of role.Measure) x (of role.Attribute)) (keep x ih)
 
 columns_apart : (a : Structure) → IsStructure a → all_apart same_name (names_of (columns_of a)) ≡ true
-columns_apart a w = all_apart-Perm same_name same-sym (Perm-map (λ (x : Component). x.name) (by_roles a.components)) ∙ w.distinct
+columns_apart a w = all_apart-Perm same_name same_name-sym (Perm-map (λ (x : Component). x.name) (by_roles a.components)) ∙ w.distinct
 
 -- each column is found by its name
 pub columns_found : (a : Structure) → IsStructure a → AllByRecursion (λ y. component_of y.name (columns_of a) ≡ Some y) (columns_of a)
 columns_found a w = own_found (λ (x : Component). x.name) (columns_of a) (columns_apart a w)
 
-pub columns_split : (a : Structure) → columns_of a ≡ identifiers_of a ++ others_of a
-columns_split a = append_assoc (of_role role.Identifier a) (of_role role.Measure a) (of_role role.Attribute a)
-
-pub all_front : {X : Type 0} (P : X → Type 0) (xs ys : List X) → AllByRecursion P (xs ++ ys) → AllByRecursion P xs
-all_front P [] ys all = tt
-all_front P (x ∷ xs) ys all = (all.0, all_front P xs ys all.1)
-
-pub all_append : {X : Type 0} (P : X → Type 0) (xs ys : List X) → AllByRecursion P xs → AllByRecursion P ys → AllByRecursion P (xs ++ ys)
-all_append P [] ys h i = i
-all_append P (x ∷ xs) ys h i = (h.0, all_append P xs ys h.1 i)
-
 -- ---- cells
-place_here : (name : List ℕ) (x : Component) (xs : List Component) → same_name x.name name ≡ true → place_of name (x ∷ xs) ≡ zero
-place_here name x xs e = rw e refl
-
-place_later : (name : List ℕ) (x : Component) (xs : List Component) → same_name x.name name ≡ false → place_of name (x ∷ xs) ≡ suc (place_of name xs)
-place_later name x xs e = rw e (omega arith)
-
--- a column before all of these changes nothing
-cells_behind : (x : Component) (xs : List Component) (v : Cell) (r : Row) (ys : List Component) → AllByRecursion (λ n. same_name x.name n ≡ false) (names_of ys) → cells_at (places_in (x ∷ xs) ys) (v ∷ r) ≡ cells_at (places_in xs ys) r
-cells_behind x xs v r [] all = refl
-cells_behind x xs v r (y ∷ ys) all =
-    ap (λ i. column_of i (v ∷ r) ∷ cells_at (places_in (x ∷ xs) ys) (v ∷ r)) (place_later y.name x xs all.0)
-    ∙ ap (λ l. column_of (place_of y.name xs) r ∷ l) (cells_behind x xs v r ys all.1)
-
 last_of : (a b d : Bool) → (a && b && d) ≡ true → d ≡ true
 last_of true true d e = e
 last_of true false d e = cc
@@ -105,7 +74,7 @@ first_cells [] more r apart h = refl
 first_cells (x ∷ xs) more [] apart h = cc
 first_cells (x ∷ xs) more (v ∷ r) apart h =
     let parts = apart_parts same_name x.name (names_of (xs ++ more)) apart in
-    ap (λ i. column_of i (v ∷ r) ∷ cells_at (places_in (x ∷ xs ++ more) xs) (v ∷ r)) (place_here x.name x (xs ++ more) (same-refl x.name))
+    ap (λ i. column_of i (v ∷ r) ∷ cells_at (places_in (x ∷ xs ++ more) xs) (v ∷ r)) (place_here x.name x (xs ++ more) (same_itself x.name))
     ∙ ap (λ l. v ∷ l) (cells_behind x (xs ++ more) v r xs (names_front xs more parts.0) ∙ first_cells xs more r parts.1 (rest h))
   where
     names_front : (us vs : List Component) → AllByRecursion (λ n. same_name x.name n ≡ false) (names_of (us ++ vs)) → AllByRecursion (λ n. same_name x.name n ≡ false) (names_of us)
@@ -139,14 +108,6 @@ pub attribute_role : (r : Role) → same_role r role.Attribute ≡ true → same
 attribute_role role.Identifier h = cc
 attribute_role role.Measure h = refl
 attribute_role role.Attribute h = refl
-
-pub all_filtered : {X : Type 0} (p : X → Bool) (xs : List X) → AllByRecursion (λ x. p x ≡ true) (filter p xs)
-all_filtered p [] = tt
-all_filtered p (x ∷ xs) = go (p x) refl (all_filtered p xs)
-  where
-    go : (b : Bool) → p x ≡ b → AllByRecursion (λ y. p y ≡ true) (filter p xs) → AllByRecursion (λ y. p y ≡ true) (cond b (x ∷ filter p xs) (filter p xs))
-    go true e ih = (e, ih)
-    go false e ih = ih
 
 pub are_others : (s : Structure) → AllByRecursion IsOther (others_of s)
 are_others s =

@@ -2,6 +2,7 @@
 use Rattle.std.proofs.Common.{◌≡◌, ℕ, Bool, true, false, cond, List, [], ◌∷◌, map, take, Some, refl, ap, ◌∙◌}
 use Rattle.std.specs.Prelude.{IfOk, option_map}
 use Rattle.std.specs.List.{AllByRecursion}
+use Rattle.vtl_lists.proofs.Alls.{all_more}
 use Rattle.vtl_cell.specs.Outcome.{faults_by}
 use Rattle.vtl_cell.specs.Row.{Row, same_row}
 use Rattle.vtl_decimal.specs.Settings.{Settings}
@@ -11,7 +12,6 @@ use Rattle.vtl_tree.specs.Structure.{columns_of, key_width}
 use Rattle.vtl_tree.specs.declared.structure.Structure.{Structure}
 use Rattle.vtl_tree.specs.Trees.{AnalyticTree}
 use Rattle.vtl_meaning.specs.Aggregates.{group_fault as point_fault}
-use Rattle.vtl_meaning.proofs.GroupPoints.{all_more}
 use Rattle.vtl_meaning.specs.Analytics.{analytic_of, made_of, point_of}
 use Rattle.vtl_meaning.specs.AnalyticShapes.{IsAnalyzed}
 use Rattle.vtl_meaning.proofs.AnalyticPoints.{key_of_point, unless_has}

@@ -22,7 +22,7 @@ use Rattle.vtl_meaning.specs.Analytics.{analytic_of, each_point, made_of, point_
 use Rattle.vtl_meaning.specs.Windows.{argument, op_value}
 use Rattle.vtl_meaning.proofs.Partitions.{stand_same}
 
-points_respect : (made : Made) (ys : List Component) (us vs : List Row) → Perm us vs → Same (each_point made ys us) (each_point made ys vs)
+pub points_respect : (made : Made) (ys : List Component) (us vs : List Row) → Perm us vs → Same (each_point made ys us) (each_point made ys vs)
 points_respect made ys us vs q = Same_unless (faults_by (point_fault made ys) us) (faults_by (point_fault made ys) vs) (map (point_of made ys) us) (map (point_of made ys) vs) (faults_by-Perm (point_fault made ys) q) (Perm-map (point_of made ys) q)
 
 module _ (p : Settings) (spec : AnalyticTree) (a : Structure) (us vs : List Row) (q : Perm us vs) where

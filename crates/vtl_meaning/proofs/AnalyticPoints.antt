@@ -6,6 +6,8 @@ use Rattle.std.specs.Option.{option_map_or}
 use Rattle.std.proofs.Math.Seq.{take-append_seam}
 use Rattle.std.proofs.lemmas.List.{length-map, map-append}
 use Rattle.vtl_lists.specs.Apart.{all_apart}
+use Rattle.vtl_lists.proofs.Alls.{all_append, all_both, all_front, all_more}
+use Rattle.vtl_lists.proofs.Sorts.{AllByRecursion-map}
 use Rattle.vtl_cell.specs.Kinds.{is_null}
 use Rattle.vtl_decimal.specs.declared.number.Fault.{Fault}
 use Rattle.vtl_cell.specs.Outcome.{Outcome, faults_by, unless}
@@ -25,34 +27,26 @@ use Rattle.vtl_tree.specs.Columns.{identifiers_of, others_of, place_of, places_i
 use Rattle.vtl_tree.specs.Names.{component_of}
 use Rattle.vtl_meaning.specs.Aggregates.{Made, group_fault as point_fault}
 use Rattle.vtl_meaning.specs.Points.{cell_or_null}
-use Rattle.vtl_meaning.proofs.GroupKinds.{GivesOf, GivesOfProfile, IsOf, null_is_of}
-use Rattle.vtl_meaning.proofs.GroupPoints.{HasCell, all_more, found_cell}
+use Rattle.vtl_meaning.proofs.GroupKinds.{GivesOf, GivesOfProfile}
+use Rattle.vtl_meaning.proofs.GroupPoints.{HasCell, found_cell, column_gives, value_is}
 use Rattle.vtl_meaning.specs.Analytics.{analytic_of, made_of, point_of, tree_value, value_for}
 use Rattle.vtl_meaning.specs.AnalyticShapes.{IsAnalyzed, IsMadeColumn, IsMadeOrStays}
 use Rattle.vtl_meaning.specs.Windows.{call_value}
 use Rattle.vtl_meaning.proofs.CallKinds.{call_is}
-use Rattle.vtl_meaning.proofs.CallProfiles.{call_gives, column_gives, stays_proper}
-use Rattle.vtl_meaning.proofs.AnalyticColumns.{IsOther, all_append, all_front, are_others, cells_are, columns_found, columns_split, identifier_cells}
-use Rattle.vtl_meaning.proofs.Partitions.{all_map}
+use Rattle.vtl_meaning.proofs.CallProfiles.{call_gives, stays_proper}
+use Rattle.vtl_meaning.proofs.AnalyticColumns.{IsOther, are_others, cells_are, columns_found, identifier_cells}
+use Rattle.vtl_meaning.proofs.Places.{columns_split}
 
 pub unless_has : {X : Type 0} (P : X → Type 0) (f : Option Fault) (x : X) → P x → IfOk (unless f x) P
 unless_has P None x h = h
 unless_has P (Some f) x h = tt
 
-all_both : {X : Type 0} (P Q R : X → Type 0) → ((x : X) → P x → Q x → R x) → (xs : List X) → AllByRecursion P xs → AllByRecursion Q xs → AllByRecursion R xs
-all_both P Q R f [] h i = tt
-all_both P Q R f (x ∷ xs) h i = (f x h.0 i.0, all_both P Q R f xs h.1 i.1)
-
-value_is : (y : Component) (m : Outcome Cell) → GivesOf y.kind m → IsOf y.kind (cell_or_null m)
-value_is y (Ok v) h = h
-value_is y (Err f) h = null_is_of y.kind
-
 -- ---- keys that stay
-any_by_key : (n m : ℕ) (f : Row → Row) (key : Row) (points : List Row) → AllByRecursion (λ r. take n (f r) ≡ take m r) points → list_any (λ q. same_row key (take n q)) (map f points) ≡ list_any (λ q. same_row key (take m q)) points
+pub any_by_key : (n m : ℕ) (f : Row → Row) (key : Row) (points : List Row) → AllByRecursion (λ r. take n (f r) ≡ take m r) points → list_any (λ q. same_row key (take n q)) (map f points) ≡ list_any (λ q. same_row key (take m q)) points
 any_by_key n m f key [] all = refl
 any_by_key n m f key (r ∷ points) all = λ i. same_row key (all.0 i) || any_by_key n m f key points all.1 i
 
-keys_apart : (n m : ℕ) (f : Row → Row) (points : List Row) → AllByRecursion (λ r. take n (f r) ≡ take m r) points → all_apart (same_key n) (map f points) ≡ all_apart (same_key m) points
+pub keys_apart : (n m : ℕ) (f : Row → Row) (points : List Row) → AllByRecursion (λ r. take n (f r) ≡ take m r) points → all_apart (same_key n) (map f points) ≡ all_apart (same_key m) points
 keys_apart n m f [] all = refl
 keys_apart n m f (r ∷ points) all =
     ap (λ b. not b && all_apart (same_key n) (map f points)) (ap (λ key. list_any (λ q. same_row key (take n q)) (map f points)) all.0 ∙ any_by_key n m f (take m r) points all.1)
@@ -122,7 +116,7 @@ module _ (p : Settings) (spec : AnalyticTree) (d : DataSet) (s : Structure) (i :
         let f : Row → Row = point_of made (columns_of s) in
         record {
           well_formed = i.well_formed;
-          typed = all_map f (λ r. is_point (columns_of s) r ≡ true) d.points (all_more IsRow (λ r. is_point (columns_of s) (f r) ≡ true) (λ r t. cells_are (λ y. cell_or_null (made y r)) (columns_of s) (cells_have r t)) d.points h.typed);
+          typed = AllByRecursion-map f (λ r. is_point (columns_of s) r ≡ true) d.points (all_more IsRow (λ r. is_point (columns_of s) (f r) ≡ true) (λ r t. cells_are (λ y. cell_or_null (made y r)) (columns_of s) (cells_have r t)) d.points h.typed);
           distinct = keys_apart (key_width s) (key_width d.structure) f d.points (all_more IsRow (λ r. take (key_width s) (f r) ≡ take (key_width d.structure) r) key_of_point d.points h.typed) ∙ h.distinct;
         }
 
@@ -152,7 +146,7 @@ module _ (p : Settings) (spec : AnalyticTree) (d : DataSet) (s : Structure) (i :
     proper_point : (r : Row) → IsProper r → IsProper (point_of made (columns_of s) r)
     proper_point r t =
         let f : Component → Cell = λ y. cell_or_null (made y r) in
-        all_map f (IsOfProfile p) (columns_of s) (subst (AllByRecursion (λ y. IsOfProfile p (f y))) (sym (columns_split s))
+        AllByRecursion-map f (IsOfProfile p) (columns_of s) (subst (AllByRecursion (λ y. IsOfProfile p (f y))) (sym (columns_split s))
         (all_append (λ y. IsOfProfile p (f y)) (identifiers_of s) (others_of s)
         (all_more (λ y. value_for spec y ≡ None) (λ y. IsOfProfile p (f y)) (λ y e. value_gives (made y r) (kept_gives y r t e)) (identifiers_of s) i.free)
         (all_more (IsMadeColumn p spec xs) (λ y. IsOfProfile p (f y)) (λ y e. value_gives (made y r) (made_gives y r t e)) (others_of s) i.columns)))
@@ -161,4 +155,4 @@ module _ (p : Settings) (spec : AnalyticTree) (d : DataSet) (s : Structure) (i :
     result_is_proper =
         let f : Row → Row = point_of made (columns_of s) in
         unless_has (AreOfProfile p) (faults_by (point_fault made (columns_of s)) d.points) (map f d.points)
-        (all_map f IsProper d.points (all_more IsProper (λ r. IsProper (f r)) proper_point d.points h))
+        (AllByRecursion-map f IsProper d.points (all_more IsProper (λ r. IsProper (f r)) proper_point d.points h))

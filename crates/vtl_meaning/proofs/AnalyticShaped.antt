@@ -1,14 +1,16 @@
 -- The structure that typing gives fits: its identifiers stay, and its other columns are made or stay.
 use Rattle.std.proofs.Common.{◌≡◌, ℕ, Bool, true, false, ◌&&◌, cond, List, [], ◌∷◌, ◌++◌, map, Option, Some, None, refl, sym, ap, ◌∙◌, subst, true≢false}
 use Rattle.std.specs.Prelude.{option_and_then, option_map, unwrap_or}
-use Rattle.std.specs.List.{AllByRecursion, filter, find}
+use Rattle.std.specs.List.{AllByRecursion, filter}
 use Rattle.std.specs.Option.{option_map_or}
 use Rattle.std.proofs.lemmas.List.{append-nil}
 use Rattle.std.proofs.lemmas.List.Elements.{filter-append}
 use Rattle.vtl_lists.specs.Apart.{all_apart}
 use Rattle.vtl_decimal.specs.Settings.{Settings}
 use Rattle.vtl_lists.proofs.Perms.{AllByRecursion-Perm}
-use Rattle.vtl_lists.proofs.Sorts.{AllByRecursion-filter}
+use Rattle.vtl_lists.proofs.Sorts.{AllByRecursion-filter, AllByRecursion-map}
+use Rattle.vtl_lists.proofs.Alls.{all_append, all_both, all_filtered, all_more}
+use Rattle.vtl_lists.proofs.Filters.{filter_all, filter_none, find-map, find_passes}
 use Rattle.vtl_tree.specs.Structure.{IsStructure, columns_of, of_role, same_name, same_role}
 use Rattle.vtl_tree.specs.declared.structure.Component.{Component}
 use Rattle.vtl_tree.specs.declared.structure.Role.{Role}
@@ -27,44 +29,15 @@ use Rattle.vtl_tree.specs.Names.{component_of}
 use Rattle.vtl_tree.specs.declared.choices.Choice.TheVariants as choice
 use Rattle.vtl_tree.specs.declared.targets.Target.{Target}
 use Rattle.vtl_tree.specs.Kinds.{given_kind}
-use Rattle.vtl_meaning.proofs.GroupPoints.{all_more}
 use Rattle.vtl_meaning.specs.Analytics.{item_named, measure_call, value_for}
 use Rattle.vtl_meaning.specs.AnalyticShapes.{AreMeasuresTaken, IsAnalyzed, IsMadeBy, IsMadeColumn, IsMadeOrStays, IsTakenItem, IsTypedAnalytic, analyzed_components, given_of, of_measure, taken, takes}
 use Rattle.vtl_meaning.specs.Shapes.{target_of, tree_kind}
-use Rattle.vtl_meaning.proofs.AnalyticColumns.{IsOther, all_append, all_filtered, attribute_role, by_roles, columns_found, measure_role, own_found, same-is}
-use Rattle.vtl_meaning.proofs.Partitions.{all_map}
+use Rattle.vtl_meaning.proofs.AnalyticColumns.{IsOther, attribute_role, by_roles, columns_found, measure_role, own_found}
+use Rattle.vtl_meaning.proofs.Places.{same_name-is}
 
 -- ---- lists
-all_both : {X : Type 0} (P Q R : X → Type 0) → ((x : X) → P x → Q x → R x) → (xs : List X) → AllByRecursion P xs → AllByRecursion Q xs → AllByRecursion R xs
-all_both P Q R f [] h i = tt
-all_both P Q R f (x ∷ xs) h i = (f x h.0 i.0, all_both P Q R f xs h.1 i.1)
-
-keep_all : {X : Type 0} (p : X → Bool) (xs : List X) → AllByRecursion (λ x. p x ≡ true) xs → filter p xs ≡ xs
-keep_all p [] all = refl
-keep_all p (x ∷ xs) all = ap (λ b. cond b (x ∷ filter p xs) (filter p xs)) all.0 ∙ ap (λ l. x ∷ l) (keep_all p xs all.1)
-
-drop_all : {X : Type 0} (p : X → Bool) (xs : List X) → AllByRecursion (λ x. p x ≡ false) xs → filter p xs ≡ []
-drop_all p [] all = refl
-drop_all p (x ∷ xs) all = ap (λ b. cond b (x ∷ filter p xs) (filter p xs)) all.0 ∙ drop_all p xs all.1
-
-find_map : {X Y : Type 0} (f : X → Y) (p : Y → Bool) (xs : List X) → find p (map f xs) ≡ option_map f (find (λ x. p (f x)) xs)
-find_map f p [] = refl
-find_map f p (x ∷ xs) = go (p (f x)) (find_map f p xs)
-  where
-    go : (b : Bool) → find p (map f xs) ≡ option_map f (find (λ x. p (f x)) xs) → cond b (Some (f x)) (find p (map f xs)) ≡ option_map f (cond b (Some x) (find (λ x. p (f x)) xs))
-    go true ih = refl
-    go false ih = ih
-
-find_passes : {X : Type 0} (P : X → Type 0) (p : X → Bool) (xs : List X) (x : X) → AllByRecursion P xs → find p xs ≡ Some x → P x × (p x ≡ true)
-find_passes P p [] x h e = cc
-find_passes P p (y ∷ ys) x h e = go (p y) refl e (find_passes P p ys x h.1)
-  where
-    go : (b : Bool) → p y ≡ b → cond b (Some y) (find p ys) ≡ Some x → (find p ys ≡ Some x → P x × (p x ≡ true)) → P x × (p x ≡ true)
-    go true t e ih = let s : y ≡ x = cc in (subst P s h.0, ap p (sym s) ∙ t)
-    go false t e ih = ih e
-
 -- the components that a function leaves, where identifiers stay and no other becomes one
-identifiers_stay : (f : Component → Component) (xs : List Component) → AllByRecursion (λ x. (is_identifier x ≡ true → f x ≡ x) × (is_identifier x ≡ false → is_identifier (f x) ≡ false)) xs → filter is_identifier (map f xs) ≡ filter is_identifier xs
+pub identifiers_stay : (f : Component → Component) (xs : List Component) → AllByRecursion (λ x. (is_identifier x ≡ true → f x ≡ x) × (is_identifier x ≡ false → is_identifier (f x) ≡ false)) xs → filter is_identifier (map f xs) ≡ filter is_identifier xs
 identifiers_stay f [] h = refl
 identifiers_stay f (x ∷ xs) h = go (is_identifier x) refl (identifiers_stay f xs h.1)
   where
@@ -73,7 +46,7 @@ identifiers_stay f (x ∷ xs) h = go (is_identifier x) refl (identifiers_stay f 
     go false e ih = ap (λ b. cond b (f x ∷ filter is_identifier (map f xs)) (filter is_identifier (map f xs))) (h.0.1 e) ∙ ih
 
 -- ---- roles
-no_measure : (r : Role) → same_role r role.Identifier ≡ true → same_role r role.Measure ≡ false
+pub no_measure : (r : Role) → same_role r role.Identifier ≡ true → same_role r role.Measure ≡ false
 no_measure role.Identifier h = refl
 no_measure role.Measure h = cc
 no_measure role.Attribute h = cc
@@ -129,10 +102,10 @@ module _ (p : Settings) (a s : Structure) (w : IsStructure a) (v : IsStructure s
     measures_identify =
         ap (filter is_identifier) shape
         ∙ filter-append is_identifier ids given
-        ∙ ap (λ l. filter is_identifier ids ++ l) (drop_all is_identifier given (no_identifiers (measures xs)))
+        ∙ ap (λ l. filter is_identifier ids ++ l) (filter_none is_identifier given (no_identifiers (measures xs)))
         ∙ append-nil (filter is_identifier ids)
         ∙ ap (filter is_identifier) (all_identify xs)
-        ∙ keep_all is_identifier (filter is_identifier xs) (all_filtered is_identifier xs)
+        ∙ filter_all is_identifier (filter is_identifier xs) (all_filtered is_identifier xs)
 
     made_measures : (ms : List Component) → AllByRecursion (λ m. takes o m.kind ≡ true) ms → AllByRecursion (λ m. component_of m.name (columns_of a) ≡ Some m) ms → AllByRecursion (Good p spec a s) (map (given_measure (of_measure o) None) ms)
     made_measures [] taken_all found = tt
@@ -171,7 +144,7 @@ module _ (p : Settings) (a s : Structure) (w : IsStructure a) (v : IsStructure s
     new = map target_component (filter (is_new xs) ts)
 
     targeted : (x : Component) → clauses.target_of x.name ts ≡ option_map (target_of xs) (item_named items x.name)
-    targeted x = find_map (target_of xs) (λ t. same_name t.name x.name) items
+    targeted x = find-map (target_of xs) (λ t. same_name t.name x.name) items
 
     stays : (x : Component) → item_named items x.name ≡ None → calculated ts x ≡ x
     stays x e = ap (retargeted x) (targeted x ∙ ap (option_map (target_of xs)) e)
@@ -194,7 +167,7 @@ module _ (p : Settings) (a s : Structure) (w : IsStructure a) (v : IsStructure s
         go None e = refl
         go (Some i) e =
             let it = item_at x.name i e in
-            let at : component_of i.target xs ≡ Some x = ap (λ n. component_of n xs) (same-is i.target x.name it.1) ∙ found in
+            let at : component_of i.target xs ≡ Some x = ap (λ n. component_of n xs) (same_name-is i.target x.name it.1) ∙ found in
             absurd (true≢false (sym is ∙ ap (λ o. option_map_or is_identifier o false) (sym at) ∙ it.0.free))
 
     other_role : (r : Option Role) (t : Role) → same_role t role.Identifier ≡ false → same_role (unwrap_or r role.Measure) role.Identifier ≡ false → same_role (unwrap_or r t) role.Identifier ≡ false
@@ -221,14 +194,14 @@ module _ (p : Settings) (a s : Structure) (w : IsStructure a) (v : IsStructure s
     -- what holds of each new target
     new_all : (P : Component → Type 0) → ((i : ItemTree) → IsTakenItem p a i → item_named items i.target ≡ Some i → P (target_component (target_of xs i))) → AllByRecursion P new
     new_all P f =
-        all_map target_component P (filter (is_new xs) ts) (AllByRecursion-filter (λ t. P (target_component t)) (is_new xs) ts (all_map (target_of xs) (λ t. P (target_component t)) items
+        AllByRecursion-map target_component P (filter (is_new xs) ts) (AllByRecursion-filter (λ t. P (target_component t)) (is_new xs) ts (AllByRecursion-map (target_of xs) (λ t. P (target_component t)) items
         (all_both (IsTakenItem p a) (λ i. item_named items i.target ≡ Some i) (λ i. P (target_component (target_of xs i))) f items h (own_found (λ (i : ItemTree). i.target) items apart))))
 
     items_identify : identifiers_of s ≡ identifiers_of a
     items_identify =
         ap (filter is_identifier) shape
         ∙ filter-append is_identifier old new
-        ∙ ap (λ l. filter is_identifier old ++ l) (drop_all is_identifier new (new_all IsOther (λ i it e. it.role)))
+        ∙ ap (λ l. filter is_identifier old ++ l) (filter_none is_identifier new (new_all IsOther (λ i it e. it.role)))
         ∙ append-nil (filter is_identifier old)
         ∙ identifiers_stay (calculated ts) xs (all_more (λ x. component_of x.name xs ≡ Some x) (λ x. (is_identifier x ≡ true → calculated ts x ≡ x) × (is_identifier x ≡ false → is_identifier (calculated ts x) ≡ false)) roles xs own)
 
@@ -240,7 +213,7 @@ module _ (p : Settings) (a s : Structure) (w : IsStructure a) (v : IsStructure s
           (all_both (λ x. component_of x.name xs ≡ Some x) (λ x. is_identifier x ≡ true) (λ x. value_for calc x ≡ None) (λ x found is. ap (option_map (λ i. i.value)) (free x found is)) (identifiers_of a)
           (AllByRecursion-filter (λ x. component_of x.name xs ≡ Some x) is_identifier xs own) (all_filtered is_identifier xs));
       columns = columns_good p calc a s (subst (AllByRecursion (Good p calc a s)) (sym shape) (all_append (Good p calc a s) old new
-          (all_map (calculated ts) (Good p calc a s) xs (all_more (λ x. component_of x.name (columns_of a) ≡ Some x) (λ x. Good p calc a s (calculated ts x)) good_old xs found_all))
+          (AllByRecursion-map (calculated ts) (Good p calc a s) xs (all_more (λ x. component_of x.name (columns_of a) ≡ Some x) (λ x. Good p calc a s (calculated ts x)) good_old xs found_all))
           (new_all (Good p calc a s) (λ i it e other. valued (target_component (target_of xs i)) i e it refl))));
       shape = shape;
     }

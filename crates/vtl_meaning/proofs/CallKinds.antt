@@ -1,8 +1,11 @@
 -- The value of a call is null or of the kind that the call gives.
 use Rattle.std.proofs.Common.{◌≡◌, ℕ, pos, ◌+◌, ◌-◌, ℤ, Bool, true, false, cond, List, map, length, Result, Ok, Err, Option, Some, None, refl, ap, subst}
-use Rattle.std.specs.Prelude.{count_by, option_and_then}
+use Rattle.std.specs.Prelude.{count_by}
 use Rattle.std.specs.List.{AllByRecursion}
 use Rattle.std.specs.Ordering.{is_lt}
+use Rattle.vtl_lists.proofs.Sorts.{AllByRecursion-map}
+use Rattle.vtl_lists.proofs.Alls.{all_more}
+use Rattle.vtl_lists.proofs.Tests.{then_some}
 use Rattle.vtl_decimal.specs.Operators.{quotient}
 use Rattle.vtl_decimal.specs.Tally.{tally_of}
 use Rattle.vtl_decimal.specs.declared.number.Fault.{Fault as DecimalFault}
@@ -35,14 +38,14 @@ use Rattle.vtl_tree.specs.declared.calls.Window.{Window}
 use Rattle.vtl_tree.specs.Names.{component_of}
 use Rattle.vtl_tree.specs.Kinds.{given_kind}
 use Rattle.vtl_meaning.proofs.GroupKinds.{GivesOf, IsOf, group_is, integer_is, null_is_of}
-use Rattle.vtl_meaning.proofs.GroupPoints.{all_more, found_cell}
+use Rattle.vtl_meaning.proofs.GroupPoints.{found_cell}
 use Rattle.vtl_meaning.specs.AnalyticShapes.{given_of, taken, takes}
 use Rattle.vtl_meaning.specs.Windows.{Stand, argument, call_value, keys_in, op_value, seen, stand_of}
-use Rattle.vtl_meaning.proofs.Partitions.{all_map, all_or, framed_all, lag_has, ordered_all}
+use Rattle.vtl_meaning.proofs.Partitions.{all_or, framed_all, lag_has, ordered_all}
 
 -- ---- as a value of a kind
 
-number_is : (r : Result ℤ DecimalFault) → GivesOf k.Num (number r)
+pub number_is : (r : Result ℤ DecimalFault) → GivesOf k.Num (number r)
 number_is (Ok n) = refl
 number_is (Err e) = tt
 
@@ -132,10 +135,6 @@ if_some : {A : Type 0} (b : Bool) (x y : A) → cond b (Some x) None ≡ Some y 
 if_some true x y e = let same : x ≡ y = cc in (refl, same)
 if_some false x y e = cc
 
-then_some : {A B : Type 0} (o : Option A) (f : A → Option B) (y : B) → option_and_then f o ≡ Some y → (x : A) × (o ≡ Some x) × (f x ≡ Some y)
-then_some None f y e = cc
-then_some (Some x) f y e = (x, refl, e)
-
 pub call_is : (p : Settings) (d : DataSet) (call : AnalyticCall) (kind : Kind) (r : Row) → given_of (columns_of d.structure) call.op call.component ≡ Some kind → is_point (columns_of d.structure) r ≡ true → AllByRecursion (λ q. is_point (columns_of d.structure) q ≡ true) d.points
     → GivesOf kind (after (call_value p d call r) (as_kind p kind))
 call_is p d call kind r e here all = go call.component call.op e
@@ -155,7 +154,7 @@ call_is p d call kind r e here all = go call.component call.op e
         let given = if_some (takes o found.0.kind) (given_kind o found.0.kind) kind found.2 in
         let cell : (q : Row) → IsRow q → IsOf found.0.kind (argument xs (Some name) q) = λ q h. (found_cell name found.0 xs q found.1 h).0 in
         subst (λ z. GivesOf z (after (op_value p xs call.window (argument xs (Some name)) o s) (as_kind p z))) given.1
-        (op_is p xs call.window (argument xs (Some name)) s found.0.kind (cell r here) (all_map (argument xs (Some name)) (IsOf found.0.kind) s.ordered (all_more IsRow (λ q. IsOf found.0.kind (argument xs (Some name) q)) cell s.ordered (ordered_all IsRow d call.window r all))) o given.0)
+        (op_is p xs call.window (argument xs (Some name)) s found.0.kind (cell r here) (AllByRecursion-map (argument xs (Some name)) (IsOf found.0.kind) s.ordered (all_more IsRow (λ q. IsOf found.0.kind (argument xs (Some name) q)) cell s.ordered (ordered_all IsRow d call.window r all))) o given.0)
     go None op.Rank f =
         let same : k.Int ≡ kind = cc in
         subst (λ z. GivesOf z (after (row_rank p (keys_in xs call.window) s.point s.ordered) (as_kind p z))) same

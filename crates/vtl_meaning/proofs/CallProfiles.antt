@@ -3,6 +3,8 @@ use Rattle.std.proofs.Common.{ℕ, pos, ◌+◌, ◌-◌, ℤ, Bool, true, false
 use Rattle.std.specs.Prelude.{count_by}
 use Rattle.std.specs.List.{AllByRecursion}
 use Rattle.std.specs.Ordering.{is_lt}
+use Rattle.vtl_lists.proofs.Sorts.{AllByRecursion-map}
+use Rattle.vtl_lists.proofs.Alls.{all_more}
 use Rattle.vtl_decimal.specs.Operators.{quotient}
 use Rattle.vtl_decimal.specs.Tally.{tally_of}
 use Rattle.vtl_decimal.specs.declared.number.Fault.{Fault as DecimalFault}
@@ -12,7 +14,7 @@ use Rattle.vtl_cell.specs.Kinds.{is_null}
 use Rattle.vtl_cell.specs.Outcome.{Outcome, after}
 use Rattle.vtl_cell.specs.Profile.{IsOfProfile}
 use Rattle.vtl_decimal.specs.Range.{fit_number}
-use Rattle.vtl_cell.specs.Row.{Row, column_of}
+use Rattle.vtl_cell.specs.Row.{Row}
 use Rattle.vtl_cell.specs.ScalarArithmetic.{number, units}
 use Rattle.vtl_decimal.specs.Settings.{Settings}
 use Rattle.vtl_cell.specs.Sorted.{by_keys}
@@ -31,10 +33,10 @@ use Rattle.vtl_tree.specs.declared.calls.AnalyticOp.TheVariants as op
 use Rattle.vtl_tree.specs.declared.calls.Window.{Window}
 use Rattle.vtl_tree.specs.Columns.{place_of}
 use Rattle.vtl_meaning.proofs.GroupKinds.{GivesOfProfile, group_gives, whole_gives}
-use Rattle.vtl_meaning.proofs.GroupPoints.{all_more}
 use Rattle.vtl_meaning.specs.AnalyticShapes.{default_in}
 use Rattle.vtl_meaning.specs.Windows.{Stand, argument, call_value, keys_in, op_value, seen, stand_of}
-use Rattle.vtl_meaning.proofs.Partitions.{all_map, all_or, framed_all, lag_has, ordered_all}
+use Rattle.vtl_meaning.proofs.Partitions.{all_or, framed_all, lag_has, ordered_all}
+use Rattle.vtl_meaning.proofs.GroupPoints.{column_gives}
 
 number_gives : (p : Settings) (r : Result ℤ DecimalFault) → GivesOfProfile p (number r)
 number_gives p (Ok n) = tt
@@ -47,9 +49,6 @@ converted_gives p kind v h = h
 pub stays_proper : (p : Settings) (kind : Kind) (m : Outcome Cell) → GivesOfProfile p m → GivesOfProfile p (after m (as_kind p kind))
 stays_proper p kind (Ok v) h = converted_gives p kind v h
 stays_proper p kind (Err f) h = tt
-
-pub column_gives : (p : Settings) (i : ℕ) (r : Row) → AllByRecursion (IsOfProfile p) r → IsOfProfile p (column_of i r)
-column_gives p i r all = all_or (IsOfProfile p) r i c.Null all tt
 
 ratio_gives : (p : Settings) (x : Cell) (cells : List Cell) → GivesOfProfile p (ratio_of p x cells)
 ratio_gives p x cells = go (is_null x)
@@ -82,7 +81,7 @@ module _ (p : Settings) (xs : List Component) (w : Window) (at : Row → Cell) (
 pub call_gives : (p : Settings) (d : DataSet) (call : AnalyticCall) (r : Row) → IsOfProfile p (default_in call.op) → AreOfProfile p d.points → GivesOfProfile p (call_value p d call r)
 call_gives p d call r h all =
     op_gives p xs call.window (argument xs call.component) s
-    (all_map (argument xs call.component) (IsOfProfile p) s.ordered (all_more IsProper (λ q. IsOfProfile p (argument xs call.component q)) (λ q. cell q call.component) s.ordered (ordered_all IsProper d call.window r all))) call.op h
+    (AllByRecursion-map (argument xs call.component) (IsOfProfile p) s.ordered (all_more IsProper (λ q. IsOfProfile p (argument xs call.component q)) (λ q. cell q call.component) s.ordered (ordered_all IsProper d call.window r all))) call.op h
   where
     xs : List Component
     xs = columns_of d.structure

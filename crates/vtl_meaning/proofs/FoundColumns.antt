@@ -1,7 +1,7 @@
 -- Columns by their names: where they stand, and that the order of columns does not matter.
 use Rattle.std.proofs.Common.{◌≡◌, ℕ, suc, ◌+◌, Bool, true, false, cond, ◌||◌, not, List, [], ◌∷◌, ◌++◌, Some, refl, sym, ap, ◌∙◌, subst, arith}
 use Rattle.std.proofs.lemmas.Bool.{false≢true}
-use Rattle.std.specs.Cmp.Lexicographic.{bytes_decides, nat_list_eq_equiv}
+use Rattle.std.specs.Cmp.Lexicographic.{nat_list_eq_equiv}
 use Rattle.std.specs.List.{AllByRecursion, filter, list_any}
 use Rattle.std.specs.Option.{option_map_or}
 use Rattle.vtl_lists.specs.Apart.{all_apart}
@@ -14,22 +14,15 @@ use Rattle.vtl_tree.specs.declared.structure.Role.TheVariants as role
 use Rattle.vtl_tree.specs.declared.structure.Structure.{Structure}
 use Rattle.vtl_tree.specs.Names.{component_of, is_among}
 use Rattle.vtl_tree.specs.Columns.{kind_named, place_of}
+use Rattle.vtl_tree.proofs.NotNullLemmas.{same_itself}
 use Rattle.vtl_meaning.specs.Made.{IsColumnAt}
 use Rattle.vtl_meaning.proofs.Lists as lists
+use Rattle.vtl_meaning.proofs.Places.{same_name-is, same_name-sym}
 
 -- ---- names
-pub same-true : (a b : List ℕ) → same_name a b ≡ true → a ≡ b
-same-true a b e = (bytes_decides a b).0 e
-
-pub same-refl : (a : List ℕ) → same_name a a ≡ true
-same-refl a = nat_list_eq_equiv.refl a
-
-pub same-symm : (a b : List ℕ) → same_name a b ≡ same_name b a
-same-symm a b = nat_list_eq_equiv.symm a b
-
 pub among-any : (name : List ℕ) (names : List (List ℕ)) → is_among name names ≡ list_any (same_name name) names
 among-any name [] = refl
-among-any name (n ∷ names) = ap (λ b. b || is_among name names) (same-symm n name) ∙ ap (λ b. same_name name n || b) (among-any name names)
+among-any name (n ∷ names) = ap (λ b. b || is_among name names) (same_name-sym n name) ∙ ap (λ b. same_name name n || b) (among-any name names)
 
 -- ---- a component by its name
 -- this is the first component of its name
@@ -41,7 +34,7 @@ name-found name [] y e = cc
 name-found name (x ∷ xs) y e = go (same_name x.name name) refl e (name-found name xs y)
   where
     go : (b : Bool) → same_name x.name name ≡ b → cond b (Some x) (component_of name xs) ≡ Some y → (component_of name xs ≡ Some y → y.name ≡ name) → y.name ≡ name
-    go true h e ih = let s : x ≡ y = cc in ap (λ z. z.name) (sym s) ∙ same-true x.name name h
+    go true h e ih = let s : x ≡ y = cc in ap (λ z. z.name) (sym s) ∙ same_name-is x.name name h
     go false h e ih = ih e
 
 -- what holds of each holds of the one that is found
@@ -70,7 +63,7 @@ at-place name [] y e = cc
 at-place name (x ∷ xs) y e = go (same_name x.name name) refl e (at-place name xs y)
   where
     go : (b : Bool) → same_name x.name name ≡ b → cond b (Some x) (component_of name xs) ≡ Some y → (component_of name xs ≡ Some y → IsColumnAt (place_of name xs) name y.kind xs) → IsColumnAt (cond (not b) (1 + place_of name xs) 0) name y.kind (x ∷ xs)
-    go true h e ih = let s : x ≡ y = cc in (same-true x.name name h, ap (λ z. z.kind) s)
+    go true h e ih = let s : x ≡ y = cc in (same_name-is x.name name h, ap (λ z. z.kind) s)
     go false h e ih = let n : suc (place_of name xs) ≡ 1 + place_of name xs = omega arith in subst (λ n. IsColumnAt n name y.kind (x ∷ xs)) n (ih e)
 
 pub kind-found : (name : List ℕ) (xs : List Component) (y : Component) → component_of name xs ≡ Some y → kind_named name xs ≡ y.kind
@@ -102,7 +95,7 @@ has-more x xs y h = go (same_name x.name y.name)
 
 pub has-itself : (xs : List Component) → AllByRecursion (HasName xs) xs
 has-itself [] = tt
-has-itself (x ∷ xs) = (ap (λ b. b || list_any (λ z. same_name z.name x.name) xs) (same-refl x.name), lists.weaker (HasName xs) (HasName (x ∷ xs)) xs (has-more x xs) (has-itself xs))
+has-itself (x ∷ xs) = (ap (λ b. b || list_any (λ z. same_name z.name x.name) xs) (same_itself x.name), lists.weaker (HasName xs) (HasName (x ∷ xs)) xs (has-more x xs) (has-itself xs))
 
 -- names that are apart
 apart-from : (name : List ℕ) (xs : List Component) → AllByRecursion (λ n. same_name name n ≡ false) (names_of xs) → AllByRecursion (λ y. same_name name y.name ≡ false) xs
@@ -119,7 +112,7 @@ all-alone (x ∷ xs) h = (first, lists.joined (λ y. same_name x.name y.name ≡
     others = apart-from x.name xs parts.0
 
     first : IsAlone (x ∷ xs) x
-    first = ((λ _. refl), lists.weaker (λ y. same_name x.name y.name ≡ false) (λ y. same_name y.name x.name ≡ true → y ≡ x) xs (λ y no yes. absurd (false≢true (sym no ∙ same-symm x.name y.name ∙ yes))) others)
+    first = ((λ _. refl), lists.weaker (λ y. same_name x.name y.name ≡ false) (λ y. same_name y.name x.name ≡ true → y ≡ x) xs (λ y no yes. absurd (false≢true (sym no ∙ same_name-sym x.name y.name ∙ yes))) others)
 
 -- ---- the columns of a structure
 -- what holds of each component holds of each column, and back

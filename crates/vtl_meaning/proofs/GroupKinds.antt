@@ -1,8 +1,9 @@
 -- The value of an aggregate is null or of exactly the kind that the aggregate gives, and an integer of the profile where its values are.
-use Rattle.std.proofs.Common.{◌≡◌, ◌-◌, ◌^◌, ◌<◌, ◌≤◌, ℕ, zero, suc, pos, ℤ, Bool, true, false, not, ◌&&◌, cond, List, [], ◌∷◌, length, get_or, Result, Ok, Err, Option, Some, None, refl, sym, ap, subst, true≢false, arith}
+use Rattle.std.proofs.Common.{◌≡◌, ◌-◌, ◌^◌, ◌≤◌, ℕ, zero, suc, pos, ℤ, Bool, true, false, not, ◌&&◌, cond, List, [], ◌∷◌, length, Result, Ok, Err, Option, Some, None, refl, sym, ap, subst, true≢false, arith}
 use Rattle.std.specs.Prelude.{Contains, IfOk, nat_lt, unsigned_abs}
 use Rattle.std.specs.Int.RustNames.{int_le}
 use Rattle.std.specs.List.{AllByRecursion, list_all}
+use Rattle.std.proofs.lemmas.Bool.{and_parts}
 use Rattle.vtl_decimal.specs.Tally.{mean_of, tally_of}
 use Rattle.vtl_decimal.specs.declared.number.Fault.{Fault as DecimalFault}
 use Rattle.vtl_decimal.proofs.PowerLemmas.{power_of_ten_fits}
@@ -22,18 +23,13 @@ use Rattle.vtl_cell.specs.declared.kind.Kind.TheVariants as k
 use Rattle.vtl_cell.specs.declared.operator.AggKind.{AggKind}
 use Rattle.vtl_cell.specs.declared.operator.AggKind.TheVariants as agg
 use Rattle.vtl_cell.proofs.Extremes.{greatest_member, least_member}
-use Rattle.vtl_cell.proofs.Rows.{split_and}
 use Rattle.vtl_lists.proofs.Sorts.{AllByRecursion-filter}
+use Rattle.vtl_lists.proofs.Alls.{all_get}
 use Rattle.vtl_cell.specs.AggregateKinds.{aggregate_kind, sum_kind}
 
 -- ---- lists and choices
-pub all_at : {X : Type 0} (P : X → Type 0) (xs : List X) (i : ℕ) (d : X) → i < length xs → AllByRecursion P xs → P (get_or xs i d)
-all_at P [] i d h all = absurd (omega arith)
-all_at P (x ∷ xs) zero d h all = all.0
-all_at P (x ∷ xs) (suc i) d h all = all_at P xs i d (omega arith) all.1
-
 member_has : (P : Cell → Type 0) (xs : List Cell) (v : Cell) → AllByRecursion P xs → Contains xs v → P v
-member_has P xs v all h = subst P h.2 (all_at P xs h.0 v h.1 all)
+member_has P xs v all h = subst P h.2 (all_get P xs h.0 v h.1 all)
 
 some_is : {X : Type 0} (x y : X) → Some x ≡ Some y → x ≡ y
 some_is x y e = cc
@@ -85,7 +81,7 @@ fraction x h i = cc
 wholes : (xs : List Cell) → Known k.Int xs → list_all is_integer xs ≡ true
 wholes [] all = refl
 wholes (x ∷ xs) all =
-    let parts = split_and (not (is_null x)) (list_all (λ y. not (is_null y)) xs) all.1 in
+    let parts = and_parts (not (is_null x)) (list_all (λ y. not (is_null y)) xs) all.1 in
     λ i. whole x all.0.0 parts.0 i && wholes xs (all.0.1, parts.1) i
 
 abbrev total_by : Settings → List Cell → Bool → Outcome Cell
@@ -98,7 +94,7 @@ total_is p k.Int given x xs e h =
     subst (λ z. GivesOf z (total_of p (x ∷ xs))) (some_is k.Int given e)
     (subst (λ b. GivesOf k.Int (total_by p (x ∷ xs) b)) (sym (wholes (x ∷ xs) h)) (integer_is (fit_integer p.scale (tally_of (wholes_of (x ∷ xs))).total)))
 total_is p k.Num given x xs e h =
-    let parts = split_and (not (is_null x)) (list_all (λ y. not (is_null y)) xs) h.1 in
+    let parts = and_parts (not (is_null x)) (list_all (λ y. not (is_null y)) xs) h.1 in
     let some : list_all is_integer (x ∷ xs) ≡ false = ap (λ b. b && list_all is_integer xs) (fraction x h.0.0 parts.0) in
     subst (λ z. GivesOf z (total_of p (x ∷ xs))) (some_is k.Num given e)
     (subst (λ b. GivesOf k.Num (total_by p (x ∷ xs) b)) (sym some) (number_is (fit_number (tally_of (numbers_of p.scale (x ∷ xs))).total)))
@@ -146,7 +142,7 @@ number_gives : (p : Settings) (r : Result ℤ DecimalFault) → GivesOfProfile p
 number_gives p (Ok n) = tt
 number_gives p (Err e) = tt
 
-zero_gives : (p : Settings) → IsOfProfile p (c.Int (pos 0))
+pub zero_gives : (p : Settings) → IsOfProfile p (c.Int (pos 0))
 zero_gives p = go (nat_lt 0 (10 ^ (18 - p.scale))) refl
   where
     go : (b : Bool) → nat_lt 0 (10 ^ (18 - p.scale)) ≡ b → IsOfProfile p (c.Int (pos 0))

@@ -1,28 +1,27 @@
 -- What the result has at a key; and the one group of points that are not grouped.
-use Rattle.std.proofs.Common.{◌≡◌, ℕ, Bool, true, false, not, ◌&&◌, ◌||◌, cond, List, [], ◌∷◌, map, take, Option, Some, None, refl, sym, ap, ◌∙◌}
+use Rattle.std.proofs.Common.{◌≡◌, ℕ, Bool, true, false, not, ◌&&◌, ◌||◌, cond, List, [], ◌∷◌, map, take, Some, None, refl, sym, ap, ◌∙◌}
 use Rattle.std.specs.Prelude.{IfOk}
 use Rattle.std.specs.List.{AllByRecursion, filter, list_any}
-use Rattle.vtl_decimal.specs.declared.number.Fault.{Fault}
-use Rattle.vtl_cell.specs.Outcome.{faults_by, join, unless}
+use Rattle.vtl_lists.proofs.Alls.{all_more}
+use Rattle.vtl_cell.specs.Outcome.{faults_by, join}
 use Rattle.vtl_cell.specs.Row.{Row, same_row}
 use Rattle.vtl_decimal.specs.Settings.{Settings}
-use Rattle.vtl_cell.proofs.Rows.{same_row-is, same_row-refl}
+use Rattle.vtl_cell.proofs.Rows.{same_row-is}
 use Rattle.vtl_rows.specs.Tables.{cells_at}
 use Rattle.vtl_tree.specs.DataSet.{IsDataSet, look}
 use Rattle.vtl_tree.specs.Environment.{DataSet}
 use Rattle.vtl_tree.specs.Structure.{columns_of, key_width}
 use Rattle.vtl_tree.specs.declared.structure.Structure.{Structure}
 use Rattle.vtl_tree.specs.Trees.{AggTree}
-use Rattle.vtl_tuples.specs.Keys.{TellsApart, each_once}
+use Rattle.vtl_tuples.specs.Keys.{each_once}
 use Rattle.vtl_tuples.proofs.Onces.{alike, among_once}
 use Rattle.vtl_tree.specs.Columns.{others_of}
 use Rattle.vtl_meaning.specs.Aggregates.{aggregate_of, condition_fault, condition_of, group_fault, group_point, is_kept, made_of}
 use Rattle.vtl_meaning.specs.Groups.{has_group, keys_by, places_named, points_with}
 use Rattle.vtl_meaning.specs.AggregateShapes.{IsAggregated}
-use Rattle.vtl_meaning.proofs.GroupPoints.{IsKey, all_once, all_more, kept_are, key_of_point}
-
-rows_apart : TellsApart same_row
-rows_apart = record { is = same_row-is; self = same_row-refl }
+use Rattle.vtl_meaning.proofs.GroupPoints.{IsKey, all_once, kept_are, key_of_point}
+use Rattle.vtl_meaning.proofs.JoinOrders.{rows_apart}
+use Rattle.vtl_meaning.proofs.AnalyticPoints.{unless_has}
 
 -- ---- at a key
 look_made : (n : ℕ) (f : Row → Row) (k : Row) (keys : List Row) → AllByRecursion (λ key. take n (f key) ≡ key) keys → look n (map f keys) k ≡ cond (list_any (λ key. same_row key k) keys) (Some (f k)) None
@@ -59,10 +58,6 @@ any_mapped : (f : Row → Row) (k : Row) (points : List Row) → list_any (λ ke
 any_mapped f k [] = refl
 any_mapped f k (r ∷ points) = ap (λ b. same_row (f r) k || b) (any_mapped f k points)
 
-unless_is : {X : Type 0} (P : X → Type 0) (f : Option Fault) (x : X) → P x → IfOk (unless f x) P
-unless_is P None x h = h
-unless_is P (Some f) x h = tt
-
 pub looked : (p : Settings) (spec : AggTree) (d : DataSet) (s : Structure) (k : Row) → IsAggregated spec d.structure s → IsDataSet d.structure d.points
     → IfOk (aggregate_of p spec d s) (λ out. look (key_width s) out k ≡ cond (has_group (places_named spec.grouping (columns_of d.structure)) d.points k && is_kept (condition_of p spec (columns_of d.structure) d.points) spec.having k) (Some (group_point (made_of p spec (columns_of d.structure) d.points) (others_of s) k)) None)
 looked p spec d s k i h =
@@ -75,7 +70,7 @@ looked p spec d s k i h =
     let kept = filter (is_kept at spec.having) keys in
     let own = all_more (IsKey p spec d s i h) (λ key. take (key_width s) (f key) ≡ key) (key_of_point p spec d s i h) kept (kept_are p spec d s i h) in
     let there : list_any (λ key. same_row key k) keys ≡ has_group places d.points k = among_once same_row (alike same_row rows_apart) (map (cells_at places) d.points) k ∙ any_mapped (cells_at places) k d.points in
-    unless_is (λ out. look (key_width s) out k ≡ cond (has_group places d.points k && is_kept at spec.having k) (Some (f k)) None)
+    unless_has (λ out. look (key_width s) out k ≡ cond (has_group places d.points k && is_kept at spec.having k) (Some (f k)) None)
     (join (faults_by (condition_fault at spec.having) keys) (faults_by (group_fault made (others_of s)) kept)) (map f kept)
     (look_made (key_width s) f k kept own
     ∙ ap (λ b. cond b (Some (f k)) None) (any_kept (is_kept at spec.having) k keys ∙ ap (λ b. b && is_kept at spec.having k) there))

@@ -12,6 +12,7 @@ use Rattle.vtl_cell.specs.declared.cell.Cell.TheVariants as c
 use Rattle.vtl_cell.specs.declared.operator.AggKind.{AggKind}
 use Rattle.vtl_cell.proofs.Aggregates.{count-Perm, group-Perm}
 use Rattle.vtl_lists.proofs.Perms.{Perm-filter, Perm-map, Perm-refl, Perm-same}
+use Rattle.vtl_lists.proofs.Filters.{filter_swap}
 use Rattle.vtl_cell.proofs.Rows.{same_row-is, same_row-sym}
 use Rattle.vtl_rows.specs.Tables.{cells_at}
 use Rattle.vtl_tree.specs.CompExp.{CompExp}
@@ -30,16 +31,6 @@ use Rattle.vtl_meaning.specs.GroupExpressions as exp
 use Rattle.vtl_meaning.specs.Groups.{keys_by, places_named, points_with}
 
 -- ---- each item once
-filters_turned : {X : Type 0} (p q : X → Bool) (xs : List X) → filter p (filter q xs) ≡ filter q (filter p xs)
-filters_turned p q [] = refl
-filters_turned p q (x ∷ xs) = go (p x) refl (q x) refl (filters_turned p q xs)
-  where
-    go : (b : Bool) → p x ≡ b → (d : Bool) → q x ≡ d → filter p (filter q xs) ≡ filter q (filter p xs) → filter p (cond d (x ∷ filter q xs) (filter q xs)) ≡ filter q (cond b (x ∷ filter p xs) (filter p xs))
-    go true e true f ih = rw (e, f) (ap (λ l. x ∷ l) ih)
-    go true e false f ih = rw f ih
-    go false e true f ih = rw e ih
-    go false e false f ih = ih
-
 once_cross : (a b : Bool) (x y : Row) (l m : List Row) → a ≡ true → b ≡ true → l ≡ m → Perm (x ∷ cond a (y ∷ l) l) (y ∷ cond b (x ∷ m) m)
 once_cross true true x y l m e h same = chain (cross x y l) (Perm-same (y ∷ x ∷ l) (y ∷ x ∷ m) (ap (λ n. y ∷ x ∷ n) same))
 once_cross false b x y l m e h same = absurd (true≢false (sym e))
@@ -54,7 +45,7 @@ once-Perm (cross x y xs) = go (same_row x y) refl
     go true e = subst (λ w. Perm (each_once same_row (x ∷ w ∷ xs)) (each_once same_row (w ∷ x ∷ xs))) (same_row-is x y e) (Perm-refl (each_once same_row (x ∷ x ∷ xs)))
     go false e =
         once_cross (not (same_row x y)) (not (same_row y x)) x y (filter (λ z. not (same_row x z)) (filter (λ z. not (same_row y z)) (each_once same_row xs))) (filter (λ z. not (same_row y z)) (filter (λ z. not (same_row x z)) (each_once same_row xs)))
-        (ap not e) (ap not (sym (same_row-sym x y) ∙ e)) (filters_turned (λ z. not (same_row x z)) (λ z. not (same_row y z)) (each_once same_row xs))
+        (ap not e) (ap not (sym (same_row-sym x y) ∙ e)) (filter_swap (λ z. not (same_row x z)) (λ z. not (same_row y z)) (each_once same_row xs))
 once-Perm (chain p q) = chain (once-Perm p) (once-Perm q)
 
 -- ---- keys in another order

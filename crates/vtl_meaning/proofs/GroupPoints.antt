@@ -1,5 +1,5 @@
 -- The points of the result: their columns, their keys, and that they are a data set.
-use Rattle.std.proofs.Common.{◌≡◌, ℕ, zero, suc, pos, Bool, true, false, not, ◌&&◌, ◌||◌, cond, List, [], ◌∷◌, ◌++◌, map, take, length, Ok, Err, Option, Some, None, refl, sym, ap, ◌∙◌, subst, arith, append_assoc}
+use Rattle.std.proofs.Common.{◌≡◌, ℕ, zero, suc, pos, Bool, true, false, not, ◌&&◌, ◌||◌, cond, List, [], ◌∷◌, map, take, length, Ok, Err, Option, Some, None, refl, sym, ap, ◌∙◌, subst, arith}
 use Rattle.std.specs.Prelude.{IfOk, option_and_then}
 use Rattle.std.specs.List.{AllByRecursion, filter, list_any}
 use Rattle.std.specs.Option.{option_map_or}
@@ -20,7 +20,9 @@ use Rattle.vtl_cell.specs.declared.kind.Kind.TheVariants as k
 use Rattle.vtl_cell.specs.declared.operator.AggKind.{AggKind}
 use Rattle.vtl_cell.specs.declared.operator.AggKind.TheVariants as agg
 use Rattle.vtl_lists.proofs.Aparts.{all_apart-filter}
-use Rattle.vtl_lists.proofs.Sorts.{AllByRecursion-filter}
+use Rattle.vtl_lists.proofs.Sorts.{AllByRecursion-filter, AllByRecursion-map}
+use Rattle.vtl_lists.proofs.Alls.{all_append, all_filtered, all_more}
+use Rattle.vtl_lists.proofs.Tests.{then_some}
 use Rattle.vtl_cell.specs.AggregateKinds.{aggregate_kind}
 use Rattle.vtl_rows.specs.Tables.{cells_at}
 use Rattle.vtl_tree.specs.DataSet.{AreOfProfile, IsDataSet, is_point}
@@ -42,28 +44,9 @@ use Rattle.vtl_meaning.specs.GroupExpressions.{aggregated}
 use Rattle.vtl_meaning.specs.Groups.{keys_by, places_named, points_with}
 use Rattle.vtl_meaning.specs.AggregateShapes.{IsAggregated, IsMadeColumn, given_kind, given_of}
 use Rattle.vtl_meaning.proofs.GroupKinds.{GivesOf, GivesOfProfile, IsOf, group_gives, group_is, integer_is, null_is_of, whole_gives}
+use Rattle.vtl_meaning.proofs.Places.{columns_split, point_append, point_length}
 
 -- ---- lists
-all_map : {X Y : Type 0} (f : X → Y) (P : Y → Type 0) (xs : List X) → AllByRecursion (λ x. P (f x)) xs → AllByRecursion P (map f xs)
-all_map f P [] all = tt
-all_map f P (x ∷ xs) all = (all.0, all_map f P xs all.1)
-
-pub all_more : {X : Type 0} (P Q : X → Type 0) → ((x : X) → P x → Q x) → (xs : List X) → AllByRecursion P xs → AllByRecursion Q xs
-all_more P Q f [] all = tt
-all_more P Q f (x ∷ xs) all = (f x all.0, all_more P Q f xs all.1)
-
-all_append : {X : Type 0} (P : X → Type 0) (xs ys : List X) → AllByRecursion P xs → AllByRecursion P ys → AllByRecursion P (xs ++ ys)
-all_append P [] ys h i = i
-all_append P (x ∷ xs) ys h i = (h.0, all_append P xs ys h.1 i)
-
-all_filtered : {X : Type 0} (p : X → Bool) (xs : List X) → AllByRecursion (λ x. p x ≡ true) (filter p xs)
-all_filtered p [] = tt
-all_filtered p (x ∷ xs) = go (p x) refl (all_filtered p xs)
-  where
-    go : (b : Bool) → p x ≡ b → AllByRecursion (λ y. p y ≡ true) (filter p xs) → AllByRecursion (λ y. p y ≡ true) (cond b (x ∷ filter p xs) (filter p xs))
-    go true e ih = (e, ih)
-    go false e ih = ih
-
 pub all_once : (P : Row → Type 0) (xs : List Row) → AllByRecursion P xs → AllByRecursion P (each_once same_row xs)
 all_once P [] all = tt
 all_once P (x ∷ xs) all = (all.0, AllByRecursion-filter P (λ y. not (same_row x y)) (each_once same_row xs) (all_once P xs all.1))
@@ -113,20 +96,6 @@ found_key (y ∷ ys) xs r all h =
     let cell = found_cell y.name y xs r all.0 h in
     point_from y ys (column_of (place_of y.name xs) r) (cells_at (places_named (names_of ys) xs) r) cell.0 cell.1 (found_key ys xs r all.1 h)
 
-point_append : (xs ys : List Component) (r q : Row) → is_point xs r ≡ true → is_point ys q ≡ true → is_point (xs ++ ys) (r ++ q) ≡ true
-point_append [] ys [] q h i = i
-point_append [] ys (v ∷ r) q h i = cc
-point_append (x ∷ xs) ys [] q h i = cc
-point_append (x ∷ xs) ys (v ∷ r) q h i =
-    let parts = point_parts x xs v r h in
-    point_from x (xs ++ ys) v (r ++ q) parts.0 parts.1 (point_append xs ys r q parts.2 i)
-
-point_length : (xs : List Component) (r : Row) → is_point xs r ≡ true → length r ≡ length xs
-point_length [] [] h = refl
-point_length [] (v ∷ r) h = cc
-point_length (x ∷ xs) [] h = cc
-point_length (x ∷ xs) (v ∷ r) h = ap suc (point_length xs r (point_parts x xs v r h).2)
-
 -- ---- columns that are no identifiers
 abbrev IsOther : Component → Type 0
 IsOther x = same_role x.role role.Identifier ≡ false
@@ -147,14 +116,7 @@ are_others s =
     (all_more (λ x. same_role x.role role.Measure ≡ true) IsOther (λ x. measure_role x.role) (of_role role.Measure s) (all_filtered (λ x. same_role x.role role.Measure) s.components))
     (all_more (λ x. same_role x.role role.Attribute ≡ true) IsOther (λ x. attribute_role x.role) (of_role role.Attribute s) (all_filtered (λ x. same_role x.role role.Attribute) s.components))
 
-columns_split : (s : Structure) → columns_of s ≡ identifiers_of s ++ others_of s
-columns_split s = append_assoc (of_role role.Identifier s) (of_role role.Measure s) (of_role role.Attribute s)
-
 -- ---- values
-then_some : {A B : Type 0} (o : Option A) (f : A → Option B) (y : B) → option_and_then f o ≡ Some y → (x : A) × (o ≡ Some x) × (f x ≡ Some y)
-then_some None f y e = cc
-then_some (Some x) f y e = (x, refl, e)
-
 module _ (p : Settings) (xs : List Component) (points : List Row) where
   abbrev PointsFit : Type 0
   PointsFit = AllByRecursion (λ r. is_point xs r ≡ true) points
@@ -163,7 +125,7 @@ module _ (p : Settings) (xs : List Component) (points : List Row) where
   aggregated_is f (Some name) given e all =
       let t = then_some (component_of name xs) (λ x. aggregate_kind f x.kind) given e in
       group_is p f t.0.kind given (map (column_of (place_of name xs)) points) t.2
-      (all_map (column_of (place_of name xs)) (IsOf t.0.kind) points (all_more (λ r. is_point xs r ≡ true) (λ r. IsOf t.0.kind (column_of (place_of name xs) r)) (λ r h. (found_cell name t.0 xs r t.1 h).0) points all))
+      (AllByRecursion-map (column_of (place_of name xs)) (IsOf t.0.kind) points (all_more (λ r. is_point xs r ≡ true) (λ r. IsOf t.0.kind (column_of (place_of name xs) r)) (λ r h. (found_cell name t.0 xs r t.1 h).0) points all))
   aggregated_is agg.Count None given e all =
       let same : k.Int ≡ given = cc in
       subst (λ z. GivesOf z (count_of_points p points)) same (integer_is (fit_integer p.scale (pos (length points))))
@@ -176,7 +138,7 @@ module _ (p : Settings) (xs : List Component) (points : List Row) where
       go None f = cc
       go (Some a) f = aggregated_is a.kind a.component y.kind f all
 
-value_is : (y : Component) (m : Outcome Cell) → GivesOf y.kind m → IsOf y.kind (cell_or_null m)
+pub value_is : (y : Component) (m : Outcome Cell) → GivesOf y.kind m → IsOf y.kind (cell_or_null m)
 value_is y (Ok v) h = h
 value_is y (Err f) h = null_is_of y.kind
 
@@ -222,7 +184,7 @@ module _ (p : Settings) (spec : AggTree) (d : DataSet) (s : Structure) (i : IsAg
   pub keys_are : AllByRecursion IsKey (keys_by places d.points)
   keys_are =
       let key_is : (r : Row) → is_point columns r ≡ true → IsKey (cells_at places r) = λ r t. subst (λ names. is_point (identifiers_of s) (cells_at (places_named names columns) r) ≡ true) i.grouping (found_key (identifiers_of s) columns r i.identifiers t) in
-      all_once IsKey (map (cells_at places) d.points) (all_map (cells_at places) IsKey d.points (all_more (λ r. is_point columns r ≡ true) (λ r. IsKey (cells_at places r)) key_is d.points h.typed))
+      all_once IsKey (map (cells_at places) d.points) (AllByRecursion-map (cells_at places) IsKey d.points (all_more (λ r. is_point columns r ≡ true) (λ r. IsKey (cells_at places r)) key_is d.points h.typed))
 
   made_are : (key : Row) → AllByRecursion (λ y. GivesOf y.kind (made y key)) (others_of s)
   made_are key =
@@ -247,7 +209,7 @@ module _ (p : Settings) (spec : AggTree) (d : DataSet) (s : Structure) (i : IsAg
       let apart = all_apart-filter same_row (is_kept at spec.having) (keys_by places d.points) (once_apart same_row (map (cells_at places) d.points)) in
       record {
         well_formed = i.well_formed;
-        typed = all_map f (λ r. is_point (columns_of s) r ≡ true) kept (all_more IsKey (λ key. is_point (columns_of s) (f key) ≡ true) point_is kept kept_are);
+        typed = AllByRecursion-map f (λ r. is_point (columns_of s) r ≡ true) kept (all_more IsKey (λ key. is_point (columns_of s) (f key) ≡ true) point_is kept kept_are);
         distinct = apart_by_key (key_width s) (map f kept) ∙ ap (all_apart same_row) back ∙ apart;
       }
 
@@ -255,7 +217,7 @@ module _ (p : Settings) (spec : AggTree) (d : DataSet) (s : Structure) (i : IsAg
   result_is = unless_has (IsDataSet s) (join (faults_by (condition_fault at spec.having) (keys_by places d.points)) (faults_by (group_fault made (others_of s)) kept)) (map (group_point made (others_of s)) kept) points_are
 
 -- ---- integers of the profile
-column_gives : (p : Settings) (i : ℕ) (r : Row) → AllByRecursion (IsOfProfile p) r → IsOfProfile p (column_of i r)
+pub column_gives : (p : Settings) (i : ℕ) (r : Row) → AllByRecursion (IsOfProfile p) r → IsOfProfile p (column_of i r)
 column_gives p i [] all = tt
 column_gives p zero (v ∷ r) all = all.0
 column_gives p (suc i) (v ∷ r) all = column_gives p i r all.1
@@ -264,7 +226,7 @@ cells_give : (p : Settings) (places : List ℕ) (r : Row) → AllByRecursion (Is
 cells_give p [] r all = tt
 cells_give p (i ∷ places) r all = (column_gives p i r all, cells_give p places r all)
 
-value_gives : (p : Settings) (m : Outcome Cell) → GivesOfProfile p m → IsOfProfile p (cell_or_null m)
+pub value_gives : (p : Settings) (m : Outcome Cell) → GivesOfProfile p m → IsOfProfile p (cell_or_null m)
 value_gives p (Ok v) h = h
 value_gives p (Err f) h = tt
 
@@ -276,7 +238,7 @@ module _ (p : Settings) (spec : AggTree) (d : DataSet) (s : Structure) (h : AreO
   proper_aggregate xs f None points all = whole_gives p (pos (length points))
   proper_aggregate xs f (Some name) points all =
       let at : Row → Cell = column_of (place_of name xs) in
-      group_gives p f (map at points) (all_map at (IsOfProfile p) points (all_more IsProper (λ r. IsOfProfile p (at r)) (λ r. column_gives p (place_of name xs) r) points all))
+      group_gives p f (map at points) (AllByRecursion-map at (IsOfProfile p) points (all_more IsProper (λ r. IsOfProfile p (at r)) (λ r. column_gives p (place_of name xs) r) points all))
 
   proper_value : (xs : List Component) (y : Component) (points : List Row) → AllByRecursion IsProper points → GivesOfProfile p (made_value p xs spec.items y points)
   proper_value xs y points all = go (call_for spec.items y.name)
@@ -293,11 +255,11 @@ module _ (p : Settings) (spec : AggTree) (d : DataSet) (s : Structure) (h : AreO
       let made = made_of p spec xs d.points in
       let keys = keys_by places d.points in
       let kept = filter (is_kept at spec.having) keys in
-      let keys_proper = all_once IsProper (map (cells_at places) d.points) (all_map (cells_at places) IsProper d.points (all_more IsProper (λ r. IsProper (cells_at places r)) (λ r. cells_give p places r) d.points h)) in
+      let keys_proper = all_once IsProper (map (cells_at places) d.points) (AllByRecursion-map (cells_at places) IsProper d.points (all_more IsProper (λ r. IsProper (cells_at places r)) (λ r. cells_give p places r) d.points h)) in
       let point : (key : Row) → IsProper key → IsProper (group_point made (others_of s) key) =
       λ key t. all_append (IsOfProfile p) key (map (λ y. cell_or_null (made y key)) (others_of s)) t (values key (others_of s)) in
       unless_has (AreOfProfile p) (join (faults_by (condition_fault at spec.having) keys) (faults_by (group_fault made (others_of s)) kept)) (map (group_point made (others_of s)) kept)
-      (all_map (group_point made (others_of s)) IsProper kept (all_more IsProper (λ key. IsProper (group_point made (others_of s) key)) point kept (AllByRecursion-filter IsProper (is_kept at spec.having) keys keys_proper)))
+      (AllByRecursion-map (group_point made (others_of s)) IsProper kept (all_more IsProper (λ key. IsProper (group_point made (others_of s) key)) point kept (AllByRecursion-filter IsProper (is_kept at spec.having) keys keys_proper)))
     where
       values : (key : Row) (ys : List Component) → AllByRecursion (IsOfProfile p) (map (λ y. cell_or_null (made_of p spec (columns_of d.structure) d.points y key)) ys)
       values key [] = tt

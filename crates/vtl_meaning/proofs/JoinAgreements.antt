@@ -9,6 +9,8 @@ use Rattle.vtl_cell.specs.declared.kind.Kind.{Kind}
 use Rattle.vtl_lists.proofs.Aparts.{apart_parts}
 use Rattle.vtl_cell.proofs.Rows.{same_row-is, same_row-refl}
 use Rattle.vtl_lists.proofs.Sorts.{AllByRecursion-filter}
+use Rattle.vtl_lists.proofs.Alls.{all_both, all_filtered, all_more}
+use Rattle.vtl_lists.proofs.Tests.{or_true}
 use Rattle.vtl_tree.specs.DataSet.{IsDataSet, is_point}
 use Rattle.vtl_tree.specs.Environment.{DataSet}
 use Rattle.vtl_tree.specs.Structure.{IsStructure, columns_of, key_width, names_of, same_name}
@@ -16,16 +18,12 @@ use Rattle.vtl_tree.specs.declared.structure.Component.{Component}
 use Rattle.vtl_tree.specs.declared.structure.Structure.{Structure}
 use Rattle.vtl_tree.specs.Names.{is_among}
 use Rattle.vtl_tree.specs.Columns.{common_identifiers, has_identifier, identifiers_of, place_of}
+use Rattle.vtl_tree.proofs.NotNullLemmas.{same_itself}
 use Rattle.vtl_meaning.specs.Agreement.{OperandPoint, agree_in, first_agreeing, operand_point, points_agree, values_in}
 use Rattle.vtl_meaning.specs.LookUps.{value_named}
 use Rattle.vtl_meaning.specs.Made.{AreAmong, IsColumnAt}
 use Rattle.vtl_meaning.proofs.Agreements.{own_values}
-use Rattle.vtl_meaning.proofs.Kept.{both_all}
-use Rattle.vtl_meaning.proofs.Places.{all_filtered, all_more, same_name-is, same_name-refl}
-
-pub either_true : (b : Bool) → (b || true) ≡ true
-either_true true = refl
-either_true false = refl
+use Rattle.vtl_meaning.proofs.Places.{same_name-is}
 
 -- ---- a structure that has all identifiers of another
 abbrev pub Covers : Structure → Structure → Type 0
@@ -33,8 +31,8 @@ Covers r a = (name : List ℕ) → has_identifier a name ≡ true → has_identi
 
 column_among : (place : ℕ) (name : List ℕ) (kind : Kind) (ys : List Component) → IsColumnAt place name kind ys → is_among name (names_of ys) ≡ true
 column_among place name kind [] i = absurd i
-column_among zero name kind (y ∷ ys) i = ap (λ b. b || is_among name (names_of ys)) (ap (λ n. same_name n name) i.0 ∙ same_name-refl name)
-column_among (suc place) name kind (y ∷ ys) i = ap (λ b. same_name y.name name || b) (column_among place name kind ys i) ∙ either_true (same_name y.name name)
+column_among zero name kind (y ∷ ys) i = ap (λ b. b || is_among name (names_of ys)) (ap (λ n. same_name n name) i.0 ∙ same_itself name)
+column_among (suc place) name kind (y ∷ ys) i = ap (λ b. same_name y.name name || b) (column_among place name kind ys i) ∙ or_true (same_name y.name name)
 
 among_covers : (xs ys : List Component) → AreAmong xs ys → (name : List ℕ) → is_among name (names_of xs) ≡ true → is_among name (names_of ys) ≡ true
 among_covers [] ys all name e = absurd (true≢false (sym e))
@@ -89,11 +87,11 @@ own_names a = go (identifiers_of a)
   where
     more : (x : Component) (ids ys : List Component) → AllByRecursion (λ i. is_among i.name (names_of ids) ≡ true) ys → AllByRecursion (λ i. is_among i.name (names_of (x ∷ ids)) ≡ true) ys
     more x ids [] all = tt
-    more x ids (y ∷ ys) all = (ap (λ b. same_name x.name y.name || b) all.0 ∙ either_true (same_name x.name y.name), more x ids ys all.1)
+    more x ids (y ∷ ys) all = (ap (λ b. same_name x.name y.name || b) all.0 ∙ or_true (same_name x.name y.name), more x ids ys all.1)
 
     go : (ids : List Component) → AllByRecursion (λ i. is_among i.name (names_of ids) ≡ true) ids
     go [] = tt
-    go (i ∷ ids) = (ap (λ b. b || is_among i.name (names_of ids)) (same_name-refl i.name), more i ids ids (go ids))
+    go (i ∷ ids) = (ap (λ b. b || is_among i.name (names_of ids)) (same_itself i.name), more i ids ids (go ids))
 
 pub agree-from : (x y : OperandPoint) → Agrees x y → points_agree x y ≡ true
 agree-from x y h =
@@ -102,7 +100,7 @@ agree-from x y h =
     let v : List ℕ → Cell = value_named (columns_of b) y.point in
     let w : List ℕ → Cell = value_named (columns_of a) x.point in
     let both = common_identifiers a b in
-    let same = equal_each v w both (both_all (λ i. has_identifier a i.name ≡ true) (λ i. has_identifier b i.name ≡ true) (λ i. v i.name ≡ w i.name) (λ i f g. sym (h i.name f g)) both
+    let same = equal_each v w both (all_both (λ i. has_identifier a i.name ≡ true) (λ i. has_identifier b i.name ≡ true) (λ i. v i.name ≡ w i.name) (λ i f g. sym (h i.name f g)) both
     (all_filtered (λ i. has_identifier a i.name) (identifiers_of b)) (AllByRecursion-filter (λ i. has_identifier b i.name ≡ true) (λ i. has_identifier a i.name) (identifiers_of b) (own_names b))) in
     ap (λ l. same_row l (values_in a both x.point)) same ∙ same_row-refl (values_in a both x.point)
 

@@ -9,6 +9,7 @@ use Rattle.std.proofs.lemmas.List.Folds.{flat_map-map, list_any-append}
 use Rattle.vtl_lists.specs.Apart.{all_apart}
 use Rattle.vtl_cell.specs.Row.{Row, same_key, same_row}
 use Rattle.vtl_lists.proofs.Aparts.{apart_more, apart_parts}
+use Rattle.vtl_lists.proofs.Alls.{all_more}
 use Rattle.vtl_cell.proofs.Rows.{same_row-is, same_row-refl}
 use Rattle.vtl_tree.specs.DataSet.{IsDataSet, is_point}
 use Rattle.vtl_tree.specs.Environment.{DataSet}
@@ -27,7 +28,6 @@ use Rattle.vtl_meaning.specs.Joined.{Part, Tuple, agreeing, all_keys, cross_tupl
 use Rattle.vtl_meaning.specs.Made.{AreAmong}
 use Rattle.vtl_meaning.proofs.JoinAgreements.{agreeing_own, covers, own_found, values_agree}
 use Rattle.vtl_meaning.proofs.JoinKept.{key_at, keys_at}
-use Rattle.vtl_meaning.proofs.Places.{all_more}
 
 pub agreeing_more : (ds : List DataSet) (d : DataSet) → agreeing (ds ++ d ∷ []) ≡ matched_with points_agree (agreeing ds) (operand_points d)
 agreeing_more ds d = ap (matching points_agree) (map-append operand_points ds (d ∷ [])) ∙ matching_more points_agree (map operand_points ds) (operand_points d)

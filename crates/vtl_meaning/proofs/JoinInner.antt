@@ -8,7 +8,8 @@ use Rattle.vtl_lists.specs.Each.{cons_if, each_some}
 use Rattle.vtl_lists.specs.Perm.{Perm, chain}
 use Rattle.vtl_cell.specs.Row.{Row}
 use Rattle.vtl_lists.proofs.Perms.{Perm-map, Perm-same}
-use Rattle.vtl_lists.proofs.Sorts.{AllByRecursion-filter}
+use Rattle.vtl_lists.proofs.Sorts.{AllByRecursion-filter, AllByRecursion-map}
+use Rattle.vtl_lists.proofs.Alls.{all_back, all_each, all_front, all_more}
 use Rattle.vtl_syntax.specs.declared.word_groups.JoinKind.TheVariants as join
 use Rattle.vtl_tree.specs.DataSet.{IsDataSet}
 use Rattle.vtl_tree.specs.Environment.{DataSet}
@@ -25,7 +26,6 @@ use Rattle.vtl_meaning.specs.Made.{AreAmong, IsJoined}
 use Rattle.vtl_meaning.proofs.JoinAgreements.{Covers, agree-from, agree-gives, agreeing_only, agreeing_own, covers}
 use Rattle.vtl_meaning.proofs.JoinKept.{join_with, made_of_passing, reference_is}
 use Rattle.vtl_meaning.proofs.JoinParts.{AreSets}
-use Rattle.vtl_meaning.proofs.Places.{all_back, all_front, all_map, all_more, each}
 
 -- ---- points of one type
 -- the point of an operand that agrees
@@ -65,7 +65,7 @@ reference_leads r = record {
 }
 
 within_points : (r : Structure) (d : DataSet) → IsWithin r d → AllByRecursion (Within r) (operand_points d)
-within_points r d j = all_map (operand_point d.structure) (Within r) d.points (each (λ q. Covers r d.structure) (λ q. covers r d.structure j.within) d.points)
+within_points r d j = AllByRecursion-map (operand_point d.structure) (Within r) d.points (all_each (λ q. Covers r d.structure) (λ q. covers r d.structure j.within) d.points)
 
 -- ---- the parts of what a point finds
 -- all parts, where none is missing
@@ -99,7 +99,7 @@ inner_is pre r post all =
     chain (Perm-map (map present) (led_is (Within a) points_agree operand_points beside pre r post
     (all_more (IsWithin a) (λ d. AllByRecursion (Within a) (operand_points d)) (within_points a) pre in_pre)
     (all_more (IsWithin a) (λ d. AllByRecursion (Within a) (operand_points d)) (within_points a) post in_post.1)
-    (all_map (operand_point a) (Finds (Within a) points_agree operand_points beside pre r post) r.points (all_more (λ q. first_agreeing a r q ≡ Some q) (λ q. Finds (Within a) points_agree operand_points beside pre r post (operand_point a q)) found r.points (agreeing_own r in_post.0.kept)))))
+    (AllByRecursion-map (operand_point a) (Finds (Within a) points_agree operand_points beside pre r post) r.points (all_more (λ q. first_agreeing a r q ≡ Some q) (λ q. Finds (Within a) points_agree operand_points beside pre r post (operand_point a q)) found r.points (agreeing_own r in_post.0.kept)))))
     (Perm-same _ _ (led_parts r (pre ++ r ∷ post)))
   where
     a : Structure
@@ -151,7 +151,7 @@ inner_agreed pre r post all =
     let a = r.structure in
     let I : Tuple → Type 0 = λ t. tuple_from n t.parts ≡ t in
     let own = (all_back (IsWithin a) pre (r ∷ post) all).0.kept in
-    let each_told = all_map (tuple_beside a ds) I r.points (all_more (λ q. first_agreeing a r q ≡ Some q) (λ q. I (tuple_beside a ds q)) (told_by_parts pre r post) r.points (agreeing_own r own)) in
+    let each_told = AllByRecursion-map (tuple_beside a ds) I r.points (all_more (λ q. first_agreeing a r q ≡ Some q) (λ q. I (tuple_beside a ds q)) (told_by_parts pre r post) r.points (agreeing_own r own)) in
     let told = AllByRecursion-filter I is_whole (left_tuples r ds) each_told in
     chain (Perm-same _ _ (ap (λ (f : List OperandPoint → Tuple). map f (agreeing ds)) (λ i xs. agreed_from n xs i) ∙ sym (map-map (tuple_from n) (map present) (agreeing ds))))
     (chain (Perm-map (tuple_from n) (inner_is pre r post all))

@@ -9,7 +9,8 @@ use Rattle.vtl_cell.specs.Order.{same_cell}
 use Rattle.vtl_cell.specs.Row.{Row, same_key, same_row}
 use Rattle.vtl_lists.proofs.Aparts.{apart_more, apart_parts}
 use Rattle.vtl_cell.proofs.Rows.{same_row-refl}
-use Rattle.vtl_lists.proofs.Sorts.{AllByRecursion-filter}
+use Rattle.vtl_lists.proofs.Sorts.{AllByRecursion-filter, AllByRecursion-map}
+use Rattle.vtl_lists.proofs.Alls.{all_append, all_more}
 use Rattle.vtl_rows.specs.Tables.{cells_at}
 use Rattle.vtl_syntax.specs.declared.word_groups.JoinKind.{JoinKind}
 use Rattle.vtl_syntax.specs.declared.word_groups.JoinKind.TheVariants as join
@@ -31,7 +32,7 @@ use Rattle.vtl_meaning.proofs.Drawn.{AtMostOne, Keeps, drawn_kept, mapped_kept}
 use Rattle.vtl_meaning.proofs.JoinParts.{AreSets, IsPart, parts_are, parts_of_operands, tuple_is}
 use Rattle.vtl_meaning.proofs.Kept.{some_identifiers}
 use Rattle.vtl_meaning.proofs.LookUps.{named_cells}
-use Rattle.vtl_meaning.proofs.Places.{IsIdentifier, all_append, all_map, all_more, are_identifiers, columns_split, key_for, key_of_point, point_append, point_length, point_of_identifiers}
+use Rattle.vtl_meaning.proofs.Places.{IsIdentifier, are_identifiers, columns_split, key_for, key_of_point, point_append, point_length, point_of_identifiers}
 
 -- ---- `left_join`: a point for each point of the reference
 pub beside_keeps : (kind : JoinKind) (a s : Structure) (ds : List DataSet) (q : Row) → IsJoined kind (structures_of ds) s → HasIdentifiers s (identifiers_of a) → AreSets ds → is_point (columns_of a) q ≡ true → Keeps s (key_width a) q (tuple_point (tuple_beside a ds q))
@@ -104,7 +105,7 @@ keys_are a [] all them = tt
 keys_are a (d ∷ ds) all them =
     let ids = identifiers_of a in
     all_append (λ k. is_point ids k ≡ true) (keys_in ids d) (flat_map (keys_in ids) ds)
-    (all_map (values_in d.structure ids) (λ k. is_point ids k ≡ true) d.points (all_more (λ q. is_point (columns_of d.structure) q ≡ true) (λ q. is_point ids (values_in d.structure ids q) ≡ true) (λ q h. key_is ids d.structure q (are_identifiers a) them.0 h) d.points all.0.typed))
+    (AllByRecursion-map (values_in d.structure ids) (λ k. is_point ids k ≡ true) d.points (all_more (λ q. is_point (columns_of d.structure) q ≡ true) (λ q. is_point ids (values_in d.structure ids q) ≡ true) (λ q h. key_is ids d.structure q (are_identifiers a) them.0 h) d.points all.0.typed))
     (keys_are a ds all.1 them.1)
 
 pub all_keys_are : (a : Structure) (ds : List DataSet) → AreSets ds → HaveThem (identifiers_of a) ds → AllByRecursion (λ k. is_point (identifiers_of a) k ≡ true) (all_keys (identifiers_of a) ds)
@@ -150,7 +151,7 @@ pub fronts : {X : Type 0} (P : X → Type 0) (Q R : List X → Type 0) (xs : Lis
 fronts P Q R [] ts f h i = tt
 fronts P Q R (x ∷ xs) ts f h i =
     all_append R (map (λ t. x ∷ t) ts) (flat_map (λ z. map (λ t. z ∷ t) ts) xs)
-    (all_map (λ t. x ∷ t) R ts (all_more Q (λ t. R (x ∷ t)) (λ t q. f x t h.0 q) ts i))
+    (AllByRecursion-map (λ t. x ∷ t) R ts (all_more Q (λ t. R (x ∷ t)) (λ t q. f x t h.0 q) ts i))
     (fronts P Q R xs ts f h.1 i)
 
 -- a point of this operand
@@ -160,7 +161,7 @@ record IsPointOf (a : Structure) (x : OperandPoint) : Type 0 where
 
 points_of_it : (d : DataSet) → IsDataSet d.structure d.points → AllByRecursion (IsPointOf d.structure) (operand_points d)
 points_of_it d h =
-    all_map (operand_point d.structure) (IsPointOf d.structure) d.points
+    AllByRecursion-map (operand_point d.structure) (IsPointOf d.structure) d.points
     (all_more (λ q. is_point (columns_of d.structure) q ≡ true) (λ q. IsPointOf d.structure (operand_point d.structure q)) (λ q w. record { structure = refl; point = record { well_formed = h.well_formed; typed = w } }) d.points h.typed)
 
 pub combinations_are : (ds : List DataSet) → AreSets ds → AllByRecursion (IsCombination (structures_of ds)) (combinations (map operand_points ds))
@@ -244,7 +245,7 @@ module _ (n : ℕ) (ts : List (List OperandPoint)) where
   each_differs x t [] h all apart = tt
   each_differs x t (y ∷ xs) h all apart =
       all_append (λ u. same_keys_at (x ∷ t) u ≡ false) (in_front y) (flat_map in_front xs)
-      (all_map (λ u. y ∷ u) (λ u. same_keys_at (x ∷ t) u ≡ false) ts (every ts)) (each_differs x t xs h all.1 apart.1)
+      (AllByRecursion-map (λ u. y ∷ u) (λ u. same_keys_at (x ∷ t) u ≡ false) ts (every ts)) (each_differs x t xs h all.1 apart.1)
     where
       every : (us : List (List OperandPoint)) → AllByRecursion (λ u. same_keys_at (x ∷ t) (y ∷ u) ≡ false) us
       every [] = tt
@@ -255,7 +256,7 @@ module _ (n : ℕ) (ts : List (List OperandPoint)) where
   fronts_apart (x ∷ xs) all e f =
       let parts = apart_parts (λ y z. same_row (key_at y) (key_at z)) x xs e in
       apart_append same_keys_at (in_front x) (flat_map in_front xs) (front_apart x ts f) (fronts_apart xs all.1 parts.1 f)
-      (all_map (λ t. x ∷ t) (λ t. AllByRecursion (λ u. same_keys_at t u ≡ false) (flat_map in_front xs)) ts (every parts.0 ts))
+      (AllByRecursion-map (λ t. x ∷ t) (λ t. AllByRecursion (λ u. same_keys_at t u ≡ false) (flat_map in_front xs)) ts (every parts.0 ts))
     where
       every : AllByRecursion (λ y. same_row (key_at x) (key_at y) ≡ false) xs → (us : List (List OperandPoint)) → AllByRecursion (λ t. AllByRecursion (λ u. same_keys_at (x ∷ t) u ≡ false) (flat_map in_front xs)) us
       every apart [] = tt
@@ -266,7 +267,7 @@ combinations_apart [] all = refl
 combinations_apart (d ∷ ds) all =
     let a = d.structure in
     fronts_apart (key_width a) (combinations (map operand_points ds)) (operand_points d)
-    (all_map (operand_point a) (IsWide (key_width a)) d.points (all_more (λ q. is_point (columns_of a) q ≡ true) (λ q. IsWide (key_width a) (operand_point a q)) (λ q h. point_length (identifiers_of a) (key_of a q) (key_of_point a q h)) d.points all.0.typed))
+    (AllByRecursion-map (operand_point a) (IsWide (key_width a)) d.points (all_more (λ q. is_point (columns_of a) q ≡ true) (λ q. IsWide (key_width a) (operand_point a q)) (λ q h. point_length (identifiers_of a) (key_of a q) (key_of_point a q h)) d.points all.0.typed))
     (apart_map (operand_point a) (λ x y. same_row (key_at x) (key_at y)) d.points ∙ all.0.distinct) (combinations_apart ds all.1)
 
 -- points that begin with identifiers that differ
@@ -274,7 +275,7 @@ begin_apart : {X : Type 0} (n : ℕ) (f g : X → Row) (xs : List X) → AllByRe
 begin_apart n f g [] all e = refl
 begin_apart {X = X} n f g (x ∷ xs) all e =
     let parts = apart_parts (λ y z. same_row (g y) (g z)) x xs e in
-    apart_more (same_key n) (f x) (map f xs) (all_map f (λ r. same_key n (f x) r ≡ false) xs (later xs all.1 parts.0)) (begin_apart n f g xs all.1 parts.1)
+    apart_more (same_key n) (f x) (map f xs) (AllByRecursion-map f (λ r. same_key n (f x) r ≡ false) xs (later xs all.1 parts.0)) (begin_apart n f g xs all.1 parts.1)
   where
     later : (ys : List X) → AllByRecursion (λ y. take n (f y) ≡ g y) ys → AllByRecursion (λ y. same_row (g x) (g y) ≡ false) ys → AllByRecursion (λ y. same_key n (f x) (f y) ≡ false) ys
     later [] h i = tt
@@ -289,7 +290,7 @@ cross_kept kind ds s i e all =
     subst (IsDataSet s) (sym (map-map tuple_point crossed ts))
     (record {
       well_formed = i.well_formed;
-      typed = all_map f (λ q. is_point (columns_of s) q ≡ true) ts (all_more C (λ t. is_point (columns_of s) (f t) ≡ true) (λ t h. (crossed_is kind (structures_of ds) s t i e h).0) ts are);
+      typed = AllByRecursion-map f (λ q. is_point (columns_of s) q ≡ true) ts (all_more C (λ t. is_point (columns_of s) (f t) ≡ true) (λ t h. (crossed_is kind (structures_of ds) s t i e h).0) ts are);
       distinct = begin_apart (key_width s) f keys_at ts (all_more C (λ t. take (key_width s) (f t) ≡ keys_at t) (λ t h. (crossed_is kind (structures_of ds) s t i e h).1) ts are) (combinations_apart ds all);
     })
 

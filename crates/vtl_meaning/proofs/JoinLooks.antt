@@ -4,6 +4,9 @@ use Rattle.std.specs.Prelude.{IfSome, option_map, slice_get}
 use Rattle.std.specs.List.{AllByRecursion, find, flat_map, list_any}
 use Rattle.std.specs.Option.{option_and_then}
 use Rattle.vtl_lists.specs.Each.{cons_if}
+use Rattle.vtl_lists.proofs.Sorts.{AllByRecursion-map}
+use Rattle.vtl_lists.proofs.Alls.{all_each, all_more}
+use Rattle.vtl_lists.proofs.Tests.{or_true}
 use Rattle.vtl_cell.specs.Row.{Row, same_key, same_row}
 use Rattle.vtl_cell.proofs.Rows.{same_row-is, same_row-refl}
 use Rattle.vtl_syntax.specs.declared.word_groups.JoinKind.{JoinKind}
@@ -21,14 +24,14 @@ use Rattle.vtl_tree.specs.Columns.{identifiers_of}
 use Rattle.vtl_meaning.specs.JoinWords.{looked_tuple, point_with, points_at, whole_point}
 use Rattle.vtl_meaning.specs.Joined.{all_keys, crossed, is_whole, join_of, keys_in, reference_of, reference_place, structures_of, tuple_at, tuple_beside, tuple_point}
 use Rattle.vtl_meaning.specs.Made.{AreAmong, GoTogether, IsJoined}
-use Rattle.vtl_meaning.proofs.JoinAgreements.{either_true, own_found}
+use Rattle.vtl_meaning.proofs.JoinAgreements.{own_found}
 use Rattle.vtl_meaning.proofs.JoinGrows.{alike_rows, own_with}
 use Rattle.vtl_meaning.proofs.JoinInner.{find-map}
 use Rattle.vtl_meaning.proofs.JoinKept.{IsCombination, all_keys_are, beside_keeps, combinations_are, crossed_is, full_keeps, have_them, join_with, key_at, keys_at, made_of_passing, reference_is, same_row-append, whole_key}
 use Rattle.vtl_meaning.proofs.JoinPartners.{HasThose, at_looked}
 use Rattle.vtl_meaning.proofs.JoinParts.{AreSets}
 use Rattle.vtl_meaning.proofs.Looks.{look-drawn, look-map}
-use Rattle.vtl_meaning.proofs.Places.{all_map, all_more, each, key_of_point, point_length}
+use Rattle.vtl_meaning.proofs.Places.{key_of_point, point_length}
 
 -- ---- the reference is the first operand where its place is the first
 goes_with_first : (kind : JoinKind) (r : DataSet) (ds : List DataSet) (s : Structure) → reference_place kind (structures_of (r ∷ ds)) ≡ 0 → IsJoined kind (structures_of (r ∷ ds)) s → GoTogether kind r.structure (structures_of (r ∷ ds)) s
@@ -149,7 +152,7 @@ find_fronts ts k j (x ∷ xs) all =
     go true (Some t) ih = refl
     go false o ih = ih
 
--- as many identifiers as each operand has
+-- as many identifiers as all_each operand has
 abbrev pub widths_of : List DataSet → List ℕ
 widths_of ds = map (λ d. key_width d.structure) ds
 
@@ -162,7 +165,7 @@ found_combination (d ∷ ds) (k ∷ ks) all e =
     let here : length k ≡ key_width a = cc in
     let more : map length ks ≡ widths_of ds = cc in
     find_fronts (combinations (map operand_points ds)) k (flat_map (λ z. z) ks) (operand_points d)
-    (all_map (operand_point a) (λ x. length (key_at x) ≡ length k) d.points
+    (AllByRecursion-map (operand_point a) (λ x. length (key_at x) ≡ length k) d.points
     (all_more (λ q. is_point (columns_of a) q ≡ true) (λ q. length (take (key_width a) q) ≡ length k) (λ q h. point_length (identifiers_of a) (key_of a q) (key_of_point a q h) ∙ sym here) d.points all.0.typed))
     ∙ ap (λ o. cons_if o (find (λ t. same_row (keys_at t) (flat_map (λ z. z) ks)) (combinations (map operand_points ds))))
     (find-map (λ x. same_row (key_at x) k) (operand_point a) d.points ∙ ap (option_map (operand_point a)) (found_as_look (key_width a) d.points k))
@@ -180,10 +183,10 @@ cross_look ds ks s i all e =
     ∙ ap (option_map f) (found_combination ds ks all e)
 
 -- ---- nothing is lost
-look_own : (n : ℕ) (d : List Row) → Distinct n d → AllByRecursion (λ q. look n d (take n q) ≡ Some q) d
+pub look_own : (n : ℕ) (d : List Row) → Distinct n d → AllByRecursion (λ q. look n d (take n q) ≡ Some q) d
 look_own n d apart =
     all_more (λ q. find (λ t. same_key n t q) d ≡ Some q) (λ q. look n d (take n q) ≡ Some q) (λ q e. sym (found_as_look n d (take n q)) ∙ e) d
-    (own_found (λ q. Unit {0}) (same_key n) (λ q t. same_key n t q) (λ q u. same_row-refl (take n q)) (λ q t u v e. e) d (each (λ q. Unit {0}) (λ q. tt) d) apart)
+    (own_found (λ q. Unit {0}) (same_key n) (λ q t. same_key n t q) (λ q u. same_row-refl (take n q)) (λ q t u v e. e) d (all_each (λ q. Unit {0}) (λ q. tt) d) apart)
 
 pub left_loses_nothing : (r : DataSet) (ds : List DataSet) (s : Structure) → IsJoined join.Left (structures_of (r ∷ ds)) s → AllByRecursion (λ d. IsDataSet d.structure d.points) (r ∷ ds)
     → AllByRecursion (λ q. look (key_width s) (join_of join.Left (r ∷ ds)) (key_of r.structure q) ≡ Some (tuple_point (tuple_beside r.structure (r ∷ ds) q))) r.points
@@ -193,7 +196,7 @@ left_loses_nothing r ds s i all =
     all_more (λ q. look (key_width a) r.points (take (key_width a) q) ≡ Some q) (λ q. look (key_width s) (join_of join.Left (r ∷ ds)) (key_of a q) ≡ Some (f q))
     (λ q e. left_look r ds s (key_of a q) i all ∙ ap (option_map f) e) r.points (look_own (key_width a) r.points all.0.distinct)
 
--- each item of each list is among all
+-- all_each item of all_each list is among all
 each_among : (ids : List Component) (ds : List DataSet) → AllByRecursion (λ d. AllByRecursion (λ q. list_any (λ j. same_row j (values_in d.structure ids q)) (flat_map (keys_in ids) ds) ≡ true) d.points) ds
 each_among ids [] = tt
 each_among ids (d ∷ ds) = (own d.points, later ds (each_among ids ds))
@@ -205,7 +208,7 @@ each_among ids (d ∷ ds) = (own d.points, later ds (each_among ids ds))
     rest = flat_map (keys_in ids) ds
 
     before : (j k : Row) (l : List Row) → list_any (λ i. same_row i k) l ≡ true → list_any (λ i. same_row i k) (j ∷ l) ≡ true
-    before j k l e = ap (λ b. same_row j k || b) e ∙ either_true (same_row j k)
+    before j k l e = ap (λ b. same_row j k || b) e ∙ or_true (same_row j k)
 
     own : (l : List Row) → AllByRecursion (λ q. list_any (λ j. same_row j (keys q)) (map keys l ++ rest) ≡ true) l
     own [] = tt
@@ -235,7 +238,7 @@ full_loses_nothing r ds s i all =
     (λ d h. all_more (λ q. list_any (λ j. same_row j (values_in d.structure ids q)) ks ≡ true) (λ q. look (key_width s) (join_of join.Full (r ∷ ds)) (values_in d.structure ids q) ≡ Some (f (values_in d.structure ids q)))
     (λ q e. full_look r ds s (values_in d.structure ids q) i all ∙ ap (λ b. cond b (Some (f (values_in d.structure ids q))) None) e) d.points h) (r ∷ ds) (each_among ids (r ∷ ds))
 
--- and each point is the part of its operand there
+-- and all_each point is the part of its operand there
 pub full_has_each : (r : DataSet) (ds : List DataSet) (s : Structure) → IsJoined join.Full (structures_of (r ∷ ds)) s → AllByRecursion (λ d. IsDataSet d.structure d.points) (r ∷ ds)
     → AllByRecursion (λ d. AllByRecursion (λ q. point_with (identifiers_of r.structure) d (values_in d.structure (identifiers_of r.structure) q) ≡ Some q) d.points) (r ∷ ds)
 full_has_each r ds s i all = each_own (r ∷ ds) all (goes_with_first join.Full r ds s refl i).1

@@ -6,6 +6,7 @@ use Rattle.std.specs.Option.{option_to_list}
 use Rattle.vtl_lists.specs.Perm.{Perm, empty, keep, cross, chain}
 use Rattle.vtl_cell.specs.Row.{Row, same_row}
 use Rattle.vtl_lists.proofs.Perms.{AllByRecursion-Perm, Perm-append, Perm-filter, Perm-flat_map, Perm-flat_map_each, Perm-map, Perm-same, length-Perm}
+use Rattle.vtl_lists.proofs.Filters.{filter_swap}
 use Rattle.vtl_cell.proofs.Rows.{same_row-is, same_row-refl}
 use Rattle.vtl_syntax.specs.declared.word_groups.JoinKind.{JoinKind}
 use Rattle.vtl_syntax.specs.declared.word_groups.JoinKind.TheVariants as join
@@ -77,16 +78,6 @@ left_respects r t ds es e q same all cover =
     (chain (Perm-map (tuple_beside a es) q) (Perm-same (map (tuple_beside a es) t.points) (left_tuples t es) (ap (λ z. map (tuple_beside z es) t.points) e)))
 
 -- ---- `full_join`
-filters_turned : {X : Type 0} (p q : X → Bool) (xs : List X) → filter p (filter q xs) ≡ filter q (filter p xs)
-filters_turned p q [] = refl
-filters_turned p q (x ∷ xs) = go (p x) refl (q x) refl (filters_turned p q xs)
-  where
-    go : (b : Bool) → p x ≡ b → (c : Bool) → q x ≡ c → filter p (filter q xs) ≡ filter q (filter p xs) → filter p (cond c (x ∷ filter q xs) (filter q xs)) ≡ filter q (cond b (x ∷ filter p xs) (filter p xs))
-    go true e true f ih = ap (λ b. cond b (x ∷ filter p (filter q xs)) (filter p (filter q xs))) e ∙ ap (λ l. x ∷ l) ih ∙ sym (ap (λ b. cond b (x ∷ filter q (filter p xs)) (filter q (filter p xs))) f)
-    go true e false f ih = ih ∙ sym (ap (λ b. cond b (x ∷ filter q (filter p xs)) (filter q (filter p xs))) f)
-    go false e true f ih = ap (λ b. cond b (x ∷ filter p (filter q xs)) (filter p (filter q xs))) e ∙ ih
-    go false e false f ih = ih
-
 -- items each once, from a list in another order
 pub once_respects : {X : Type 0} (same : X → X → Bool) {xs ys : List X} → TellsApart same → Perm xs ys → Perm (each_once same xs) (each_once same ys)
 once_respects same tells empty = empty
@@ -100,7 +91,7 @@ once_respects {X = X} same tells (cross x y xs) = go (same x y) refl (same y x) 
     without z l = filter (λ w. not (same z w)) l
 
     turned : without x (without y rest) ≡ without y (without x rest)
-    turned = filters_turned (λ w. not (same x w)) (λ w. not (same y w)) rest
+    turned = filter_swap (λ w. not (same x w)) (λ w. not (same y w)) rest
 
     go : (b : Bool) → same x y ≡ b → (c : Bool) → same y x ≡ c → Perm (x ∷ cond (not b) (y ∷ without x (without y rest)) (without x (without y rest))) (y ∷ cond (not c) (x ∷ without y (without x rest)) (without y (without x rest)))
     go true e true f = Perm-same (x ∷ without x (without y rest)) (y ∷ without y (without x rest)) (ap (λ l. x ∷ l) turned ∙ ap (λ z. z ∷ without y (without x rest)) (tells.is x y e))
@@ -112,7 +103,7 @@ once_respects same tells (chain p q) = chain (once_respects same tells p) (once_
 pub rows_apart : TellsApart same_row
 rows_apart = record { is = same_row-is; self = same_row-refl }
 
-keys_respect : (ids : List Component) (ds es : List DataSet) → SameOperands ds es → Perm (flat_map (keys_in ids) ds) (flat_map (keys_in ids) es)
+pub keys_respect : (ids : List Component) (ds es : List DataSet) → SameOperands ds es → Perm (flat_map (keys_in ids) ds) (flat_map (keys_in ids) es)
 keys_respect ids [] [] same = empty
 keys_respect ids [] (e ∷ es) same = absurd same
 keys_respect ids (d ∷ ds) [] same = absurd same

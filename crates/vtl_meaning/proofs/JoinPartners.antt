@@ -1,6 +1,8 @@
 -- The parts of a join's tuples are found by look-up at their identifiers.
-use Rattle.std.proofs.Common.{◌≡◌, ℕ, zero, suc, Bool, true, false, List, [], ◌∷◌, cond, length, map, take, Some, refl, sym, ap, ◌∙◌}
+use Rattle.std.proofs.Common.{◌≡◌, ℕ, zero, suc, Bool, true, List, [], ◌∷◌, cond, length, map, take, Some, refl, sym, ap, ◌∙◌}
 use Rattle.std.specs.List.{AllByRecursion, filter, find}
+use Rattle.vtl_lists.proofs.Alls.{all_more}
+use Rattle.vtl_lists.proofs.Tests.{same_tests}
 use Rattle.vtl_cell.specs.Row.{Row, column_of, same_row}
 use Rattle.vtl_cell.specs.declared.cell.Cell.{Cell}
 use Rattle.vtl_cell.specs.declared.kind.Kind.{Kind}
@@ -19,7 +21,6 @@ use Rattle.vtl_meaning.specs.Made.{AreAmong, IsColumnAt}
 use Rattle.vtl_meaning.proofs.Agreements.{found_by_key, own_values}
 use Rattle.vtl_meaning.proofs.JoinAgreements.{covers, own_names}
 use Rattle.vtl_meaning.proofs.LookUps.{among_within, named_cells, parts_named, whole_key}
-use Rattle.vtl_meaning.proofs.Places.{all_more}
 
 -- ---- identifiers of one structure among those of another
 -- the values of identifiers are those in the key
@@ -42,7 +43,7 @@ whole_key_named : (a : Structure) (k : Row) → IsStructure a → length k ≡ k
 whole_key_named a k w l = sym (named_cells (identifiers_of a) (identifiers_of a) k) ∙ whole_key a w k l
 
 -- ---- the point that agrees
-all_pass : (p : Component → Bool) (xs : List Component) → AllByRecursion (λ x. p x ≡ true) xs → filter p xs ≡ xs
+pub all_pass : (p : Component → Bool) (xs : List Component) → AllByRecursion (λ x. p x ≡ true) xs → filter p xs ≡ xs
 all_pass p [] all = refl
 all_pass p (x ∷ xs) all = ap (λ b. cond b (x ∷ filter p xs) (filter p xs)) all.0 ∙ ap (λ l. x ∷ l) (all_pass p xs all.1)
 
@@ -69,11 +70,6 @@ beside_looked a ds q all = ap (λ ps. record { identifiers = key_of a q; parts =
         ∙ ap (λ l. part_of e (look (key_width e.structure) e.points (part_for a e.structure (key_of a q))) ∷ l) (each_part es joins.1)
 
 -- ---- the point with given values of identifiers
-same_tests : (a b : Bool) → (a ≡ true → b ≡ true) → (b ≡ true → a ≡ true) → a ≡ b
-same_tests true b f g = sym (f refl)
-same_tests false true f g = g refl
-same_tests false false f g = refl
-
 find_same : (p q : Row → Bool) (d : List Row) → AllByRecursion (λ t. p t ≡ q t) d → find p d ≡ find q d
 find_same p q [] all = refl
 find_same p q (t ∷ d) all = ap (λ b. cond b (Some t) (find p d)) all.0 ∙ ap (λ o. cond (q t) (Some t) o) (find_same p q d all.1)

@@ -3,6 +3,7 @@ use Rattle.std.proofs.Common.{◌≡◌, Bool, true, false, ◌&&◌, List, [], 
 use Rattle.std.specs.List.{AllByRecursion, find, flat_map}
 use Rattle.std.proofs.lemmas.Bool.{and_parts}
 use Rattle.std.proofs.lemmas.List.{map-append}
+use Rattle.vtl_lists.proofs.Alls.{all_back, all_more}
 use Rattle.vtl_cell.specs.Kinds.{is_of}
 use Rattle.vtl_cell.specs.Row.{Row}
 use Rattle.vtl_cell.specs.declared.kind.Kind.{Kind}
@@ -20,7 +21,7 @@ use Rattle.vtl_meaning.specs.LookUps.{values_named}
 use Rattle.vtl_meaning.specs.Made.{AreAmong, IsColumnAt, IsJoined, attributes_of, component_kinds, kinds_of_all}
 use Rattle.vtl_meaning.proofs.LookUps.{named_cells}
 use Rattle.vtl_meaning.proofs.OwnColumns.{own_columns, own_measures}
-use Rattle.vtl_meaning.proofs.Places.{all_back, all_more, are_others, cells_fit, columns_split, joined_point_is, key_of_joined}
+use Rattle.vtl_meaning.proofs.Places.{are_others, cells_fit, columns_split, joined_point_is, key_of_joined}
 use Rattle.vtl_meaning.proofs.ValueKinds.{null_is_of}
 
 -- ---- cells of their kinds
@@ -45,7 +46,7 @@ pub record IsPart (p : Part) : Type 0 where
   pub well_formed : IsStructure p.structure
   pub typed : (q : Row) → p.point ≡ Some q → is_point (columns_of p.structure) q ≡ true
 
-own_attributes : (a : Structure) → IsStructure a → AreAmong (attributes_of a) (columns_of a)
+pub own_attributes : (a : Structure) → IsStructure a → AreAmong (attributes_of a) (columns_of a)
 own_attributes a w = all_back (λ y. IsColumnAt (place_of y.name (columns_of a)) y.name y.kind (columns_of a)) (identifiers_of a ++ measures_of a) (attributes_of a) (own_columns a w)
 
 part_fits : (ys : List Component) (a : Structure) (o : Option Row) → AreAmong ys (columns_of a) → ((q : Row) → o ≡ Some q → is_point (columns_of a) q ≡ true) → fits_kinds (component_kinds ys) (values_or_nulls a ys o) ≡ true

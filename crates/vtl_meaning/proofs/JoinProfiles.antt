@@ -8,7 +8,8 @@ use Rattle.vtl_cell.specs.Row.{Row, column_of, same_row}
 use Rattle.vtl_decimal.specs.Settings.{Settings}
 use Rattle.vtl_cell.specs.declared.cell.Cell.{Cell}
 use Rattle.vtl_cell.specs.declared.cell.Cell.TheVariants as c
-use Rattle.vtl_lists.proofs.Sorts.{AllByRecursion-filter}
+use Rattle.vtl_lists.proofs.Sorts.{AllByRecursion-filter, AllByRecursion-map}
+use Rattle.vtl_lists.proofs.Alls.{all_append, all_each, all_more}
 use Rattle.vtl_syntax.specs.declared.word_groups.JoinKind.{JoinKind}
 use Rattle.vtl_syntax.specs.declared.word_groups.JoinKind.TheVariants as join
 use Rattle.vtl_tree.specs.DataSet.{AreOfProfile}
@@ -24,14 +25,13 @@ use Rattle.vtl_meaning.specs.LookUps.{values_named}
 use Rattle.vtl_meaning.specs.Made.{attributes_of}
 use Rattle.vtl_meaning.proofs.JoinKept.{fronts, key_at, once_hold}
 use Rattle.vtl_meaning.proofs.JoinParts.{found_is, parts_by}
-use Rattle.vtl_meaning.proofs.Places.{all_append, all_map, all_more, each}
 
--- ---- what holds of null and of each cell of the operands
+-- ---- what holds of null and of all_each cell of the operands
 module _ (P : Cell → Type 0) (null : P c.Null) where
   abbrev Holds : Row → Type 0
   Holds r = AllByRecursion P r
 
-  -- of each cell of an operand
+  -- of all_each cell of an operand
   abbrev HoldsIn : DataSet → Type 0
   HoldsIn d = AllByRecursion Holds d.points
 
@@ -51,7 +51,7 @@ module _ (P : Cell → Type 0) (null : P c.Null) where
   front_holds (suc n) (v ∷ r) h = (h.0, front_holds n r h.1)
 
   pub values_hold : (xs ys : List Component) (r : Row) → Holds r → Holds (values_named xs ys r)
-  values_hold xs ys r h = all_map (λ y. column_of (place_of y.name xs) r) P ys (each (λ y. P (column_of (place_of y.name xs) r)) (λ y. cell_holds (place_of y.name xs) r h) ys)
+  values_hold xs ys r h = AllByRecursion-map (λ y. column_of (place_of y.name xs) r) P ys (all_each (λ y. P (column_of (place_of y.name xs) r)) (λ y. cell_holds (place_of y.name xs) r h) ys)
 
   -- ---- tuples
   abbrev HoldsOf : Part → Type 0
@@ -62,7 +62,7 @@ module _ (P : Cell → Type 0) (null : P c.Null) where
     parts : AllByRecursion HoldsOf t.parts
 
   part_holds : (a : Structure) (ys : List Component) (o : Option Row) → ((q : Row) → o ≡ Some q → Holds q) → Holds (values_or_nulls a ys o)
-  part_holds a ys None h = all_map (λ y. c.Null) P ys (each (λ y. P c.Null) (λ y. null) ys)
+  part_holds a ys None h = AllByRecursion-map (λ y. c.Null) P ys (all_each (λ y. P c.Null) (λ y. null) ys)
   part_holds a ys (Some q) h = values_hold (columns_of a) ys q (h q refl)
 
   tuple_holds : (t : Tuple) → HoldsAt t → Holds (tuple_point t)
@@ -75,22 +75,22 @@ module _ (P : Cell → Type 0) (null : P c.Null) where
   parts_hold test [] all = tt
   parts_hold test (d ∷ ds) all = ((λ q e. found_is Holds (test d) d.points q all.0 e), parts_hold test ds all.1)
 
-  -- ---- the tuples of each kind
+  -- ---- the tuples of all_each kind
   left_holds : (r : DataSet) (ds : List DataSet) → HoldsIn r → AllByRecursion HoldsIn ds → AllByRecursion HoldsAt (left_tuples r ds)
   left_holds r ds h all =
       let a = r.structure in
-      all_map (tuple_beside a ds) HoldsAt r.points
+      AllByRecursion-map (tuple_beside a ds) HoldsAt r.points
       (all_more Holds (λ q. HoldsAt (tuple_beside a ds q)) (λ q w. record { identifiers = front_holds (key_width a) q w; parts = parts_hold (λ d. agree_in a d.structure q) ds all }) r.points h)
 
   keys_hold : (ids : List Component) (ds : List DataSet) → AllByRecursion HoldsIn ds → AllByRecursion Holds (flat_map (keys_in ids) ds)
   keys_hold ids [] all = tt
   keys_hold ids (d ∷ ds) all =
       all_append Holds (keys_in ids d) (flat_map (keys_in ids) ds)
-      (all_map (values_in d.structure ids) Holds d.points (all_more Holds (λ q. Holds (values_in d.structure ids q)) (λ q w. values_hold (columns_of d.structure) ids q w) d.points all.0)) (keys_hold ids ds all.1)
+      (AllByRecursion-map (values_in d.structure ids) Holds d.points (all_more Holds (λ q. Holds (values_in d.structure ids q)) (λ q w. values_hold (columns_of d.structure) ids q w) d.points all.0)) (keys_hold ids ds all.1)
 
   full_holds : (ids : List Component) (ds : List DataSet) → AllByRecursion HoldsIn ds → AllByRecursion HoldsAt (map (tuple_at ids ds) (all_keys ids ds))
   full_holds ids ds all =
-      all_map (tuple_at ids ds) HoldsAt (all_keys ids ds)
+      AllByRecursion-map (tuple_at ids ds) HoldsAt (all_keys ids ds)
       (all_more Holds (λ k. HoldsAt (tuple_at ids ds k)) (λ k w. record { identifiers = w; parts = parts_hold (λ d q. same_row (values_in d.structure ids q) k) ds all }) (all_keys ids ds)
       (once_hold Holds same_row (flat_map (keys_in ids) ds) (keys_hold ids ds all)))
 
@@ -100,7 +100,7 @@ module _ (P : Cell → Type 0) (null : P c.Null) where
   combinations_hold : (ds : List DataSet) → AllByRecursion HoldsIn ds → AllByRecursion (AllByRecursion HoldsFor) (combinations (map operand_points ds))
   combinations_hold [] all = (tt, tt)
   combinations_hold (d ∷ ds) all =
-      fronts HoldsFor (AllByRecursion HoldsFor) (AllByRecursion HoldsFor) (operand_points d) (combinations (map operand_points ds)) (λ x t h i. (h, i)) (all_map (operand_point d.structure) HoldsFor d.points all.0) (combinations_hold ds all.1)
+      fronts HoldsFor (AllByRecursion HoldsFor) (AllByRecursion HoldsFor) (operand_points d) (combinations (map operand_points ds)) (λ x t h i. (h, i)) (AllByRecursion-map (operand_point d.structure) HoldsFor d.points all.0) (combinations_hold ds all.1)
 
   present_holds : (xs : List OperandPoint) → AllByRecursion HoldsFor xs → AllByRecursion HoldsOf (map present xs)
   present_holds [] all = tt
@@ -118,7 +118,7 @@ module _ (P : Cell → Type 0) (null : P c.Null) where
   tuples_hold join.Full r ds h all = full_holds (identifiers_of r.structure) ds all
   tuples_hold join.Cross r ds h all =
       let ts = combinations (map operand_points ds) in
-      all_map crossed HoldsAt ts (all_more (AllByRecursion HoldsFor) (λ t. HoldsAt (crossed t)) crossed_holds ts (combinations_hold ds all))
+      AllByRecursion-map crossed HoldsAt ts (all_more (AllByRecursion HoldsFor) (λ t. HoldsAt (crossed t)) crossed_holds ts (combinations_hold ds all))
 
   at_place : (ds : List DataSet) (n : ℕ) (r : DataSet) → slice_get ds n ≡ Some r → AllByRecursion HoldsIn ds → HoldsIn r
   at_place [] n r e all = cc
@@ -132,7 +132,7 @@ module _ (P : Cell → Type 0) (null : P c.Null) where
       go None e = tt
       go (Some r) e =
           let ts = tuples_of kind r ds in
-          all_map tuple_point Holds ts (all_more HoldsAt (λ t. Holds (tuple_point t)) tuple_holds ts (tuples_hold kind r ds (at_place ds (reference_place kind (structures_of ds)) r e all) all))
+          AllByRecursion-map tuple_point Holds ts (all_more HoldsAt (λ t. Holds (tuple_point t)) tuple_holds ts (tuples_hold kind r ds (at_place ds (reference_place kind (structures_of ds)) r e all) all))
 
 -- the integers of a join are of the profile where those of the operands are
 pub join_profile : (p : Settings) (kind : JoinKind) (ds : List DataSet) → AllByRecursion (λ d. AreOfProfile p d.points) ds → AreOfProfile p (join_of kind ds)

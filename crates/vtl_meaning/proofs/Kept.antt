@@ -1,12 +1,13 @@
 -- The operators keep what makes a data set: widths, kinds and keys.
-use Rattle.std.proofs.Common.{◌≡◌, ℕ, zero, suc, ◌<◌, ◌≤◌, Bool, true, false, not, cond, ◌&&◌, ◌||◌, List, [], ◌∷◌, ◌++◌, length, map, take, Option, Some, None, Ok, Err, ◌⊎◌, inl, inr, refl, sym, ap, ◌∙◌, subst, arith, length-append}
+use Rattle.std.proofs.Common.{◌≡◌, ℕ, zero, suc, ◌<◌, ◌≤◌, Bool, true, false, not, cond, ◌&&◌, ◌||◌, List, [], ◌∷◌, ◌++◌, length, map, take, Option, Some, None, Ok, Err, inl, inr, refl, sym, ap, ◌∙◌, subst, arith, length-append}
 use Rattle.std.specs.List.{AllByRecursion, filter, list_all, list_any}
 use Rattle.std.specs.Option.{option_map_or}
-use Rattle.std.proofs.lemmas.Bool.{and_parts}
+use Rattle.std.proofs.lemmas.Bool.{and_parts, not-true, or_cases}
 use Rattle.std.proofs.lemmas.List.{length-map, map-append, take-append-le}
 use Rattle.vtl_decimal.specs.Settings.{Settings}
 use Rattle.vtl_lists.proofs.Aparts.{all_apart-filter}
-use Rattle.vtl_lists.proofs.Sorts.{AllByRecursion-filter}
+use Rattle.vtl_lists.proofs.Sorts.{AllByRecursion-filter, AllByRecursion-map}
+use Rattle.vtl_lists.proofs.Alls.{all_back, all_both, all_filtered, all_more}
 use Rattle.vtl_cell.specs.Kinds.{is_null}
 use Rattle.vtl_cell.specs.Order.{same_cell}
 use Rattle.vtl_decimal.specs.declared.number.Fault.{Fault}
@@ -38,7 +39,7 @@ use Rattle.vtl_meaning.specs.Made.{AreAmong, AreFor, HasIdentifiers, IsAlternati
 use Rattle.vtl_meaning.specs.Operators.{calculated_exp, calculated_exps, calculated_of, choice_of, for_measures, has_values, is_first_chosen, joined_point, left_of, measured_of, pair_of, sub_of, taken_at, taken_from, target_named, value_exp, with_measure, with_namesake}
 use Rattle.vtl_meaning.specs.Points.{beside, cell_or_null, each_point, paired, partner, point_fault, point_of, with_points}
 use Rattle.vtl_meaning.proofs.Drawn.{AreDrawn, AtMostOne, Keeps, drawn_all, drawn_apart, drawn_kept, map_drawn, mapped_kept, one_of_option, same_keys_back}
-use Rattle.vtl_meaning.proofs.Places.{IsIdentifier, IsOther, all_back, all_filtered, all_map, all_more, are_identifiers, are_measures, are_others, cells_fit, columns_split, joined_point_is, key_cells, key_for, key_of_joined, key_of_point, key_within, place_here, place_later, point_append, point_of_same, same_name-is}
+use Rattle.vtl_meaning.proofs.Places.{IsIdentifier, IsOther, are_identifiers, are_measures, are_others, cells_fit, columns_split, joined_point_is, key_cells, key_for, key_of_joined, key_of_point, key_within, place_here, place_later, point_append, point_of_same, same_name-is}
 use Rattle.vtl_meaning.proofs.ValueKinds.{GivesOf, IsOf, cell_is_of, null_is_of, point_from, point_parts, value_is_of}
 
 -- ---- outcomes
@@ -110,7 +111,7 @@ calc_front items xs (y ∷ ys) all = ap (λ o. option_map_or (λ i. value_exp i.
 -- the identifiers stay as they are
 pub calculated_split : (p : Settings) (items : List ItemTree) (a s : Structure) → IsCalculated p items a s → calculated_exps items a s ≡ columns_named (columns_of a) (identifiers_of s) ++ map (calculated_exp items (columns_of a)) (others_of s)
 calculated_split p items a s i =
-    let free : AllByRecursion (λ n. target_named items n ≡ None) (names_of (identifiers_of s)) = subst (λ ns. AllByRecursion (λ n. target_named items n ≡ None) ns) (sym i.identifiers.0) (all_map (λ x. x.name) (λ n. target_named items n ≡ None) (identifiers_of a) i.free) in
+    let free : AllByRecursion (λ n. target_named items n ≡ None) (names_of (identifiers_of s)) = subst (λ ns. AllByRecursion (λ n. target_named items n ≡ None) ns) (sym i.identifiers.0) (AllByRecursion-map (λ x. x.name) (λ n. target_named items n ≡ None) (identifiers_of a) i.free) in
     ap (map (calculated_exp items (columns_of a))) (columns_split s)
     ∙ map-append (calculated_exp items (columns_of a)) (identifiers_of s) (others_of s)
     ∙ ap (λ l. l ++ map (calculated_exp items (columns_of a)) (others_of s)) (calc_front items (columns_of a) (identifiers_of s) free)
@@ -302,14 +303,10 @@ column_front place name kind [] ys i = absurd i
 column_front zero name kind (x ∷ xs) ys i = i
 column_front (suc place) name kind (x ∷ xs) ys i = column_front place name kind xs ys i
 
-not_true : (b : Bool) → not b ≡ true → b ≡ false
-not_true true e = cc
-not_true false e = refl
-
 identifier_filled : (place : ℕ) (name : List ℕ) (kind : Kind) (xs ys : List Component) (r : Row) → AllByRecursion IsIdentifier xs → IsColumnAt place name kind xs → is_point (xs ++ ys) r ≡ true → is_null (column_of place r) ≡ false
 identifier_filled place name kind [] ys r all i h = absurd i
 identifier_filled zero name kind (x ∷ xs) ys [] all i h = cc
-identifier_filled zero name kind (x ∷ xs) ys (v ∷ r) all i h = not_true (is_null v) (ap (λ b. not (b && is_null v)) (sym all.0) ∙ (point_parts x (xs ++ ys) v r h).1)
+identifier_filled zero name kind (x ∷ xs) ys (v ∷ r) all i h = not-true (is_null v) (ap (λ b. not (b && is_null v)) (sym all.0) ∙ (point_parts x (xs ++ ys) v r h).1)
 identifier_filled (suc place) name kind (x ∷ xs) ys [] all i h = cc
 identifier_filled (suc place) name kind (x ∷ xs) ys (v ∷ r) all i h = identifier_filled place name kind xs ys r all.1 i (point_parts x (xs ++ ys) v r h).2
 
@@ -362,10 +359,6 @@ module _ (xs : List Component) (r t : Row) where
       go true g k ih = subst Alike (same_name-is i.id name g) (same_cell-is (column_of (place_of i.id xs) r) i.value left.0 ∙ sym (same_cell-is (column_of (place_of i.id xs) t) i.value right.0))
       go false g k ih = ih k
 
-pub one_of : (a b : Bool) → (a || b) ≡ true → (a ≡ true) ⊎ (b ≡ true)
-one_of true b e = inl refl
-one_of false b e = inr e
-
 -- Columns with some of the identifiers: each identifier is one of them, or has one of these values. `sub` gives such columns, and so
 -- do the columns of a result that has all identifiers of an operand in its own order, with no value at all.
 pub record Tells (items : List SubItem) (a s : Structure) : Type 0 where
@@ -400,7 +393,7 @@ module _ (items : List SubItem) (a s : Structure) (w : IsStructure a) (i : Tells
   same_point : (r t : Row) → is_point (columns_of a) r ≡ true → is_point (columns_of a) t ≡ true → has_values a items r ≡ true → has_values a items t ≡ true → cells_at (places_in (columns_of a) (identifiers_of s)) r ≡ cells_at (places_in (columns_of a) (identifiers_of s)) t → take (key_width a) r ≡ take (key_width a) t
   same_point r t h k f g e =
       let each_one : (x : Component) → (list_any (λ y. same_name y.name x.name) (identifiers_of s) || list_any (λ y. same_name y.id x.name) items) ≡ true → Alike (columns_of a) r t x.name = λ x l.
-      elim (one_of (list_any (λ y. same_name y.name x.name) (identifiers_of s)) (list_any (λ y. same_name y.id x.name) items) l) [
+      elim (or_cases (list_any (λ y. same_name y.name x.name) (identifiers_of s)) (list_any (λ y. same_name y.id x.name) items) l) [
         | inl m ↦ alike_by_columns (columns_of a) r t (identifiers_of s) x.name e m
         | inr m ↦ alike_by_values (columns_of a) r t items x.name f g m
       ] in
@@ -412,10 +405,6 @@ module _ (items : List SubItem) (a s : Structure) (w : IsStructure a) (i : Tells
       let keys = sym (taken_key r q h) ∙ same_row-is (take (key_width s) q) (take (key_width s) z) e ∙ taken_key t z k in
       ap (λ l. same_row (take (key_width a) r) l) (sym (same_point r t h.0 k.0 h.1 k.1 keys)) ∙ same_row-refl (take (key_width a) r)
 
-pub both_all : {X : Type 0} (P Q R : X → Type 0) → ((x : X) → P x → Q x → R x) → (xs : List X) → AllByRecursion P xs → AllByRecursion Q xs → AllByRecursion R xs
-both_all P Q R f [] p q = tt
-both_all P Q R f (x ∷ xs) p q = (f x p.0 q.0, both_all P Q R f xs p.1 q.1)
-
 pub told_kept : (items : List SubItem) (a : DataSet) (s : Structure) → Tells items a.structure s → IsDataSet a.structure a.points → IsDataSet s (sub_of items a s)
 told_kept items a s i h =
     let ours = a.structure in
@@ -424,7 +413,7 @@ told_kept items a s i h =
     let rows = filter (has_values ours items) a.points in
     let typed = AllByRecursion-filter (λ r. is_point (columns_of ours) r ≡ true) (has_values ours items) a.points h.typed in
     let all : AreDrawn (Taken items ours s w i) (λ r. f r ∷ []) rows =
-    both_all (λ r. is_point (columns_of ours) r ≡ true) (λ r. has_values ours items r ≡ true) (λ r. Taken items ours s w i r (f r)) (λ r k l. (k, l, refl)) rows typed (all_filtered (has_values ours items) a.points) in
+    all_both (λ r. is_point (columns_of ours) r ≡ true) (λ r. has_values ours items r ≡ true) (λ r. Taken items ours s w i r (f r)) (λ r k l. (k, l, refl)) rows typed (all_filtered (has_values ours items) a.points) in
     subst (λ l. IsDataSet s l) (sym (map_drawn f rows)) (record {
       well_formed = i.well_formed;
       typed = drawn_all (Taken items ours s w i) (λ q. is_point (columns_of s) q ≡ true) (taken_is items ours s w i) (λ r. f r ∷ []) rows all;

@@ -3,10 +3,12 @@ use Rattle.std.proofs.Common.{◌≡◌, ℕ, ◌+◌, ◌<◌, ◌≤◌, inl, 
 use Rattle.std.specs.Prelude.{IfSome, option_map}
 use Rattle.std.specs.List.{AllByRecursion, filter, flat_map, list_all, list_any}
 use Rattle.std.specs.Option.{option_and_then, option_map_or, option_to_list}
-use Rattle.std.proofs.lemmas.Bool.{and_parts, cases_lt}
+use Rattle.std.proofs.lemmas.Bool.{and_parts, cases_lt, or_cases}
 use Rattle.std.proofs.lemmas.List.{get_or-append-add, get_or_append_left, get_or_past, append-nil, get_or-take, length-map, length-take-le, map-append, take-append-le, take_all}
 use Rattle.vtl_decimal.specs.Settings.{Settings}
 use Rattle.vtl_lists.proofs.Sorts.{AllByRecursion-filter}
+use Rattle.vtl_lists.proofs.Alls.{all_both, all_filtered, all_more}
+use Rattle.vtl_lists.proofs.Tests.{or_second, same_tests}
 use Rattle.vtl_cell.specs.Kinds.{is_of, same_kind}
 use Rattle.vtl_cell.specs.Order.{same_cell}
 use Rattle.vtl_cell.specs.Outcome.{faults_by}
@@ -43,9 +45,9 @@ use Rattle.vtl_meaning.specs.Made.{AreAmong, AreFor, HasIdentifiers, IsAlternati
 use Rattle.vtl_meaning.specs.Operators.{calculated_exp, calculated_of, choice_of, for_measures, has_values, is_first_chosen, joined_point, left_of, measured_of, pair_of, sub_of, taken_at, target_named, value_exp, with_measure, with_namesake}
 use Rattle.vtl_meaning.specs.Points.{beside, cell_or_null, each_point, paired, partner, point_fault, point_of, with_points}
 use Rattle.vtl_meaning.proofs.Drawn.{drawn_all}
-use Rattle.vtl_meaning.proofs.Kept.{Alike, Pairs, Tells, alike_by_columns, alike_by_values, alike_cells, all_paired, both_all, calculated_split, column_within, exps_keep, exps_split, for_back, key_widths, joined_keeps, look_is, one_of, pairs_with, place_front, shown_keeps, shown_split, taken_key, unless_ok}
+use Rattle.vtl_meaning.proofs.Kept.{Alike, Pairs, Tells, alike_by_columns, alike_by_values, alike_cells, all_paired, calculated_split, column_within, exps_keep, exps_split, for_back, key_widths, joined_keeps, look_is, pairs_with, place_front, shown_keeps, shown_split, taken_key, unless_ok}
 use Rattle.vtl_meaning.proofs.Looks.{found_map, found_of_map, found_then, kept_all, look-drawn, look-map, look_key, map_then, map_twice, some_if, then_turned}
-use Rattle.vtl_meaning.proofs.Places.{IsIdentifier, all_filtered, all_more, are_identifiers, columns_split, first_cells, identifiers_apart, key_cells, key_of_point, key_within, place_here, place_later, point_append, point_length}
+use Rattle.vtl_meaning.proofs.Places.{IsIdentifier, are_identifiers, columns_split, first_cells, identifiers_apart, key_cells, key_of_point, key_within, place_here, place_later, point_append, point_length}
 use Rattle.vtl_meaning.proofs.ValueKinds.{IsOf, cell_is_of}
 
 -- ---- values by name
@@ -173,7 +175,7 @@ contained_within a b e = each_there (identifiers_of b) (are_identifiers b) e
         (there_within y a.components all.0 parts.0, each_there ys all.1 parts.1)
 
 -- the value of a column in front of others
-null_alone : (v : Cell) → IsOf k.Null v → v ≡ c.Null
+pub null_alone : (v : Cell) → IsOf k.Null v → v ≡ c.Null
 null_alone c.Null h = refl
 null_alone (c.Bool x) h = cc
 null_alone (c.Int x) h = cc
@@ -182,7 +184,7 @@ null_alone (c.Text x) h = cc
 null_alone (c.Day x) h = cc
 null_alone (c.Period x) h = cc
 
-kind_of_none : (name : List ℕ) (xs : List Component) → length xs ≤ place_of name xs → kind_named name xs ≡ k.Null
+pub kind_of_none : (name : List ℕ) (xs : List Component) → length xs ≤ place_of name xs → kind_named name xs ≡ k.Null
 kind_of_none name [] h = refl
 kind_of_none name (x ∷ xs) h = go (same_name x.name name) refl (kind_of_none name xs)
   where
@@ -191,7 +193,7 @@ kind_of_none name (x ∷ xs) h = go (same_name x.name name) refl (kind_of_none n
     go false e ih = let later = place_later name x xs e in ih (omega (arith, later, h))
 
 -- an expression that is the column of this name over rows that begin with these columns
-value_in_front : (p : Settings) (xs ys : List Component) (r q : Row) (name : List ℕ) → is_point xs r ≡ true → is_point ys q ≡ true → IsTyped p (xs ++ ys) (column_named xs name) → column_of (place_of name xs) (r ++ q) ≡ value_named xs r name
+pub value_in_front : (p : Settings) (xs ys : List Component) (r q : Row) (name : List ℕ) → is_point xs r ≡ true → is_point ys q ≡ true → IsTyped p (xs ++ ys) (column_named xs name) → column_of (place_of name xs) (r ++ q) ≡ value_named xs r name
 value_in_front p xs ys r q name h g i =
     let len = point_length xs r h in
     elim (cases_lt (place_of name xs) (length xs)) [
@@ -203,11 +205,11 @@ value_in_front p xs ys r q name h g i =
           ∙ sym (get_or_past r (place_of name xs) c.Null (omega (arith, past, len)))
     ]
 
-value_behind : (xs ys : List Component) (r q : Row) (name : List ℕ) → is_point xs r ≡ true → column_of (length xs + place_of name ys) (r ++ q) ≡ value_named ys q name
+pub value_behind : (xs ys : List Component) (r q : Row) (name : List ℕ) → is_point xs r ≡ true → column_of (length xs + place_of name ys) (r ++ q) ≡ value_named ys q name
 value_behind xs ys r q name h = ap (λ n. column_of (n + place_of name ys) (r ++ q)) (sym (point_length xs r h)) ∙ get_or-append-add r q (place_of name ys) c.Null
 
 -- the values of an operator on namesakes, whose columns have these values at a row
-namesake_values : (p : Settings) (o : ScalarOp) (xs : List Component) (left right : List ℕ → CompExp) (x : Row) (l r : List ℕ → Cell)
+pub namesake_values : (p : Settings) (o : ScalarOp) (xs : List Component) (left right : List ℕ → CompExp) (x : Row) (l r : List ℕ → Cell)
     → ((n : List ℕ) → IsTyped p xs (left n) → value p (left n) x ≡ Ok (l n)) → ((n : List ℕ) → IsTyped p xs (right n) → value p (right n) x ≡ Ok (r n))
     → (us ys zs : List Component) → AreFor p xs (for_measures (with_namesake o left right) us ys) zs
     → point_of p (for_measures (with_namesake o left right) us ys) x ≡ values_for (λ u y. result_at p o y.kind (Ok (l u.name) ∷ Ok (r u.name) ∷ [])) us ys
@@ -282,10 +284,6 @@ pair_look p o a b s out k t i h g u =
     (λ n j. ap Ok (value_in_front p (columns_of ours) (columns_of theirs) r q n v w j)) (λ n j. ap Ok (value_behind (columns_of ours) (columns_of theirs) r q n v)) (measures_of ours) (measures_of s) (others_of s) split)
     (rw t at u)
 
-or_second : (x y : Bool) → (x || y) ≡ true → x ≡ false → y ≡ true
-or_second true y h e = absurd (true≢false e)
-or_second false y h e = h
-
 pub pair_look_right : (p : Settings) (o : ScalarOp) (a b : DataSet) (s : Structure) (out : List Row) (k : Row) → contains a.structure b.structure ≡ false → IsPaired p o a.structure b.structure s → IsDataSet a.structure a.points → IsDataSet b.structure b.points → pair_of p o a b s ≡ Ok out
     → look (key_width s) out k ≡ of_both (λ r q. k ++ paired_at p o a.structure b.structure s r q) (look (key_width a.structure) a.points (part_for b.structure a.structure k)) (look (key_width b.structure) b.points k)
 pair_look_right p o a b s out k t i h g u =
@@ -348,11 +346,6 @@ module _ (t a b : DataSet) (s : Structure) (k : Row) (i : IsChoice t.structure a
       (λ r w key. ap (λ o. cond (is_first_chosen t.structure r) o (Joined b r)) (joined_at a r i.first w key) ∙ ap (λ o. cond (is_first_chosen t.structure r) (chosen_at t.structure a s k) o) (joined_at b r i.second w key))
 
 -- ---- `sub`
-pub same_truth : (x y : Bool) → (x ≡ true → y ≡ true) → (y ≡ true → x ≡ true) → x ≡ y
-same_truth true y f g = sym (f refl)
-same_truth false true f g = g refl
-same_truth false false f g = refl
-
 -- a tuple of all identifiers
 pub whole_key : (a : Structure) → IsStructure a → (k : Row) → length k ≡ key_width a → cells_at (places_in (identifiers_of a) (identifiers_of a)) k ≡ k
 whole_key a w k h =
@@ -383,7 +376,7 @@ module _ (items : List SubItem) (a s : Structure) (i : Tells items a s) (vs : Ar
   one_tuple j l lj ll hj hl e =
       let cells : cells_at (places_in (identifiers_of a) (identifiers_of s)) j ≡ cells_at (places_in (identifiers_of a) (identifiers_of s)) l = named_cells (identifiers_of a) (identifiers_of s) j ∙ e ∙ sym (named_cells (identifiers_of a) (identifiers_of s) l) in
       let each_one : (x : Component) → (list_any (λ y. same_name y.name x.name) (identifiers_of s) || list_any (λ y. same_name y.id x.name) items) ≡ true → Alike (identifiers_of a) j l x.name = λ x t.
-      elim (one_of (list_any (λ y. same_name y.name x.name) (identifiers_of s)) (list_any (λ y. same_name y.id x.name) items) t) [
+      elim (or_cases (list_any (λ y. same_name y.name x.name) (identifiers_of s)) (list_any (λ y. same_name y.id x.name) items) t) [
         | inl m ↦ alike_by_columns (identifiers_of a) j l (identifiers_of s) x.name cells m
         | inr m ↦ alike_by_values (identifiers_of a) j l items x.name hj hl m
       ] in
@@ -404,7 +397,7 @@ module _ (items : List SubItem) (a s : Structure) (i : Tells items a s) (vs : Ar
 
     all_taken : AllByRecursion IsTaken (filter (has_values a items) d)
     all_taken =
-        both_all (λ r. is_point (columns_of a) r ≡ true) (λ r. has_values a items r ≡ true) IsTaken (λ r t v. (t, v)) (filter (has_values a items) d)
+        all_both (λ r. is_point (columns_of a) r ≡ true) (λ r. has_values a items r ≡ true) IsTaken (λ r t v. (t, v)) (filter (has_values a items) d)
         (AllByRecursion-filter (λ r. is_point (columns_of a) r ≡ true) (has_values a items) d h.typed) (all_filtered (has_values a items) d)
 
     pub sub_look : (j : Row) → length j ≡ key_width a → has_key_values a items j ≡ true → look (key_width s) (sub_of items (with_points a d) s) (part_for a s j) ≡ option_map (λ r. part_for a s j ++ values_named (columns_of a) (others_of s) r) (look (key_width a) d j)
@@ -422,7 +415,7 @@ module _ (items : List SubItem) (a s : Structure) (i : Tells items a s) (vs : Ar
         keys : (r : Row) → IsTaken r → same_row (take (key_width s) (shown_row r)) (part_for a s j) ≡ same_row (take (key_width a) r) j
         keys r t =
             let key = sub_key r t.0 t.1 in
-            same_truth (same_row (take (key_width s) (shown_row r)) (part_for a s j)) (same_row (take (key_width a) r) j)
+            same_tests (same_row (take (key_width s) (shown_row r)) (part_for a s j)) (same_row (take (key_width a) r) j)
             (λ e. let one = one_tuple (take (key_width a) r) j (key_length r t.0) len (sym (values_of_key r) ∙ t.1) values (sym key ∙ same_row-is (take (key_width s) (shown_row r)) (part_for a s j) e) in
             ap (same_row (take (key_width a) r)) (sym one) ∙ same_row-refl (take (key_width a) r))
             (λ e. ap (same_row (take (key_width s) (shown_row r))) (sym (key ∙ ap (part_for a s) (same_row-is (take (key_width a) r) j e))) ∙ same_row-refl (take (key_width s) (shown_row r)))

@@ -1,26 +1,27 @@
 -- The columns of a structure stand at the places of their own names.
-use Rattle.std.proofs.Common.{◌≡◌, ℕ, zero, suc, ◌||◌, Bool, true, false, cond, List, [], ◌∷◌, ◌++◌, refl, sym, ap, ◌∙◌, subst}
+use Rattle.std.proofs.Common.{◌≡◌, ℕ, zero, suc, ◌||◌, Bool, true, false, List, [], ◌∷◌, ◌++◌, refl, sym, ap, ◌∙◌, subst}
 use Rattle.std.specs.List.{AllByRecursion, filter, list_any}
 use Rattle.vtl_lists.specs.Apart.{all_apart}
-use Rattle.vtl_lists.specs.Perm.{Perm, empty, keep, chain}
 use Rattle.vtl_cell.specs.declared.kind.Kind.{Kind}
 use Rattle.vtl_lists.proofs.Aparts.{all_apart-Perm, apart_parts}
-use Rattle.vtl_lists.proofs.Perms.{Perm-append_back, Perm-map, Perm-middle}
+use Rattle.vtl_lists.proofs.Perms.{Perm-map}
+use Rattle.vtl_lists.proofs.Alls.{all_back, all_front, all_more}
 use Rattle.vtl_tree.specs.Structure.{IsStructure, columns_of, names_of, same_name, same_role}
 use Rattle.vtl_tree.specs.declared.structure.Component.{Component}
-use Rattle.vtl_tree.specs.declared.structure.Role.{Role}
 use Rattle.vtl_tree.specs.declared.structure.Role.TheVariants as role
 use Rattle.vtl_tree.specs.declared.structure.Structure.{Structure}
 use Rattle.vtl_tree.specs.Columns.{identifiers_of, measures_of, others_of, place_of}
+use Rattle.vtl_tree.proofs.NotNullLemmas.{same_itself}
 use Rattle.vtl_meaning.specs.Made.{AreAmong, IsColumnAt}
 use Rattle.vtl_meaning.proofs.Kept.{column_front, column_within, place_front}
-use Rattle.vtl_meaning.proofs.Places.{all_back, all_front, all_more, columns_split, identifiers_apart, place_here, place_later, same_name-refl, same_name-sym}
+use Rattle.vtl_meaning.proofs.Places.{columns_split, identifiers_apart, place_here, place_later, same_name-sym}
+use Rattle.vtl_meaning.proofs.AnalyticColumns.{by_roles}
 
 -- ---- columns among others
 -- a column that there is has its name there
 pub column_any : (place : ℕ) (name : List ℕ) (kind : Kind) (xs : List Component) → IsColumnAt place name kind xs → list_any (λ x. same_name x.name name) xs ≡ true
 column_any place name kind [] i = absurd i
-column_any zero name kind (x ∷ xs) i = ap (λ n. same_name n name || list_any (λ y. same_name y.name name) xs) i.0 ∙ ap (λ b. b || list_any (λ y. same_name y.name name) xs) (same_name-refl name)
+column_any zero name kind (x ∷ xs) i = ap (λ n. same_name n name || list_any (λ y. same_name y.name name) xs) i.0 ∙ ap (λ b. b || list_any (λ y. same_name y.name name) xs) (same_itself name)
 column_any (suc place) name kind (x ∷ xs) i = either (same_name x.name name) (column_any place name kind xs i)
   where
     either : (b : Bool) → list_any (λ y. same_name y.name name) xs ≡ true → (b || list_any (λ y. same_name y.name name) xs) ≡ true
@@ -41,23 +42,7 @@ pub own_among : (xs : List Component) → all_apart same_name (names_of xs) ≡ 
 own_among [] e = tt
 own_among (x ∷ xs) e =
     let parts = apart_parts same_name x.name (names_of xs) e in
-    (subst (λ n. IsColumnAt n x.name x.kind (x ∷ xs)) (sym (place_here x.name x xs (same_name-refl x.name))) (refl, refl), among_later x xs xs parts.0 (own_among xs parts.1))
-
--- the columns are the components, ordered by their roles
-by_roles : (xs : List Component) → Perm (filter (λ x. same_role x.role role.Identifier) xs ++ filter (λ x. same_role x.role role.Measure) xs ++ filter (λ x. same_role x.role role.Attribute) xs) xs
-by_roles [] = empty
-by_roles (x ∷ xs) = go x.role (by_roles xs)
-  where
-    of : Role → List Component
-    of r = filter (λ y. same_role y.role r) xs
-
-    put : Role → Role → List Component
-    put r t = cond (same_role r t) (x ∷ of t) (of t)
-
-    go : (r : Role) → Perm (of role.Identifier ++ of role.Measure ++ of role.Attribute) xs → Perm (put r role.Identifier ++ put r role.Measure ++ put r role.Attribute) (x ∷ xs)
-    go role.Identifier ih = keep x ih
-    go role.Measure ih = chain (Perm-append_back (of role.Attribute) (Perm-middle (of role.Identifier) x (of role.Measure))) (keep x ih)
-    go role.Attribute ih = chain (Perm-middle (of role.Identifier ++ of role.Measure) x (of role.Attribute)) (keep x ih)
+    (subst (λ n. IsColumnAt n x.name x.kind (x ∷ xs)) (sym (place_here x.name x xs (same_itself x.name))) (refl, refl), among_later x xs xs parts.0 (own_among xs parts.1))
 
 pub columns_apart : (a : Structure) → IsStructure a → all_apart same_name (names_of (columns_of a)) ≡ true
 columns_apart a w = all_apart-Perm same_name same_name-sym (Perm-map (λ x. x.name) (by_roles a.components)) ∙ w.distinct

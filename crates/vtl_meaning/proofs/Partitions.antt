@@ -1,5 +1,5 @@
 -- What holds of all points holds of a partition and of the cells in a frame; and points in another order.
-use Rattle.std.proofs.Common.{◌≡◌, ℕ, zero, suc, ◌-◌, cond, Bool, true, false, List, [], ◌∷◌, map, take, drop, length, get_or, ◌∙◌, sym}
+use Rattle.std.proofs.Common.{◌≡◌, ℕ, zero, suc, ◌-◌, cond, Bool, true, false, List, [], ◌∷◌, take, length, get_or, ◌∙◌, sym}
 use Rattle.std.specs.Prelude.{count_by, nat_le}
 use Rattle.std.specs.List.{AllByRecursion}
 use Rattle.std.specs.Ordering.{is_lt}
@@ -11,6 +11,7 @@ use Rattle.vtl_cell.specs.declared.cell.Cell.{Cell}
 use Rattle.vtl_cell.proofs.Keys.{window_order}
 use Rattle.vtl_lists.proofs.Perms.{AllByRecursion-Perm, Perm-filter, Perm-sym, length-Perm}
 use Rattle.vtl_lists.proofs.Sorts.{AllByRecursion-filter, Perm-sorted_by, sorted_by-Perm}
+use Rattle.vtl_lists.proofs.Alls.{all_drop, all_take}
 use Rattle.vtl_rows.specs.Tables.{cells_at}
 use Rattle.vtl_tree.specs.Environment.{DataSet}
 use Rattle.vtl_tree.specs.Structure.{columns_of}
@@ -20,20 +21,6 @@ use Rattle.vtl_meaning.specs.Groups.{places_named}
 use Rattle.vtl_meaning.specs.Windows.{bound_of, frame_in, framed, identifier_places, keys_in, partition_of, point_cmp, stand_of}
 
 -- ---- lists
-
-pub all_map : {X Y : Type 0} (f : X → Y) (P : Y → Type 0) (xs : List X) → AllByRecursion (λ x. P (f x)) xs → AllByRecursion P (map f xs)
-all_map f P [] all = tt
-all_map f P (x ∷ xs) all = (all.0, all_map f P xs all.1)
-
-all_drop : {X : Type 0} (P : X → Type 0) (n : ℕ) (xs : List X) → AllByRecursion P xs → AllByRecursion P (drop n xs)
-all_drop P zero xs all = all
-all_drop P (suc n) [] all = tt
-all_drop P (suc n) (x ∷ xs) all = all_drop P n xs all.1
-
-all_take : {X : Type 0} (P : X → Type 0) (n : ℕ) (xs : List X) → AllByRecursion P xs → AllByRecursion P (take n xs)
-all_take P zero xs all = tt
-all_take P (suc n) [] all = tt
-all_take P (suc n) (x ∷ xs) all = (all.0, all_take P n xs all.1)
 
 -- an item or the default
 pub all_or : {X : Type 0} (P : X → Type 0) (xs : List X) (i : ℕ) (d : X) → AllByRecursion P xs → P d → P (get_or xs i d)

@@ -1,5 +1,5 @@
 -- Where columns stand, and the cells of a point at their places.
-use Rattle.std.proofs.Common.{◌≡◌, ℕ, zero, suc, ◌+◌, ◌≤◌, Bool, true, false, not, cond, ◌&&◌, ◌||◌, List, [], ◌∷◌, ◌++◌, length, map, take, refl, sym, ap, ◌∙◌, subst, arith, append_assoc, length-append}
+use Rattle.std.proofs.Common.{◌≡◌, ℕ, zero, suc, ◌+◌, ◌≤◌, Bool, true, false, not, ◌&&◌, ◌||◌, List, [], ◌∷◌, ◌++◌, length, map, take, refl, sym, ap, ◌∙◌, subst, arith, append_assoc, length-append}
 use Rattle.std.specs.List.{AllByRecursion, filter, list_any}
 use Rattle.std.proofs.lemmas.Bool.{and_parts}
 use Rattle.std.proofs.lemmas.Cmp.{nat_list_eq_equiv}
@@ -8,6 +8,7 @@ use Rattle.std.proofs.lemmas.Slice.Eq.{bytes_eq-Decides}
 use Rattle.std.proofs.Math.Seq.{take-append_seam}
 use Rattle.vtl_lists.specs.Apart.{all_apart}
 use Rattle.vtl_lists.proofs.Aparts.{all_apart-filter, apart_parts}
+use Rattle.vtl_lists.proofs.Alls.{all_append, all_each, all_filtered, all_more}
 use Rattle.vtl_cell.specs.Kinds.{is_null, is_of}
 use Rattle.vtl_cell.specs.Row.{Row, column_of}
 use Rattle.vtl_cell.specs.declared.cell.Cell.{Cell}
@@ -19,53 +20,19 @@ use Rattle.vtl_tree.specs.declared.structure.Role.{Role}
 use Rattle.vtl_tree.specs.declared.structure.Role.TheVariants as role
 use Rattle.vtl_tree.specs.declared.structure.Structure.{Structure}
 use Rattle.vtl_tree.specs.Columns.{identifiers_of, measures_of, others_of, place_of, places_in}
+use Rattle.vtl_tree.proofs.NotNullLemmas.{same_itself}
 use Rattle.vtl_meaning.specs.Made.{AreAmong, HasIdentifiers}
 use Rattle.vtl_meaning.proofs.ValueKinds.{IsOf, cell_is_of, point_from, point_parts}
 
 -- ---- lists
-pub all_front : {X : Type 0} (P : X → Type 0) (xs ys : List X) → AllByRecursion P (xs ++ ys) → AllByRecursion P xs
-all_front P [] ys all = tt
-all_front P (x ∷ xs) ys all = (all.0, all_front P xs ys all.1)
-
-pub all_back : {X : Type 0} (P : X → Type 0) (xs ys : List X) → AllByRecursion P (xs ++ ys) → AllByRecursion P ys
-all_back P [] ys all = all
-all_back P (x ∷ xs) ys all = all_back P xs ys all.1
-
-pub all_append : {X : Type 0} (P : X → Type 0) (xs ys : List X) → AllByRecursion P xs → AllByRecursion P ys → AllByRecursion P (xs ++ ys)
-all_append P [] ys h i = i
-all_append P (x ∷ xs) ys h i = (h.0, all_append P xs ys h.1 i)
-
-pub all_more : {X : Type 0} (P Q : X → Type 0) → ((x : X) → P x → Q x) → (xs : List X) → AllByRecursion P xs → AllByRecursion Q xs
-all_more P Q f [] all = tt
-all_more P Q f (x ∷ xs) all = (f x all.0, all_more P Q f xs all.1)
-
-pub each : {X : Type 0} (P : X → Type 0) → ((x : X) → P x) → (xs : List X) → AllByRecursion P xs
-each P f [] = tt
-each P f (x ∷ xs) = (f x, each P f xs)
-
--- what holds of each value of a function holds of each item, and back
+-- what holds of all_each value of a function holds of all_each item, and back
 pub all_of_map : {X Y : Type 0} (f : X → Y) (P : Y → Type 0) (xs : List X) → AllByRecursion P (map f xs) → AllByRecursion (λ x. P (f x)) xs
 all_of_map f P [] all = tt
 all_of_map f P (x ∷ xs) all = (all.0, all_of_map f P xs all.1)
 
-pub all_map : {X Y : Type 0} (f : X → Y) (P : Y → Type 0) (xs : List X) → AllByRecursion (λ x. P (f x)) xs → AllByRecursion P (map f xs)
-all_map f P [] all = tt
-all_map f P (x ∷ xs) all = (all.0, all_map f P xs all.1)
-
-pub all_filtered : {X : Type 0} (p : X → Bool) (xs : List X) → AllByRecursion (λ x. p x ≡ true) (filter p xs)
-all_filtered p [] = tt
-all_filtered p (x ∷ xs) = go (p x) refl (all_filtered p xs)
-  where
-    go : (b : Bool) → p x ≡ b → AllByRecursion (λ y. p y ≡ true) (filter p xs) → AllByRecursion (λ y. p y ≡ true) (cond b (x ∷ filter p xs) (filter p xs))
-    go true e ih = (e, ih)
-    go false e ih = ih
-
 -- ---- names
 pub same_name-is : (a b : List ℕ) → same_name a b ≡ true → a ≡ b
 same_name-is a b e = (bytes_eq-Decides a b).0 e
-
-pub same_name-refl : (a : List ℕ) → same_name a a ≡ true
-same_name-refl a = (bytes_eq-Decides a a).1 refl
 
 pub same_name-sym : (a b : List ℕ) → same_name a b ≡ same_name b a
 same_name-sym a b = nat_list_eq_equiv.symm a b
@@ -88,7 +55,7 @@ pub places_of_namesakes : (xs ys zs : List Component) → names_of ys ≡ names_
 places_of_namesakes xs ys zs e = places_by_names xs ys ∙ ap (map (λ n. place_of n xs)) e ∙ sym (places_by_names xs zs)
 
 -- a column before all of these changes nothing
-cells_behind : (x : Component) (xs : List Component) (v : Cell) (r : Row) (ys : List Component) → AllByRecursion (λ n. same_name x.name n ≡ false) (names_of ys) → cells_at (places_in (x ∷ xs) ys) (v ∷ r) ≡ cells_at (places_in xs ys) r
+pub cells_behind : (x : Component) (xs : List Component) (v : Cell) (r : Row) (ys : List Component) → AllByRecursion (λ n. same_name x.name n ≡ false) (names_of ys) → cells_at (places_in (x ∷ xs) ys) (v ∷ r) ≡ cells_at (places_in xs ys) r
 cells_behind x xs v r [] all = refl
 cells_behind x xs v r (y ∷ ys) all =
     ap (λ i. column_of i (v ∷ r) ∷ cells_at (places_in (x ∷ xs) ys) (v ∷ r)) (place_later y.name x xs all.0)
@@ -101,7 +68,7 @@ first_cells (x ∷ xs) more [] apart h = absurd (omega arith)
 first_cells (x ∷ xs) more (v ∷ r) apart h =
     let parts = apart_parts same_name x.name (names_of xs) apart in
     let few : length xs ≤ length r = omega arith in
-    ap (λ i. column_of i (v ∷ r) ∷ cells_at (places_in (x ∷ xs ++ more) xs) (v ∷ r)) (place_here x.name x (xs ++ more) (same_name-refl x.name))
+    ap (λ i. column_of i (v ∷ r) ∷ cells_at (places_in (x ∷ xs ++ more) xs) (v ∷ r)) (place_here x.name x (xs ++ more) (same_itself x.name))
     ∙ ap (λ l. v ∷ l) (cells_behind x (xs ++ more) v r xs parts.0 ∙ first_cells xs more r parts.1 few)
 
 -- ---- points of lists of columns
@@ -226,7 +193,7 @@ length-names xs ys e = sym (length-map xs (λ x. x.name)) ∙ ap length e ∙ le
 pub key_width_same : (s a : Structure) → HasIdentifiers s (identifiers_of a) → key_width s ≡ key_width a
 key_width_same s a h = length-names (identifiers_of s) (identifiers_of a) h.0
 
--- the cells of a structure's identifiers are the first ones, in each row that begins with a point of it
+-- the cells of a structure's identifiers are the first ones, in all_each row that begins with a point of it
 pub key_cells : (a s : Structure) (r : Row) → IsStructure a → HasIdentifiers s (identifiers_of a) → key_width a ≤ length r → cells_at (places_in (columns_of a) (identifiers_of s)) r ≡ take (key_width a) r
 key_cells a s r w h l =
     ap (λ ps. cells_at ps r) (places_of_namesakes (columns_of a) (identifiers_of s) (identifiers_of a) h.0)

@@ -4,8 +4,7 @@ use Rattle.std.specs.Prelude.{IfOk, option_map}
 use Rattle.std.specs.List.{AllByRecursion, filter, flat_map}
 use Rattle.std.specs.Option.{option_to_list}
 use Rattle.vtl_cell.specs.Conversion.{as_kind}
-use Rattle.vtl_decimal.specs.declared.number.Fault.{Fault}
-use Rattle.vtl_cell.specs.Outcome.{Outcome, after, fault_in, faults_by, unless}
+use Rattle.vtl_cell.specs.Outcome.{Outcome, after, fault_in, faults_by}
 use Rattle.vtl_cell.specs.Outcomes.{all_of, branch, first_chosen, is_true, result_of}
 use Rattle.vtl_cell.specs.Profile.{IsOfProfile}
 use Rattle.vtl_decimal.specs.Range.{fit_number}
@@ -19,7 +18,8 @@ use Rattle.vtl_cell.specs.declared.kind.Kind.{Kind}
 use Rattle.vtl_cell.specs.declared.kind.Kind.TheVariants as k
 use Rattle.vtl_cell.specs.declared.operator.ScalarOp.{ScalarOp}
 use Rattle.vtl_cell.specs.declared.operator.ScalarOp.TheVariants as op
-use Rattle.vtl_lists.proofs.Sorts.{AllByRecursion-filter}
+use Rattle.vtl_lists.proofs.Sorts.{AllByRecursion-filter, AllByRecursion-map}
+use Rattle.vtl_lists.proofs.Alls.{all_append, all_each, all_more}
 use Rattle.vtl_rows.specs.Tables.{cells_at}
 use Rattle.vtl_scalar.proofs.ProfileLemmas.{Gives, number_gives, value_is_of_profile}
 use Rattle.vtl_tree.specs.Clauses.{filter_of}
@@ -35,8 +35,8 @@ use Rattle.vtl_meaning.specs.Made.{AreFor, AreTyped, IsTyped}
 use Rattle.vtl_meaning.specs.Operators.{is_first_chosen, joined_point}
 use Rattle.vtl_meaning.specs.Points.{cell_or_null, each_point, point_fault, point_of}
 use Rattle.vtl_meaning.proofs.Kept.{look_is}
-use Rattle.vtl_meaning.proofs.Places.{all_append, all_map, all_more, each}
 use Rattle.vtl_meaning.proofs.ValueKinds.{after_if, branch_if}
+use Rattle.vtl_meaning.proofs.AnalyticPoints.{unless_has}
 
 -- ---- rows
 abbrev pub IsRowOfProfile : Settings → Row → Type 0
@@ -49,7 +49,7 @@ cell_is p zero (v ∷ r) h = h.0
 cell_is p (suc place) (v ∷ r) h = cell_is p place r h.1
 
 pub cells_are : (p : Settings) (places : List ℕ) (r : Row) → IsRowOfProfile p r → IsRowOfProfile p (cells_at places r)
-cells_are p places r h = all_map (λ i. column_of i r) (IsOfProfile p) places (each (λ i. IsOfProfile p (column_of i r)) (λ i. cell_is p i r h) places)
+cells_are p places r h = AllByRecursion-map (λ i. column_of i r) (IsOfProfile p) places (all_each (λ i. IsOfProfile p (column_of i r)) (λ i. cell_is p i r h) places)
 
 -- ---- values
 as_kind_gives : (p : Settings) (kind : Kind) (v : Cell) → IsOfProfile p v → Gives p (as_kind p kind v)
@@ -102,26 +102,22 @@ point_is p xs [] ys r i h = tt
 point_is p xs (e ∷ es) [] r i h = absurd i
 point_is p xs (e ∷ es) (y ∷ ys) r i h = (given_or_null p (value p e r) (value_gives p xs e r i.0 h), point_is p xs es ys r i.2 h)
 
-unless_if : {A : Type 0} (P : A → Type 0) (f : Option Fault) (x : A) → P x → IfOk (unless f x) P
-unless_if P None x h = h
-unless_if P (Some f) x h = tt
-
 -- the points of an expression, where it has no fault
 abbrev pub GivePoints : Settings → Outcome (List Row) → Type 0
 GivePoints p m = IfOk m (AreOfProfile p)
 
 pub each_gives : (p : Settings) (xs : List Component) (es : List CompExp) (ys : List Component) (d : List Row) → AreFor p xs es ys → AreOfProfile p d → GivePoints p (each_point p es d)
 each_gives p xs es ys d i h =
-    unless_if (AreOfProfile p) (faults_by (point_fault p es) d) (map (point_of p es) d)
-    (all_map (point_of p es) (IsRowOfProfile p) d (all_more (IsRowOfProfile p) (λ r. IsRowOfProfile p (point_of p es r)) (λ r k. point_is p xs es ys r i k) d h))
+    unless_has (AreOfProfile p) (faults_by (point_fault p es) d) (map (point_of p es) d)
+    (AllByRecursion-map (point_of p es) (IsRowOfProfile p) d (all_more (IsRowOfProfile p) (λ r. IsRowOfProfile p (point_of p es r)) (λ r k. point_is p xs es ys r i k) d h))
 
 pub filter_gives : (p : Settings) (e : CompExp) (d : List Row) → AreOfProfile p d → GivePoints p (filter_of p e d)
 filter_gives p e d h =
     let test : Row → Bool = λ r. is_true (value p e r) in
-    unless_if (AreOfProfile p) (faults_by (λ r. fault_in (value p e r)) d) (filter test d) (AllByRecursion-filter (IsRowOfProfile p) test d h)
+    unless_has (AreOfProfile p) (faults_by (λ r. fault_in (value p e r)) d) (filter test d) (AllByRecursion-filter (IsRowOfProfile p) test d h)
 
 pub shown_are : (p : Settings) (places : List ℕ) (d : List Row) → AreOfProfile p d → AreOfProfile p (map (cells_at places) d)
-shown_are p places d h = all_map (cells_at places) (IsRowOfProfile p) d (all_more (IsRowOfProfile p) (λ r. IsRowOfProfile p (cells_at places r)) (λ r k. cells_are p places r k) d h)
+shown_are p places d h = AllByRecursion-map (cells_at places) (IsRowOfProfile p) d (all_more (IsRowOfProfile p) (λ r. IsRowOfProfile p (cells_at places r)) (λ r k. cells_are p places r k) d h)
 
 -- points that are drawn from points
 pub drawn_are : (p : Settings) (g : Row → List Row) (d : List Row) → ((r : Row) → IsRowOfProfile p r → AreOfProfile p (g r)) → AreOfProfile p d → AreOfProfile p (flat_map g d)
@@ -140,7 +136,7 @@ chosen : (b : Bool) (X : Type 0) (P : X → Type 0) (x y : X) → P x → P y �
 chosen true X P x y h i = h
 chosen false X P x y h i = i
 
--- each point of d with a point of another operand behind it
+-- all_each point of d with a point of another operand behind it
 module _ (a b : Structure) (e : List Row) where
   abbrev with_partner : Row → List Row
   with_partner r = option_to_list (option_map (λ q. r ++ q) (look (key_width b) e (cells_at (places_in (columns_of a) (identifiers_of b)) r)))

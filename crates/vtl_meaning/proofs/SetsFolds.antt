@@ -5,6 +5,8 @@ use Rattle.std.proofs.lemmas.Grind.{flat_map-append}
 use Rattle.std.proofs.lemmas.List.{append-nil, map-append, take_all}
 use Rattle.std.proofs.lemmas.List.Elements.{filter-append}
 use Rattle.std.proofs.lemmas.List.Folds.{list_all-append}
+use Rattle.vtl_lists.proofs.Alls.{all_filtered, all_more}
+use Rattle.vtl_lists.proofs.Filters.{filter_all, filter_true}
 use Rattle.vtl_cell.specs.Row.{Row, same_key, same_row}
 use Rattle.vtl_cell.proofs.Rows.{same_row-is}
 use Rattle.vtl_rows.specs.Tables.{cells_at}
@@ -28,8 +30,8 @@ use Rattle.vtl_meaning.specs.Points.{with_points}
 use Rattle.vtl_meaning.specs.Sets.{all_left_of, has_point, intersected, intersection_of, union_of, united}
 use Rattle.vtl_meaning.proofs.JoinParts.{AreSets}
 use Rattle.vtl_meaning.proofs.OwnColumns.{columns_apart}
-use Rattle.vtl_meaning.proofs.Places.{IsIdentifier, all_filtered, all_more, are_identifiers, first_cells, key_width_same, places_of_namesakes, point_length}
-use Rattle.vtl_meaning.proofs.SetsKept.{filter_true, intersection_kept, union_kept}
+use Rattle.vtl_meaning.proofs.Places.{IsIdentifier, are_identifiers, first_cells, key_width_same, places_of_namesakes, point_length}
+use Rattle.vtl_meaning.proofs.SetsKept.{intersection_kept, union_kept}
 
 -- ---- on lists of points
 same_alike : (n : ℕ) (i j k : Row) → same_key n k i ≡ true → same_key n k j ≡ same_key n i j
@@ -71,7 +73,7 @@ intersected_fold n d es =
     ∙ ap (λ u. fold (λ l e. intersected n l (e ∷ [])) u es) (filter_true d)
 
 -- ---- the columns of a result
-agreed_role : (others : List Structure) (x : Component) → (agreed others x).role ≡ x.role
+pub agreed_role : (others : List Structure) (x : Component) → (agreed others x).role ≡ x.role
 agreed_role others x = go (list_all (λ s. is_coded_alike x s.components) others)
   where
     go : (b : Bool) → (cond b x (record x { codes = None })).role ≡ x.role
@@ -89,15 +91,11 @@ no_measures others (x ∷ xs) all =
     skipped role.Measure e l = cc
     skipped role.Attribute e l = refl
 
-pub filter_once : {X : Type 0} (p : X → Bool) (xs : List X) → AllByRecursion (λ x. p x ≡ true) xs → filter p xs ≡ xs
-filter_once p [] all = refl
-filter_once p (x ∷ xs) all = ap (λ b. cond b (x ∷ filter p xs) (filter p xs)) all.0 ∙ ap (λ l. x ∷ l) (filter_once p xs all.1)
-
 combined_measures : (a : Structure) (bs : List Structure) (s : Structure) → IsCombined a bs s → measures_of s ≡ measures_of a
 combined_measures a bs s i =
     let p : Component → Bool = λ x. same_role x.role role.Measure in
     ap (filter p) i.shape ∙ filter-append p (agreed_identifiers bs a.components) (measures_of a)
-    ∙ ap (λ l. l ++ filter p (measures_of a)) (no_measures bs (identifiers_of a) (are_identifiers a)) ∙ filter_once p (measures_of a) (all_filtered p a.components)
+    ∙ ap (λ l. l ++ filter p (measures_of a)) (no_measures bs (identifiers_of a) (are_identifiers a)) ∙ filter_all p (measures_of a) (all_filtered p a.components)
 
 combined_names : (a : Structure) (bs : List Structure) (s : Structure) → IsCombined a bs s → names_of (columns_of s) ≡ names_of (identifiers_of a) ++ names_of (measures_of a)
 combined_names a bs s i =

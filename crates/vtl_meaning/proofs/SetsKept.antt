@@ -2,10 +2,13 @@
 use Rattle.std.specs.Prelude.{is_some}
 use Rattle.std.specs.List.{AllByRecursion, filter, flat_map, list_all, list_any}
 use Rattle.std.proofs.Common.{◌≡◌, ℕ, Bool, true, false, not, cond, ◌||◌, List, [], ◌∷◌, ◌++◌, map, take, Some, refl, sym, ap, ◌∙◌, subst}
+use Rattle.std.proofs.lemmas.Bool.{not-true}
 use Rattle.vtl_cell.specs.Row.{Row, same_key}
 use Rattle.vtl_cell.specs.declared.cell.Cell.TheVariants as c
 use Rattle.vtl_lists.proofs.Aparts.{all_apart-filter, none_same}
 use Rattle.vtl_lists.proofs.Sorts.{AllByRecursion-filter}
+use Rattle.vtl_lists.proofs.Alls.{all_append, all_filtered, all_more}
+use Rattle.vtl_lists.proofs.Filters.{filter_true}
 use Rattle.vtl_rows.specs.Tables.{fits_kinds}
 use Rattle.vtl_syntax.specs.declared.word_groups.Retain.{Retain}
 use Rattle.vtl_tree.specs.DataSet.{IsDataSet, is_point, look}
@@ -25,13 +28,9 @@ use Rattle.vtl_meaning.proofs.JoinKept.{apart_append, once_hold}
 use Rattle.vtl_meaning.proofs.JoinParts.{AreSets}
 use Rattle.vtl_meaning.proofs.Kept.{Tells, told_kept}
 use Rattle.vtl_meaning.proofs.OwnColumns.{among_front, column_any}
-use Rattle.vtl_meaning.proofs.Places.{all_append, all_filtered, all_more, are_others, columns_split, joined_point_is, key_for, key_of_joined, key_of_point}
+use Rattle.vtl_meaning.proofs.Places.{are_others, columns_split, joined_point_is, key_for, key_of_joined, key_of_point}
 
 -- ---- an operand in the result's columns
-pub filter_true : {X : Type 0} (xs : List X) → filter (λ x. true) xs ≡ xs
-filter_true [] = refl
-filter_true (x ∷ xs) = ap (λ l. x ∷ l) (filter_true xs)
-
 -- the result's columns, of which the identifiers stand first
 abbrev pub IsKeyed : Structure → Type 0
 IsKeyed s = IsStructure s × (columns_of s ≡ identifiers_of s ++ measures_of s)
@@ -104,10 +103,6 @@ pub difference_kept : (d e : DataSet) (s : Structure) → IsCombined d.structure
 difference_kept d e s i h k = reduced_kept s (left_of d s) (left_of e s) (first_shown d e s i h k)
 
 -- ---- the points of one of two alone
-is_not : (b : Bool) → not b ≡ true → b ≡ false
-is_not true e = sym e
-is_not false e = refl
-
 -- a point with the key of another is there where one has it
 pub has_any : (n : ℕ) (d : List Row) (r : Row) → has_point n d r ≡ list_any (λ q. same_key n q r) d
 has_any n [] r = refl
@@ -129,7 +124,7 @@ keys_apart n (q ∷ d) e all = (
 lacking : (n : ℕ) (d e : List Row) → AllByRecursion (λ r. AllByRecursion (λ q. same_key n q r ≡ false) d) (reduced n e d)
 lacking n d e =
     all_more (λ r. not (has_point n d r) ≡ true) (λ r. AllByRecursion (λ q. same_key n q r ≡ false) d)
-    (λ r h. none_same (λ q. same_key n q r) d (sym (has_any n d r) ∙ is_not (has_point n d r) h)) (reduced n e d) (all_filtered (λ r. not (has_point n d r)) e)
+    (λ r h. none_same (λ q. same_key n q r) d (sym (has_any n d r) ∙ not-true (has_point n d r) h)) (reduced n e d) (all_filtered (λ r. not (has_point n d r)) e)
 
 pub either_only_kept : (s : Structure) (d e : List Row) → IsDataSet s d → IsDataSet s e → IsDataSet s (either_only (key_width s) d e)
 either_only_kept s d e h i =

@@ -4,6 +4,8 @@ use Rattle.std.specs.List.{filter, flat_map, list_all}
 use Rattle.std.specs.Option.{option_or}
 use Rattle.std.proofs.Common.{◌≡◌, ℕ, Bool, true, false, not, cond, List, [], ◌∷◌, ◌++◌, take, Option, Some, None, refl, sym, ap, ◌∙◌, length, subst}
 use Rattle.std.proofs.lemmas.List.{length-map}
+use Rattle.vtl_lists.proofs.Alls.{all_more}
+use Rattle.vtl_lists.proofs.Filters.{filter_true}
 use Rattle.vtl_cell.specs.Row.{Row, column_of, same_key, same_row}
 use Rattle.vtl_cell.specs.declared.cell.Cell.TheVariants as c
 use Rattle.vtl_cell.specs.declared.kind.Kind.{Kind}
@@ -26,8 +28,8 @@ use Rattle.vtl_meaning.specs.Points.{with_points}
 use Rattle.vtl_meaning.specs.Sets.{either_only, existence_of, has_point, intersected, is_retained, leftmost, reduced, united, with_answer}
 use Rattle.vtl_meaning.proofs.LookUps.{named_cells, sub_look, whole_key}
 use Rattle.vtl_meaning.proofs.Looks.{found_map, look-map, look_key}
-use Rattle.vtl_meaning.proofs.Places.{all_more, place_here, place_later, same_name-is}
-use Rattle.vtl_meaning.proofs.SetsKept.{alternative_tells, answer_keeps, filter_true, some_kept}
+use Rattle.vtl_meaning.proofs.Places.{place_here, place_later, same_name-is}
+use Rattle.vtl_meaning.proofs.SetsKept.{alternative_tells, answer_keeps, some_kept}
 
 -- ---- lists behind each other
 pub look-append : (n : ℕ) (d e : List Row) (k : Row) → look n (d ++ e) k ≡ option_or (look n d k) (look n e k)

@@ -1,13 +1,15 @@
 -- Set operators and `exists_in` do not depend on the order of points.
-use Rattle.std.proofs.Common.{◌≡◌, ℕ, Bool, true, false, not, cond, ◌&&◌, ◌||◌, List, [], ◌∷◌, ◌++◌, map, take, Some, refl, sym, ap, ◌∙◌}
+use Rattle.std.proofs.Common.{◌≡◌, ℕ, Bool, not, ◌&&◌, List, [], ◌∷◌, ◌++◌, map, take, refl, sym, ap, ◌∙◌}
 use Rattle.std.specs.Prelude.{is_some}
-use Rattle.std.specs.List.{AllByRecursion, filter, find, flat_map, list_all, list_any}
+use Rattle.std.specs.List.{AllByRecursion, filter, flat_map, list_all}
 use Rattle.std.specs.Option.{option_or}
 use Rattle.vtl_lists.specs.Perm.{Perm, chain}
 use Rattle.vtl_cell.specs.Row.{Row, same_key}
 use Rattle.vtl_cell.specs.declared.cell.Cell.TheVariants as c
 use Rattle.vtl_lists.proofs.Aparts.{list_any-Perm}
 use Rattle.vtl_lists.proofs.Perms.{Perm-append, Perm-filter, Perm-map, Perm-same}
+use Rattle.vtl_lists.proofs.Alls.{all_more}
+use Rattle.vtl_lists.proofs.Filters.{find_any}
 use Rattle.vtl_syntax.specs.declared.word_groups.Retain.{Retain}
 use Rattle.vtl_tree.specs.DataSet.{Distinct, IsDataSet, look}
 use Rattle.vtl_tree.specs.Environment.{DataSet}
@@ -25,7 +27,6 @@ use Rattle.vtl_meaning.specs.Points.{with_points}
 use Rattle.vtl_meaning.specs.Sets.{all_left_of, difference_of, existence_of, has_point, intersection_of, is_retained, leftmost, reduced, symmetric_difference_of, union_of, united, with_answer}
 use Rattle.vtl_meaning.proofs.JoinParts.{AreSets}
 use Rattle.vtl_meaning.proofs.Orders.{shown_respects}
-use Rattle.vtl_meaning.proofs.Places.{all_more}
 use Rattle.vtl_meaning.proofs.SetsKept.{all_shown_kept, combined_is, first_shown, second_shown}
 use Rattle.vtl_meaning.proofs.SetsLooks.{has_at, united_look}
 
@@ -57,7 +58,7 @@ united_respects n ds es same all =
     (λ k. united_look n ds k ∙ leftmost_respects n ds es k same all ∙ sym (united_look n es k))
 
 -- the same test on points in another order
-filter_respects : (p q : Row → Bool) (d e : List Row) → ((r : Row) → p r ≡ q r) → Perm d e → Perm (filter p d) (filter q e)
+pub filter_respects : (p q : Row → Bool) (d e : List Row) → ((r : Row) → p r ≡ q r) → Perm d e → Perm (filter p d) (filter q e)
 filter_respects p q d e same h = chain (Perm-filter p h) (Perm-same (filter p e) (filter q e) (filter_each p q same e))
 
 reduced_respects : (n : ℕ) (d t e f : List Row) → Perm d t → Perm e f → Distinct n e → Perm (reduced n d e) (reduced n t f)
@@ -107,14 +108,6 @@ module _ (a b s : Structure) (d t e f : List Row) (p : Perm d t) (q : Perm e f) 
       (first_shown (with_points a d) (with_points b e) s i h k).distinct)
 
 -- ---- `exists_in`
-find_any : {X : Type 0} (p : X → Bool) (xs : List X) → is_some (find p xs) ≡ list_any p xs
-find_any p [] = refl
-find_any p (x ∷ xs) = go (p x) (find_any p xs)
-  where
-    go : (b : Bool) → is_some (find p xs) ≡ list_any p xs → is_some (cond b (Some x) (find p xs)) ≡ (b || list_any p xs)
-    go true ih = refl
-    go false ih = ih
-
 has_agreeing_respects : (a b : Structure) (e f : List Row) (r : Row) → Perm e f → has_agreeing a (with_points b e) r ≡ has_agreeing a (with_points b f) r
 has_agreeing_respects a b e f r q = find_any (agree_in a b r) e ∙ list_any-Perm (agree_in a b r) q ∙ sym (find_any (agree_in a b r) f)
 

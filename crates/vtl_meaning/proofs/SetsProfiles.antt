@@ -8,7 +8,8 @@ use Rattle.vtl_cell.specs.Row.{Row, same_key, same_row}
 use Rattle.vtl_decimal.specs.Settings.{Settings}
 use Rattle.vtl_cell.specs.declared.cell.Cell.{Cell}
 use Rattle.vtl_cell.specs.declared.cell.Cell.TheVariants as c
-use Rattle.vtl_lists.proofs.Sorts.{AllByRecursion-filter}
+use Rattle.vtl_lists.proofs.Sorts.{AllByRecursion-filter, AllByRecursion-map}
+use Rattle.vtl_lists.proofs.Alls.{all_append, all_each, all_more}
 use Rattle.vtl_syntax.specs.declared.word_groups.Retain.{Retain}
 use Rattle.vtl_tree.specs.DataSet.{AreOfProfile}
 use Rattle.vtl_tree.specs.Environment.{DataSet}
@@ -24,7 +25,6 @@ use Rattle.vtl_meaning.specs.Sets.{all_left_of, difference_of, existence_of, has
 use Rattle.vtl_meaning.specs.Turned.{coded_value, codes_of, is_coded, named_point, other_identifiers, pivot_of, pivoted_point, unpivot_of, unpivoted_points}
 use Rattle.vtl_meaning.proofs.JoinKept.{once_hold}
 use Rattle.vtl_meaning.proofs.JoinProfiles.{front_holds, values_hold}
-use Rattle.vtl_meaning.proofs.Places.{all_append, all_map, all_more, each}
 use Rattle.vtl_meaning.proofs.Profiles.{IsRowOfProfile, cell_is, drawn_are, shown_are}
 use Rattle.vtl_meaning.proofs.SetsKept.{all_flat}
 use Rattle.vtl_meaning.proofs.JoinParts.{found_is}
@@ -39,7 +39,7 @@ module _ (p : Settings) where
   left_profile d s h = shown_are p (places_in (columns_of d.structure) (columns_of s)) d.points h
 
   all_left_profile : (ds : List DataSet) (s : Structure) → AllOfProfile ds → AllByRecursion (AreOfProfile p) (all_left_of ds s)
-  all_left_profile ds s all = all_map (λ d. left_of d s) (AreOfProfile p) ds (all_more (λ d. AreOfProfile p d.points) (λ d. AreOfProfile p (left_of d s)) (λ d h. left_profile d s h) ds all)
+  all_left_profile ds s all = AllByRecursion-map (λ d. left_of d s) (AreOfProfile p) ds (all_more (λ d. AreOfProfile p d.points) (λ d. AreOfProfile p (left_of d s)) (λ d h. left_profile d s h) ds all)
 
   pub union_profile : (ds : List DataSet) (s : Structure) → AllOfProfile ds → AreOfProfile p (union_of ds s)
   union_profile ds s all = once_hold (IsRowOfProfile p) (same_key (key_width s)) (flat_map (λ d. d) (all_left_of ds s)) (all_flat (IsRowOfProfile p) (all_left_of ds s) (all_left_profile ds s all))
@@ -60,7 +60,7 @@ module _ (p : Settings) where
   existence_profile a b kept h =
       let test : Row → Bool = λ r. is_retained kept (has_agreeing a.structure b r) in
       let f = with_answer a.structure b in
-      all_map f (IsRowOfProfile p) (filter test a.points)
+      AllByRecursion-map f (IsRowOfProfile p) (filter test a.points)
       (all_more (IsRowOfProfile p) (λ r. IsRowOfProfile p (f r)) (λ r i. all_append (IsOfProfile p) (take (key_width a.structure) r) (c.Bool (has_agreeing a.structure b r) ∷ []) (front_holds (IsOfProfile p) tt (key_width a.structure) r i) (tt, tt)) (filter test a.points)
       (AllByRecursion-filter (IsRowOfProfile p) test a.points h))
 
@@ -74,14 +74,14 @@ module _ (p : Settings) where
         go (Some r) e = cell_is p (place_of m (columns_of d.structure)) r (found_is (IsRowOfProfile p) (is_coded d.structure id k code) d.points r h e)
 
     pivoted_are : (k : Row) → IsRowOfProfile p k → IsRowOfProfile p (pivoted_point d id m k)
-    pivoted_are k i = all_append (IsOfProfile p) k (map (coded_value d id m k) (codes_of id d.structure)) i (all_map (coded_value d id m k) (IsOfProfile p) (codes_of id d.structure) (each (λ code. IsOfProfile p (coded_value d id m k code)) (coded_is k) (codes_of id d.structure)))
+    pivoted_are k i = all_append (IsOfProfile p) k (map (coded_value d id m k) (codes_of id d.structure)) i (AllByRecursion-map (coded_value d id m k) (IsOfProfile p) (codes_of id d.structure) (all_each (λ code. IsOfProfile p (coded_value d id m k code)) (coded_is k) (codes_of id d.structure)))
 
     pub pivot_profile : AreOfProfile p (pivot_of d id m)
     pivot_profile =
         let ids = other_identifiers id d.structure in
         let f = values_in d.structure ids in
-        let keys = once_hold (IsRowOfProfile p) same_row (map f d.points) (all_map f (IsRowOfProfile p) d.points (all_more (IsRowOfProfile p) (λ r. IsRowOfProfile p (f r)) (λ r i. values_hold (IsOfProfile p) tt (columns_of d.structure) ids r i) d.points h)) in
-        all_map (pivoted_point d id m) (IsRowOfProfile p) (each_once same_row (map f d.points)) (all_more (IsRowOfProfile p) (λ k. IsRowOfProfile p (pivoted_point d id m k)) pivoted_are (each_once same_row (map f d.points)) keys)
+        let keys = once_hold (IsRowOfProfile p) same_row (map f d.points) (AllByRecursion-map f (IsRowOfProfile p) d.points (all_more (IsRowOfProfile p) (λ r. IsRowOfProfile p (f r)) (λ r i. values_hold (IsOfProfile p) tt (columns_of d.structure) ids r i) d.points h)) in
+        AllByRecursion-map (pivoted_point d id m) (IsRowOfProfile p) (each_once same_row (map f d.points)) (all_more (IsRowOfProfile p) (λ k. IsRowOfProfile p (pivoted_point d id m k)) pivoted_are (each_once same_row (map f d.points)) keys)
 
   -- ---- `unpivot`
   pub unpivot_profile : (d : DataSet) → AreOfProfile p d.points → AreOfProfile p (unpivot_of d)

@@ -7,13 +7,15 @@ use Rattle.std.proofs.lemmas.List.Elements.{filter-append}
 use Rattle.std.proofs.Math.Seq.{take-append_seam}
 use Rattle.vtl_lists.specs.Apart.{all_apart}
 use Rattle.vtl_cell.specs.Kinds.{is_null}
-use Rattle.vtl_cell.specs.Row.{Row, column_of, same_key, same_row}
+use Rattle.vtl_cell.specs.Row.{Row, column_of, same_row}
 use Rattle.vtl_cell.specs.declared.cell.Cell.{Cell}
 use Rattle.vtl_cell.specs.declared.cell.Cell.TheVariants as c
 use Rattle.vtl_lists.proofs.Aparts.{apart_parts}
+use Rattle.vtl_lists.proofs.Alls.{all_back, all_both, all_filtered, all_more}
+use Rattle.vtl_lists.proofs.Filters.{filter_all}
 use Rattle.vtl_cell.proofs.Rows.{same_row-refl}
 use Rattle.vtl_rows.specs.Tables.{cells_at}
-use Rattle.vtl_tree.specs.DataSet.{Distinct, IsDataSet, is_point, look}
+use Rattle.vtl_tree.specs.DataSet.{IsDataSet, is_point, look}
 use Rattle.vtl_tree.specs.Environment.{DataSet}
 use Rattle.vtl_tree.specs.Structure.{IsStructure, columns_of, key_width, names_of, same_name, same_role}
 use Rattle.vtl_tree.specs.declared.structure.Component.{Component}
@@ -29,18 +31,20 @@ use Rattle.vtl_tree.specs.Names.{component_of, is_among}
 use Rattle.vtl_tree.specs.declared.choices.Choice.TheVariants as choice
 use Rattle.vtl_meaning.specs.Agreement.{values_in}
 use Rattle.vtl_tree.specs.Columns.{identifiers_of, measures_of, place_of, places_in}
+use Rattle.vtl_tree.proofs.NotNullLemmas.{same_itself}
 use Rattle.vtl_meaning.specs.LookUps.{value_named, values_named}
 use Rattle.vtl_meaning.specs.Made.{IsColumnAt, IsUnpivoted}
 use Rattle.vtl_meaning.specs.Points.{with_points}
 use Rattle.vtl_meaning.specs.Turned.{coded_value, codes_of, named_point, other_identifiers, pivot_of, pivoted_point, unpivoted_points}
 use Rattle.vtl_meaning.proofs.JoinKept.{apart_map}
-use Rattle.vtl_meaning.proofs.Kept.{both_all, cells_append, column_within}
+use Rattle.vtl_meaning.proofs.Kept.{cells_append, column_within}
 use Rattle.vtl_meaning.proofs.LookUps.{named_cells}
 use Rattle.vtl_meaning.proofs.OwnColumns.{own_identifiers}
-use Rattle.vtl_meaning.proofs.Places.{IsIdentifier, all_back, all_filtered, all_more, are_identifiers, first_cells, identifier_role, identifiers_apart, key_cells, key_within, place_here, place_later, same_name-refl, same_name-sym}
-use Rattle.vtl_meaning.proofs.SetsFolds.{each_own, filter_once, own_cells}
+use Rattle.vtl_meaning.proofs.Places.{IsIdentifier, are_identifiers, first_cells, identifier_role, identifiers_apart, key_cells, key_within, place_here, place_later, same_name-sym}
+use Rattle.vtl_meaning.proofs.SetsFolds.{each_own, own_cells}
 use Rattle.vtl_meaning.proofs.TurnedKept.{here_is, points_here, unpivoted_kept}
 use Rattle.vtl_meaning.proofs.TurnedLooks.{coded_look, measure_names, unpivoted_look}
+use Rattle.vtl_meaning.proofs.JoinLooks.{look_own}
 
 -- ---- each item many times
 module _ {X K : Type 0} (same : K → K → Bool) (self : (k : K) → same k k ≡ true) (key : X → K) where
@@ -51,7 +55,7 @@ module _ {X K : Type 0} (same : K → K → Bool) (self : (k : K) → same k k �
       let other : K → Bool = λ j. not (same k j) in
       let rest = each_once same (map (λ z. k) ys ++ l) in
       ap (λ b. cond (not b) (k ∷ filter other (filter other rest)) (filter other (filter other rest))) (self k)
-      ∙ filter_once other (filter other rest) (all_filtered other rest) ∙ again_nothing k ys l
+      ∙ filter_all other (filter other rest) (all_filtered other rest) ∙ again_nothing k ys l
 
   pub once_of_many : {Y : Type 0} (y : Y) (ys : List Y) (xs : List X) → all_apart same (map key xs) ≡ true → each_once same (flat_map (λ x. map (λ z. key x) (y ∷ ys)) xs) ≡ map key xs
   once_of_many y ys [] e = refl
@@ -60,16 +64,7 @@ module _ {X K : Type 0} (same : K → K → Bool) (self : (k : K) → same k k �
       let parts = apart_parts same (key x) (map key xs) e in
       ap (λ l. key x ∷ l)
       (again_nothing (key x) ys (flat_map (λ t. map (λ z. key t) (y ∷ ys)) xs) ∙ ap (filter other) (once_of_many y ys xs parts.1)
-      ∙ filter_once other (map key xs) (all_more (λ j. same (key x) j ≡ false) (λ j. other j ≡ true) (λ j f. ap not f) (map key xs) parts.0))
-
--- a point is found at its own key
-own_look : (n : ℕ) (d : List Row) → Distinct n d → AllByRecursion (λ r. look n d (take n r) ≡ Some r) d
-own_look n [] e = tt
-own_look n (r ∷ d) e =
-    let parts = apart_parts (same_key n) r d e in (
-      ap (λ b. cond b (Some r) (look n d (take n r))) (same_row-refl (take n r)),
-      both_all (λ q. same_key n r q ≡ false) (λ q. look n d (take n q) ≡ Some q) (λ q. look n (r ∷ d) (take n q) ≡ Some q) (λ q f g. ap (λ b. cond b (Some r) (look n d (take n q))) f ∙ g) d parts.0 (own_look n d parts.1),
-    )
+      ∙ filter_all other (map key xs) (all_more (λ j. same (key x) j ≡ false) (λ j. other j ≡ true) (λ j f. ap not f) (map key xs) parts.0))
 
 -- ---- columns behind others
 value_past : (xs ys : List Component) (k r : Row) (name : List ℕ) → length k ≡ length xs → AllByRecursion (λ n. same_name n name ≡ false) (names_of xs) → value_named (xs ++ ys) (k ++ r) name ≡ value_named ys r name
@@ -136,7 +131,7 @@ module _ (id m : List ℕ) (a s : Structure) (i : IsUnpivoted id m a s) (w : IsS
       of r xs = filter (λ x. same_role x.role r) xs
 
       own : filter is_identifier (ids ++ names ∷ values ∷ []) ≡ ids ++ names ∷ []
-      own = filter-append is_identifier ids (names ∷ values ∷ []) ∙ ap (λ l. l ++ names ∷ []) (filter_once is_identifier ids (are_identifiers a))
+      own = filter-append is_identifier ids (names ∷ values ∷ []) ∙ ap (λ l. l ++ names ∷ []) (filter_all is_identifier ids (are_identifiers a))
 
       measure : filter (λ x. same_role x.role role.Measure) (ids ++ names ∷ values ∷ []) ≡ values ∷ []
       measure = filter-append (λ x. same_role x.role role.Measure) ids (names ∷ values ∷ []) ∙ ap (λ l. l ++ values ∷ []) (by_role role.Measure role.Measure ids (are_identifiers a) refl)
@@ -145,12 +140,12 @@ module _ (id m : List ℕ) (a s : Structure) (i : IsUnpivoted id m a s) (w : IsS
       attribute = filter-append (λ x. same_role x.role role.Attribute) ids (names ∷ values ∷ []) ∙ ap (λ l. l ++ []) (by_role role.Attribute role.Attribute ids (are_identifiers a) refl)
 
   identifiers : identifiers_of s ≡ ids ++ names ∷ []
-  identifiers = ap (filter is_identifier) components ∙ filter-append is_identifier ids (names ∷ values ∷ []) ∙ ap (λ l. l ++ names ∷ []) (filter_once is_identifier ids (are_identifiers a))
+  identifiers = ap (filter is_identifier) components ∙ filter-append is_identifier ids (names ∷ values ∷ []) ∙ ap (λ l. l ++ names ∷ []) (filter_all is_identifier ids (are_identifiers a))
 
   others : other_identifiers id s ≡ ids
   others =
-      ap (filter p) components ∙ filter-append p ids (names ∷ values ∷ []) ∙ ap (λ l. l ++ filter p (names ∷ values ∷ [])) (filter_once p ids (kept ids (are_identifiers a) before_id))
-      ∙ ap (λ b. ids ++ cond (not (b || false)) (names ∷ []) []) (same_name-refl id) ∙ append-nil ids
+      ap (filter p) components ∙ filter-append p ids (names ∷ values ∷ []) ∙ ap (λ l. l ++ filter p (names ∷ values ∷ [])) (filter_all p ids (kept ids (are_identifiers a) before_id))
+      ∙ ap (λ b. ids ++ cond (not (b || false)) (names ∷ []) []) (same_itself id) ∙ append-nil ids
     where
       p : Component → Bool
       p = is_chosen choice.Except (id ∷ [])
@@ -162,7 +157,7 @@ module _ (id m : List ℕ) (a s : Structure) (i : IsUnpivoted id m a s) (w : IsS
   codes : codes_of id s ≡ names_of (measures_of a)
   codes =
       ap (λ xs. option_map_or (λ texts. texts) (option_and_then (λ x. x.codes) (component_of id xs)) []) components
-      ∙ ap (λ o. option_map_or (λ texts. texts) (option_and_then (λ x. x.codes) o) []) (named_behind id ids (names ∷ values ∷ []) before_id ∙ ap (λ b. cond b (Some names) (component_of id (values ∷ []))) (same_name-refl id))
+      ∙ ap (λ o. option_map_or (λ texts. texts) (option_and_then (λ x. x.codes) o) []) (named_behind id ids (names ∷ values ∷ []) before_id ∙ ap (λ b. cond b (Some names) (component_of id (values ∷ []))) (same_itself id))
 
   -- ---- the points of a row
   abbrev key_at : Row → Row
@@ -187,7 +182,7 @@ module _ (id m : List ℕ) (a s : Structure) (i : IsUnpivoted id m a s) (w : IsS
       ap (λ xs. value_named xs (key_at r ++ c.Text n ∷ v ∷ []) m) (columns ∙ sym (append_assoc ids (names ∷ []) (values ∷ [])))
       ∙ ap (λ q. value_named ((ids ++ names ∷ []) ++ values ∷ []) q m) (sym (append_assoc (key_at r) (c.Text n ∷ []) (v ∷ [])))
       ∙ value_past (ids ++ names ∷ []) (values ∷ []) (key_at r ++ c.Text n ∷ []) (v ∷ []) m len before
-      ∙ ap (λ z. column_of z (v ∷ [])) (place_here m values [] (same_name-refl m))
+      ∙ ap (λ z. column_of z (v ∷ [])) (place_here m values [] (same_itself m))
 
   within : place_of id (identifiers_of s) < length (identifiers_of s)
   within =
@@ -210,7 +205,7 @@ module _ (id m : List ℕ) (a s : Structure) (i : IsUnpivoted id m a s) (w : IsS
         let j = key_at r ++ c.Text x.name ∷ [] in
         let len : length j ≡ key_width s = length-append (key_at r) (c.Text x.name ∷ []) ∙ ap (λ z. z + 1) (key_length r t) ∙ sym (length-append ids (names ∷ [])) ∙ ap length (sym identifiers) in
         let has : value_named (identifiers_of s) j id ≡ c.Text x.name =
-        ap (λ xs. value_named xs j id) identifiers ∙ value_past ids (names ∷ []) (key_at r) (c.Text x.name ∷ []) id (key_length r t) before_id ∙ ap (λ z. column_of z (c.Text x.name ∷ [])) (place_here id names [] (same_name-refl id)) in
+        ap (λ xs. value_named xs j id) identifiers ∙ value_past ids (names ∷ []) (key_at r) (c.Text x.name ∷ []) id (key_length r t) before_id ∙ ap (λ z. column_of z (c.Text x.name ∷ [])) (place_here id names [] (same_itself id)) in
         let both = length-append (key_at r) (c.Text x.name ∷ []) in
         let few = key_length r t in
         let key : values_named (identifiers_of s) (other_identifiers id s) j ≡ key_at r =
@@ -235,7 +230,7 @@ module _ (id m : List ℕ) (a s : Structure) (i : IsUnpivoted id m a s) (w : IsS
       keys : each_once same_row (map (values_in s (other_identifiers id s)) (flat_map (unpivoted_points a) d)) ≡ map key_at d
       keys =
           let P : Row → Type 0 = λ r. map (values_in s ids) (unpivoted_points a r) ≡ map (λ x. key_at r) (measures_of a) in
-          let rows : AllByRecursion P d = both_all (λ r. is_point (columns_of a) r ≡ true) IsFilled P (λ r t f. ap (map (values_in s ids)) (here_is id m a s i w r) ∙ row_keys r t (measures_of a) f) d h.typed filled in
+          let rows : AllByRecursion P d = all_both (λ r. is_point (columns_of a) r ≡ true) IsFilled P (λ r t f. ap (map (values_in s ids)) (here_is id m a s i w r) ∙ row_keys r t (measures_of a) f) d h.typed filled in
           ap (λ ys. each_once same_row (map (values_in s ys) (flat_map (unpivoted_points a) d))) others
           ∙ ap (each_once same_row) (map-flat_map (values_in s ids) (unpivoted_points a) d ∙ flat_map_same (λ r. map (values_in s ids) (unpivoted_points a r)) (λ r. map (λ x. key_at r) (measures_of a)) d rows)
           ∙ once (measures_of a) some
@@ -252,7 +247,7 @@ module _ (id m : List ℕ) (a s : Structure) (i : IsUnpivoted id m a s) (w : IsS
           let Known : Row → Type 0 = λ r. (is_point (columns_of a) r ≡ true) × Found r in
           ap (map f) keys ∙ map-map f key_at d
           ∙ map_same (λ r. f (key_at r)) g d
-          (both_all Known IsFilled (λ r. f (key_at r) ≡ g r) (λ r t filled. values_back r t.0 t.1 filled) d (both_all (λ r. is_point (columns_of a) r ≡ true) Found Known (λ r t u. (t, u)) d h.typed (own_look (key_width a) d h.distinct)) filled)
+          (all_both Known IsFilled (λ r. f (key_at r) ≡ g r) (λ r t filled. values_back r t.0 t.1 filled) d (all_both (λ r. is_point (columns_of a) r ≡ true) Found Known (λ r t u. (t, u)) d h.typed (look_own (key_width a) d h.distinct)) filled)
         where
           values_back : (r : Row) → is_point (columns_of a) r ≡ true → look (key_width a) d (key_at r) ≡ Some r → IsFilled r → pivoted_point turned id m (key_at r) ≡ key_at r ++ values_in a (measures_of a) r
           values_back r t found all =
@@ -261,7 +256,7 @@ module _ (id m : List ℕ) (a s : Structure) (i : IsUnpivoted id m a s) (w : IsS
               ∙ ap (λ vs. key_at r ++ vs)
               (map-map code (λ x. x.name) (measures_of a)
               ∙ map_same (λ x. code x.name) (λ x. value_named (columns_of a) r x.name) (measures_of a)
-              (both_all (λ x. is_among x.name (names_of (measures_of a)) ≡ true) (λ x. is_null (value_named (columns_of a) r x.name) ≡ false) (λ x. code x.name ≡ value_named (columns_of a) r x.name)
+              (all_both (λ x. is_among x.name (names_of (measures_of a)) ≡ true) (λ x. is_null (value_named (columns_of a) r x.name) ≡ false) (λ x. code x.name ≡ value_named (columns_of a) r x.name)
               (λ x among f. value_at r x t found among f) (measures_of a) (measure_names id m a s i w) all))
 
 -- where there are no attributes, these are the points

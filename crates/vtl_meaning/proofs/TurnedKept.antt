@@ -9,7 +9,8 @@ use Rattle.vtl_cell.specs.declared.cell.Cell.{Cell}
 use Rattle.vtl_cell.specs.declared.cell.Cell.TheVariants as c
 use Rattle.vtl_lists.proofs.Aparts.{all_apart-filter, apart_parts}
 use Rattle.vtl_cell.proofs.Rows.{same_row-is, same_row-refl}
-use Rattle.vtl_lists.proofs.Sorts.{AllByRecursion-filter}
+use Rattle.vtl_lists.proofs.Sorts.{AllByRecursion-filter, AllByRecursion-map}
+use Rattle.vtl_lists.proofs.Alls.{all_append, all_both, all_each, all_flat_map, all_more}
 use Rattle.vtl_rows.specs.Tables.{fits_kinds}
 use Rattle.vtl_tree.specs.DataSet.{IsDataSet, is_point}
 use Rattle.vtl_tree.specs.Environment.{DataSet}
@@ -25,15 +26,15 @@ use Rattle.vtl_tree.specs.Names.{is_among}
 use Rattle.vtl_tree.specs.declared.choices.Choice.TheVariants as choice
 use Rattle.vtl_meaning.specs.Agreement.{key_of, values_in}
 use Rattle.vtl_tree.specs.Columns.{identifiers_of, kind_named, measures_of, others_of, place_of}
+use Rattle.vtl_tree.proofs.NotNullLemmas.{same_itself}
 use Rattle.vtl_meaning.specs.LookUps.{value_named}
 use Rattle.vtl_meaning.specs.Made.{AreAmong, IsColumnAt, IsPivoted, IsUnpivoted}
 use Rattle.vtl_meaning.specs.Turned.{coded_value, codes_of, is_coded, named_point, other_identifiers, pivot_of, pivoted_point, unpivot_of, unpivoted_points}
 use Rattle.vtl_meaning.proofs.Drawn.{drawn_all, drawn_apart, map_drawn}
 use Rattle.vtl_meaning.proofs.JoinKept.{apart_append, apart_map, key_is, once_hold}
 use Rattle.vtl_meaning.proofs.JoinParts.{found_is}
-use Rattle.vtl_meaning.proofs.Kept.{both_all}
 use Rattle.vtl_meaning.proofs.OwnColumns.{own_identifiers, own_measures}
-use Rattle.vtl_meaning.proofs.Places.{IsIdentifier, all_append, all_map, all_more, are_identifiers, are_others, columns_split, each, joined_point_is, key_of_joined, key_of_point, point_append, point_of_identifiers, same_name-refl}
+use Rattle.vtl_meaning.proofs.Places.{IsIdentifier, are_identifiers, are_others, columns_split, joined_point_is, key_of_joined, key_of_point, point_append, point_of_identifiers}
 use Rattle.vtl_meaning.proofs.ValueKinds.{IsOf, cell_is_of, null_is_of}
 
 -- ---- `pivot`
@@ -92,7 +93,7 @@ module _ (id m : List ℕ) (d : DataSet) (s : Structure) (i : IsPivoted id m d.s
   keys_typed =
       let P : Row → Type 0 = λ k. is_point (other_identifiers id a) k ≡ true in
       let f = values_in a (other_identifiers id a) in
-      once_hold P same_row (map f d.points) (all_map f P d.points (all_more (λ r. is_point (columns_of a) r ≡ true) (λ r. P (f r)) (λ r t. other_key_is id a r h.well_formed t) d.points h.typed))
+      once_hold P same_row (map f d.points) (AllByRecursion-map f P d.points (all_more (λ r. is_point (columns_of a) r ≡ true) (λ r. P (f r)) (λ r t. other_key_is id a r h.well_formed t) d.points h.typed))
 
   pub pivot_kept : IsDataSet s (pivot_of d id m)
   pivot_kept =
@@ -105,7 +106,7 @@ module _ (id m : List ℕ) (d : DataSet) (s : Structure) (i : IsPivoted id m d.s
         distinct = drawn_apart Pivots same_row (same_key (key_width s)) back (λ k. f k ∷ []) pivot_keys all (once_apart same_row (map (values_in a (other_identifiers id a)) d.points));
       })
 
--- ---- items that are drawn from items, many from each
+-- ---- items that are drawn from items, many from all_each
 module _ {X Y : Type 0} (R : X → Y → Type 0) (same : X → X → Bool) (drawn_same : Y → Y → Bool) (back : (x t : X) (q z : Y) → R x q → R t z → drawn_same q z ≡ true → same x t ≡ true) (g : X → List Y) where
   all_differ : (x : X) (q : Y) (xs : List X) → R x q → AllByRecursion (λ t. same x t ≡ false) xs → AllByRecursion (λ t. AllByRecursion (R t) (g t)) xs → AllByRecursion (λ z. drawn_same q z ≡ false) (flat_map g xs)
   all_differ x q [] h apart all = tt
@@ -122,10 +123,6 @@ module _ {X Y : Type 0} (R : X → Y → Type 0) (same : X → X → Bool) (draw
       let parts = apart_parts same x xs e in
       apart_append drawn_same (g x) (flat_map g xs) own.0 (each_apart xs all.1 own.1 parts.1)
       (all_more (R x) (λ q. AllByRecursion (λ z. drawn_same q z ≡ false) (flat_map g xs)) (λ q h. all_differ x q xs h parts.0 all.1) (g x) all.0)
-
-pub all_drawn : {X Y : Type 0} (P : Y → Type 0) (g : X → List Y) (xs : List X) → AllByRecursion (λ x. AllByRecursion P (g x)) xs → AllByRecursion P (flat_map g xs)
-all_drawn P g [] all = tt
-all_drawn P g (x ∷ xs) all = all_append P (g x) (flat_map g xs) all.0 (all_drawn P g xs all.1)
 
 -- ---- `unpivot`
 pub filter_map_drawn : {X Y : Type 0} (h : X → Option Y) (xs : List X) → filter_map h xs ≡ flat_map (λ x. option_to_list (h x)) xs
@@ -180,7 +177,7 @@ module _ (id m : List ℕ) (a s : Structure) (i : IsUnpivoted id m a s) (w : IsS
 
   pub all_here : (r : Row) → is_point (columns_of a) r ≡ true → AllByRecursion (λ x. AllByRecursion (IsNamed r x.name) (points_here r x)) (measures_of a)
   all_here r h =
-      both_all (λ x. IsColumnAt (place_of x.name (columns_of a)) x.name x.kind (columns_of a)) (λ x. x.kind ≡ first_kind (measures_of a)) (λ x. AllByRecursion (IsNamed r x.name) (points_here r x))
+      all_both (λ x. IsColumnAt (place_of x.name (columns_of a)) x.name x.kind (columns_of a)) (λ x. x.kind ≡ first_kind (measures_of a)) (λ x. AllByRecursion (IsNamed r x.name) (points_here r x))
       (λ x at e. here_are r x h at e) (measures_of a) (own_measures a w) i.alike
 
   pub here_is : (r : Row) → unpivoted_points a r ≡ flat_map (points_here r) (measures_of a)
@@ -193,7 +190,7 @@ module _ (id m : List ℕ) (a s : Structure) (i : IsUnpivoted id m a s) (w : IsS
   pub drawn_here : (r : Row) → is_point (columns_of a) r ≡ true → AllByRecursion (IsDrawn r) (unpivoted_points a r)
   drawn_here r h =
       subst (AllByRecursion (IsDrawn r)) (sym (here_is r))
-      (all_drawn (IsDrawn r) (points_here r) (measures_of a) (all_more (λ x. AllByRecursion (IsNamed r x.name) (points_here r x)) (λ x. AllByRecursion (IsDrawn r) (points_here r x)) (λ x all. all_more (IsNamed r x.name) (IsDrawn r) (λ q t. (x.name, t)) (points_here r x) all) (measures_of a) (all_here r h)))
+      (all_flat_map (IsDrawn r) (points_here r) (measures_of a) (all_more (λ x. AllByRecursion (IsNamed r x.name) (points_here r x)) (λ x. AllByRecursion (IsDrawn r) (points_here r x)) (λ x all. all_more (IsNamed r x.name) (IsDrawn r) (λ q t. (x.name, t)) (points_here r x) all) (measures_of a) (all_here r h)))
 
   one_apart : (r : Row) (x : Component) → all_apart (same_key (key_width s)) (points_here r x) ≡ true
   one_apart r x = go (named_point a r x.name (value_here r x))
@@ -208,21 +205,21 @@ module _ (id m : List ℕ) (a s : Structure) (i : IsUnpivoted id m a s) (w : IsS
   here_apart : (r : Row) → is_point (columns_of a) r ≡ true → all_apart (same_key (key_width s)) (unpivoted_points a r) ≡ true
   here_apart r h =
       ap (all_apart (same_key (key_width s))) (here_is r)
-      ∙ each_apart (λ x q. IsNamed r x.name q) (λ x y. same_name x.name y.name) (same_key (key_width s)) same_names (points_here r) (measures_of a) (all_here r h) (each (λ x. all_apart (same_key (key_width s)) (points_here r x) ≡ true) (one_apart r) (measures_of a))
+      ∙ each_apart (λ x q. IsNamed r x.name q) (λ x y. same_name x.name y.name) (same_key (key_width s)) same_names (points_here r) (measures_of a) (all_here r h) (all_each (λ x. all_apart (same_key (key_width s)) (points_here r x) ≡ true) (one_apart r) (measures_of a))
       (all_apart-filter (λ x y. same_name x.name y.name) (λ x. same_role x.role role.Measure) a.components (sym (apart_map (λ x. x.name) same_name a.components) ∙ w.distinct))
     where
       same_names : (x y : Component) (q z : Row) → IsNamed r x.name q → IsNamed r y.name z → same_key (key_width s) q z ≡ true → same_name x.name y.name ≡ true
       same_names x y q z f g e =
           let texts = (names_back r r x.name y.name q z f g e).1 in
           let same : x.name ≡ y.name = cc in
-          ap (same_name x.name) (sym same) ∙ same_name-refl x.name
+          ap (same_name x.name) (sym same) ∙ same_itself x.name
 
   pub unpivoted_kept : (d : List Row) → IsDataSet a d → IsDataSet s (flat_map (unpivoted_points a) d)
   unpivoted_kept d h =
       let P : Row → Type 0 = λ r. is_point (columns_of a) r ≡ true in
       let all = all_more P (λ r. AllByRecursion (IsDrawn r) (unpivoted_points a r)) drawn_here d h.typed in record {
         well_formed = i.well_formed;
-        typed = all_drawn (λ q. is_point (columns_of s) q ≡ true) (unpivoted_points a) d (all_more (λ r. AllByRecursion (IsDrawn r) (unpivoted_points a r)) (λ r. AllByRecursion (λ q. is_point (columns_of s) q ≡ true) (unpivoted_points a r)) (λ r l. all_more (IsDrawn r) (λ q. is_point (columns_of s) q ≡ true) (λ q t. t.1.0) (unpivoted_points a r) l) d all);
+        typed = all_flat_map (λ q. is_point (columns_of s) q ≡ true) (unpivoted_points a) d (all_more (λ r. AllByRecursion (IsDrawn r) (unpivoted_points a r)) (λ r. AllByRecursion (λ q. is_point (columns_of s) q ≡ true) (unpivoted_points a r)) (λ r l. all_more (IsDrawn r) (λ q. is_point (columns_of s) q ≡ true) (λ q t. t.1.0) (unpivoted_points a r) l) d all);
         distinct =
             each_apart IsDrawn (same_key (key_width a)) (same_key (key_width s))
             (λ r t q z f g e. ap (same_row (take (key_width a) r)) (sym (names_back r t f.0 g.0 q z f.1 g.1 e).0) ∙ same_row-refl (take (key_width a) r))

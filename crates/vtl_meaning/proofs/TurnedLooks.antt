@@ -9,6 +9,9 @@ use Rattle.vtl_cell.specs.Order.{same_cell}
 use Rattle.vtl_cell.specs.Row.{Row, same_key, same_row}
 use Rattle.vtl_cell.specs.declared.cell.Cell.TheVariants as c
 use Rattle.vtl_lists.proofs.Aparts.{all_apart-filter, apart_parts}
+use Rattle.vtl_lists.proofs.Alls.{all_both, all_flat_map, all_more}
+use Rattle.vtl_lists.proofs.Filters.{list_any-map}
+use Rattle.vtl_lists.proofs.Tests.{or_none, same_tests}
 use Rattle.vtl_cell.proofs.Cells.{same_cell-is, same_cell-refl}
 use Rattle.vtl_cell.proofs.Rows.{same_row-is, same_row-refl}
 use Rattle.vtl_tree.specs.DataSet.{Distinct, IsDataSet, is_point, look}
@@ -22,18 +25,19 @@ use Rattle.vtl_tuples.proofs.Onces.{alike, among_once}
 use Rattle.vtl_tree.specs.Names.{is_among}
 use Rattle.vtl_meaning.specs.Agreement.{values_in}
 use Rattle.vtl_tree.specs.Columns.{identifiers_of, measures_of, others_of, place_of}
+use Rattle.vtl_tree.proofs.NotNullLemmas.{same_itself}
 use Rattle.vtl_meaning.specs.LookUps.{value_named, values_named}
 use Rattle.vtl_meaning.specs.Made.{IsColumnAt, IsPivoted, IsUnpivoted}
 use Rattle.vtl_meaning.specs.Turned.{coded_value, is_coded, named_point, other_identifiers, pivot_of, pivoted_point, unpivoted_points}
 use Rattle.vtl_meaning.proofs.JoinKept.{apart_map}
 use Rattle.vtl_meaning.proofs.JoinOrders.{rows_apart}
-use Rattle.vtl_meaning.proofs.Kept.{alike_cells, both_all, look_is}
-use Rattle.vtl_meaning.proofs.LookUps.{among_within, named_front, parts_named, same_truth, whole_key}
+use Rattle.vtl_meaning.proofs.Kept.{alike_cells, look_is}
+use Rattle.vtl_meaning.proofs.LookUps.{among_within, named_front, parts_named, whole_key}
 use Rattle.vtl_meaning.proofs.Looks.{behind_none, found_then, look_absent, look_key}
 use Rattle.vtl_meaning.proofs.OwnColumns.{column_any, own_among}
-use Rattle.vtl_meaning.proofs.Places.{all_more, columns_split, key_within, same_name-is, same_name-refl, same_name-sym}
+use Rattle.vtl_meaning.proofs.Places.{columns_split, key_within, same_name-is, same_name-sym}
 use Rattle.vtl_meaning.proofs.SetsLooks.{look-append}
-use Rattle.vtl_meaning.proofs.TurnedKept.{IsDrawn, IsNamed, all_drawn, all_here, drawn_here, front_same, here_is, keys_typed, others_among, others_are, pivoted_is, points_here}
+use Rattle.vtl_meaning.proofs.TurnedKept.{IsDrawn, IsNamed, all_here, drawn_here, front_same, here_is, keys_typed, others_among, others_are, pivoted_is, points_here}
 use Rattle.vtl_meaning.proofs.TurnedOrders.{alike_others}
 
 -- ---- `pivot`: at each key that there is the point that is made for it
@@ -44,10 +48,6 @@ look_made m f (j ∷ ks) k all = ap (λ z. cond (same_row z k) (Some (f j)) (loo
     go : (b : Bool) → same_row j k ≡ b → look m (map f ks) k ≡ cond (list_any (λ i. same_row i k) ks) (Some (f k)) None → cond b (Some (f j)) (look m (map f ks) k) ≡ cond (b || list_any (λ i. same_row i k) ks) (Some (f k)) None
     go true e ih = ap (λ z. Some (f z)) (same_row-is j k e)
     go false e ih = ih
-
-any_map : {X Y : Type 0} (p : Y → Bool) (f : X → Y) (xs : List X) → list_any p (map f xs) ≡ list_any (λ x. p (f x)) xs
-any_map p f [] = refl
-any_map p f (x ∷ xs) = ap (λ b. p (f x) || b) (any_map p f xs)
 
 found_where : (p : Row → Bool) (n : ℕ) (d : List Row) (j : Row) → AllByRecursion (λ q. p q ≡ same_row (take n q) j) d → find p d ≡ look n d j
 found_where p n [] j all = refl
@@ -66,7 +66,7 @@ module _ (id m : List ℕ) (d : DataSet) (s : Structure) (i : IsPivoted id m d.s
       let keys = map (values_in a ids) d.points in
       look_made (key_width s) f (each_once same_row keys) k
       (all_more (λ j. is_point ids j ≡ true) (λ j. take (key_width s) (f j) ≡ j) (λ j t. (pivoted_is id m d s i h j t).1) (each_once same_row keys) (keys_typed id m d s i h))
-      ∙ ap (λ b. cond b (Some (f k)) None) (among_once same_row (alike same_row rows_apart) keys k ∙ any_map (λ j. same_row j k) (values_in a ids) d.points)
+      ∙ ap (λ b. cond b (Some (f k)) None) (among_once same_row (alike same_row rows_apart) keys k ∙ list_any-map (λ j. same_row j k) (values_in a ids) d.points)
 
 -- the value at a code is that of the point with this code among its identifiers
 module _ (id m : List ℕ) (d : DataSet) (within : place_of id (identifiers_of d.structure) < length (identifiers_of d.structure)) (h : IsDataSet d.structure d.points) where
@@ -109,13 +109,9 @@ module _ (id m : List ℕ) (d : DataSet) (within : place_of id (identifiers_of d
           ∙ ap (λ v. same_cell v (c.Text code)) same_one ∙ same_cell-refl (c.Text code)
 
       each_one : (q : Row) → is_point (columns_of ours) q ≡ true → is_coded ours id k code q ≡ same_row (take (key_width ours) q) j
-      each_one q w = same_truth (is_coded ours id k code q) (same_row (take (key_width ours) q) j) (there q w) (back q)
+      each_one q w = same_tests (is_coded ours id k code q) (same_row (take (key_width ours) q) j) (there q w) (back q)
 
 -- ---- `unpivot`: many points from each
-or_none : {X : Type 0} (o : Option X) → option_or o None ≡ o
-or_none None = refl
-or_none (Some x) = refl
-
 -- where only what is made of the point with a key has a point there
 look_each : (n m : ℕ) (g : Row → List Row) (d : List Row) (k j : Row) → AllByRecursion (λ r. same_row (take n r) k ≡ false → look m (g r) j ≡ None) d → Distinct n d → look m (flat_map g d) j ≡ option_and_then (λ r. look m (g r) j) (look n d k)
 look_each n m g [] k j all apart = refl
@@ -150,7 +146,7 @@ module _ (id m : List ℕ) (a s : Structure) (i : IsUnpivoted id m a s) (w : IsS
       go true f =
           let texts = (front_same (take (key_width a) r) (take (key_width a) r) (c.Text n) (c.Text name) (sym h.1 ∙ same_row-is (take (key_width s) q) (key_at r name) f)).1 in
           let same : n ≡ name = cc in
-          absurd (true≢false (sym (ap (same_name n) (sym same) ∙ same_name-refl n) ∙ e))
+          absurd (true≢false (sym (ap (same_name n) (sym same) ∙ same_itself n) ∙ e))
 
   not_there : (r : Row) (name : List ℕ) (xs : List Component) → AllNamed r xs → AllByRecursion (λ n. same_name n name ≡ false) (names_of xs) → look (key_width s) (flat_map (here r) xs) (key_at r name) ≡ None
   not_there r name [] all h = refl
@@ -220,17 +216,17 @@ module _ (id m : List ℕ) (a s : Structure) (i : IsUnpivoted id m a s) (w : IsS
   pub measure_names : AllByRecursion (λ x. is_among x.name (names_of (measures_of a)) ≡ true) (measures_of a)
   measure_names =
       all_more (λ x. IsColumnAt (place_of x.name (measures_of a)) x.name x.kind (measures_of a)) (λ x. is_among x.name (names_of (measures_of a)) ≡ true)
-      (λ x h. any_map (λ n. same_name n x.name) (λ y. y.name) (measures_of a) ∙ column_any (place_of x.name (measures_of a)) x.name x.kind (measures_of a) h) (measures_of a) (own_among (measures_of a) measures_apart)
+      (λ x h. list_any-map (λ n. same_name n x.name) (λ y. y.name) (measures_of a) ∙ column_any (place_of x.name (measures_of a)) x.name x.kind (measures_of a) h) (measures_of a) (own_among (measures_of a) measures_apart)
 
   of_measures : (r : Row) → is_point (columns_of a) r ≡ true → AllByRecursion IsOfMeasure (unpivoted_points a r)
   of_measures r h =
       subst (AllByRecursion IsOfMeasure) (sym (here_is id m a s i w r))
-      (all_drawn IsOfMeasure (here r) (measures_of a)
-      (both_all (λ x. is_among x.name (names_of (measures_of a)) ≡ true) (λ x. AllByRecursion (Named r x.name) (here r x)) (λ x. AllByRecursion IsOfMeasure (here r x))
+      (all_flat_map IsOfMeasure (here r) (measures_of a)
+      (all_both (λ x. is_among x.name (names_of (measures_of a)) ≡ true) (λ x. AllByRecursion (Named r x.name) (here r x)) (λ x. AllByRecursion IsOfMeasure (here r x))
       (λ x among all. all_more (Named r x.name) IsOfMeasure (λ q t. (take (key_width a) r, x.name, among, t.1)) (here r x) all) (measures_of a) measure_names (all_here id m a s i w r h)))
 
   pub unpivoted_only : (d : List Row) → IsDataSet a d → (j q : Row) → look (key_width s) (flat_map (unpivoted_points a) d) j ≡ Some q → (k : Row) × (name : List ℕ) × (is_among name (names_of (measures_of a)) ≡ true) × (j ≡ k ++ c.Text name ∷ [])
   unpivoted_only d h j q e =
-      let all = all_drawn IsOfMeasure (unpivoted_points a) d (all_more (λ r. is_point (columns_of a) r ≡ true) (λ r. AllByRecursion IsOfMeasure (unpivoted_points a r)) of_measures d h.typed) in
+      let all = all_flat_map IsOfMeasure (unpivoted_points a) d (all_more (λ r. is_point (columns_of a) r ≡ true) (λ r. AllByRecursion IsOfMeasure (unpivoted_points a r)) of_measures d h.typed) in
       let is = look_is IsOfMeasure (key_width s) (flat_map (unpivoted_points a) d) j q all e in
       (is.0, is.1, is.2, sym (look_key (key_width s) (flat_map (unpivoted_points a) d) j q e) ∙ is.3)

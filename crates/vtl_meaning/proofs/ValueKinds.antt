@@ -1,6 +1,7 @@
 -- The value of a typed expression is null or of exactly its kind.
 use Rattle.std.proofs.Common.{◌≡◌, ℕ, zero, suc, Bool, true, false, List, [], ◌∷◌, map, Result, Ok, Err, Option, Some, None, refl, subst}
 use Rattle.std.specs.Prelude.{ℤ, IfOk, ◌&&◌, not, if◌then◌else◌}
+use Rattle.std.proofs.lemmas.Bool.{and_parts}
 use Rattle.vtl_decimal.specs.declared.number.Fault.{Fault as DecimalFault}
 use Rattle.vtl_decimal.specs.Range.{fit_number}
 use Rattle.vtl_decimal.specs.Settings.{Settings}
@@ -18,10 +19,9 @@ use Rattle.vtl_cell.specs.declared.kind.Kind.{Kind}
 use Rattle.vtl_cell.specs.declared.kind.Kind.TheVariants as k
 use Rattle.vtl_cell.specs.declared.operator.ScalarOp.{ScalarOp}
 use Rattle.vtl_cell.specs.declared.operator.ScalarOp.TheVariants as op
-use Rattle.vtl_cell.proofs.Rows.{split_and}
 use Rattle.vtl_rows.specs.Tables.{fits_kinds}
 use Rattle.vtl_scalar.proofs.KindLemmas.{common_left, common_right}
-use Rattle.vtl_scalar.proofs.ValueKindLemmas.{value_is_of_kind}
+use Rattle.vtl_scalar.proofs.ValueKindLemmas.{value_is_of_kind, when}
 use Rattle.vtl_tree.specs.CompExp.{CompExp, CompExps, column, const, call, aggregate, no_comp_exps, comp_exp}
 use Rattle.vtl_tree.specs.DataSet.{is_point}
 use Rattle.vtl_tree.specs.Structure.{same_role}
@@ -67,7 +67,7 @@ meet_of [] [] h = refl
 meet_of [] (v ∷ vs) h = cc
 meet_of (x ∷ xs) [] h = cc
 meet_of (x ∷ xs) (v ∷ vs) h =
-    let parts = split_and (is_of x v) (fits_kinds xs vs) h in
+    let parts = and_parts (is_of x v) (fits_kinds xs vs) h in
     rw (meets_of x v parts.0) (meet_of xs vs parts.1)
 
 pub null_is_of : (kind : Kind) → IsOf kind c.Null
@@ -135,10 +135,6 @@ if_more : {A : Type 0} (m : Outcome A) (P Q : A → Type 0) → ((x : A) → P x
 if_more (Ok x) P Q f h = f x h
 if_more (Err e) P Q f h = tt
 
-when : (b : Bool) (o : Option Kind) (kind : Kind) → (if b then o else None) ≡ Some kind → o ≡ Some kind
-when true o kind e = e
-when false o kind e = cc
-
 -- `if` gives the branch that it chooses, as a value of its kind
 choice_is_of : (p : Settings) (kind : Kind) (t a b : Outcome Cell) (kinds : List Kind) → kinds_of op.If kinds ≡ Some kind → EachOf kinds (t ∷ a ∷ b ∷ []) → GivesOf kind (called p kind (t ∷ a ∷ b ∷ []) op.If)
 choice_is_of p kind t a b [] e h = absurd h
@@ -165,8 +161,8 @@ called_is_of p kind (x ∷ y ∷ z ∷ w ∷ more) o kinds e h = plain_is_of p o
 -- the first cell of a point is of its column's kind and no null identifier, and the others are a point of the other columns
 pub point_parts : (x : Component) (xs : List Component) (v : Cell) (vs : Row) → is_point (x ∷ xs) (v ∷ vs) ≡ true → IsOf x.kind v × (not (same_role x.role role.Identifier && is_null v) ≡ true) × (is_point xs vs ≡ true)
 point_parts x xs v vs h =
-    let parts = split_and (is_of x.kind v && not (same_role x.role role.Identifier && is_null v)) (is_point xs vs) h in
-    let first = split_and (is_of x.kind v) (not (same_role x.role role.Identifier && is_null v)) parts.0 in
+    let parts = and_parts (is_of x.kind v && not (same_role x.role role.Identifier && is_null v)) (is_point xs vs) h in
+    let first = and_parts (is_of x.kind v) (not (same_role x.role role.Identifier && is_null v)) parts.0 in
     (first.0, first.1, parts.1)
 
 pub point_from : (x : Component) (xs : List Component) (v : Cell) (vs : Row) → IsOf x.kind v → not (same_role x.role role.Identifier && is_null v) ≡ true → is_point xs vs ≡ true → is_point (x ∷ xs) (v ∷ vs) ≡ true

@@ -19,6 +19,7 @@ use Rattle.vtl_cell.proofs.Keys.{window_order}
 use Rattle.vtl_lists.proofs.Perms.{AllByRecursion-Perm, Perm-map, Perm-sym}
 use Rattle.vtl_cell.proofs.Rows.{same_row-is, same_row-refl, same_row-sym}
 use Rattle.vtl_lists.proofs.Sorts.{Rises-sorted_by}
+use Rattle.vtl_lists.proofs.Alls.{all_filtered}
 use Rattle.vtl_rows.specs.Tables.{cells_at}
 use Rattle.vtl_tree.specs.DataSet.{IsDataSet}
 use Rattle.vtl_tree.specs.Environment.{DataSet}
@@ -26,7 +27,6 @@ use Rattle.vtl_tree.specs.Structure.{columns_of, key_width}
 use Rattle.vtl_tree.specs.declared.calls.Window.{Window}
 use Rattle.vtl_meaning.specs.Groups.{places_named, points_with}
 use Rattle.vtl_meaning.specs.Windows.{bound_of, default_frame, frame_in, framed, identifier_places, keys_in, partition_of, point_cmp, seen, stand_of}
-use Rattle.vtl_meaning.proofs.AnalyticColumns.{all_filtered}
 use Rattle.vtl_meaning.proofs.Partitions.{count_by-Perm, ordered_perm}
 
 -- ---- places in a list in order
@@ -73,7 +73,7 @@ not_not true = refl
 not_not false = refl
 
 -- points whose keys are apart are apart
-rows_apart : (n : ℕ) (points : List Row) → all_apart (same_key n) points ≡ true → all_apart same_row points ≡ true
+pub rows_apart : (n : ℕ) (points : List Row) → all_apart (same_key n) points ≡ true → all_apart same_row points ≡ true
 rows_apart n [] e = refl
 rows_apart n (r ∷ points) e =
     let parts = apart_parts (same_key n) r points e in

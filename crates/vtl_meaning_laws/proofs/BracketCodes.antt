@@ -3,9 +3,10 @@ use Rattle.std.specs.Cmp.Lexicographic.{pointwise}
 use Rattle.std.specs.List.{AllByRecursion, list_all}
 use Rattle.std.specs.Option.{option_map_or}
 use Rattle.std.proofs.Common.{◌≡◌, ℕ, Bool, true, false, not, cond, ◌&&◌, ◌||◌, List, [], ◌∷◌, ◌++◌, map, Option, Some, None, refl, sym, ap, ◌∙◌, subst, true≢false}
+use Rattle.std.proofs.lemmas.Bool.{and_parts}
 use Rattle.vtl_cell.specs.declared.kind.Kind.{Kind}
-use Rattle.vtl_cell.proofs.Rows.{split_and}
 use Rattle.vtl_lists.proofs.Sorts.{AllByRecursion-filter}
+use Rattle.vtl_lists.proofs.Alls.{all_filtered, all_more}
 use Rattle.vtl_tree.specs.Choices.{is_identifier}
 use Rattle.vtl_tree.specs.Columns.{identifiers_of, measures_of, place_of}
 use Rattle.vtl_tree.specs.Names.{component_of}
@@ -17,7 +18,7 @@ use Rattle.vtl_tuples.proofs.Lists.{map-map, map_same}
 use Rattle.vtl_meaning.specs.Made.{AreAmong, IsColumnAt, IsCombined}
 use Rattle.vtl_meaning.proofs.Determined.{same_shape}
 use Rattle.vtl_meaning.proofs.FoundColumns.{all-found, at-found, name-found}
-use Rattle.vtl_meaning.proofs.Places.{all_filtered, all_more, all_of_map, place_later, same_name-is}
+use Rattle.vtl_meaning.proofs.Places.{all_of_map, place_later, same_name-is}
 use Rattle.vtl_meaning_laws.proofs.Combined.{combined_identifiers, combined_measures}
 
 -- ---- lists of codes
@@ -29,7 +30,7 @@ names_are [] [] e = refl
 names_are [] (d ∷ ds) e = absurd (true≢false (sym e))
 names_are (c ∷ cs) [] e = absurd (true≢false (sym e))
 names_are (c ∷ cs) (d ∷ ds) e =
-    let parts = split_and (same_name c d) (pointwise same_name cs ds) e in
+    let parts = and_parts (same_name c d) (pointwise same_name cs ds) e in
     ap (λ x. x ∷ cs) (same_name-is c d parts.0) ∙ ap (λ l. d ∷ l) (names_are cs ds parts.1)
 
 codes_are : (x y : Codes) → same_codes x y ≡ true → x ≡ y

@@ -2,6 +2,9 @@
 use Rattle.std.specs.List.{AllByRecursion, filter}
 use Rattle.std.proofs.Common.{◌≡◌, ℕ, suc, ◌≤◌, Bool, true, false, not, cond, List, [], ◌∷◌, ◌++◌, length, map, Some, None, refl, sym, ap, ◌∙◌, arith, true≢false}
 use Rattle.std.proofs.lemmas.List.Elements.{filter-append}
+use Rattle.vtl_lists.proofs.Alls.{all_append, all_filtered, all_more}
+use Rattle.vtl_lists.proofs.Sorts.{AllByRecursion-map}
+use Rattle.vtl_lists.proofs.Filters.{filter_no_more, filter_swap}
 use Rattle.vtl_decimal.specs.Settings.{Settings}
 use Rattle.vtl_syntax.specs.declared.word_groups.JoinKind.{JoinKind}
 use Rattle.vtl_syntax.specs.declared.word_groups.JoinKind.TheVariants as join
@@ -27,37 +30,18 @@ use Rattle.vtl_tuples.proofs.Lists.{filter-map}
 use Rattle.vtl_meaning.specs.Made.{IsCalculated, IsFiltered, IsLeft, IsSub}
 use Rattle.vtl_meaning.specs.Operators.{target_named}
 use Rattle.vtl_meaning.specs.Shapes.{IsChosen, IsJoinedFrom, IsRenamedBy, target_of}
-use Rattle.vtl_meaning.proofs.Places.{all_append, all_filtered, all_map, all_more, length-names}
+use Rattle.vtl_meaning.proofs.Places.{length-names}
 use Rattle.vtl_meaning_laws.proofs.KeptCodes.{AreIdentifiers, AreOthers, agreed_ones, front}
 
 -- ---- items that pass
-no_more : {X : Type 0} (p : X → Bool) (xs : List X) → length (filter p xs) ≤ length xs
-no_more p [] = omega arith
-no_more p (x ∷ xs) = go (p x) (no_more p xs)
-  where
-    go : (b : Bool) → length (filter p xs) ≤ length xs → length (cond b (x ∷ filter p xs) (filter p xs)) ≤ suc (length xs)
-    go true h = omega (arith, h)
-    go false h = omega (arith, h)
-
 -- where as many pass as there are, all do
 all_pass : {X : Type 0} (p : X → Bool) (xs : List X) → length (filter p xs) ≡ length xs → filter p xs ≡ xs
 all_pass p [] e = refl
-all_pass p (x ∷ xs) e = go (p x) e (no_more p xs) (all_pass p xs)
+all_pass p (x ∷ xs) e = go (p x) e (filter_no_more p xs) (all_pass p xs)
   where
     go : (b : Bool) → length (cond b (x ∷ filter p xs) (filter p xs)) ≡ suc (length xs) → length (filter p xs) ≤ length xs → (length (filter p xs) ≡ length xs → filter p xs ≡ xs) → cond b (x ∷ filter p xs) (filter p xs) ≡ x ∷ xs
     go true k h ih = ap (λ l. x ∷ l) (ih (omega (arith, k)))
     go false k h ih = let none : ⊥ = omega (arith, k, h) in absurd none
-
--- two tests one after the other, in either order
-turned : {X : Type 0} (p q : X → Bool) (xs : List X) → filter p (filter q xs) ≡ filter q (filter p xs)
-turned p q [] = refl
-turned p q (x ∷ xs) = go (p x) refl (q x) refl (turned p q xs)
-  where
-    go : (b : Bool) → p x ≡ b → (c : Bool) → q x ≡ c → filter p (filter q xs) ≡ filter q (filter p xs) → filter p (cond c (x ∷ filter q xs) (filter q xs)) ≡ filter q (cond b (x ∷ filter p xs) (filter p xs))
-    go true e true f ih = ap (λ b. cond b (x ∷ filter p (filter q xs)) (filter p (filter q xs))) e ∙ ap (λ l. x ∷ l) ih ∙ sym (ap (λ c. cond c (x ∷ filter q (filter p xs)) (filter q (filter p xs))) f)
-    go true e false f ih = ih ∙ sym (ap (λ c. cond c (x ∷ filter q (filter p xs)) (filter q (filter p xs))) f)
-    go false e true f ih = ap (λ b. cond b (x ∷ filter p (filter q xs)) (filter p (filter q xs))) e ∙ ih
-    go false e false f ih = ih
 
 -- ---- clauses
 pub filtered_identifiers : (p : Settings) (e : CompExp) (a s : Structure) → IsFiltered p e a s → identifiers_of s ≡ identifiers_of a
@@ -66,14 +50,14 @@ filtered_identifiers p e a s i = ap identifiers_of i.same
 -- some of the components, with as many identifiers
 pub left_identifiers : (w : Wanted) (c : Choice) (names : List (List ℕ)) (a s : Structure) → IsLeft a s → IsChosen w c names a s → identifiers_of s ≡ identifiers_of a
 left_identifiers w c names a s i h =
-    let some : identifiers_of s ≡ filter (is_chosen c names) (identifiers_of a) = ap (filter is_identifier) h.shape ∙ turned is_identifier (is_chosen c names) a.components in
+    let some : identifiers_of s ≡ filter (is_chosen c names) (identifiers_of a) = ap (filter is_identifier) h.shape ∙ filter_swap is_identifier (is_chosen c names) a.components in
     some ∙ all_pass (is_chosen c names) (identifiers_of a) (sym (ap length some) ∙ length-names (identifiers_of s) (identifiers_of a) i.identifiers.0)
 
 pub renamed_identifiers : (pairs : List Renaming) (a s : Structure) → IsRenamedBy pairs a s → identifiers_of s ≡ map (renamed pairs) (identifiers_of a)
 renamed_identifiers pairs a s i = ap (filter is_identifier) i ∙ filter-map is_identifier (renamed pairs) a.components
 
 pub sub_identifiers : (items : List SubItem) (a s : Structure) → IsSub items a s → identifiers_of s ≡ chosen choice.Drop (map (λ i. i.id) items) (identifiers_of a)
-sub_identifiers items a s i = ap (filter is_identifier) i.shape ∙ turned is_identifier (is_chosen choice.Drop (map (λ i. i.id) items)) a.components
+sub_identifiers items a s i = ap (filter is_identifier) i.shape ∙ filter_swap is_identifier (is_chosen choice.Drop (map (λ i. i.id) items)) a.components
 
 -- ---- `calc`
 no_target : (xs : List Component) (items : List ItemTree) (name : List ℕ) → target_named items name ≡ None → clauses.target_of name (map (target_of xs) items) ≡ None
@@ -136,13 +120,13 @@ calculated_identifiers p items a s i = parts ∙ same_ones (calculated ts) new a
 module _ (held : List (List ℕ)) where
   own_ones : (os : List Operand) → AreIdentifiers (all_own held true os)
   own_ones [] = tt
-  own_ones (o ∷ os) = all_append (λ x. is_identifier x ≡ true) (own held true o.alias o.structure.components) (all_own held true os) (all_map (joined held o.alias) (λ x. is_identifier x ≡ true) (filter (is_part true) o.structure.components) (all_filtered is_identifier o.structure.components)) (own_ones os)
+  own_ones (o ∷ os) = all_append (λ x. is_identifier x ≡ true) (own held true o.alias o.structure.components) (all_own held true os) (AllByRecursion-map (joined held o.alias) (λ x. is_identifier x ≡ true) (filter (is_part true) o.structure.components) (all_filtered is_identifier o.structure.components)) (own_ones os)
 
   own_others : (os : List Operand) → AreOthers (all_own held false os)
   own_others [] = tt
   own_others (o ∷ os) =
       all_append (λ x. is_identifier x ≡ false) (own held false o.alias o.structure.components) (all_own held false os)
-      (all_map (joined held o.alias) (λ x. is_identifier x ≡ false) (filter (is_part false) o.structure.components) (all_more (λ x. not (is_identifier x) ≡ true) (λ x. is_identifier x ≡ false) (λ x e. other (is_identifier x) e) (filter (is_part false) o.structure.components) (all_filtered (is_part false) o.structure.components)))
+      (AllByRecursion-map (joined held o.alias) (λ x. is_identifier x ≡ false) (filter (is_part false) o.structure.components) (all_more (λ x. not (is_identifier x) ≡ true) (λ x. is_identifier x ≡ false) (λ x e. other (is_identifier x) e) (filter (is_part false) o.structure.components) (all_filtered (is_part false) o.structure.components)))
       (own_others os)
     where
       other : (b : Bool) → not b ≡ true → b ≡ false

@@ -1,15 +1,18 @@
 -- The columns of a set operator's result.
-use Rattle.std.specs.List.{AllByRecursion, filter, list_all, position_or_len}
-use Rattle.std.proofs.Common.{◌≡◌, ℕ, zero, suc, Bool, true, false, cond, List, [], ◌∷◌, ◌++◌, map, refl, sym, ap, ◌∙◌, subst, None, arith}
+use Rattle.std.specs.List.{AllByRecursion, filter, position_or_len}
+use Rattle.std.proofs.Common.{◌≡◌, ℕ, zero, suc, Bool, true, false, List, [], ◌∷◌, ◌++◌, map, refl, sym, ap, ◌∙◌, subst, arith}
 use Rattle.std.proofs.lemmas.List.{append-nil, map-append}
 use Rattle.std.proofs.lemmas.List.Elements.{filter-append}
+use Rattle.vtl_lists.proofs.Alls.{all_filtered, all_more}
+use Rattle.vtl_lists.proofs.Sorts.{AllByRecursion-map}
+use Rattle.vtl_lists.proofs.Filters.{filter_all, filter_none}
 use Rattle.vtl_cell.specs.Row.{Row, column_of}
 use Rattle.vtl_cell.specs.declared.kind.Kind.{Kind}
 use Rattle.vtl_rows.specs.Tables.{cells_at}
 use Rattle.vtl_tree.specs.Choices.{is_identifier}
 use Rattle.vtl_tree.specs.Columns.{identifiers_of, measures_of, place_of, places_in}
 use Rattle.vtl_tree.specs.DataSet.{IsDataSet, is_point}
-use Rattle.vtl_tree.specs.Operands.{agreed, agreed_identifiers, is_coded_alike}
+use Rattle.vtl_tree.specs.Operands.{agreed, agreed_identifiers}
 use Rattle.vtl_tree.specs.Structure.{columns_of, names_of, same_name, same_role}
 use Rattle.vtl_tree.specs.declared.structure.Component.{Component}
 use Rattle.vtl_tree.specs.declared.structure.Role.{Role}
@@ -20,21 +23,13 @@ use Rattle.vtl_meaning.specs.Points.{with_points}
 use Rattle.vtl_meaning.specs.LookUps.{values_named}
 use Rattle.vtl_meaning.specs.Made.{AreAmong, IsColumnAt, IsCombined, component_kinds}
 use Rattle.vtl_meaning.proofs.AnalyticColumns.{measure_role}
-use Rattle.vtl_meaning.proofs.Places.{all_filtered, all_map, all_more, identifier_role, places_of_namesakes}
-use Rattle.vtl_meaning.proofs.SetsFolds.{each_own, filter_once, own_cells}
-use Rattle.vtl_meaning_laws.proofs.Twice.{none_left}
+use Rattle.vtl_meaning.proofs.Places.{identifier_role, places_of_namesakes}
+use Rattle.vtl_meaning.proofs.SetsFolds.{each_own, own_cells, agreed_role}
 
 -- ---- identifiers and measures
-agreed_role : (bs : List Structure) (x : Component) → (agreed bs x).role ≡ x.role
-agreed_role bs x = go (list_all (λ b. is_coded_alike x b.components) bs)
-  where
-    go : (b : Bool) → (cond b x (record x { codes = None })).role ≡ x.role
-    go true = refl
-    go false = refl
-
 pub agreed_roles : (r : Role) (bs : List Structure) (xs : List Component) → AllByRecursion (λ x. same_role x.role r ≡ same_role role.Identifier r) (agreed_identifiers bs xs)
 agreed_roles r bs xs =
-    all_map (agreed bs) (λ x. same_role x.role r ≡ same_role role.Identifier r) (filter is_identifier xs)
+    AllByRecursion-map (agreed bs) (λ x. same_role x.role r ≡ same_role role.Identifier r) (filter is_identifier xs)
     (all_more (λ x. is_identifier x ≡ true) (λ x. same_role (agreed bs x).role r ≡ same_role role.Identifier r) (λ x e. ap (λ t. same_role t r) (agreed_role bs x ∙ identifier_role x.role e)) (filter is_identifier xs) (all_filtered is_identifier xs))
 
 module _ (a : Structure) (bs : List Structure) (s : Structure) (i : IsCombined a bs s) where
@@ -42,16 +37,16 @@ module _ (a : Structure) (bs : List Structure) (s : Structure) (i : IsCombined a
   combined_identifiers =
       let p : Component → Bool = λ x. same_role x.role role.Identifier in
       let ids = agreed_identifiers bs a.components in
-      ap (filter p) i.shape ∙ filter-append p ids (measures_of a) ∙ ap (λ l. l ++ filter p (measures_of a)) (filter_once p ids (agreed_roles role.Identifier bs a.components))
-      ∙ ap (λ l. ids ++ l) (none_left p (measures_of a) (all_more (λ x. same_role x.role role.Measure ≡ true) (λ x. p x ≡ false) (λ x e. measure_role x.role e) (measures_of a) (all_filtered (λ x. same_role x.role role.Measure) a.components)))
+      ap (filter p) i.shape ∙ filter-append p ids (measures_of a) ∙ ap (λ l. l ++ filter p (measures_of a)) (filter_all p ids (agreed_roles role.Identifier bs a.components))
+      ∙ ap (λ l. ids ++ l) (filter_none p (measures_of a) (all_more (λ x. same_role x.role role.Measure ≡ true) (λ x. p x ≡ false) (λ x e. measure_role x.role e) (measures_of a) (all_filtered (λ x. same_role x.role role.Measure) a.components)))
       ∙ append-nil ids
 
   pub combined_measures : measures_of s ≡ measures_of a
   combined_measures =
       let p : Component → Bool = λ x. same_role x.role role.Measure in
       let ids = agreed_identifiers bs a.components in
-      ap (filter p) i.shape ∙ filter-append p ids (measures_of a) ∙ ap (λ l. l ++ filter p (measures_of a)) (none_left p ids (agreed_roles role.Measure bs a.components))
-      ∙ filter_once p (measures_of a) (all_filtered p a.components)
+      ap (filter p) i.shape ∙ filter-append p ids (measures_of a) ∙ ap (λ l. l ++ filter p (measures_of a)) (filter_none p ids (agreed_roles role.Measure bs a.components))
+      ∙ filter_all p (measures_of a) (all_filtered p a.components)
 
   pub combined_columns : names_of (columns_of s) ≡ names_of (identifiers_of a) ++ names_of (measures_of a)
   combined_columns =

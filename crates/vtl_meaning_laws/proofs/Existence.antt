@@ -6,6 +6,9 @@ use Rattle.std.proofs.Common.{◌≡◌, ℕ, Bool, true, false, not, ◌&&◌, 
 use Rattle.std.proofs.lemmas.List.{map-append}
 use Rattle.vtl_lists.specs.Perm.{Perm, chain}
 use Rattle.vtl_lists.proofs.Perms.{Perm-map, Perm-same}
+use Rattle.vtl_lists.proofs.Alls.{all_more}
+use Rattle.vtl_lists.proofs.Filters.{filter_true}
+use Rattle.vtl_lists.proofs.Sorts.{AllByRecursion-filter}
 use Rattle.vtl_cell.specs.Row.{Row}
 use Rattle.vtl_cell.specs.declared.cell.Cell.TheVariants as c
 use Rattle.vtl_rows.specs.Tables.{cells_at}
@@ -25,9 +28,7 @@ use Rattle.vtl_meaning.specs.Operators.{left_of}
 use Rattle.vtl_meaning.specs.Sets.{difference_of, existence_of, has_point, intersection_of, with_answer}
 use Rattle.vtl_meaning.proofs.JoinPartners.{beside_looked}
 use Rattle.vtl_meaning.proofs.Kept.{shown_split}
-use Rattle.vtl_meaning.proofs.Lists.{filtered}
-use Rattle.vtl_meaning.proofs.Places.{all_more, key_cells, key_for, key_of_joined, key_of_point, key_within, point_length}
-use Rattle.vtl_meaning.proofs.SetsKept.{filter_true}
+use Rattle.vtl_meaning.proofs.Places.{key_cells, key_for, key_of_joined, key_of_point, key_within, point_length}
 use Rattle.vtl_meaning.proofs.SetsLooks.{shown_look}
 use Rattle.vtl_meaning_laws.proofs.Combined.{among_same, named_same}
 use Rattle.vtl_meaning_laws.proofs.Twice.{parts_of_all}
@@ -104,7 +105,7 @@ module _ (d e : DataSet) (s : Structure) (i : IsCombined d.structure (e.structur
       (filter_same old new d.points (all_more IsOurs (λ r. old r ≡ new r) (λ r w. same (has_agreeing ours e r) ∙ ap test (same_answer r w)) d.points h.typed))
       ∙ map-map (take n) (with_answer ours e) left
       ∙ map_same (λ r. take n (with_answer ours e r)) (λ r. take n (shown_point r)) left
-      (all_more IsOurs (λ r. take n (with_answer ours e r) ≡ take n (shown_point r)) (λ r w. key_answered r w ∙ sym (key_shown r w)) left (filtered IsOurs new d.points h.typed))
+      (all_more IsOurs (λ r. take n (with_answer ours e r) ≡ take n (shown_point r)) (λ r w. key_answered r w ∙ sym (key_shown r w)) left (AllByRecursion-filter IsOurs new d.points h.typed))
       ∙ sym (map-map (take n) shown_point left)
       ∙ ap (map (take n)) (sym (filter-map (λ r. test (has_point n (left_of e s) r)) shown_point d.points))
 

@@ -10,6 +10,7 @@ use Rattle.vtl_lists.specs.Perm.{Perm, chain}
 use Rattle.vtl_lists.specs.Sorting.{Rises, le_by}
 use Rattle.vtl_lists.proofs.Perms.{AllByRecursion-Perm, Perm-from_IsPermutation}
 use Rattle.vtl_lists.proofs.Sorts.{Rises-sorted_by, sorted_is}
+use Rattle.vtl_lists.proofs.Alls.{all_append, all_more}
 use Rattle.vtl_cell.specs.Row.{Row}
 use Rattle.vtl_cell.specs.Sorted.{Key, by_keys, key_cmp, window_cmp}
 use Rattle.vtl_cell.proofs.Keys.{window_order}
@@ -20,7 +21,6 @@ use Rattle.vtl_tree.specs.declared.calls.Window.{Window}
 use Rattle.vtl_tree.specs.declared.structure.Component.{Component}
 use Rattle.vtl_meaning.specs.Windows.{identifier_places, key_in, keys_in, partition_of, stand_of}
 use Rattle.vtl_meaning.proofs.Partitions.{ordered_perm}
-use Rattle.vtl_meaning.proofs.Places.{all_append, all_more}
 use Rattle.vtl_meaning_laws.specs.Frames.{turned_key, turned_round}
 use Rattle.vtl_meaning_laws.proofs.Stands.{decided_whole}
 

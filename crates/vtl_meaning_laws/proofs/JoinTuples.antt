@@ -7,6 +7,9 @@ use Rattle.std.proofs.lemmas.List.Elements.{filter-append}
 use Rattle.std.proofs.lemmas.List.Folds.{list_any-append}
 use Rattle.vtl_lists.specs.Apart.{all_apart}
 use Rattle.vtl_lists.proofs.Aparts.{none_same}
+use Rattle.vtl_lists.proofs.Alls.{all_both, all_filtered, all_more}
+use Rattle.vtl_lists.proofs.Sorts.{AllByRecursion-map}
+use Rattle.vtl_lists.proofs.Filters.{filter_all, filter_none}
 use Rattle.vtl_cell.specs.Row.{Row, same_row}
 use Rattle.vtl_cell.proofs.Rows.{same_row-is, same_row-refl}
 use Rattle.vtl_syntax.specs.declared.word_groups.JoinKind.TheVariants as join
@@ -29,12 +32,9 @@ use Rattle.vtl_meaning.proofs.JoinGrows.{alike_rows, own_with}
 use Rattle.vtl_meaning.proofs.JoinKept.{apart_map}
 use Rattle.vtl_meaning.proofs.JoinLooks.{full_looked}
 use Rattle.vtl_meaning.proofs.JoinPartners.{beside_looked}
-use Rattle.vtl_meaning.proofs.Kept.{both_all}
-use Rattle.vtl_meaning.proofs.Places.{all_filtered, all_map, all_more, all_of_map, key_within}
-use Rattle.vtl_meaning.proofs.SetsFolds.{filter_once}
+use Rattle.vtl_meaning.proofs.Places.{all_of_map, key_within}
 use Rattle.vtl_meaning_laws.specs.Found.{AgreesWith, AreParts, HasValues, IsFullTuple, IsLeftTuple, begins_whole}
 use Rattle.vtl_meaning_laws.proofs.TupleLists.{any_contained, contained_any, contains_map, each_contained, found_is, item_has, none_found, one_is_found}
-use Rattle.vtl_meaning_laws.proofs.Twice.{none_left}
 
 -- ---- parts that are found
 parts_found : (IsPart : DataSet → Option Row → Type 0) (find_in : DataSet → Option Row) → ((d : DataSet) → IsPart d (find_in d)) → (ds : List DataSet) → AreParts IsPart ds (map (λ d. part_of d (find_in d)) ds)
@@ -75,7 +75,7 @@ module _ (r : DataSet) (ds : List DataSet) (h : AllByRecursion (IsWithin r.struc
   }
 
   pub left_are_tuples : AllByRecursion (IsLeftTuple r ds) (left_tuples r (r ∷ ds))
-  left_are_tuples = all_map beside (IsLeftTuple r ds) r.points (both_all (Contains r.points) (λ q. first_agreeing a r q ≡ Some q) (λ q. IsLeftTuple r ds (beside q)) left_tuple r.points (each_contained r.points) own)
+  left_are_tuples = AllByRecursion-map beside (IsLeftTuple r ds) r.points (all_both (Contains r.points) (λ q. first_agreeing a r q ≡ Some q) (λ q. IsLeftTuple r ds (beside q)) left_tuple r.points (each_contained r.points) own)
 
   pub left_has_all : (t : Tuple) → IsLeftTuple r ds t → Contains (left_tuples r (r ∷ ds)) t
   left_has_all t i =
@@ -143,7 +143,7 @@ module _ (r : DataSet) (ds : List DataSet) (h : AllByRecursion (IsWithin r.struc
   at k = tuple_at ids ds k
 
   pub full_are_tuples : AllByRecursion (IsFullTuple ids ds) (full_tuples r ds)
-  full_are_tuples = all_map at (IsFullTuple ids ds) (all_keys ids ds) (all_more (Contains (all_keys ids ds)) (λ k. IsFullTuple ids ds (at k)) one (all_keys ids ds) (each_contained (all_keys ids ds)))
+  full_are_tuples = AllByRecursion-map at (IsFullTuple ids ds) (all_keys ids ds) (all_more (Contains (all_keys ids ds)) (λ k. IsFullTuple ids ds (at k)) one (all_keys ids ds) (each_contained (all_keys ids ds)))
     where
       one : (k : Row) → Contains (all_keys ids ds) k → IsFullTuple ids ds (at k)
       one k c = record {
@@ -214,7 +214,7 @@ module _ (r : DataSet) (ds : List DataSet) (s : Structure) (j : IsJoined join.Fu
 
   -- the first operand has its own keys, and no other
   first_there : AllByRecursion (λ k. has_first k ≡ true) (keys_in those r)
-  first_there = all_map (values_in ours those) (λ k. has_first k ≡ true) r.points (all_more (λ q. point_with those r (values_in ours those q) ≡ Some q) (λ q. has_first (values_in ours those q) ≡ true) (λ q e. ap is_some e) r.points (own_with ours r h.0 w.0.within))
+  first_there = AllByRecursion-map (values_in ours those) (λ k. has_first k ≡ true) r.points (all_more (λ q. point_with those r (values_in ours those q) ≡ Some q) (λ q. has_first (values_in ours those q) ≡ true) (λ q e. ap is_some e) r.points (own_with ours r h.0 w.0.within))
 
   others_absent : (ks : List Row) → AllByRecursion (λ k. not (list_any (λ i. same_row i k) (keys_in those r)) ≡ true) ks → AllByRecursion (λ k. has_first k ≡ false) ks
   others_absent ks all = all_more (λ k. not (list_any (λ i. same_row i k) (keys_in those r)) ≡ true) (λ k. has_first k ≡ false) absent ks all
@@ -239,8 +239,8 @@ module _ (r : DataSet) (ds : List DataSet) (s : Structure) (j : IsJoined join.Fu
   left_is_part =
       filter-map begins_whole tuple (all_keys those (r ∷ ds)) ∙ ap (map tuple)
       (ap (filter has_first) first_keys ∙ filter-append has_first (keys_in those r) new_keys
-      ∙ ap (λ l. l ++ filter has_first new_keys) (filter_once has_first (keys_in those r) first_there)
-      ∙ ap (λ l. keys_in those r ++ l) (none_left has_first new_keys (others_absent new_keys (all_filtered (λ k. not (list_any (λ i. same_row i k) (keys_in those r))) (each_once same_row (flat_map (keys_in those) ds)))))
+      ∙ ap (λ l. l ++ filter has_first new_keys) (filter_all has_first (keys_in those r) first_there)
+      ∙ ap (λ l. keys_in those r ++ l) (filter_none has_first new_keys (others_absent new_keys (all_filtered (λ k. not (list_any (λ i. same_row i k) (keys_in those r))) (each_once same_row (flat_map (keys_in those) ds)))))
       ∙ append-nil (keys_in those r))
       ∙ map-map tuple (values_in ours those) r.points
       ∙ map_same (λ q. tuple (values_in ours those q)) (tuple_beside ours (r ∷ ds)) r.points (all_more (λ q. is_point (columns_of ours) q ≡ true) (λ q. tuple (values_in ours those q) ≡ tuple_beside ours (r ∷ ds) q) same_as_left r.points h.0.typed)

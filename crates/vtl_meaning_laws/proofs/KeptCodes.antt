@@ -3,6 +3,9 @@ use Rattle.std.specs.List.{AllByRecursion, filter, list_all}
 use Rattle.std.proofs.Common.{◌≡◌, ℕ, Bool, true, false, not, cond, ◌&&◌, List, [], ◌∷◌, ◌++◌, map, Option, Some, None, refl, sym, ap, ◌∙◌, append_assoc}
 use Rattle.std.proofs.lemmas.List.{append-nil}
 use Rattle.std.proofs.lemmas.List.Elements.{filter-append}
+use Rattle.vtl_lists.proofs.Alls.{all_append, all_each, all_filtered, all_more}
+use Rattle.vtl_lists.proofs.Sorts.{AllByRecursion-map}
+use Rattle.vtl_lists.proofs.Filters.{filter_all, filter_none}
 use Rattle.vtl_cell.specs.declared.operator.ScalarOp.{ScalarOp}
 use Rattle.vtl_decimal.specs.Settings.{Settings}
 use Rattle.vtl_tree.specs.Choices.{chosen, is_chosen, is_identifier}
@@ -25,10 +28,7 @@ use Rattle.vtl_meaning.specs.Made.{IsChoice, IsExistence, IsMeasured, IsPaired, 
 use Rattle.vtl_meaning.specs.Shapes.{given_between, given_of_two, outcome_of}
 use Rattle.vtl_meaning.specs.Turned.{codes_of, other_identifiers}
 use Rattle.vtl_meaning.proofs.AnalyticColumns.{measure_role}
-use Rattle.vtl_meaning.proofs.Places.{all_append, all_filtered, all_map, all_more, each}
-use Rattle.vtl_meaning.proofs.SetsFolds.{filter_once}
 use Rattle.vtl_meaning_laws.proofs.Combined.{agreed_roles}
-use Rattle.vtl_meaning_laws.proofs.Twice.{none_left}
 
 -- ---- identifiers before other components
 abbrev pub AreIdentifiers : List Component → Type 0
@@ -39,8 +39,8 @@ AreOthers xs = AllByRecursion (λ x. is_identifier x ≡ false) xs
 
 pub front : (s : Structure) (ids others : List Component) → s.components ≡ ids ++ others → AreIdentifiers ids → AreOthers others → identifiers_of s ≡ ids
 front s ids others e all none =
-    ap (filter is_identifier) e ∙ filter-append is_identifier ids others ∙ ap (λ l. l ++ filter is_identifier others) (filter_once is_identifier ids all)
-    ∙ ap (λ l. ids ++ l) (none_left is_identifier others none) ∙ append-nil ids
+    ap (filter is_identifier) e ∙ filter-append is_identifier ids others ∙ ap (λ l. l ++ filter is_identifier others) (filter_all is_identifier ids all)
+    ∙ ap (λ l. ids ++ l) (filter_none is_identifier others none) ∙ append-nil ids
 
 own : (a : Structure) → AreIdentifiers (identifiers_of a)
 own a = all_filtered is_identifier a.components
@@ -49,8 +49,8 @@ own_measures : (a : Structure) → AreOthers (measures_of a)
 own_measures a = all_more (λ x. same_role x.role role.Measure ≡ true) (λ x. is_identifier x ≡ false) (λ x e. measure_role x.role e) (measures_of a) (all_filtered (λ x. same_role x.role role.Measure) a.components)
 
 given : (o : Outcome) (f : Gives) (others : Option (List Component)) (xs : List Component) → AreOthers (given_measures o f others xs)
-given outcome.Each f others xs = all_map (given_measure f others) (λ x. is_identifier x ≡ false) (measures xs) (each (λ x. is_identifier (given_measure f others x) ≡ false) (λ x. refl) (measures xs))
-given outcome.All f others xs = all_map (given_measure f others) (λ x. is_identifier x ≡ false) (measures xs) (each (λ x. is_identifier (given_measure f others x) ≡ false) (λ x. refl) (measures xs))
+given outcome.Each f others xs = AllByRecursion-map (given_measure f others) (λ x. is_identifier x ≡ false) (measures xs) (all_each (λ x. is_identifier (given_measure f others x) ≡ false) (λ x. refl) (measures xs))
+given outcome.All f others xs = AllByRecursion-map (given_measure f others) (λ x. is_identifier x ≡ false) (measures xs) (all_each (λ x. is_identifier (given_measure f others x) ≡ false) (λ x. refl) (measures xs))
 given outcome.Truth f others xs = (refl, tt)
 given outcome.Count f others xs = (refl, tt)
 
@@ -86,7 +86,7 @@ pub pivoted_identifiers : (id m : List ℕ) (a s : Structure) → IsPivoted id m
 pivoted_identifiers id m a s i =
     let kind = kind_named m (columns_of a) in
     front s (other_identifiers id a) (map (code_measure kind) (codes_of id a)) i.shape (left_ones (id ∷ []) a.components)
-    (all_map (code_measure kind) (λ x. is_identifier x ≡ false) (codes_of id a) (each (λ t. is_identifier (code_measure kind t) ≡ false) (λ t. refl) (codes_of id a)))
+    (AllByRecursion-map (code_measure kind) (λ x. is_identifier x ≡ false) (codes_of id a) (all_each (λ t. is_identifier (code_measure kind t) ≡ false) (λ t. refl) (codes_of id a)))
 
 pub unpivoted_identifiers : (id m : List ℕ) (a s : Structure) → IsUnpivoted id m a s → identifiers_of s ≡ identifiers_of a ++ names_column id (measures_of a) ∷ []
 unpivoted_identifiers id m a s i =

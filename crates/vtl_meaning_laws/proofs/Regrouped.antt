@@ -3,6 +3,7 @@ use Rattle.std.specs.List.{AllByRecursion, filter, list_any}
 use Rattle.std.proofs.Common.{◌≡◌, ℕ, zero, suc, Bool, true, false, not, ◌||◌, List, [], ◌∷◌, ◌++◌, map, length, take, refl, sym, ap, ◌∙◌}
 use Rattle.std.proofs.lemmas.List.{append-nil, length-map, map-append}
 use Rattle.std.proofs.Math.Seq.{take-append_seam}
+use Rattle.vtl_lists.proofs.Alls.{all_append, all_more}
 use Rattle.vtl_cell.specs.Row.{Row, column_of, same_key, same_row}
 use Rattle.vtl_cell.specs.declared.kind.Kind.{Kind}
 use Rattle.vtl_cell.proofs.Rows.{same_row-is, same_row-refl}
@@ -26,7 +27,7 @@ use Rattle.vtl_meaning.proofs.JoinAgreements.{covers, values_agree}
 use Rattle.vtl_meaning.proofs.JoinKept.{once_hold}
 use Rattle.vtl_meaning.proofs.Kept.{shown_split}
 use Rattle.vtl_meaning.proofs.LookUps.{among_within, named_cells, parts_named}
-use Rattle.vtl_meaning.proofs.Places.{all_append, all_more, key_width_same, places_of_namesakes}
+use Rattle.vtl_meaning.proofs.Places.{key_width_same, places_of_namesakes}
 use Rattle.vtl_meaning.proofs.SetsFolds.{united_fold}
 use Rattle.vtl_meaning.proofs.SetsKept.{IsKeyed, alternative_tells, combined_is, difference_kept, first_shown, has_any, second_shown, symmetric_difference_kept}
 use Rattle.vtl_meaning_laws.proofs.Combined.{combined_columns, combined_measures, own_points}

@@ -11,6 +11,7 @@ use Rattle.std.proofs.lemmas.List.Sums.{length-filter}
 use Rattle.std.proofs.Math.ListN.{get_or-map}
 use Rattle.vtl_lists.specs.Perm.{Perm}
 use Rattle.vtl_lists.proofs.Perms.{AllByRecursion-Perm, Perm-map, Perm-sym}
+use Rattle.vtl_lists.proofs.Alls.{all_more}
 use Rattle.vtl_cell.specs.Frames.{frame_of, lag_of, lead_of}
 use Rattle.vtl_cell.specs.Groups.{group_value}
 use Rattle.vtl_cell.specs.Row.{Row, row_cmp, same_row}
@@ -30,7 +31,6 @@ use Rattle.vtl_tuples.proofs.Lists.{filter_same}
 use Rattle.vtl_meaning.specs.Groups.{places_named}
 use Rattle.vtl_meaning.specs.Windows.{bound_of, frame_in, identifier_places, keys_in, partition_of, point_cmp, seen, stand_of}
 use Rattle.vtl_meaning.proofs.Partitions.{count_by-Perm, ordered_perm}
-use Rattle.vtl_meaning.proofs.Places.{all_more}
 use Rattle.vtl_meaning.proofs.WindowPlaces.{places_are}
 use Rattle.vtl_meaning_laws.specs.Frames.{from_first_to_current, of_current_alone}
 use Rattle.vtl_meaning_laws.proofs.TupleLists.{contains_kept, each_contained, item_has}

@@ -4,13 +4,12 @@ use Rattle.std.specs.List.{AllByRecursion, Contains, filter, find, list_any}
 use Rattle.std.proofs.Common.{◌≡◌, zero, suc, Bool, true, false, cond, ◌||◌, List, [], ◌∷◌, map, Option, Some, None, refl, sym, ap, ◌∙◌, subst, arith, true≢false}
 use Rattle.std.proofs.lemmas.List.{length-map}
 use Rattle.std.proofs.Math.ListN.{get_or-map}
-use Rattle.vtl_meaning.proofs.GroupKinds.{all_at}
-use Rattle.vtl_meaning.proofs.Places.{all_more}
+use Rattle.vtl_lists.proofs.Alls.{all_get, all_more}
 use Rattle.vtl_meaning_laws.specs.Found.{IsOneThat}
 
 -- ---- items of a list
 pub item_has : {X : Type 0} (P : X → Type 0) (xs : List X) (x : X) → AllByRecursion P xs → Contains xs x → P x
-item_has P xs x all c = subst P c.2 (all_at P xs c.0 x c.1 all)
+item_has P xs x all c = subst P c.2 (all_get P xs c.0 x c.1 all)
 
 contains_later : {X : Type 0} (y : X) (xs : List X) (x : X) → Contains xs x → Contains (y ∷ xs) x
 contains_later y xs x c = (suc c.0, omega (arith, c.1), c.2)

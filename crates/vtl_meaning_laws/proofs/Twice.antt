@@ -1,10 +1,13 @@
 -- A data set with itself, and the parts of a data set.
 use Rattle.std.specs.List.{AllByRecursion, filter, list_any}
-use Rattle.std.proofs.Common.{◌≡◌, ℕ, Bool, true, false, not, cond, ◌&&◌, ◌||◌, List, [], ◌∷◌, ◌++◌, refl, ap, ◌∙◌, take}
+use Rattle.std.proofs.Common.{◌≡◌, ℕ, Bool, true, false, not, ◌&&◌, ◌||◌, List, [], ◌∷◌, ◌++◌, refl, ap, ◌∙◌, take}
 use Rattle.std.proofs.lemmas.List.{append-nil}
 use Rattle.std.proofs.lemmas.List.Sorted.{IsPermutation-filter_both}
+use Rattle.std.proofs.lemmas.Bool.{or_right}
 use Rattle.vtl_lists.specs.Perm.{Perm}
 use Rattle.vtl_lists.proofs.Perms.{Perm-from_IsPermutation, Perm-sym}
+use Rattle.vtl_lists.proofs.Alls.{all_more}
+use Rattle.vtl_lists.proofs.Filters.{filter_all, filter_none}
 use Rattle.vtl_cell.specs.Row.{Row, same_key}
 use Rattle.vtl_cell.proofs.Rows.{same_row-refl}
 use Rattle.vtl_tree.specs.DataSet.{Distinct, IsDataSet}
@@ -16,25 +19,15 @@ use Rattle.vtl_tuples.proofs.Onces.{once_already, once_more}
 use Rattle.vtl_meaning.specs.Made.{IsCombined}
 use Rattle.vtl_meaning.specs.Operators.{left_of}
 use Rattle.vtl_meaning.specs.Sets.{difference_of, has_point, intersected, intersection_of, reduced, symmetric_difference_of, union_of, united}
-use Rattle.vtl_meaning.proofs.Places.{all_more}
-use Rattle.vtl_meaning.proofs.SetsFolds.{filter_once}
 use Rattle.vtl_meaning.proofs.SetsKept.{first_shown, has_any}
 
 -- ---- each point among all
-or_more : (a b : Bool) → b ≡ true → (a || b) ≡ true
-or_more true b e = refl
-or_more false b e = e
-
 pub each_there : {X : Type 0} (same : X → X → Bool) → ((x : X) → same x x ≡ true) → (xs : List X) → AllByRecursion (λ x. list_any (λ y. same y x) xs ≡ true) xs
 each_there same self [] = tt
 each_there same self (x ∷ xs) = (
   ap (λ b. b || list_any (λ y. same y x) xs) (self x),
-  all_more (λ z. list_any (λ y. same y z) xs ≡ true) (λ z. list_any (λ y. same y z) (x ∷ xs) ≡ true) (λ z e. or_more (same x z) (list_any (λ y. same y z) xs) e) xs (each_there same self xs),
+  all_more (λ z. list_any (λ y. same y z) xs ≡ true) (λ z. list_any (λ y. same y z) (x ∷ xs) ≡ true) (λ z e. or_right (same x z) (list_any (λ y. same y z) xs) e) xs (each_there same self xs),
 )
-
-pub none_left : {X : Type 0} (p : X → Bool) (xs : List X) → AllByRecursion (λ x. p x ≡ false) xs → filter p xs ≡ []
-none_left p [] all = refl
-none_left p (x ∷ xs) all = ap (λ b. cond b (x ∷ filter p xs) (filter p xs)) all.0 ∙ none_left p xs all.1
 
 own_keys : (n : ℕ) (d : List Row) → AllByRecursion (λ r. list_any (λ q. same_key n q r) d ≡ true) d
 own_keys n d = each_there (same_key n) (λ r. same_row-refl (take n r)) d
@@ -48,14 +41,14 @@ united_twice n d apart =
     let same = same_key n in
     let new : Row → Bool = λ r. not (list_any (λ q. same q r) d) in
     ap (λ l. each_once same (d ++ l)) (append-nil d) ∙ once_more same d d ∙ ap (λ l. l ++ filter new l) (once_already same d apart)
-    ∙ ap (λ l. d ++ l) (none_left new d (all_more (λ r. list_any (λ q. same q r) d ≡ true) (λ r. new r ≡ false) (λ r e. ap not e) d (own_keys n d)))
+    ∙ ap (λ l. d ++ l) (filter_none new d (all_more (λ r. list_any (λ q. same q r) d ≡ true) (λ r. new r ≡ false) (λ r e. ap not e) d (own_keys n d)))
     ∙ append-nil d
 
 intersected_twice : (n : ℕ) (d : List Row) → intersected n d (d ∷ []) ≡ d
-intersected_twice n d = filter_once (λ r. has_point n d r && true) d (all_more (λ r. has_point n d r ≡ true) (λ r. (has_point n d r && true) ≡ true) (λ r e. ap (λ b. b && true) e) d (own_points n d))
+intersected_twice n d = filter_all (λ r. has_point n d r && true) d (all_more (λ r. has_point n d r ≡ true) (λ r. (has_point n d r && true) ≡ true) (λ r e. ap (λ b. b && true) e) d (own_points n d))
 
 reduced_twice : (n : ℕ) (d : List Row) → reduced n d d ≡ []
-reduced_twice n d = none_left (λ r. not (has_point n d r)) d (all_more (λ r. has_point n d r ≡ true) (λ r. not (has_point n d r) ≡ false) (λ r e. ap not e) d (own_points n d))
+reduced_twice n d = filter_none (λ r. not (has_point n d r)) d (all_more (λ r. has_point n d r ≡ true) (λ r. not (has_point n d r) ≡ false) (λ r e. ap not e) d (own_points n d))
 
 pub union_twice : (d : DataSet) (s : Structure) → IsCombined d.structure (d.structure ∷ []) s → IsDataSet d.structure d.points → union_of (d ∷ d ∷ []) s ≡ left_of d s
 union_twice d s i h = united_twice (key_width s) (left_of d s) (first_shown d d s i h h).distinct

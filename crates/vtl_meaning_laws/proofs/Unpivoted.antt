@@ -6,6 +6,9 @@ use Rattle.std.proofs.lemmas.List.{length-map, map-append}
 use Rattle.std.proofs.lemmas.List.Elements.{filter-append}
 use Rattle.vtl_lists.specs.Apart.{all_apart}
 use Rattle.vtl_lists.proofs.Aparts.{apart_parts, none_same}
+use Rattle.vtl_lists.proofs.Alls.{all_back, all_each, all_more}
+use Rattle.vtl_lists.proofs.Sorts.{AllByRecursion-map}
+use Rattle.vtl_lists.proofs.Filters.{filter_all, filter_none}
 use Rattle.vtl_cell.specs.Kinds.{is_null}
 use Rattle.vtl_cell.specs.Order.{same_cell}
 use Rattle.vtl_cell.specs.Row.{Row, column_of, same_row}
@@ -29,15 +32,12 @@ use Rattle.vtl_meaning.specs.LookUps.{value_named}
 use Rattle.vtl_meaning.specs.Made.{IsPivoted, IsUnpivoted}
 use Rattle.vtl_meaning.specs.Points.{with_points}
 use Rattle.vtl_meaning.specs.Turned.{coded_value, codes_of, is_coded, named_point, other_identifiers, pivot_of, pivoted_point, unpivot_of}
-use Rattle.vtl_meaning.proofs.AnalyticColumns.{columns_split}
 use Rattle.vtl_meaning.proofs.Looks.{look_key}
-use Rattle.vtl_meaning.proofs.Places.{all_back, all_map, all_more, each, place_here, place_later, same_name-is}
-use Rattle.vtl_meaning.proofs.SetsFolds.{filter_once}
+use Rattle.vtl_meaning.proofs.Places.{place_here, place_later, same_name-is, columns_split}
 use Rattle.vtl_meaning.proofs.TurnedKept.{pivot_kept}
 use Rattle.vtl_meaning.proofs.TurnedLooks.{pivot_look, unpivoted_look}
 use Rattle.vtl_meaning_laws.proofs.KeptCodes.{left_ones, pivoted_identifiers}
 use Rattle.vtl_meaning_laws.proofs.TupleLists.{none_found}
-use Rattle.vtl_meaning_laws.proofs.Twice.{none_left}
 use Rattle.vtl_meaning_laws.proofs.WholeGroups.{AreMeasures, others_behind}
 
 -- ---- values by name
@@ -98,7 +98,7 @@ module _ (id m name value : List ℕ) (d : DataSet) (s u : Structure) (i : IsPiv
   codes_are = map (code_measure kind) texts
 
   are_measures : AreMeasures codes_are
-  are_measures = all_map (code_measure kind) (λ x. same_role x.role role.Measure ≡ true) texts (each (λ t. same_role (code_measure kind t).role role.Measure ≡ true) (λ t. refl) texts)
+  are_measures = AllByRecursion-map (code_measure kind) (λ x. same_role x.role role.Measure ≡ true) texts (all_each (λ t. same_role (code_measure kind t).role role.Measure ≡ true) (λ t. refl) texts)
 
   columns_are : columns_of s ≡ ids ++ codes_are
   columns_are = columns_split s ∙ ap (λ l. l ++ others_of s) (pivoted_identifiers id m a s i) ∙ ap (λ l. ids ++ l) (others_behind s ids codes_are i.shape (left_ones (id ∷ []) a.components) are_measures)
@@ -107,8 +107,8 @@ module _ (id m name value : List ℕ) (d : DataSet) (s u : Structure) (i : IsPiv
   measures_are =
       let test : Component → Bool = λ x. same_role x.role role.Measure in
       ap (filter test) i.shape ∙ filter-append test ids codes_are
-      ∙ ap (λ l. l ++ filter test codes_are) (none_left test ids (all_more (λ x. is_identifier x ≡ true) (λ x. test x ≡ false) (λ x f. no_measure x.role f) ids (left_ones (id ∷ []) a.components)))
-      ∙ filter_once test codes_are are_measures
+      ∙ ap (λ l. l ++ filter test codes_are) (filter_none test ids (all_more (λ x. is_identifier x ≡ true) (λ x. test x ≡ false) (λ x f. no_measure x.role f) ids (left_ones (id ∷ []) a.components)))
+      ∙ filter_all test codes_are are_measures
     where
       no_measure : (r : Role) → same_role r role.Identifier ≡ true → same_role r role.Measure ≡ false
       no_measure role.Identifier f = refl
@@ -138,7 +138,7 @@ module _ (id m name value : List ℕ) (d : DataSet) (s u : Structure) (i : IsPiv
   value_is : length k ≡ length ids → value_named (columns_of s) point code ≡ made
   value_is e = ap (λ zs. value_named zs point code) columns_are ∙ value_past ids codes_are k (map (coded_value d id m k) texts) code e identifiers_differ ∙ value_of_code kind (coded_value d id m k) texts code there
 
-  -- a tuple of which there is a point has a cell for each of the other identifiers
+  -- a tuple of which there is a point has a cell for all_each of the other identifiers
   wide : (l : List Row) → list_any (λ r. same_row (values_in a ids r) k) l ≡ true → length k ≡ length ids
   wide [] e = absurd (true≢false (sym e))
   wide (r ∷ l) e = go (same_row (values_in a ids r) k) refl e (wide l)

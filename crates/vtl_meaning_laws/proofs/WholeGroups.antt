@@ -1,4 +1,4 @@
--- An aggregate of a data set over whole partitions has at each point the values of the point's group.
+-- An aggregate of a data set over whole partitions has at all_each point the values of the point's group.
 use Rattle.std.specs.Prelude.{IfOk, option_map, unwrap_or, if◌then◌else◌}
 use Rattle.std.specs.List.{AllByRecursion, filter, find, list_any}
 use Rattle.std.specs.Option.{option_map_or}
@@ -7,6 +7,9 @@ use Rattle.std.proofs.lemmas.List.{append-nil, map-append}
 use Rattle.std.proofs.lemmas.List.Elements.{filter-append}
 use Rattle.std.proofs.lemmas.Map.Views.{any-filter_same}
 use Rattle.std.proofs.Math.Seq.{drop-append_seam}
+use Rattle.vtl_lists.proofs.Alls.{all_each, all_filtered, all_more}
+use Rattle.vtl_lists.proofs.Sorts.{AllByRecursion-map}
+use Rattle.vtl_lists.proofs.Filters.{filter_all, filter_none, filter_true}
 use Rattle.vtl_cell.specs.Conversion.{as_kind}
 use Rattle.vtl_cell.specs.AggregateKinds.{aggregate_kind}
 use Rattle.vtl_cell.specs.Groups.{group_value}
@@ -52,18 +55,16 @@ use Rattle.vtl_meaning.specs.Groups.{keys_by, places_named, points_with}
 use Rattle.vtl_meaning.specs.Points.{cell_or_null}
 use Rattle.vtl_meaning.specs.Windows.{Stand, argument, call_value, op_value, seen, stand_of}
 use Rattle.vtl_meaning.proofs.Agreements.{found_by_key}
-use Rattle.vtl_meaning.proofs.AnalyticColumns.{columns_split, identifier_cells}
+use Rattle.vtl_meaning.proofs.AnalyticColumns.{identifier_cells}
 use Rattle.vtl_meaning.proofs.AnalyticLooks.{looked}
 use Rattle.vtl_meaning.proofs.GroupLooks.{looked as group_looked}
 use Rattle.vtl_meaning.proofs.GroupPoints.{found_key, point_is}
 use Rattle.vtl_meaning.proofs.JoinAgreements.{own_found}
-use Rattle.vtl_meaning.proofs.Places.{all_filtered, all_map, all_more, each, point_length}
-use Rattle.vtl_meaning.proofs.SetsFolds.{filter_once}
-use Rattle.vtl_meaning.proofs.SetsKept.{filter_true}
+use Rattle.vtl_meaning.proofs.Places.{point_length, columns_split}
 use Rattle.vtl_meaning.proofs.WindowPlaces.{whole_group}
 use Rattle.vtl_meaning_laws.specs.Overs.{by_groups, over_of, over_partitions, whole}
 use Rattle.vtl_meaning_laws.proofs.KeptCodes.{AreIdentifiers, left_ones}
-use Rattle.vtl_meaning_laws.proofs.Twice.{each_there, none_left}
+use Rattle.vtl_meaning_laws.proofs.Twice.{each_there}
 
 -- ---- the same aggregate, over a window and of a group
 pub record IsOver (f : AggKind) (o : AnalyticOp) : Type 0 where
@@ -143,10 +144,10 @@ others_behind s ids ms e all own =
     let m : Component → Bool = λ x. same_role x.role role.Measure in
     let a : Component → Bool = λ x. same_role x.role role.Attribute in
     ap (λ l. filter m l ++ filter a l) e
-    ∙ ap (λ l. l ++ filter a (ids ++ ms)) (filter-append m ids ms ∙ ap (λ l. l ++ filter m ms) (none_left m ids (all_more (λ x. is_identifier x ≡ true) (λ x. m x ≡ false) (λ x f. no_measure x.role f) ids all)) ∙ filter_once m ms own)
+    ∙ ap (λ l. l ++ filter a (ids ++ ms)) (filter-append m ids ms ∙ ap (λ l. l ++ filter m ms) (filter_none m ids (all_more (λ x. is_identifier x ≡ true) (λ x. m x ≡ false) (λ x f. no_measure x.role f) ids all)) ∙ filter_all m ms own)
     ∙ ap (λ l. ms ++ l)
-    (filter-append a ids ms ∙ ap (λ l. l ++ filter a ms) (none_left a ids (all_more (λ x. is_identifier x ≡ true) (λ x. a x ≡ false) (λ x f. no_attribute x.role f) ids all))
-    ∙ none_left a ms (all_more (λ x. m x ≡ true) (λ x. a x ≡ false) (λ x f. measure_alone x.role f) ms own))
+    (filter-append a ids ms ∙ ap (λ l. l ++ filter a ms) (filter_none a ids (all_more (λ x. is_identifier x ≡ true) (λ x. a x ≡ false) (λ x f. no_attribute x.role f) ids all))
+    ∙ filter_none a ms (all_more (λ x. m x ≡ true) (λ x. a x ≡ false) (λ x f. measure_alone x.role f) ms own))
     ∙ append-nil ms
   where
     no_measure : (r : Role) → same_role r role.Identifier ≡ true → same_role r role.Measure ≡ false
@@ -274,7 +275,7 @@ module _ (p : Settings) (f : AggKind) (o : AnalyticOp) (names : List (List ℕ))
   measures_alike = map_each (given_measure (of_measure o) None) (given_measure (by_measure f) None) (λ x. ap (made x.name role.Measure) (over.kinds x.kind)) (measures a.components) ∙ sym (over.made a.components)
 
   are_measures : AreMeasures windowed_measures
-  are_measures = all_map (given_measure (of_measure o) None) (λ x. same_role x.role role.Measure ≡ true) (measures a.components) (each (λ x. same_role (given_measure (of_measure o) None x).role role.Measure ≡ true) (λ x. refl) (measures a.components))
+  are_measures = AllByRecursion-map (given_measure (of_measure o) None) (λ x. same_role x.role role.Measure ≡ true) (measures a.components) (all_each (λ x. same_role (given_measure (of_measure o) None x).role role.Measure ≡ true) (λ x. refl) (measures a.components))
 
   windowed_others : others_of s ≡ windowed_measures
   windowed_others = others_behind s (chosen choice.Except [] a.components) windowed_measures i.shape (left_ones [] a.components) are_measures
@@ -331,8 +332,8 @@ module _ (p : Settings) (f : AggKind) (o : AnalyticOp) (names : List (List ℕ))
   own_look =
       let n = key_width a in
       all_more (λ r. find (λ q. same_key n q r) d.points ≡ Some r) (λ r. look n d.points (take n r) ≡ Some r)
-      (λ r e. sym (found_by_key n (take n) d.points (take n r) (each (λ q. take n q ≡ take n q) (λ q. refl) d.points)) ∙ e) d.points
-      (own_found (λ q. Unit {0}) (same_key n) (λ r q. same_key n q r) (λ q u. same_row-refl (take n q)) (λ q r u v e. e) d.points (each (λ q. Unit {0}) (λ q. tt) d.points) h.distinct)
+      (λ r e. sym (found_by_key n (take n) d.points (take n r) (all_each (λ q. take n q ≡ take n q) (λ q. refl) d.points)) ∙ e) d.points
+      (own_found (λ q. Unit {0}) (same_key n) (λ r q. same_key n q r) (λ q u. same_row-refl (take n q)) (λ q r u v e. e) d.points (all_each (λ q. Unit {0}) (λ q. tt) d.points) h.distinct)
 
   abbrev Beside : List Row → List Row → Row → Type 0
   Beside out groups r = look (key_width s) out (key_of a r) ≡ option_map (λ q. key_of a r ++ drop (key_width t) q) (look (key_width t) groups (key r))

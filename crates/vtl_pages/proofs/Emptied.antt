@@ -1,15 +1,10 @@
 -- Values are dropped block by block, from the last one on.
-use Rattle.std.proofs.Common.{◌≡◌, ℕ, zero, suc, ◌+◌, ◌-◌, ◌<◌, ◌≤◌, ◌⊎◌, inl, inr, min, List, [], ◌∷◌, ◌++◌, length, get_or, replicate, Option, None, refl, sym, ap, ◌∙◌, subst, arith, ext_get_or, length-append, get_or-append-add}
+use Rattle.std.proofs.Common.{◌≡◌, ℕ, zero, suc, ◌+◌, ◌-◌, ◌≤◌, inl, inr, min, List, [], ◌∷◌, ◌++◌, length, get_or, replicate, Option, None, refl, sym, ap, ◌∙◌, subst, arith, ext_get_or, length-append, get_or-append-add}
 use Rattle.std.proofs.lemmas.List.{get_or_append_left, get_or_past, length-replicate}
+use Rattle.std.proofs.lemmas.Bool.{cases_lt}
 use Rattle.vtl_pages.specs.Joined.{joined, HaveSizes}
 use Rattle.vtl_pages.specs.Places.{IsFilledTo}
 use Rattle.vtl_pages.proofs.Joins.{joined-append, sizes-front}
-
-pub below_or_from : (a b : ℕ) → (a < b) ⊎ (b ≤ a)
-below_or_from zero zero = inr (omega arith)
-below_or_from zero (suc b) = inl (omega arith)
-below_or_from (suc a) zero = inr (omega arith)
-below_or_from (suc a) (suc b) = elim (below_or_from a b) [ inl h ↦ inl (omega arith) | inr h ↦ inr (omega arith) ]
 
 pub get-none : (X : Type 0) (n i : ℕ) → let none : Option X = None in get_or (replicate n none) i none ≡ none
 get-none X zero i = refl
@@ -44,7 +39,7 @@ module _ {X : Type 0} where
       pub front_filled : IsFilledTo (joined bs) before
       front_filled = let front = front_room in record {
         full = λ i lt. let x = split.full i (omega arith) in (x.0, sym (get_or_append_left (joined bs) b None i (omega arith)) ∙ x.1);
-        free = λ i le. elim (below_or_from i (length (joined bs))) [
+        free = λ i le. elim (cases_lt i (length (joined bs))) [
           | inl low ↦ sym (get_or_append_left (joined bs) b None i low) ∙ split.free i (omega arith)
           | inr past ↦ get_or_past (joined bs) i None past
         ];

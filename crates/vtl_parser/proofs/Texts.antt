@@ -4,11 +4,10 @@ use Rattle.std.proofs.Math.Seq.{drop-append_seam}
 use Rattle.std.proofs.lemmas.List.{drop-map, take-append-drop, take_rest}
 use Rattle.vtl_grammar.proofs.AppendExpressions.{script-append}
 use Rattle.vtl_grammar.proofs.ScriptLemmas.{script_read-fault, script_read-sound, script_read-spells}
-use Rattle.vtl_grammar.proofs.UniqueLemmas.{fault_determined, spells_unique, whole_no_fault}
+use Rattle.vtl_grammar.proofs.UniqueLemmas.{fault_determined, spells_unique, whole_no_fault, kinds-length}
 use Rattle.vtl_grammar.specs.Faults.{SyntaxFault, WholeScript, byte_of, kinds}
 use Rattle.vtl_grammar.specs.Grammar.{Tokens, tokens_of}
 use Rattle.vtl_grammar.specs.ReadStatements.{script_read}
-use Rattle.read_parts.proofs.Turns.{kinds-length}
 use Rattle.vtl_lexer.proofs.LexedLemmas.{lexed-once}
 use Rattle.vtl_lexer.specs.declared.token.Token.{Token}
 use Rattle.vtl_parser.specs.Parsed.{IsFaulty, IsScript}

@@ -5,7 +5,8 @@ use Rattle.std.specs.List.{AllByRecursion, filter, flat_map}
 use Rattle.std.specs.Option.{option_to_list}
 use Rattle.vtl_lists.specs.Perm.{Perm, chain}
 use Rattle.vtl_lists.proofs.Perms.{Perm-same}
-use Rattle.vtl_lists.proofs.Sorts.{AllByRecursion-filter}
+use Rattle.vtl_lists.proofs.Sorts.{AllByRecursion-filter, AllByRecursion-map}
+use Rattle.vtl_lists.proofs.Alls.{all_append, all_both, all_filtered}
 use Rattle.vtl_cell.specs.Row.{Row}
 use Rattle.vtl_tree.specs.Columns.{has_identifier, identifiers_of}
 use Rattle.vtl_tree.specs.DataSet.{IsDataSet, is_point}
@@ -20,8 +21,7 @@ use Rattle.vtl_meaning.specs.Agreement.{agree_in, operand_point}
 use Rattle.vtl_meaning.specs.Points.{beside, paired, partner}
 use Rattle.vtl_meaning.proofs.Agreements.{common_of_contained, first_agreeing_is}
 use Rattle.vtl_meaning.proofs.JoinAgreements.{Covers, agree-from, agree-gives, agreeing_only}
-use Rattle.vtl_meaning.proofs.Kept.{both_all}
-use Rattle.vtl_meaning.proofs.Places.{all_append, all_filtered, all_map, same_name-is}
+use Rattle.vtl_meaning.proofs.Places.{same_name-is}
 use Rattle.vtl_readings.specs.Pairs.{PointPair, agreeing_pairs, two_points}
 
 -- ---- agreement
@@ -69,8 +69,8 @@ all_pairs two lead other G h typed theirs = go lead.points typed
     go [] all = tt
     go (x ∷ xs) all =
         all_append G (map (two x) (filter (test x) other.points)) (flat_map (λ z. map (two z) (filter (test z) other.points)) xs)
-        (all_map (two x) G (filter (test x) other.points)
-        (both_all (λ q. is_point (columns_of other.structure) q ≡ true) (λ q. test x q ≡ true) (λ q. G (two x q)) (λ q i e. h x q all.0 i e) (filter (test x) other.points)
+        (AllByRecursion-map (two x) G (filter (test x) other.points)
+        (all_both (λ q. is_point (columns_of other.structure) q ≡ true) (λ q. test x q ≡ true) (λ q. G (two x q)) (λ q i e. h x q all.0 i e) (filter (test x) other.points)
         (AllByRecursion-filter (λ q. is_point (columns_of other.structure) q ≡ true) (test x) other.points theirs) (all_filtered (test x) other.points)))
         (go xs all.1)
 

@@ -8,7 +8,6 @@ use Rattle.vtl_cell.specs.declared.cell.Cell.{Cell}
 use Rattle.vtl_meaning.specs.Faults.{is_fault}
 use Rattle.vtl_lists.specs.Perm.{Perm}
 use Rattle.vtl_tree.proofs.Faults.{faults_by-Perm, faults_by-append}
-use Rattle.vtl_meaning.proofs.Places.{each}
 use Rattle.vtl_readings.specs.Faults.{some_has, worst}
 
 -- the worse of two faults that are there or not
@@ -37,9 +36,6 @@ faults_flat f g (x ∷ xs) = faults_by-append f (g x) (flat_map g xs) ∙ ap (jo
 pub faults_same : {X : Type 0} (f g : X → Option Fault) (xs : List X) → AllByRecursion (λ x. f x ≡ g x) xs → faults_by f xs ≡ faults_by g xs
 faults_same f g [] all = refl
 faults_same f g (x ∷ xs) all = ap (λ o. join o (faults_by f xs)) all.0 ∙ ap (join (g x)) (faults_same f g xs all.1)
-
-pub faults_each : {X : Type 0} (f g : X → Option Fault) → ((x : X) → f x ≡ g x) → (xs : List X) → faults_by f xs ≡ faults_by g xs
-faults_each f g same xs = faults_same f g xs (each (λ x. f x ≡ g x) same xs)
 
 pub worst_respects : {ms ns : List (Outcome Cell)} → Perm ms ns → worst ms ≡ worst ns
 worst_respects {ms} {ns} q = worst_is ms ∙ faults_by-Perm fault_in q ∙ sym (worst_is ns)

@@ -20,9 +20,10 @@ use Rattle.vtl_meaning.specs.Aggregates.{Condition, Made, aggregate_of, conditio
 use Rattle.vtl_meaning.specs.Points.{cell_or_null}
 use Rattle.vtl_meaning.specs.Aggregates as keyed
 use Rattle.vtl_meaning.specs.Groups.{keys_by, places_named}
+use Rattle.vtl_rulings.proofs.Orders.{faults_each}
 use Rattle.vtl_readings.specs.Aggregates.{Group, aggregate_points, aggregates_at, condition_at, group_of, group_point, groups_of, kept_groups, values_asked}
 use Rattle.vtl_readings.specs.Faults.{worst}
-use Rattle.vtl_readings.proofs.Faults.{faults_each, faults_flat, faults_map, worst_is}
+use Rattle.vtl_readings.proofs.Faults.{faults_flat, faults_map, worst_is}
 
 -- ---- a condition that is not written is true at each group
 kept_same : (at : Condition) (having : Option CompExp) (key : Row) → is_true (option_map_or (λ e. at e key) having (Ok (c.Bool true))) ≡ is_kept at having key

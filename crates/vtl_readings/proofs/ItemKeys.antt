@@ -7,6 +7,7 @@ use Rattle.std.proofs.lemmas.List.{append-nil, length-map, take_all}
 use Rattle.vtl_lists.specs.Apart.{all_apart}
 use Rattle.vtl_lists.proofs.Aparts.{all_apart-filter}
 use Rattle.vtl_lists.proofs.Sorts.{AllByRecursion-filter}
+use Rattle.vtl_lists.proofs.Alls.{all_both, all_filtered}
 use Rattle.vtl_cell.specs.Order.{same_cell}
 use Rattle.vtl_cell.specs.Row.{Row, column_of, same_row}
 use Rattle.vtl_cell.specs.declared.cell.Cell.{Cell}
@@ -21,25 +22,20 @@ use Rattle.vtl_tree.specs.Names.{is_among}
 use Rattle.vtl_tree.specs.Structure.{IsStructure, columns_of, key_width, names_of, same_name}
 use Rattle.vtl_tree.specs.declared.structure.Component.{Component}
 use Rattle.vtl_tree.specs.declared.structure.Structure.{Structure}
+use Rattle.vtl_tree.proofs.NotNullLemmas.{same_itself}
 use Rattle.vtl_tuples.proofs.Lists.{map_same}
 use Rattle.vtl_meaning.specs.Agreement.{values_in}
 use Rattle.vtl_meaning.specs.LookUps.{value_named, values_named}
 use Rattle.vtl_meaning.specs.Made.{HasIdentifiers, IsColumnAt}
 use Rattle.vtl_meaning.specs.Turned.{is_coded, other_identifiers}
 use Rattle.vtl_meaning.proofs.JoinKept.{apart_map}
-use Rattle.vtl_meaning.proofs.Kept.{alike_cells, both_all}
+use Rattle.vtl_meaning.proofs.Kept.{alike_cells}
 use Rattle.vtl_meaning.proofs.LookUps.{named_cells}
-use Rattle.vtl_meaning.proofs.Places.{all_filtered, first_cells, identifiers_apart, key_cells, key_within, point_length, same_name-refl, same_name-sym}
+use Rattle.vtl_meaning.proofs.Places.{first_cells, identifiers_apart, key_cells, key_within, point_length, same_name-sym}
 use Rattle.vtl_meaning.proofs.TurnedKept.{others_are}
 use Rattle.vtl_meaning.proofs.TurnedOrders.{alike_others}
 use Rattle.vtl_rulings.specs.HierarchyChecks.{key_at, key_cell}
-
-each_same : (f g : Component → Cell) (ys : List Component) → map f ys ≡ map g ys → AllByRecursion (λ y. f y ≡ g y) ys
-each_same f g [] e = tt
-each_same f g (y ∷ ys) e =
-    let here : f y ≡ g y = cc in
-    let rest : map f ys ≡ map g ys = cc in
-    (here, each_same f g ys rest)
+use Rattle.vtl_rulings.proofs.HierarchyKeys.{each_same}
 
 column_there : (P : Component → Type 0) (place : ℕ) (name : List ℕ) (kind : Kind) (xs : List Component) → IsColumnAt place name kind xs → AllByRecursion P xs → (y : Component) × (y.name ≡ name) × P y
 column_there P place name kind [] at h = absurd at
@@ -85,7 +81,7 @@ module _ (id : List ℕ) (a : Structure) (w : IsStructure a) where
     pub item_read : IsColumnAt (place_of id ids) id k.Text ids → value_named (columns_of s) q id ≡ c.Text item
     item_read coded =
         let there = column_there (λ y. read y ≡ cell_at y) (place_of id ids) id k.Text ids coded all_read in
-        let is : same_name there.0.name id ≡ true = ap (λ l. same_name l id) there.1 ∙ same_name-refl id in
+        let is : same_name there.0.name id ≡ true = ap (λ l. same_name l id) there.1 ∙ same_itself id in
         ap (value_named (columns_of s) q) (sym there.1) ∙ there.2 ∙ ap (λ b. cond b (c.Text item) (value_named others row there.0.name)) is
 
     pub row_read : is_point others row ≡ true → values_in s others q ≡ row
@@ -94,7 +90,7 @@ module _ (id : List ℕ) (a : Structure) (w : IsStructure a) where
         let value : Component → Cell = λ y. value_named others row y.name in
         let all = subst (AllByRecursion Read) (sym others_is) (AllByRecursion-filter Read is_other ids all_read) in
         let passed = subst (AllByRecursion (λ y. is_other y ≡ true)) (sym others_is) (all_filtered is_other ids) in
-        let cells = both_all (λ y. is_other y ≡ true) Read (λ y. read y ≡ value y) (λ y f g. g ∙ ap (λ b. cond b (c.Text item) (value y)) (same_name-sym y.name id ∙ other_name (same_name id y.name) f)) others passed all in
+        let cells = all_both (λ y. is_other y ≡ true) Read (λ y. read y ≡ value y) (λ y f g. g ∙ ap (λ b. cond b (c.Text item) (value y)) (same_name-sym y.name id ∙ other_name (same_name id y.name) f)) others passed all in
         map_same read value others cells ∙ whole row t
 
   -- the operand's point of an item at a combination

@@ -4,6 +4,7 @@ use Rattle.std.specs.Prelude.{option_map}
 use Rattle.std.specs.List.{AllByRecursion, Contains, filter_map}
 use Rattle.std.specs.Option.{option_to_list}
 use Rattle.std.proofs.lemmas.List.Elements.{All-contains_itself, recursion_from_All}
+use Rattle.vtl_lists.proofs.Alls.{all_both, all_filtered, all_flat_map, all_more}
 use Rattle.vtl_decimal.specs.Settings.{Settings}
 use Rattle.vtl_cell.specs.Outcome.{Outcome, faults_by}
 use Rattle.vtl_cell.specs.Row.{Row}
@@ -20,9 +21,9 @@ use Rattle.vtl_tree.specs.Structure.{key_width}
 use Rattle.vtl_tree.specs.declared.structure.Structure.{Structure}
 use Rattle.vtl_meaning.specs.Points.{cell_or_null, with_points}
 use Rattle.vtl_meaning.specs.Turned.{other_identifiers}
-use Rattle.vtl_meaning.proofs.Kept.{both_all, unless_ok}
-use Rattle.vtl_meaning.proofs.Places.{all_filtered, all_more, key_for, key_of_joined, point_length}
-use Rattle.vtl_meaning.proofs.TurnedKept.{all_drawn, filter_map_drawn}
+use Rattle.vtl_meaning.proofs.Kept.{unless_ok}
+use Rattle.vtl_meaning.proofs.Places.{key_for, key_of_joined, point_length}
+use Rattle.vtl_meaning.proofs.TurnedKept.{filter_map_drawn}
 use Rattle.vtl_rulings.specs.Hierarchies.{hierarchy_of, made_at, made_fault, made_point, made_points}
 use Rattle.vtl_rulings.specs.HierarchyChecks.{Ruled, combinations, key_at}
 use Rattle.vtl_rulings.specs.HierarchyShapes.{IsHierarchyMade}
@@ -51,10 +52,10 @@ module _ (h : Ruled) (rules : List HierRule) (a : Structure) (d : List Row) (set
   IsRule r = Contains equations r × (is_equation r ≡ true)
 
   pub are_rows : AllByRecursion IsRow all_rows
-  are_rows = both_all (Contains all_rows) (λ row. is_point (other_identifiers h.id a) row ≡ true) IsRow (λ row f g. (f, g)) all_rows (contained all_rows) (combinations_typed h.id a d set)
+  are_rows = all_both (Contains all_rows) (λ row. is_point (other_identifiers h.id a) row ≡ true) IsRow (λ row f g. (f, g)) all_rows (contained all_rows) (combinations_typed h.id a d set)
 
   pub are_rules : AllByRecursion IsRule equations
-  are_rules = both_all (Contains equations) (λ r. is_equation r ≡ true) IsRule (λ r f g. (f, g)) equations (contained equations) (all_filtered is_equation rules)
+  are_rules = all_both (Contains equations) (λ r. is_equation r ≡ true) IsRule (λ r f g. (f, g)) equations (contained equations) (all_filtered is_equation rules)
 
   module _ (p : Settings) (m : Mode) (i : HierInput) where
     abbrev point_at : HierRule → Row → Option Row
@@ -63,9 +64,9 @@ module _ (h : Ruled) (rules : List HierRule) (a : Structure) (d : List Row) (set
     -- what holds of what each rule makes at each combination holds of all
     pub made_hold : (P : Row → Type 0) → ((r : HierRule) (row : Row) → IsRule r → IsRow row → AllByRecursion P (option_to_list (point_at r row))) → AllByRecursion P (made_points p h m i rules operand)
     made_hold P f =
-        all_drawn P (λ r. filter_map (point_at r) all_rows) equations
+        all_flat_map P (λ r. filter_map (point_at r) all_rows) equations
         (all_more IsRule (λ r. AllByRecursion P (filter_map (point_at r) all_rows))
-        (λ r g. subst (AllByRecursion P) (sym (filter_map_drawn (point_at r) all_rows)) (all_drawn P (λ row. option_to_list (point_at r row)) all_rows (all_more IsRow (λ row. AllByRecursion P (option_to_list (point_at r row))) (λ row t. f r row g t) all_rows are_rows)))
+        (λ r g. subst (AllByRecursion P) (sym (filter_map_drawn (point_at r) all_rows)) (all_flat_map P (λ row. option_to_list (point_at r row)) all_rows (all_more IsRow (λ row. AllByRecursion P (option_to_list (point_at r row))) (λ row t. f r row g t) all_rows are_rows)))
         equations are_rules)
 
   module _ (s : Structure) (is : IsHierarchyMade h rules a s) where

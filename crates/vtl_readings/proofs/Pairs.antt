@@ -1,25 +1,22 @@
 -- An operator on two data sets at the pairs of points that agree is the one that walks over rows of two pieces.
-use Rattle.std.proofs.Common.{◌≡◌, ℕ, ◌+◌, ◌≤◌, inl, inr, Bool, true, false, cond, ◌||◌, List, [], ◌∷◌, ◌++◌, length, map, None, Some, Ok, Err, refl, sym, ap, ◌∙◌, subst, arith, true≢false}
+use Rattle.std.proofs.Common.{◌≡◌, ℕ, ◌+◌, Bool, true, false, cond, ◌||◌, List, [], ◌∷◌, ◌++◌, length, map, None, Ok, Err, refl, sym, ap, ◌∙◌, subst, true≢false}
 use Rattle.std.specs.List.{AllByRecursion, flat_map, zip}
-use Rattle.std.specs.Option.{option_map_or}
-use Rattle.std.proofs.lemmas.Bool.{cases_lt}
-use Rattle.std.proofs.lemmas.List.{get_or-append-add, get_or_append_left, get_or_past, length-map, map-append}
+use Rattle.std.proofs.lemmas.List.{length-map, map-append}
 use Rattle.vtl_decimal.specs.Settings.{Settings}
 use Rattle.vtl_lists.proofs.Perms.{Perm-flat_map, Perm-map, Perm-refl}
+use Rattle.vtl_lists.proofs.Sorts.{AllByRecursion-map}
+use Rattle.vtl_lists.proofs.Alls.{all_more}
 use Rattle.vtl_cell.specs.Outcome.{Outcome, fault_in, faults_by, join, unless}
 use Rattle.vtl_cell.specs.Outcomes.{Same, result_of}
 use Rattle.vtl_cell.specs.Row.{Row, column_of}
 use Rattle.vtl_cell.specs.declared.cell.Cell.{Cell}
-use Rattle.vtl_cell.specs.declared.cell.Cell.TheVariants as c
-use Rattle.vtl_cell.specs.declared.kind.Kind.TheVariants as k
 use Rattle.vtl_cell.specs.declared.operator.ScalarOp.{ScalarOp}
-use Rattle.vtl_tree.specs.Columns.{column_behind, column_named, columns_named, has_identifier, identifiers_of, kind_named, measures_of, others_of, place_of}
+use Rattle.vtl_tree.specs.Columns.{column_behind, column_named, columns_named, has_identifier, identifiers_of, measures_of, others_of, place_of}
 use Rattle.vtl_tree.specs.CompExp.{CompExp}
 use Rattle.vtl_tree.specs.DataSet.{IsDataSet, is_point}
 use Rattle.vtl_tree.specs.Environment.{DataSet}
-use Rattle.vtl_tree.specs.Names.{component_of}
 use Rattle.vtl_tree.specs.Pairs.{contains}
-use Rattle.vtl_tree.specs.Structure.{columns_of, same_name}
+use Rattle.vtl_tree.specs.Structure.{columns_of}
 use Rattle.vtl_tree.specs.Value.{called, value}
 use Rattle.vtl_tree.specs.declared.structure.Component.{Component}
 use Rattle.vtl_tree.specs.declared.structure.Structure.{Structure}
@@ -32,8 +29,8 @@ use Rattle.vtl_meaning.specs.Operators.{for_measures, pair_of, with_namesake}
 use Rattle.vtl_meaning.specs.Points.{cell_or_null, each_point, paired, point_fault, point_of}
 use Rattle.vtl_meaning.proofs.JoinAgreements.{agree-gives, own_names}
 use Rattle.vtl_meaning.proofs.Kept.{for_back}
-use Rattle.vtl_meaning.proofs.Places.{all_map, all_more, all_of_map, columns_split, place_here, place_later, point_append, point_length}
-use Rattle.vtl_meaning.proofs.ValueKinds.{IsOf, cell_is_of}
+use Rattle.vtl_meaning.proofs.Places.{all_of_map, columns_split}
+use Rattle.vtl_meaning.proofs.LookUps.{value_behind, value_in_front}
 use Rattle.vtl_readings.specs.Faults.{worst}
 use Rattle.vtl_readings.specs.Pairs.{PointPair, agreeing_pairs, at_pairs, identifier_at, pair_point, pair_points, two_points, values_at}
 use Rattle.vtl_readings.proofs.Agreeing.{all_pairs, pairs_by, rows_are, turned_pairs}
@@ -92,39 +89,6 @@ each_pair p o a b s es row pairs all = ap (λ f. unless f (map (point_of p es) (
         ∙ map_same (λ w. point_of p es (row w)) (pair_point p o a b s) pairs
         (all_more (Gives p o a b s es row) (λ w. point_of p es (row w) ≡ pair_point p o a b s w) (λ w e. point_is p es (row w) (ids w) (at w) e) pairs all)
 
--- ---- columns of a row of two pieces
-null_alone : (v : Cell) → IsOf k.Null v → v ≡ c.Null
-null_alone c.Null h = refl
-null_alone (c.Bool x) h = cc
-null_alone (c.Int x) h = cc
-null_alone (c.Num x) h = cc
-null_alone (c.Text x) h = cc
-null_alone (c.Day x) h = cc
-null_alone (c.Period x) h = cc
-
-kind_of_none : (name : List ℕ) (xs : List Component) → length xs ≤ place_of name xs → kind_named name xs ≡ k.Null
-kind_of_none name [] h = refl
-kind_of_none name (x ∷ xs) h = go (same_name x.name name) refl (kind_of_none name xs)
-  where
-    go : (b : Bool) → same_name x.name name ≡ b → (length xs ≤ place_of name xs → kind_named name xs ≡ k.Null) → option_map_or (λ z. z.kind) (cond b (Some x) (component_of name xs)) k.Null ≡ k.Null
-    go true e ih = let here = place_here name x xs e in absurd (omega (arith, here, h))
-    go false e ih = let later = place_later name x xs e in ih (omega (arith, later, h))
-
-in_front : (p : Settings) (xs ys : List Component) (r q : Row) (name : List ℕ) → is_point xs r ≡ true → is_point ys q ≡ true → IsTyped p (xs ++ ys) (column_named xs name) → column_of (place_of name xs) (r ++ q) ≡ value_named xs r name
-in_front p xs ys r q name h g i =
-    let len = point_length xs r h in
-    elim (cases_lt (place_of name xs) (length xs)) [
-      | inl less ↦ get_or_append_left r q c.Null (place_of name xs) (omega (arith, less, len))
-      | inr past ↦
-          let kind = kind_of_none name xs past in
-          let typed : IsOf (kind_named name xs) (column_of (place_of name xs) (r ++ q)) = cell_is_of (place_of name xs) name (kind_named name xs) (xs ++ ys) (r ++ q) i (point_append xs ys r q h g) in
-          null_alone (column_of (place_of name xs) (r ++ q)) (subst (λ z. IsOf z (column_of (place_of name xs) (r ++ q))) kind typed)
-          ∙ sym (get_or_past r (place_of name xs) c.Null (omega (arith, past, len)))
-    ]
-
-behind : (xs ys : List Component) (r q : Row) (name : List ℕ) → is_point xs r ≡ true → column_of (length xs + place_of name ys) (r ++ q) ≡ value_named ys q name
-behind xs ys r q name h = ap (λ n. column_of (n + place_of name ys) (r ++ q)) (sym (point_length xs r h)) ∙ get_or-append-add r q (place_of name ys) c.Null
-
 -- ---- the values at a pair
 -- the operator on namesakes, whose columns have these values at a row
 namesakes : (p : Settings) (o : ScalarOp) (xs : List Component) (left right : List ℕ → CompExp) (x : Row) (l r : List ℕ → Cell)
@@ -153,7 +117,7 @@ leading p xs leads rest r has at h (i ∷ ids) (z ∷ zs) all f =
 led : (lead s : Structure) → HasIdentifiers s (identifiers_of lead) → AllByRecursion (λ i. has_identifier lead i.name ≡ true) (identifiers_of s)
 led lead s h =
     all_of_map (λ i. i.name) (λ n. has_identifier lead n ≡ true) (identifiers_of s)
-    (subst (λ names. AllByRecursion (λ n. has_identifier lead n ≡ true) names) (sym h.0) (all_map (λ i. i.name) (λ n. has_identifier lead n ≡ true) (identifiers_of lead) (own_names lead)))
+    (subst (λ names. AllByRecursion (λ n. has_identifier lead n ≡ true) names) (sym h.0) (AllByRecursion-map (λ i. i.name) (λ n. has_identifier lead n ≡ true) (identifiers_of lead) (own_names lead)))
 
 -- identifiers and values at a row of two pieces
 side : (p : Settings) (o : ScalarOp) (a b s lead other : Structure) (left right : List ℕ → CompExp) (x q : Row) (w : PointPair) → HasIdentifiers s (identifiers_of lead)
@@ -205,8 +169,8 @@ module _ (p : Settings) (o : ScalarOp) (a b : DataSet) (s : Structure) (i : IsPa
       at : (x q : Row) → is_point Ours x ≡ true → is_point Theirs q ≡ true → agree_in a.structure b.structure x q ≡ true → Gives p o a.structure b.structure s First (λ w. w.left ++ w.right) (two_points x q)
       at x q u v e =
           side p o a.structure b.structure s a.structure b.structure (column_named Ours) (column_behind (length Ours) Theirs) x q (two_points x q) ids typed
-          (λ n has f. in_front p Ours Theirs x q n.name u v f ∙ sym (ap (λ z. cond z (value_named Ours x n.name) (value_named Theirs q n.name)) has))
-          (λ n f. ap Ok (in_front p Ours Theirs x q n u v f)) (λ n f. ap Ok (behind Ours Theirs x q n u))
+          (λ n has f. value_in_front p Ours Theirs x q n.name u v f ∙ sym (ap (λ z. cond z (value_named Ours x n.name) (value_named Theirs q n.name)) has))
+          (λ n f. ap Ok (value_in_front p Ours Theirs x q n u v f)) (λ n f. ap Ok (value_behind Ours Theirs x q n u))
 
   second : contains a.structure b.structure ≡ false → pair_of p o a b s ≡ at_pairs p o a.structure b.structure s (pairs_by (λ y x. two_points x y) b a)
   second t =
@@ -232,8 +196,8 @@ module _ (p : Settings) (o : ScalarOp) (a b : DataSet) (s : Structure) (i : IsPa
       at : (y x : Row) → is_point Theirs y ≡ true → is_point Ours x ≡ true → agree_in b.structure a.structure y x ≡ true → Gives p o a.structure b.structure s Second (λ w. w.right ++ w.left) (two_points x y)
       at y x u v e =
           side p o a.structure b.structure s b.structure a.structure (column_behind (length Theirs) Ours) (column_named Theirs) y x (two_points x y) ids typed
-          (λ n has f. in_front p Theirs Ours y x n.name u v f ∙ agreed y x n.name e has (has_identifier a.structure n.name) refl)
-          (λ n f. ap Ok (behind Theirs Ours y x n u)) (λ n f. ap Ok (in_front p Theirs Ours y x n u v f))
+          (λ n has f. value_in_front p Theirs Ours y x n.name u v f ∙ agreed y x n.name e has (has_identifier a.structure n.name) refl)
+          (λ n f. ap Ok (value_behind Theirs Ours y x n u)) (λ n f. ap Ok (value_in_front p Theirs Ours y x n u v f))
 
   up_to_order : Same (pair_points p o a b s) (at_pairs p o a.structure b.structure s (pairs_by (λ y x. two_points x y) b a))
   up_to_order =

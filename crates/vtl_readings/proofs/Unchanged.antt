@@ -7,7 +7,7 @@ use Rattle.std.proofs.lemmas.Bool.{and_parts}
 use Rattle.std.proofs.lemmas.List.Elements.{All-from_recursion, filter-append}
 use Rattle.vtl_decimal.specs.Settings.{Settings}
 use Rattle.vtl_decimal.specs.declared.number.Fault.{Fault}
-use Rattle.vtl_lists.proofs.Aparts.{apart_parts}
+use Rattle.vtl_lists.proofs.Alls.{all_filtered, all_more}
 use Rattle.vtl_cell.specs.Order.{same_cell}
 use Rattle.vtl_cell.specs.Outcome.{Outcome, after, fault_in, faults_by, join, unless}
 use Rattle.vtl_cell.specs.Outcomes.{Same, result_of}
@@ -18,7 +18,6 @@ use Rattle.vtl_cell.specs.declared.kind.Kind.{Kind}
 use Rattle.vtl_cell.specs.declared.kind.Kind.TheVariants as k
 use Rattle.vtl_cell.specs.declared.operator.ScalarOp.TheVariants as op
 use Rattle.vtl_cell.proofs.Cells.{same_cell-is}
-use Rattle.vtl_cell.proofs.Rows.{same_row-refl}
 use Rattle.vtl_rows.specs.Tables.{cells_at}
 use Rattle.vtl_syntax.specs.declared.statements.HierRule.{HierRule}
 use Rattle.vtl_syntax.specs.declared.word_groups.Comparison.{Comparison}
@@ -28,7 +27,7 @@ use Rattle.vtl_syntax.specs.declared.word_groups.HierOut.TheVariants as out
 use Rattle.vtl_syntax.specs.declared.word_groups.Mode.TheVariants as mode
 use Rattle.vtl_tree.specs.Checks.{uncoded, without_codes}
 use Rattle.vtl_tree.specs.Columns.{identifiers_of, measures_of, others_of, places_in}
-use Rattle.vtl_tree.specs.DataSet.{Distinct, IsDataSet, is_point, look}
+use Rattle.vtl_tree.specs.DataSet.{IsDataSet, is_point, look}
 use Rattle.vtl_tree.specs.Environment.{DataSet}
 use Rattle.vtl_tree.specs.RuleItems.{definitions, is_equal, left_item, right_items}
 use Rattle.vtl_tree.specs.Structure.{columns_of, key_width, same_name, same_role}
@@ -45,12 +44,14 @@ use Rattle.vtl_meaning.specs.Points.{cell_or_null, with_points}
 use Rattle.vtl_meaning.specs.Sets.{united}
 use Rattle.vtl_meaning.specs.Turned.{is_coded}
 use Rattle.vtl_meaning.proofs.JoinParts.{found_is}
-use Rattle.vtl_meaning.proofs.Kept.{both_all, look_is, shown_split}
+use Rattle.vtl_meaning.proofs.Kept.{look_is, shown_split}
 use Rattle.vtl_meaning.proofs.Looks.{look_key}
-use Rattle.vtl_meaning.proofs.Places.{IsIdentifier, all_filtered, all_more, all_of_map, are_identifiers, identifier_role, key_cells, key_within}
+use Rattle.vtl_meaning.proofs.Places.{IsIdentifier, all_of_map, are_identifiers, identifier_role, key_cells, key_within}
 use Rattle.vtl_meaning.proofs.SetsKept.{shown_kept}
 use Rattle.vtl_meaning.proofs.SetsLooks.{united_look}
 use Rattle.vtl_meaning.proofs.ValueKinds.{IsOf}
+use Rattle.vtl_meaning.proofs.JoinPartners.{all_pass}
+use Rattle.vtl_meaning.proofs.JoinLooks.{look_own}
 use Rattle.vtl_rulings.specs.Hierarchies.{computed, defines, hierarchy_of, items_of, items_within, made_at, made_fault, made_points, shown_points, taken}
 use Rattle.vtl_rulings.specs.HierarchyChecks.{Ruled, combinations, is_checked, items_at, key_at, only_name, ruled_by}
 use Rattle.vtl_rulings.specs.HierarchyShapes.{IsHierarchyMade, IsNumeric}
@@ -70,14 +71,6 @@ found_passes q (y ∷ ys) x e = go (q y) refl e (found_passes q ys x)
     go : (b : Bool) → q y ≡ b → cond b (Some y) (find q ys) ≡ Some x → (find q ys ≡ Some x → q x ≡ true) → q x ≡ true
     go true f g ih = let same : y ≡ x = cc in subst (λ z. q z ≡ true) same f
     go false f g ih = ih g
-
-own_look : (n : ℕ) (d : List Row) → Distinct n d → AllByRecursion (λ q. look n d (take n q) ≡ Some q) d
-own_look n [] apart = tt
-own_look n (x ∷ d) apart =
-    let parts = apart_parts (same_key n) x d apart in (
-      ap (λ b. cond b (Some x) (look n d (take n x))) (same_row-refl (take n x)),
-      both_all (λ y. same_key n x y ≡ false) (λ y. look n d (take n y) ≡ Some y) (λ y. look n (x ∷ d) (take n y) ≡ Some y) (λ y f g. ap (λ b. cond b (Some x) (look n d (take n y))) f ∙ g) d parts.0 (own_look n d parts.1),
-    )
 
 no_fault : {X : Type 0} (f : X → Option Fault) (xs : List X) → AllByRecursion (λ x. f x ≡ None) xs → faults_by f xs ≡ None
 no_fault f [] all = refl
@@ -102,16 +95,12 @@ no_measures id (x ∷ xs) all = ap (λ b. cond b (uncoded id x ∷ rest) rest) (
     uncoded_is true = is
     uncoded_is false = is
 
-filter_twice : (q : Component → Bool) (xs : List Component) → AllByRecursion (λ x. q x ≡ true) xs → filter q xs ≡ xs
-filter_twice q [] all = refl
-filter_twice q (x ∷ xs) all = ap (λ b. cond b (x ∷ filter q xs) (filter q xs)) all.0 ∙ ap (λ l. x ∷ l) (filter_twice q xs all.1)
-
 same_measures : (id : List ℕ) (a s : Structure) → s.components ≡ without_codes id (identifiers_of a) ++ measures_of a → measures_of s ≡ measures_of a
 same_measures id a s e =
     let is_measure : Component → Bool = λ x. same_role x.role role.Measure in
     ap (filter is_measure) e ∙ filter-append is_measure (without_codes id (identifiers_of a)) (measures_of a)
     ∙ ap (λ l. l ++ filter is_measure (measures_of a)) (no_measures id (identifiers_of a) (are_identifiers a))
-    ∙ filter_twice is_measure (measures_of a) (all_filtered is_measure a.components)
+    ∙ all_pass is_measure (measures_of a) (all_filtered is_measure a.components)
 
 only_one : (kind : Kind) (xs ys : List Component) → component_kinds (xs ++ ys) ≡ kind ∷ [] → component_kinds xs ≡ kind ∷ [] → xs ++ ys ≡ xs
 only_one kind [] ys e f = cc
@@ -225,7 +214,7 @@ module _ (p : Settings) (rules : HierRules) (a s : Structure) (d : List Row) (se
       ∙ ap (λ l. key_at h.id a row (left_item r) ++ l) (ap (λ ys. cells_at (places_in (columns_of a) ys) z) others_same ∙ only_cell (columns_of a) (measures_of a) h.kind z is.itemized.only)
 
   shown_there : (r : HierRule) (row z : Row) → find (is_item r row) d ≡ Some z → IsShown (show z)
-  shown_there r row z e = found_is (λ x. IsShown (show x)) (is_item r row) d z (all_of_map show IsShown d (own_look n left left_set.distinct)) e
+  shown_there r row z e = found_is (λ x. IsShown (show x)) (is_item r row) d z (all_of_map show IsShown d (look_own n left left_set.distinct)) e
 
   -- ---- one rule at one combination
   abbrev key : HierRule → Row → Row

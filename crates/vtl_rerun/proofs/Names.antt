@@ -5,6 +5,7 @@ use Rattle.std.specs.Map.{keys_of}
 use Rattle.std.specs.Cmp.Lexicographic.{bytes_decides, nat_list_eq_equiv}
 use Rattle.vtl_decimal.specs.Settings.{Settings}
 use Rattle.vtl_lists.specs.Apart.{all_apart}
+use Rattle.vtl_lists.proofs.Tests.{or_true}
 use Rattle.vtl_syntax.specs.Trees as tree
 use Rattle.vtl_syntax.specs.Trees.{ScriptTree}
 use Rattle.vtl_tree.specs.Structure.{same_name}
@@ -19,7 +20,6 @@ use Rattle.rerun_laws.specs.Refreshes.{numbers_before, numbers_of}
 use Rattle.check_laws.proofs.Scripts.{script-made}
 use Rattle.vtl_rerun.proofs.Numbers.{Rise, rise_from}
 use Rattle.vtl_rerun.proofs.Places.{AreNew}
-use Rattle.vtl_rerun.proofs.Results.{or_true}
 
 -- ---- numbers
 pub numbers_rise : (i : ℕ) (script : ScriptTree) → Rise i (numbers_of (transformations_from i script))

@@ -3,7 +3,7 @@ use Rattle.std.proofs.Common.{◌≡◌, ℕ, Bool, true, false, cond, not, ◌|
 use Rattle.std.specs.List.{list_any}
 use Rattle.std.specs.Map.{keys_of}
 use Rattle.std.specs.Cmp.Lexicographic.{bytes_decides}
-use Rattle.std.proofs.lemmas.Bool.{and_parts}
+use Rattle.std.proofs.lemmas.Bool.{and_parts, not-true, or_right}
 use Rattle.std.proofs.lemmas.List.{map-append}
 use Rattle.std.proofs.lemmas.List.Folds.{list_any-append}
 use Rattle.vtl_lists.specs.Apart.{all_apart}
@@ -28,25 +28,17 @@ each_named names (k ∷ ks) (s ∷ ss) (x ∷ xs) each = ap (λ n. n ∷ map (λ
 abbrev AreFree : List (List ℕ) → NamedTables → Type 0
 AreFree names tables = (q : List ℕ) → list_any (same_name q) names ≡ true → list_any (same_name q) (keys_of tables) ≡ false
 
-or_more : (b c : Bool) → c ≡ true → (b || c) ≡ true
-or_more true c h = refl
-or_more false c h = h
-
 free_fewer : (name : List ℕ) (names : List (List ℕ)) (tables : NamedTables) → AreFree (name ∷ names) tables → AreFree names tables
-free_fewer name names tables free q h = free q (or_more (same_name q name) (list_any (same_name q) names) h)
+free_fewer name names tables free q h = free q (or_right (same_name q name) (list_any (same_name q) names) h)
 
 free_more : (name : List ℕ) (names : List (List ℕ)) (t : Listed) (tables : NamedTables) → list_any (same_name name) names ≡ false → AreFree (name ∷ names) tables → AreFree names (tables ++ (name, t) ∷ [])
 free_more name names t tables apart free q h =
     ap (list_any (same_name q)) (map-append (λ (e : List ℕ × Listed). e.0) tables ((name, t) ∷ [])) ∙ list_any-append (same_name q) (keys_of tables) (name ∷ [])
-    ∙ ap (λ b. b || (same_name q name || false)) (free q (or_more (same_name q name) (list_any (same_name q) names) h)) ∙ go (same_name q name) refl
+    ∙ ap (λ b. b || (same_name q name || false)) (free q (or_right (same_name q name) (list_any (same_name q) names) h)) ∙ go (same_name q name) refl
   where
     go : (b : Bool) → same_name q name ≡ b → (same_name q name || false) ≡ false
     go true d = let k : true ≡ false = sym h ∙ ap (λ x. list_any (same_name x) names) ((bytes_decides q name).0 d) ∙ apart in cc
     go false d = ap (λ b. b || false) d
-
-not_true : (b : Bool) → not b ≡ true → b ≡ false
-not_true true h = cc
-not_true false h = refl
 
 written_step : (tables : NamedTables) (xs : List Part) (rs : List (Option Listed)) → all_apart same_name (map (λ x. x.name) xs) ≡ true → AreFree (map (λ x. x.name) xs) tables → written_behind tables xs rs ≡ tables ++ written_all xs rs
 written_step tables [] rs apart free = sym (append-nil tables)
@@ -55,7 +47,7 @@ written_step tables (x ∷ xs) (r ∷ rs) apart free =
     go (λ more f. written_step more xs rs (and_parts (not (list_any (same_name x.name) (map (λ x. x.name) xs))) (all_apart same_name (map (λ x. x.name) xs)) apart).1 f) r x.is_written refl
   where
     other : list_any (same_name x.name) (map (λ x. x.name) xs) ≡ false
-    other = not_true (list_any (same_name x.name) (map (λ x. x.name) xs)) (and_parts (not (list_any (same_name x.name) (map (λ x. x.name) xs))) (all_apart same_name (map (λ x. x.name) xs)) apart).0
+    other = not-true (list_any (same_name x.name) (map (λ x. x.name) xs)) (and_parts (not (list_any (same_name x.name) (map (λ x. x.name) xs))) (all_apart same_name (map (λ x. x.name) xs)) apart).0
 
     none : list_any (same_name x.name) (keys_of tables) ≡ false
     none = free x.name (ap (λ b. b || list_any (same_name x.name) (map (λ x. x.name) xs)) ((bytes_decides x.name x.name).1 refl))

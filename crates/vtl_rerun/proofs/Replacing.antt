@@ -23,7 +23,7 @@ use Rattle.rerun_laws.specs.Depends.{dependents, is_one}
 use Rattle.rerun_laws.specs.Refreshes.{fresh_without, numbers_of}
 use Rattle.rerun_laws.specs.Values.{values}
 use Rattle.rerun_laws.proofs.Changes.{changed_only}
-use Rattle.rerun_laws.proofs.InputsRead.{read_all}
+use Rattle.rerun_laws.proofs.InputsRead.{read_all, all_declared}
 use Rattle.vtl_rerun.specs.Kept.{IsInputOf, IsOfStructure}
 use Rattle.vtl_rerun.specs.Lost.{left_from}
 use Rattle.vtl_rerun.specs.Sessions.{AreKept, IsRunning, fresh_in}
@@ -57,10 +57,6 @@ set_here name (x ∷ tables) t some = go (set_here name tables t) (same_name nam
     go ih false d some = ap (λ c. cond c (Some x.1) (table_of name (set_value (same_name name) tables t))) d ∙ ih some
 
 -- ---- inputs with their declared structures
-all_declared : (declared : Named) (names : List (List ℕ)) → AllByRecursion (λ name. (s : Structure) → lookup (same_name name) declared ≡ Some s → lookup (same_name name) declared ≡ Some s) names
-all_declared declared [] = tt
-all_declared declared (name ∷ names) = (λ s e. e, all_declared declared names)
-
 inputs_declared : (t : TypedScript) → AllByRecursion (λ e. lookup (same_name e.0) t.declared ≡ Some e.1) (inputs_of t)
 inputs_declared t = read_all (λ e. lookup (same_name e.0) t.declared ≡ Some e.1) t.declared [] (names_of (nodes_of t)) tt (all_declared t.declared (names_of (nodes_of t)))
 

@@ -1,6 +1,7 @@
 -- Tables that are those of data sets.
 use Rattle.std.proofs.Common.{◌≡◌, ℕ, zero, suc, ◌<◌, Bool, true, false, ◌||◌, List, [], ◌∷◌, map, take, drop, length, set, slice_get, Option, None, Some, refl, sym, ap, ◌∙◌, subst, arith}
 use Rattle.std.specs.List.{list_any}
+use Rattle.vtl_lists.proofs.Tests.{or_true}
 use Rattle.vtl_cell.specs.Outcome.{Outcome}
 use Rattle.vtl_rows.specs.Tables.{Listed}
 use Rattle.vtl_tree.specs.Environment.{DataSet}
@@ -53,10 +54,6 @@ covers_behind name few names covers q h = go (same_name q name)
 covers_with : (s : Statement) (r : Option Listed) (few names : List (List ℕ)) → Covers few names → Covers (gone_with s.result r few) (gone_with s.result r names)
 covers_with s None few names covers = covers_more s.result few names covers
 covers_with s (Some t) few names covers = covers
-
-pub or_true : (b : Bool) → (b || true) ≡ true
-or_true true = refl
-or_true false = refl
 
 any_step : (a b c d : Bool) → (a ≡ true → b ≡ true) → (c ≡ true → d ≡ true) → (a || c) ≡ true → (b || d) ≡ true
 any_step true b c d f g h = ap (λ x. x || d) (f refl)

@@ -21,7 +21,7 @@ then_assoc Less q r = refl
 then_assoc Equal q r = refl
 then_assoc Greater q r = refl
 
-then_equal : (p : Ordering) → ordering_then p Equal ≡ p
+pub then_equal : (p : Ordering) → ordering_then p Equal ≡ p
 then_equal Less = refl
 then_equal Equal = refl
 then_equal Greater = refl

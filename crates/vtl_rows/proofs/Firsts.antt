@@ -1,19 +1,17 @@
 -- The first row that is the same as one before it.
 use Rattle.std.proofs.Common.{◌≡◌, ℕ, zero, suc, ◌+◌, ◌<◌, ◌≤◌, List, [], ◌∷◌, ◌++◌, Bool, true, false, not, ◌&&◌, ◌||◌, Option, Some, None, is_none, length, drop, take, arith, refl, sym, ap, ◌∙◌, true≢false}
-use Rattle.std.specs.List.{list_any, AllByRecursion}
+use Rattle.std.specs.List.{list_any}
 use Rattle.std.proofs.lemmas.List.{take_more, take_all, take-append-drop}
 use Rattle.std.proofs.lemmas.List.Folds.{list_any-append}
 use Rattle.vtl_lists.specs.Apart.{all_apart}
 use Rattle.vtl_lists.proofs.Aparts.{apart_parts, apart_more}
+use Rattle.vtl_lists.proofs.Alls.{all_front}
+use Rattle.vtl_lists.proofs.Tests.{or_true}
 use Rattle.vtl_cell.specs.Row.{Row}
 use Rattle.vtl_rows.specs.Keys.{IsFirstSame, FindsSame}
 use Rattle.vtl_rows.specs.Places.{row_at}
 
 -- ---- lists that are apart
-all_front : {X : Type 0} (P : X → Type 0) (xs ys : List X) → AllByRecursion P (xs ++ ys) → AllByRecursion P xs
-all_front P [] ys all = tt
-all_front P (x ∷ xs) ys all = (all.0, all_front P xs ys all.1)
-
 shuffle : (a b s c : Bool) → (not (a || (s || false)) && (b && not c)) ≡ ((not a && b) && not (s || c))
 shuffle true b s c = refl
 shuffle false true true c = refl
@@ -34,10 +32,6 @@ apart_front same (x ∷ xs) ys e =
     apart_more same x xs (all_front (λ y. same x y ≡ false) xs ys h.0) (apart_front same xs ys h.1)
 
 -- ---- the rows before a place
-or_true : (b : Bool) → (b || true) ≡ true
-or_true true = refl
-or_true false = refl
-
 none_among : (p : Row → Bool) (rows : List Row) (i : ℕ) → i ≤ length rows → ((j : ℕ) → j < i → p (row_at rows j) ≡ false) → list_any p (take i rows) ≡ false
 none_among p [] zero h none = refl
 none_among p [] (suc i) h none = absurd (omega (arith, h))

@@ -60,7 +60,7 @@ fits_both : (a b : Bool) → (a && b) ≡ true → b ≡ true
 fits_both true b e = e
 fits_both false b e = absurd (true≢false (sym e))
 
-fits_count : (kinds : List Kind) (row : Row) → fits_kinds kinds row ≡ true → length row ≡ length kinds
+pub fits_count : (kinds : List Kind) (row : Row) → fits_kinds kinds row ≡ true → length row ≡ length kinds
 fits_count [] [] e = refl
 fits_count [] (x ∷ xs) e = absurd (true≢false (sym e))
 fits_count (k ∷ ks) [] e = absurd (true≢false (sym e))

@@ -74,7 +74,7 @@ module _ {X : Type 0} (f : List X → Row) (w : ℕ) (all : List Row) (rows : Li
   no_piece h = sym (append-nil rows) ∙ ap (λ ps. rows ++ map f ps) (sym (pieces-none w xs h)) ∙ sofar
 
 -- ---- cells that are picked from parts
-null_is_of : (kind : Kind) → is_of kind c.Null ≡ true
+pub null_is_of : (kind : Kind) → is_of kind c.Null ≡ true
 null_is_of k.Null = refl
 null_is_of k.Bool = refl
 null_is_of k.Int = refl
@@ -84,7 +84,7 @@ null_is_of k.Day = refl
 null_is_of k.Period = refl
 
 -- a cell at any place of any row is null or of its column's kind
-cell_at_fits : (columns : List Column) (rows : List Row) (i j : ℕ) → AllFit columns rows → is_of (column_at columns i).kind (column_of i (row_at rows j)) ≡ true
+pub cell_at_fits : (columns : List Column) (rows : List Row) (i j : ℕ) → AllFit columns rows → is_of (column_at columns i).kind (column_of i (row_at rows j)) ≡ true
 cell_at_fits columns rows i j fit = elim (cases_lt j (length rows)) [
   | inl within ↦ cell_fits columns (row_at rows j) (fit j [] within) i
   | inr past ↦ subst (λ r. is_of (column_at columns i).kind (column_of i r) ≡ true) (sym (get_or_past rows j [] past)) (null_is_of (column_at columns i).kind)

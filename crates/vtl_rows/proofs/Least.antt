@@ -5,14 +5,13 @@ use Rattle.std.specs.Cmp.{Equal-is, nat_cmp_is}
 use Rattle.std.specs.Ordering.{is_eq, is_lt, nat_cmp, on, ordering_then, then_cmp}
 use Rattle.std.specs.declared.cmp.Ordering.{Ordering}
 use Rattle.std.specs.declared.cmp.Ordering.TheVariants.{Less, Equal, Greater}
-use Rattle.std.proofs.lemmas.Bool.{cases_eq, cases_order}
+use Rattle.std.proofs.lemmas.Bool.{cases_eq, cases_order, and_parts}
 use Rattle.std.proofs.lemmas.List.{get_or_default}
 use Rattle.std.proofs.lemmas.List.FromFn.{get_or-range_with_len, length-range_with_len}
 use Rattle.std.proofs.lemmas.List.MinMax.{ranks_by}
 use Rattle.std.proofs.lemmas.List.Sorted.{All-permutation, IsPermutation-sym, sorted_far}
 use Rattle.vtl_lists.specs.Sorting.{le_by}
 use Rattle.vtl_cell.proofs.Keys.{by_keys_total}
-use Rattle.vtl_cell.proofs.Rows.{split_and}
 use Rattle.vtl_cell.specs.Row.{Row}
 use Rattle.vtl_cell.specs.Sorted.{by_keys}
 use Rattle.vtl_rows.specs.declared.column.SortKey.{SortKey}
@@ -46,7 +45,7 @@ module _ (keys : List SortKey) (rows : List Row) (places : List ℕ) where
     less l t = record { few = let f = before.few in omega (arith, f, l); one = λ w. one; below = below }
       where
         one : Repeats keys rows y
-        one = let both = split_and (ltb x y) (tie_by keys (row_at rows x) (row_at rows y)) t in (x, ltb-true x y both.0, both.1)
+        one = let both = and_parts (ltb x y) (tie_by keys (row_at rows x) (row_at rows y)) t in (x, ltb-true x y both.0, both.1)
 
         below : IsBelow keys rows places (n + 1) y
         below k hk w tie = elim (cases_eq k n) [

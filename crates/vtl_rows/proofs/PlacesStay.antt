@@ -12,7 +12,7 @@ use Rattle.vtl_rows.proofs.Flats.{fits_wide}
 pub columns_stay : (columns : List Column) → map (column_at columns) (range_with_len 0 (length columns)) ≡ columns
 columns_stay columns = sym (fill_by_all (column_at columns) columns (length columns) (record { name = []; kind = k.Null }) refl (λ i h. refl))
 
-cells_stay : (n : ℕ) (row : Row) → length row ≡ n → cells_at (range_with_len 0 n) row ≡ row
+pub cells_stay : (n : ℕ) (row : Row) → length row ≡ n → cells_at (range_with_len 0 n) row ≡ row
 cells_stay n row e = sym (fill_by_all (λ i. column_of i row) row n c.Null e (λ i h. refl))
 
 pub rows_stay : (columns : List Column) (rows : List Row) → AllFit columns rows → map (cells_at (range_with_len 0 (length columns))) rows ≡ rows

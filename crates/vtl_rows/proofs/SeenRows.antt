@@ -3,12 +3,11 @@ use Rattle.std.proofs.Common.{◌≡◌, ◌≢◌, bit_and, eq-eqb, ℕ, ◌+�
 use Rattle.std.specs.Hash.FoldHasher as folding
 use Rattle.std.specs.List.{fold}
 use Rattle.std.specs.Ordering.{is_eq}
-use Rattle.std.proofs.lemmas.Bool.{cases_eq, cases_order}
+use Rattle.std.proofs.lemmas.Bool.{cases_eq, cases_order, and_parts}
 use Rattle.std.proofs.lemmas.List.{get_or-set_same, get_or-set_other}
 use Rattle.vtl_cell.specs.Row.{Row, column_of}
 use Rattle.vtl_cell.specs.Sorted.{by_keys, key_cmp}
 use Rattle.vtl_cell.proofs.Cells.{same_cell-is}
-use Rattle.vtl_cell.proofs.Rows.{split_and}
 use Rattle.vtl_rows.specs.declared.column.SortKey.{SortKey}
 use Rattle.vtl_rows.specs.declared.seen.Probe.{Probe}
 use Rattle.vtl_rows.specs.declared.seen.Slot.{Slot}
@@ -28,7 +27,7 @@ cell_tied k r s e = go k.falling e
 pub tied_cells : (keys : List SortKey) (r s : Row) → tie_by keys r s ≡ true → key_cells keys r ≡ key_cells keys s
 tied_cells [] r s e = refl
 tied_cells (k ∷ ks) r s e =
-    let both = split_and (is_eq (key_cmp (key_of k) r s)) (tie_by ks r s) (sym (both_tie (key_cmp (key_of k) r s) (by_keys (map key_of ks) r s)) ∙ e) in
+    let both = and_parts (is_eq (key_cmp (key_of k) r s)) (tie_by ks r s) (sym (both_tie (key_cmp (key_of k) r s) (by_keys (map key_of ks) r s)) ∙ e) in
     ap (λ x. x ∷ key_cells ks r) (cell_tied k r s both.0) ∙ ap (λ xs. column_of k.column s ∷ xs) (tied_cells ks r s both.1)
 
 tied_hash : (keys : List SortKey) (r s : Row) → tie_by keys r s ≡ true → row_hash keys r ≡ row_hash keys s

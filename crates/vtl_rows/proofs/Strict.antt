@@ -5,11 +5,10 @@ use Rattle.std.specs.List.Sorted.{IsPermutation, IsSorted}
 use Rattle.std.specs.Ordering.{is_eq, is_gt, is_lt, nat_cmp, on, ordering_then, then_cmp}
 use Rattle.std.specs.declared.cmp.Ordering.{Ordering}
 use Rattle.std.specs.declared.cmp.Ordering.TheVariants.{Less, Equal, Greater}
-use Rattle.std.proofs.lemmas.Bool.{cases_order}
+use Rattle.std.proofs.lemmas.Bool.{cases_order, and_parts}
 use Rattle.std.proofs.lemmas.List.{get_or_default}
 use Rattle.std.proofs.lemmas.List.Sorted.{IsPermutation-refl}
 use Rattle.vtl_cell.proofs.Keys.{by_keys_total}
-use Rattle.vtl_cell.proofs.Rows.{split_and}
 use Rattle.vtl_cell.specs.Sorted.{by_keys}
 use Rattle.vtl_cell.specs.Row.{Row}
 use Rattle.vtl_rows.specs.declared.column.SortKey.{SortKey}
@@ -59,7 +58,7 @@ module _ (keys : List SortKey) (rows : List Row) (places : List ℕ) where
     below k h within t =
         let p = get_or places k 0 in
         let q = get_or places (k + 1) 0 in
-        let both = split_and (ltb p q) (tie_by keys (row_at rows p) (row_at rows q)) t in
+        let both = and_parts (ltb p q) (tie_by keys (row_at rows p) (row_at rows q)) t in
         let back = sym (ties_turn (by_keys_total (map key_of keys)) (row_at rows p) (row_at rows q)) ∙ both.1 in
         absurd (not_tied (by_keys (map key_of keys) (row_at rows q) (row_at rows p)) (strict k (omega (arith, ended, within)) within) back)
 

@@ -4,9 +4,11 @@ use Rattle.std.specs.List.{AllByRecursion, filter, list_any, position_or_len, ra
 use Rattle.std.proofs.lemmas.List.{get_or-map, get_or_at, length-append, length-map, length_push, take_more}
 use Rattle.std.proofs.lemmas.Bool.{cases_lt}
 use Rattle.std.proofs.lemmas.List.Elements.{All-filter}
-use Rattle.std.proofs.lemmas.List.FromFn.{get_or-range_with_len, length-range_with_len, take-map-range_with_len}
+use Rattle.std.proofs.lemmas.List.FromFn.{length-range_with_len, take-map-range_with_len}
 use Rattle.std.proofs.lemmas.List.Sums.{count_by-le-length, length-filter}
 use Rattle.std.proofs.lemmas.List.Folds.{list_any-append}
+use Rattle.vtl_lists.proofs.Filters.{filter-filter, first_within, map_cond}
+use Rattle.vtl_lists.proofs.Alls.{all_more}
 use Rattle.vtl_cell.specs.Row.{Row, column_of, same_key, same_row}
 use Rattle.vtl_cell.specs.declared.cell.Cell.TheVariants as cell
 use Rattle.vtl_cell.proofs.Rows.{same_row-refl}
@@ -17,29 +19,12 @@ use Rattle.vtl_rows.specs.Places.{row_at}
 use Rattle.vtl_rows.specs.Tables.{cells_at}
 use Rattle.vtl_tuples.specs.Keys.{each_once}
 use Rattle.vtl_tuples.proofs.Lists.{filter_each, filter_same}
-use Rattle.vtl_meaning.proofs.Places.{all_more}
 use Rattle.vtl_meaning.proofs.JoinKept.{once_hold}
 
 -- ---- numbers and rows
--- one test after the other
-filter-filter : {X : Type 0} (p q : X → Bool) (xs : List X) → filter p (filter q xs) ≡ filter (λ x. q x && p x) xs
-filter-filter p q [] = refl
-filter-filter p q (x ∷ xs) = go (q x) (filter-filter p q xs)
-  where
-    go : (b : Bool) → filter p (filter q xs) ≡ filter (λ y. q y && p y) xs → filter p (cond b (x ∷ filter q xs) (filter q xs)) ≡ cond (b && p x) (x ∷ filter (λ y. q y && p y) xs) (filter (λ y. q y && p y) xs)
-    go true ih = ap (λ l. cond (p x) (x ∷ l) l) ih
-    go false ih = ih
-
 -- the cells at the first places of a row that has them
 first_cells : (n : ℕ) (r : Row) → n ≤ length r → cells_at (range_with_len 0 n) r ≡ take n r
 first_cells n r h = sym (take-map-range_with_len (λ i. column_of i r) 0 (length r) n h) ∙ ap (take n) (all_indexed r cell.Null)
-
--- the numbers below a bound
-all_below : (n : ℕ) → All (λ i. i < n) (range_with_len 0 n)
-all_below n k d h =
-    let count = length-range_with_len 0 n in
-    let at = get_or-range_with_len 0 n k d (omega (arith, count, h)) in
-    omega (arith, count, h, at)
 
 -- ---- the first row of a group is the one by which it is known
 module _ (leads : List ℕ) (are : AreLeads leads) (g : ℕ) (within : g < length (firsts leads)) where
@@ -108,16 +93,12 @@ not_met key before r q = ap not (list_any-append (λ s. same_row (key s) (key q)
     not_either false true = refl
     not_either false false = refl
 
-map_choice : {X Y : Type 0} (f : X → Y) (b : Bool) (x : X) (xs : List X) → map f (cond b (x ∷ xs) xs) ≡ cond b (f x ∷ map f xs) (map f xs)
-map_choice f true x xs = refl
-map_choice f false x xs = refl
-
 module _ (key : Row → Row) (rows : List Row) where
   rows_behind : (before behind : List Row) → before ++ behind ≡ rows → (i : ℕ) → length before ≡ i
       → map (row_at rows) (filter (is_first (leads_of key rows)) (range_with_len i (length behind))) ≡ filter (λ q. not (met key before (key q))) (each_once (same_by key) behind)
   rows_behind before [] e i at = refl
   rows_behind before (r ∷ behind) e i at =
-      map_choice (row_at rows) (is_first (leads_of key rows) i) i (filter (is_first (leads_of key rows)) (range_with_len (i + 1) (length behind)))
+      map_cond (row_at rows) (is_first (leads_of key rows) i) i (filter (is_first (leads_of key rows)) (range_with_len (i + 1) (length behind)))
       ∙ ap (λ b. cond b (row_at rows i ∷ map (row_at rows) (filter (is_first (leads_of key rows)) (range_with_len (i + 1) (length behind)))) (map (row_at rows) (filter (is_first (leads_of key rows)) (range_with_len (i + 1) (length behind))))) here
       ∙ ap (λ q. cond (not (met key before (key r))) (q ∷ map (row_at rows) (filter (is_first (leads_of key rows)) (range_with_len (i + 1) (length behind)))) (map (row_at rows) (filter (is_first (leads_of key rows)) (range_with_len (i + 1) (length behind))))) row_here
       ∙ ap (λ l. cond (not (met key before (key r))) (r ∷ l) l) (rows_behind (before ++ r ∷ []) behind (append_assoc before (r ∷ []) behind ∙ e) (i + 1) (length_push before r ∙ ap (λ n. n + 1) at) ∙ rest)
@@ -165,7 +146,7 @@ firsts_once n rows wide =
 pub firsts_below : (key : Row → Row) (rows : List Row) → All (λ i. i < length rows) (firsts (leads_of key rows))
 firsts_below key rows =
     let count : length (leads_of key rows) ≡ length rows = length-map rows (λ r. lead_of key rows (key r)) in
-    subst (λ n. All (λ i. i < n) (firsts (leads_of key rows))) count (All-filter (is_first (leads_of key rows)) (λ i. i < length (leads_of key rows)) (range_with_len 0 (length (leads_of key rows))) (all_below (length (leads_of key rows))))
+    subst (λ n. All (λ i. i < n) (firsts (leads_of key rows))) count (All-filter (is_first (leads_of key rows)) (λ i. i < length (leads_of key rows)) (range_with_len 0 (length (leads_of key rows))) (first_within (length (leads_of key rows))))
 
 -- where each row is the first of its group
 whole : {X : Type 0} (p : X → Bool) (xs : List X) → length (filter p xs) ≡ length xs → filter p xs ≡ xs

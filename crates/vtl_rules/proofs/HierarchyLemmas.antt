@@ -2,6 +2,8 @@
 use Rattle.std.proofs.Common.{◌≡◌, ℕ, ◌≤◌, true, List, [], ◌∷◌, ◌++◌, length, map, Option, Ok, sym, ap, ◌∙◌, subst, arith}
 use Rattle.std.specs.List.{AllByRecursion}
 use Rattle.std.proofs.lemmas.List.{append-nil, length-map}
+use Rattle.vtl_lists.proofs.Alls.{all_append, all_each, all_more}
+use Rattle.vtl_lists.proofs.Sorts.{AllByRecursion-map}
 use Rattle.vtl_decimal.specs.Settings.{Settings}
 use Rattle.vtl_decimal.specs.declared.number.Fault.{Fault}
 use Rattle.vtl_cell.specs.Outcome.{faults_by, unless}
@@ -26,7 +28,7 @@ use Rattle.vtl_meaning.specs.Made.{AreAmong}
 use Rattle.vtl_meaning.specs.Operators.{left_of}
 use Rattle.vtl_meaning.specs.Sets.{united}
 use Rattle.vtl_meaning.proofs.Kept.{unless_ok}
-use Rattle.vtl_meaning.proofs.Places.{all_append, all_map, all_more, each, key_within}
+use Rattle.vtl_meaning.proofs.Places.{key_within}
 use Rattle.vtl_meaning.proofs.SetsKept.{alternative_tells}
 use Rattle.vtl_expr.proofs.ColumnPlaces.{chosen_columns}
 use Rattle.vtl_rulings.specs.Hierarchies.{hierarchy_of, made_fault, made_points}
@@ -48,7 +50,7 @@ all_wide s a rows all set e =
     let few = few_keys s in
     let wide : (r : Row) → P (f r) = λ r. let l = length-map (places_in (columns_of a.structure) (columns_of s)) (λ i. column_of i r) in let k = length-map (columns_of s) (λ (y : Component). place_of y.name (columns_of a.structure)) in omega (arith, l, k, few) in
     subst (AllByRecursion P) (sym e)
-    (all_append P rows (left_of a s) (all_more (λ r. is_point (columns_of s) r ≡ true) P (λ r t. key_within s r t) rows set.typed) (all_map f P a.points (each (λ r. P (f r)) wide a.points)))
+    (all_append P rows (left_of a s) (all_more (λ r. is_point (columns_of s) r ≡ true) P (λ r t. key_within s r t) rows set.typed) (AllByRecursion-map f P a.points (all_each (λ r. P (f r)) wide a.points)))
 
 pub united_is : (n : ℕ) (rows others all : List Row) → all ≡ rows ++ others → each_once (same_key n) all ≡ united n (rows ∷ others ∷ [])
 united_is n rows others all e = ap (each_once (same_key n)) (e ∙ ap (λ l. rows ++ l) (sym (append-nil others)))

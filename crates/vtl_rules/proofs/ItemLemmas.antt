@@ -1,12 +1,14 @@
 -- What a look-up by keys gives of items.
-use Rattle.std.proofs.Common.{◌≡◌, ℕ, zero, suc, ◌+◌, ◌<◌, ◌≤◌, Bool, true, false, not, cond, ◌&&◌, ◌||◌, List, [], ◌∷◌, ◌++◌, length, map, Option, Some, None, refl, sym, ap, ◌∙◌, subst, arith, true≢false}
+use Rattle.std.proofs.Common.{◌≡◌, ℕ, zero, suc, ◌+◌, ◌<◌, ◌≤◌, Bool, true, false, not, cond, ◌&&◌, ◌||◌, List, [], ◌∷◌, ◌++◌, length, map, Option, Some, None, refl, sym, ap, ◌∙◌, subst, arith}
 use Rattle.std.specs.Prelude.{option_map, slice_get, slice_index_or}
-use Rattle.std.specs.List.{AllByRecursion, cons_option, filter, filter_map, find, position_or_len, range_with_len}
+use Rattle.std.specs.List.{AllByRecursion, filter, find, position_or_len, range_with_len}
 use Rattle.std.proofs.lemmas.List.{length-map, length_push, map-append}
 use Rattle.std.proofs.lemmas.List.Folds.{find_at}
 use Rattle.vtl_decimal.specs.declared.number.Fault.{Fault}
 use Rattle.vtl_lists.specs.Apart.{all_apart}
 use Rattle.vtl_lists.proofs.Aparts.{all_apart-filter, apart_parts}
+use Rattle.vtl_lists.proofs.Alls.{all_back, all_filtered, all_from_filtered, all_more}
+use Rattle.vtl_lists.proofs.Tests.{and_true}
 use Rattle.vtl_cell.specs.Order.{same_cell}
 use Rattle.vtl_cell.specs.Outcome.{faults_by, join}
 use Rattle.vtl_cell.specs.Row.{Row, column_of, same_row}
@@ -24,6 +26,7 @@ use Rattle.vtl_tree.specs.Names.{is_among}
 use Rattle.vtl_tree.specs.Structure.{IsStructure, columns_of, key_width, names_of, same_name}
 use Rattle.vtl_tree.specs.declared.structure.Component.{Component}
 use Rattle.vtl_tree.specs.declared.structure.Structure.{Structure}
+use Rattle.vtl_tree.proofs.NotNullLemmas.{same_itself}
 use Rattle.vtl_tuples.specs.Keys.{each_once}
 use Rattle.vtl_tuples.proofs.Lists.{map-map, map_each, map_same}
 use Rattle.vtl_meaning.specs.Agreement.{values_in}
@@ -33,16 +36,12 @@ use Rattle.vtl_meaning.specs.Turned.{is_coded, other_identifiers}
 use Rattle.vtl_meaning.proofs.JoinKept.{apart_map, same_row-append}
 use Rattle.vtl_meaning.proofs.LookUps.{among_within, named_cells}
 use Rattle.vtl_meaning.proofs.OwnColumns.{columns_apart, own_among}
-use Rattle.vtl_meaning.proofs.Places.{all_back, all_filtered, all_more, all_of_map, columns_split, identifiers_apart, place_here, place_later, same_name-is, same_name-refl, same_name-sym}
+use Rattle.vtl_meaning.proofs.Places.{all_of_map, columns_split, identifiers_apart, place_here, place_later, same_name-is, same_name-sym}
 use Rattle.vtl_meaning.proofs.TurnedKept.{others_are}
 use Rattle.vtl_rulings.specs.HierarchyChecks.{Ruled, combinations, items_at, key_at, key_cell, only_name}
 use Rattle.vtl_rules.specs.Itemized.{Itemized, combination_at, given_at, item_key, itemized_by, numbers_of, other_places, sought_items}
 
 -- ---- lists
-pub filter_map-map : {X Y Z : Type 0} (h : Y → Option Z) (f : X → Y) (xs : List X) → filter_map h (map f xs) ≡ filter_map (λ x. h (f x)) xs
-filter_map-map h f [] = refl
-filter_map-map h f (x ∷ xs) = ap (cons_option (h (f x))) (filter_map-map h f xs)
-
 pub faults_by-map : {X Y : Type 0} (h : Y → Option Fault) (f : X → Y) (xs : List X) → faults_by h (map f xs) ≡ faults_by (λ x. h (f x)) xs
 faults_by-map h f [] = refl
 faults_by-map h f (x ∷ xs) = ap (join (h (f x))) (faults_by-map h f xs)
@@ -79,13 +78,9 @@ given_some x k item place r e h at =
     here (q ∷ rows) (suc i) l f = here rows i (omega (arith, l)) f
 
 -- ---- of an operand
-and_true : (b : Bool) → (b && true) ≡ b
-and_true true = refl
-and_true false = refl
-
 -- the place of a column between others
 first_place : (xs : List Component) (y : Component) (zs : List Component) → all_apart same_name (names_of (xs ++ y ∷ zs)) ≡ true → place_of y.name (xs ++ y ∷ zs) ≡ length xs
-first_place [] y zs apart = place_here y.name y zs (same_name-refl y.name)
+first_place [] y zs apart = place_here y.name y zs (same_itself y.name)
 first_place (x ∷ xs) y zs apart =
     let parts = apart_parts same_name x.name (names_of (xs ++ y ∷ zs)) apart in
     let others : AllByRecursion (λ (z : Component). same_name x.name z.name ≡ false) (xs ++ y ∷ zs) = all_of_map (λ (z : Component). z.name) (λ n. same_name x.name n ≡ false) (xs ++ y ∷ zs) parts.0 in
@@ -94,14 +89,6 @@ first_place (x ∷ xs) y zs apart =
 no_place : (name : List ℕ) (zs : List Component) → AllByRecursion (λ z. same_name z.name name ≡ false) zs → place_of name zs ≡ length zs
 no_place name [] h = refl
 no_place name (z ∷ zs) h = place_later name z zs h.0 ∙ ap suc (no_place name zs h.1)
-
-unfiltered : {X : Type 0} (P : X → Type 0) (q : X → Bool) (xs : List X) → AllByRecursion P (filter q xs) → AllByRecursion (λ x. q x ≡ true → P x) xs
-unfiltered P q [] h = tt
-unfiltered P q (x ∷ xs) h = go (q x) h (λ rest. unfiltered P q xs rest)
-  where
-    go : (b : Bool) → AllByRecursion P (cond b (x ∷ filter q xs) (filter q xs)) → (AllByRecursion P (filter q xs) → AllByRecursion (λ y. q y ≡ true → P y) xs) → (b ≡ true → P x) × AllByRecursion (λ y. q y ≡ true → P y) xs
-    go true f ih = ((λ e. f.0), ih f.1)
-    go false f ih = ((λ e. absurd (true≢false (sym e))), ih f)
 
 module _ (id : List ℕ) (d : DataSet) where
   abbrev a : Structure
@@ -174,7 +161,7 @@ module _ (id : List ℕ) (d : DataSet) where
           apart_map (λ (y : Component). y.name) same_name others ∙ ap (all_apart namesakes) others_is ∙ all_apart-filter namesakes is_other ids (sym (apart_map (λ (y : Component). y.name) same_name ids) ∙ identifiers_apart a w)
 
       own_within : AllByRecursion (λ (y : Component). is_other y ≡ true → place_of y.name others < length others) ids
-      own_within = unfiltered (λ (y : Component). place_of y.name others < length others) is_other ids (subst (AllByRecursion (λ (y : Component). place_of y.name others < length others)) others_is (among_within others others (own_among others others_apart)))
+      own_within = all_from_filtered (λ (y : Component). place_of y.name others < length others) is_other ids (subst (AllByRecursion (λ (y : Component). place_of y.name others < length others)) others_is (among_within others others (own_among others others_apart)))
 
       -- no other one has the name
       other_name : (b : Bool) → not (b || false) ≡ true → b ≡ false

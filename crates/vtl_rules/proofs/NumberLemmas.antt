@@ -6,19 +6,19 @@ use Rattle.std.specs.Option.{option_to_list}
 use Rattle.std.proofs.lemmas.List.{map-append}
 use Rattle.std.proofs.lemmas.List.Elements.{filter_map-append}
 use Rattle.std.proofs.lemmas.List.FromFn.{get_or-range_with_len, length-range_with_len}
+use Rattle.vtl_lists.proofs.Alls.{all_back, all_front}
+use Rattle.vtl_lists.proofs.Filters.{range_more}
 use Rattle.vtl_decimal.specs.declared.number.Fault.{Fault}
 use Rattle.vtl_cell.specs.Outcome.{faults_by, join}
 use Rattle.vtl_cell.specs.Row.{Row}
-use Rattle.vtl_rows.proofs.Stable.{one_number_more}
 use Rattle.vtl_syntax.specs.declared.statements.HierRule.{HierRule}
 use Rattle.vtl_tree.specs.RuleItems.{definitions, is_equation}
 use Rattle.vtl_tree.proofs.Faults.{faults_by-append, join_assoc, join_none}
 use Rattle.vtl_expr.proofs.PointLemmas.{holds_at}
-use Rattle.vtl_meaning.proofs.Places.{all_back, all_front}
 
 -- ---- numbers
 next_number : (n : ℕ) → range_with_len 0 (n + 1) ≡ range_with_len 0 n ++ n ∷ []
-next_number n = let e : 0 + n ≡ n = omega arith in one_number_more 0 n ∙ ap (λ k. range_with_len 0 n ++ k ∷ []) e
+next_number n = let e : 0 + n ≡ n = omega arith in range_more 0 n ∙ ap (λ k. range_with_len 0 n ++ k ∷ []) e
 
 pub mapped_more : {Y : Type 0} (f : ℕ → Y) (n : ℕ) (old new : List Y) (y : Y) → old ≡ map f (range_with_len 0 n) → new ≡ old ++ y ∷ [] → y ≡ f n → new ≡ map f (range_with_len 0 (n + 1))
 mapped_more f n old new y o e at =

@@ -12,6 +12,9 @@ use Rattle.vtl_decimal.specs.declared.number.Fault.{Fault}
 use Rattle.vtl_lists.specs.Apart.{all_apart}
 use Rattle.vtl_lists.proofs.Aparts.{all_apart-Perm, apart_parts}
 use Rattle.vtl_lists.proofs.Perms.{Perm-refl}
+use Rattle.vtl_lists.proofs.Alls.{all_back, all_more}
+use Rattle.vtl_lists.proofs.Filters.{filter_map-map, found_passes, none_found as all_fail}
+use Rattle.vtl_lists.proofs.Tests.{or_none}
 use Rattle.vtl_text.specs.Texts.{same_text}
 use Rattle.vtl_cell.specs.Outcome.{Outcome, faults_by, join}
 use Rattle.vtl_cell.specs.Row.{Row}
@@ -35,7 +38,7 @@ use Rattle.vtl_sets.specs.TableOf.{table_columns}
 use Rattle.vtl_sets.proofs.TableLemmas.{point_fits}
 use Rattle.vtl_meaning.specs.Points.{cell_or_null}
 use Rattle.vtl_meaning.proofs.JoinParts.{found_is}
-use Rattle.vtl_meaning.proofs.Places.{all_back, all_more, same_name-is, same_name-sym}
+use Rattle.vtl_meaning.proofs.Places.{same_name-is, same_name-sym}
 use Rattle.vtl_rulings.specs.Hierarchies.{computed, defines, items_of, made_fault, made_point, made_points, taken}
 use Rattle.vtl_rulings.specs.HierarchyChecks.{Ruled, combinations, items_at, key_at, ruled_by}
 use Rattle.vtl_rulings.specs.HierarchyShapes.{IsHierarchyMade}
@@ -47,7 +50,7 @@ use Rattle.vtl_rulings.proofs.Running.{depths_suffice, these_are}
 use Rattle.vtl_rules.specs.ComputedItems.{column_by, computed_at, computed_of, fault_by, fault_of, made_row, made_rows, ran_columns, ran_fault, value_or_null, with_column}
 use Rattle.vtl_rulings.specs.Ordered.{HasOrder, IsOrder, places_or_none, rules_at}
 use Rattle.vtl_rules.specs.Itemized.{Computed, Itemized, chosen_value, combination_at, given_at, item_key, itemized_by, numbers_of, source_of, taken_at}
-use Rattle.vtl_rules.proofs.ItemLemmas.{combination_wide, combinations_are, faults_by-map, filter_map-map, given_is, key_is}
+use Rattle.vtl_rules.proofs.ItemLemmas.{combination_wide, combinations_are, faults_by-map, given_is, key_is}
 use Rattle.vtl_rules.proofs.NumberLemmas.{places_behind}
 use Rattle.vtl_rules.proofs.RulingLemmas.{filter_map_where}
 
@@ -60,29 +63,9 @@ find-append p (x ∷ xs) ys = go (p x) (find-append p xs ys)
     go true h = refl
     go false h = h
 
-or_none : {X : Type 0} (o : Option X) → option_or o None ≡ o
-or_none None = refl
-or_none (Some x) = refl
-
 none_found : {X : Type 0} (p : X → Bool) (xs : List X) → AllByRecursion (λ x. p x ≡ false) xs → find p xs ≡ None
 none_found p [] h = refl
 none_found p (x ∷ xs) h = ap (λ b. cond b (Some x) (find p xs)) h.0 ∙ none_found p xs h.1
-
-all_fail : {X : Type 0} (p : X → Bool) (xs : List X) → find p xs ≡ None → AllByRecursion (λ x. p x ≡ false) xs
-all_fail p [] e = tt
-all_fail p (x ∷ xs) e = go (p x) refl e (all_fail p xs)
-  where
-    go : (b : Bool) → p x ≡ b → cond b (Some x) (find p xs) ≡ None → (find p xs ≡ None → AllByRecursion (λ y. p y ≡ false) xs) → (p x ≡ false) × AllByRecursion (λ y. p y ≡ false) xs
-    go true h f ih = cc
-    go false h f ih = (h, ih f)
-
-found_passes : {X : Type 0} (p : X → Bool) (xs : List X) (x : X) → find p xs ≡ Some x → p x ≡ true
-found_passes p [] x e = cc
-found_passes p (y ∷ ys) x e = go (p y) refl e (found_passes p ys x)
-  where
-    go : (b : Bool) → p y ≡ b → cond b (Some y) (find p ys) ≡ Some x → (find p ys ≡ Some x → p x ≡ true) → p x ≡ true
-    go true h f ih = let same : y ≡ x = cc in subst (λ z. p z ≡ true) same h
-    go false h f ih = ih f
 
 faults_same : {X : Type 0} (f g : X → Option Fault) (xs : List X) → AllByRecursion (λ x. f x ≡ g x) xs → faults_by f xs ≡ faults_by g xs
 faults_same f g [] h = refl

@@ -5,6 +5,8 @@ use Rattle.std.specs.List.{AllByRecursion, filter_map, flat_map}
 use Rattle.std.specs.Option.{option_and_then}
 use Rattle.std.proofs.lemmas.Grind.{flat_map-append}
 use Rattle.std.proofs.lemmas.List.{append-nil, take_all, take_more}
+use Rattle.vtl_lists.proofs.Alls.{all_append, all_more}
+use Rattle.vtl_lists.proofs.Filters.{filter_map-map}
 use Rattle.vtl_decimal.specs.Settings.{Settings}
 use Rattle.vtl_decimal.specs.declared.number.Fault.{Fault}
 use Rattle.vtl_cell.specs.Literals.{integer_written}
@@ -38,7 +40,7 @@ use Rattle.vtl_sets.proofs.TableLemmas.{point_fits}
 use Rattle.vtl_meaning.specs.Made.{component_kinds}
 use Rattle.vtl_meaning.specs.Points.{cell_or_null}
 use Rattle.vtl_meaning.specs.Turned.{other_identifiers}
-use Rattle.vtl_meaning.proofs.Places.{IsIdentifier, all_append, all_more, all_of_map, are_identifiers, are_others, columns_split, joined_point_is, point_append, point_of_identifiers}
+use Rattle.vtl_meaning.proofs.Places.{IsIdentifier, all_of_map, are_identifiers, are_others, columns_split, joined_point_is, point_append, point_of_identifiers}
 use Rattle.vtl_meaning.proofs.ValueKinds.{IsOf}
 use Rattle.vtl_rulings.specs.HierarchyChecks.{Ruled, SidedRule, check_cells, check_fault, check_point, combinations, is_checked, items_at, key_at, ruled_by, sided_rules}
 use Rattle.vtl_rulings.specs.HierarchyShapes.{IsHierarchyChecked}
@@ -50,7 +52,7 @@ use Rattle.vtl_rulings.proofs.HierarchyKeys.{combinations_typed, items_are, key_
 use Rattle.vtl_rulings.proofs.SideKinds.{difference_is, holds_is, left_is}
 use Rattle.vtl_rules.specs.Itemized.{Itemized, combination_at, item_key, itemized_by, numbers_of, source_of, taken_at}
 use Rattle.vtl_rules.specs.SideValues.{Sided, checked_at, fault_at, less_between, right_value, sided_fault, sided_of, sided_row, truth_between}
-use Rattle.vtl_rules.proofs.ItemLemmas.{combination_wide, combinations_are, faults_by-map, filter_map-map, given_is, key_is}
+use Rattle.vtl_rules.proofs.ItemLemmas.{combination_wide, combinations_are, faults_by-map, given_is, key_is}
 
 -- ---- rules with their identifiers, by their numbers
 abbrev name_of : HierRule → Option (List ℕ)

@@ -4,6 +4,7 @@ use Rattle.std.proofs.lemmas.List.{map-append}
 use Rattle.std.specs.Prelude.{IfOk}
 use Rattle.std.specs.List.{AllByRecursion}
 use Rattle.std.specs.Option.{IfSome}
+use Rattle.vtl_lists.proofs.Alls.{all_append}
 use Rattle.vtl_decimal.specs.Settings.{Settings}
 use Rattle.vtl_cell.specs.Outcome.{Outcome}
 use Rattle.vtl_cell.specs.Profile.{IsOfProfile}
@@ -25,7 +26,6 @@ use Rattle.vtl_tree.specs.declared.structure.Component.{Component}
 use Rattle.vtl_meaning.specs.Made.{component_kinds}
 use Rattle.vtl_meaning.specs.Points.{cell_or_null}
 use Rattle.vtl_meaning.proofs.JoinParts.{fits_append}
-use Rattle.vtl_meaning.proofs.Places.{all_append}
 use Rattle.vtl_meaning.proofs.ValueKinds.{GivesOf, IsOf, after_if, value_is_of}
 use Rattle.vtl_rulings.specs.Outputs.{code_cell, errors_at, level_cell}
 use Rattle.vtl_tree.specs.Checks.{error_measures, output_parts, with_ids}

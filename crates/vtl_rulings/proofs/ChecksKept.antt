@@ -3,6 +3,7 @@ use Rattle.std.proofs.Common.{◌≡◌, Bool, true, false, cond, List, [], ◌�
 use Rattle.std.proofs.lemmas.List.{map-append}
 use Rattle.std.specs.Prelude.{ℤ, option_map}
 use Rattle.std.specs.Option.{IfSome, option_map_or, option_to_list}
+use Rattle.vtl_lists.proofs.Alls.{all_more}
 use Rattle.vtl_decimal.specs.Range.{fit_number}
 use Rattle.vtl_decimal.specs.Settings.{Settings}
 use Rattle.vtl_cell.specs.Conversion.{as_kind}
@@ -28,7 +29,7 @@ use Rattle.vtl_meaning.specs.Made.{attributes_of, component_kinds}
 use Rattle.vtl_meaning.specs.Points.{cell_or_null, with_points}
 use Rattle.vtl_meaning.proofs.Drawn.{AtMostOne, Keeps, drawn_kept}
 use Rattle.vtl_meaning.proofs.JoinParts.{found_is}
-use Rattle.vtl_meaning.proofs.Places.{all_more, are_others, columns_split, joined_point_is, key_for, key_of_joined, key_of_point}
+use Rattle.vtl_meaning.proofs.Places.{are_others, columns_split, joined_point_is, key_for, key_of_joined, key_of_point}
 use Rattle.vtl_meaning.proofs.TurnedKept.{filter_map_drawn}
 use Rattle.vtl_meaning.proofs.ValueKinds.{GivesOf, IsOf, point_parts}
 use Rattle.vtl_rulings.specs.Outputs.{code_cell, errors_at, is_basic_shown, level_cell}

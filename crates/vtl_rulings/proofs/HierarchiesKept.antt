@@ -4,6 +4,7 @@ use Rattle.std.specs.List.{AllByRecursion, filter_map, flat_map}
 use Rattle.std.specs.Option.{option_and_then, option_to_list}
 use Rattle.vtl_decimal.specs.Settings.{Settings}
 use Rattle.vtl_lists.specs.Apart.{all_apart}
+use Rattle.vtl_lists.proofs.Alls.{all_append, all_each, all_flat_map, all_more}
 use Rattle.vtl_cell.specs.Literals.{integer_written}
 use Rattle.vtl_cell.specs.Outcome.{faults_by}
 use Rattle.vtl_cell.specs.Row.{Row, same_key, same_row}
@@ -30,8 +31,8 @@ use Rattle.vtl_meaning.specs.Points.{cell_or_null, with_points}
 use Rattle.vtl_meaning.specs.Turned.{other_identifiers}
 use Rattle.vtl_meaning.proofs.Drawn.{AtMostOne, drawn_all, drawn_apart}
 use Rattle.vtl_meaning.proofs.Kept.{unless_ok}
-use Rattle.vtl_meaning.proofs.Places.{IsIdentifier, all_append, all_more, are_identifiers, are_others, columns_split, each, joined_point_is, key_of_joined, point_append, point_of_identifiers, same_name-refl}
-use Rattle.vtl_meaning.proofs.TurnedKept.{all_drawn, each_apart, filter_map_drawn, front_same}
+use Rattle.vtl_meaning.proofs.Places.{IsIdentifier, are_identifiers, are_others, columns_split, joined_point_is, key_of_joined, point_append, point_of_identifiers}
+use Rattle.vtl_meaning.proofs.TurnedKept.{each_apart, filter_map_drawn, front_same}
 use Rattle.vtl_meaning.proofs.ValueKinds.{IsOf}
 use Rattle.vtl_rulings.specs.HierarchyChecks.{Ruled, SidedRule, check_cells, check_fault, check_hierarchy_of, check_point, combinations, is_checked, items_at, key_at, sided_rules}
 use Rattle.vtl_rulings.specs.HierarchyShapes.{IsHierarchyChecked}
@@ -40,6 +41,7 @@ use Rattle.vtl_rulings.specs.Outputs.{code_cell, is_shown, level_cell}
 use Rattle.vtl_tree.specs.Checks.{error_measures, output_parts, ruleid}
 use Rattle.vtl_rulings.specs.Sides.{difference, holds, left_side, rule_errors}
 use Rattle.vtl_tree.specs.RuleItems.{left_item}
+use Rattle.vtl_tree.proofs.NotNullLemmas.{same_itself}
 use Rattle.vtl_rulings.proofs.Checked.{code_is, errors_fit, given_or_null, level_is, parts_fit, parts_mapped}
 use Rattle.vtl_rulings.proofs.HierarchyKeys.{combinations_typed, items_are, key_back, key_is_point}
 use Rattle.vtl_rulings.proofs.SideKinds.{difference_is, holds_is, left_is}
@@ -131,20 +133,20 @@ module _ (p : Settings) (o : CheckOut) (h : Ruled) (m : Mode) (rules : List Hier
   rule_names x t q z f g e =
       let texts = (keys_back x t f.0 g.0 q z f.1 g.1 e).1 in
       let same : x.0 ≡ t.0 = cc in
-      ap (same_name x.0) (sym same) ∙ same_name-refl x.0
+      ap (same_name x.0) (sym same) ∙ same_itself x.0
 
   abbrev all : List SidedRule
   all = sided_rules rules
 
   all_points_drawn : AllByRecursion (λ x. AllByRecursion (IsDrawn x) (points x)) all
-  all_points_drawn = each (λ x. AllByRecursion (IsDrawn x) (points x)) are_drawn all
+  all_points_drawn = all_each (λ x. AllByRecursion (IsDrawn x) (points x)) are_drawn all
 
   whole_kept : IsDataSet s (flat_map points all)
   whole_kept = record {
     well_formed = i.well_formed;
-    typed = all_drawn (λ q. is_point (columns_of s) q ≡ true) points all
+    typed = all_flat_map (λ q. is_point (columns_of s) q ≡ true) points all
         (all_more (λ x. AllByRecursion (IsDrawn x) (points x)) (λ x. AllByRecursion (λ q. is_point (columns_of s) q ≡ true) (points x)) (λ x l. all_more (IsDrawn x) (λ q. is_point (columns_of s) q ≡ true) (λ q t. t.1.1) (points x) l) all all_points_drawn);
-    distinct = each_apart IsDrawn (λ x y. same_name x.0 y.0) (same_key (key_width s)) rule_names points all all_points_drawn (each (λ x. all_apart (same_key (key_width s)) (points x) ≡ true) one_apart all) i.apart;
+    distinct = each_apart IsDrawn (λ x y. same_name x.0 y.0) (same_key (key_width s)) rule_names points all all_points_drawn (all_each (λ x. all_apart (same_key (key_width s)) (points x) ≡ true) one_apart all) i.apart;
   }
 
   pub check_hierarchy_kept : (made : List Row) → check_hierarchy_of p o h m operand rules ≡ Ok made → IsDataSet s made

@@ -5,6 +5,7 @@ use Rattle.std.specs.List.{AllByRecursion, filter_map}
 use Rattle.std.specs.Option.{option_to_list}
 use Rattle.vtl_decimal.specs.Settings.{Settings}
 use Rattle.vtl_lists.specs.Apart.{all_apart}
+use Rattle.vtl_lists.proofs.Alls.{all_each, all_flat_map, all_more}
 use Rattle.vtl_cell.specs.Outcome.{Outcome, faults_by}
 use Rattle.vtl_cell.specs.Row.{Row, same_key, same_row}
 use Rattle.vtl_cell.specs.declared.cell.Cell.{Cell}
@@ -28,14 +29,15 @@ use Rattle.vtl_meaning.specs.Points.{cell_or_null, with_points}
 use Rattle.vtl_meaning.specs.Turned.{other_identifiers}
 use Rattle.vtl_meaning.proofs.Drawn.{AtMostOne, drawn_all, drawn_apart}
 use Rattle.vtl_meaning.proofs.Kept.{unless_ok}
-use Rattle.vtl_meaning.proofs.Places.{all_more, are_others, columns_split, each, joined_point_is, key_for, key_of_joined, same_name-refl}
+use Rattle.vtl_meaning.proofs.Places.{are_others, columns_split, joined_point_is, key_for, key_of_joined}
 use Rattle.vtl_meaning.proofs.SetsKept.{shown_kept, united_kept}
-use Rattle.vtl_meaning.proofs.TurnedKept.{all_drawn, each_apart, filter_map_drawn}
+use Rattle.vtl_meaning.proofs.TurnedKept.{each_apart, filter_map_drawn}
 use Rattle.vtl_meaning.proofs.ValueKinds.{GivesOf, IsOf, null_is_of}
 use Rattle.vtl_rulings.specs.Hierarchies.{hierarchy_of, made_at, made_fault, made_point, made_points, shown_points}
 use Rattle.vtl_rulings.specs.HierarchyChecks.{Ruled, combinations, items_at, key_at}
 use Rattle.vtl_rulings.specs.HierarchyShapes.{IsHierarchyMade}
 use Rattle.vtl_tree.specs.RuleItems.{definitions, left_item}
+use Rattle.vtl_tree.proofs.NotNullLemmas.{same_itself}
 use Rattle.vtl_rulings.proofs.Checked.{given_or_null}
 use Rattle.vtl_rulings.proofs.HierarchyKeys.{combinations_typed, item_back, items_are, key_back, key_is_point}
 use Rattle.vtl_rulings.proofs.SideKinds.{kinds_kept}
@@ -100,16 +102,16 @@ module _ (p : Settings) (h : Ruled) (m : Mode) (i : HierInput) (rules : List Hie
 
   items_told : (r t : HierRule) (q z : Row) → IsDrawn r q → IsDrawn t z → same_key (key_width s) q z ≡ true → same_name (left_item r) (left_item t) ≡ true
   items_told r t q z f g e =
-      ap (same_name (left_item r)) (sym (item_back h.id a set.well_formed f.0 g.0 (left_item r) (left_item t) is.itemized.coded (keys_same r t f.0 g.0 q z f.1 g.1 e))) ∙ same_name-refl (left_item r)
+      ap (same_name (left_item r)) (sym (item_back h.id a set.well_formed f.0 g.0 (left_item r) (left_item t) is.itemized.coded (keys_same r t f.0 g.0 q z f.1 g.1 e))) ∙ same_itself (left_item r)
 
   pub made_kept : IsDataSet s (made_points p h m i rules operand)
   made_kept =
       let all = definitions rules in
-      let drawn = each (λ r. AllByRecursion (IsDrawn r) (points r)) are_drawn all in record {
+      let drawn = all_each (λ r. AllByRecursion (IsDrawn r) (points r)) are_drawn all in record {
         well_formed = is.well_formed;
-        typed = all_drawn (λ q. is_point (columns_of s) q ≡ true) points all
+        typed = all_flat_map (λ q. is_point (columns_of s) q ≡ true) points all
             (all_more (λ r. AllByRecursion (IsDrawn r) (points r)) (λ r. AllByRecursion (λ q. is_point (columns_of s) q ≡ true) (points r)) (λ r l. all_more (IsDrawn r) (λ q. is_point (columns_of s) q ≡ true) (λ q t. t.1.1) (points r) l) all drawn);
-        distinct = each_apart IsDrawn (λ q r. same_name (left_item q) (left_item r)) (same_key (key_width s)) items_told points all drawn (each (λ r. all_apart (same_key (key_width s)) (points r) ≡ true) one_apart all) is.apart;
+        distinct = each_apart IsDrawn (λ q r. same_name (left_item q) (left_item r)) (same_key (key_width s)) items_told points all drawn (all_each (λ r. all_apart (same_key (key_width s)) (points r) ≡ true) one_apart all) is.apart;
       }
 
   shown_is_kept : (o : HierOut) → IsDataSet s (shown_points p h m i rules operand o s)

@@ -1,11 +1,13 @@
 -- The identifiers of an item's point at a combination, and what there is of the items there.
-use Rattle.std.proofs.Common.{◌≡◌, ℕ, zero, suc, Bool, true, false, not, ◌&&◌, ◌||◌, cond, List, [], ◌∷◌, length, map, Option, Some, None, refl, sym, ap, ◌∙◌, subst, arith, true≢false}
+use Rattle.std.proofs.Common.{◌≡◌, ℕ, zero, suc, Bool, true, false, not, ◌&&◌, ◌||◌, cond, List, [], ◌∷◌, length, map, Option, Some, None, refl, sym, ap, ◌∙◌, subst, arith}
 use Rattle.std.specs.Prelude.{IfSome, option_map}
 use Rattle.std.specs.List.{AllByRecursion, filter, find}
 use Rattle.std.proofs.lemmas.List.{append-nil, take_all}
+use Rattle.std.proofs.lemmas.Bool.{not-true}
 use Rattle.vtl_lists.specs.Apart.{all_apart}
 use Rattle.vtl_lists.proofs.Aparts.{all_apart-filter}
-use Rattle.vtl_lists.proofs.Sorts.{AllByRecursion-filter}
+use Rattle.vtl_lists.proofs.Sorts.{AllByRecursion-filter, AllByRecursion-map}
+use Rattle.vtl_lists.proofs.Alls.{all_both, all_filtered, all_from_filtered, all_more}
 use Rattle.vtl_cell.specs.Kinds.{is_null}
 use Rattle.vtl_cell.specs.Row.{Row, column_of, same_row}
 use Rattle.vtl_cell.specs.declared.cell.Cell.{Cell}
@@ -19,6 +21,7 @@ use Rattle.vtl_tree.specs.Structure.{IsStructure, columns_of, names_of, same_nam
 use Rattle.vtl_tree.specs.declared.structure.Component.{Component}
 use Rattle.vtl_tree.specs.declared.structure.Role.TheVariants as role
 use Rattle.vtl_tree.specs.declared.structure.Structure.{Structure}
+use Rattle.vtl_tree.proofs.NotNullLemmas.{same_itself}
 use Rattle.vtl_meaning.specs.Agreement.{values_in}
 use Rattle.vtl_meaning.specs.LookUps.{value_named, values_named}
 use Rattle.vtl_meaning.specs.Made.{AreAmong, IsColumnAt}
@@ -26,10 +29,9 @@ use Rattle.vtl_meaning.specs.Points.{with_points}
 use Rattle.vtl_meaning.specs.Turned.{is_coded, other_identifiers}
 use Rattle.vtl_meaning.proofs.JoinKept.{apart_map, once_hold}
 use Rattle.vtl_meaning.proofs.JoinParts.{found_is}
-use Rattle.vtl_meaning.proofs.Kept.{both_all}
 use Rattle.vtl_meaning.proofs.LookUps.{named_cells}
 use Rattle.vtl_meaning.proofs.OwnColumns.{own_among, own_identifiers}
-use Rattle.vtl_meaning.proofs.Places.{IsIdentifier, all_filtered, all_map, all_more, first_cells, identifiers_apart, point_length, same_name-is, same_name-refl, same_name-sym}
+use Rattle.vtl_meaning.proofs.Places.{IsIdentifier, first_cells, identifiers_apart, point_length, same_name-is, same_name-sym}
 use Rattle.vtl_meaning.proofs.TurnedKept.{other_key_is, others_are, others_identify}
 use Rattle.vtl_meaning.proofs.ValueKinds.{IsOf, cell_is_of, point_from, point_parts}
 use Rattle.vtl_rulings.specs.HierarchyChecks.{Ruled, combinations, items_at, key_at, key_cell}
@@ -37,19 +39,7 @@ use Rattle.vtl_rulings.specs.HierarchyShapes.{IsItemized}
 use Rattle.vtl_rulings.proofs.SideKinds.{AreOf}
 
 -- ---- lists
-is_not : (b : Bool) → not b ≡ true → b ≡ false
-is_not true e = sym e
-is_not false e = refl
-
-unfiltered : {X : Type 0} (P : X → Type 0) (q : X → Bool) (xs : List X) → AllByRecursion P (filter q xs) → AllByRecursion (λ x. q x ≡ true → P x) xs
-unfiltered P q [] h = tt
-unfiltered P q (x ∷ xs) h = go (q x) h (λ rest. unfiltered P q xs rest)
-  where
-    go : (b : Bool) → AllByRecursion P (cond b (x ∷ filter q xs) (filter q xs)) → (AllByRecursion P (filter q xs) → AllByRecursion (λ y. q y ≡ true → P y) xs) → (b ≡ true → P x) × AllByRecursion (λ y. q y ≡ true → P y) xs
-    go true f ih = ((λ e. f.0), ih f.1)
-    go false f ih = ((λ e. absurd (true≢false (sym e))), ih f)
-
-each_same : (f g : Component → Cell) (ys : List Component) → map f ys ≡ map g ys → AllByRecursion (λ y. f y ≡ g y) ys
+pub each_same : (f g : Component → Cell) (ys : List Component) → map f ys ≡ map g ys → AllByRecursion (λ y. f y ≡ g y) ys
 each_same f g [] e = tt
 each_same f g (y ∷ ys) e =
     let here : f y ≡ g y = cc in
@@ -61,7 +51,7 @@ all_same f g [] h = refl
 all_same f g (y ∷ ys) h = ap (λ v. v ∷ map f ys) h.0 ∙ ap (λ l. g y ∷ l) (all_same f g ys h.1)
 
 -- ---- columns
-one_kind : (place : ℕ) (name : List ℕ) (a b : Kind) (xs : List Component) → IsColumnAt place name a xs → IsColumnAt place name b xs → a ≡ b
+pub one_kind : (place : ℕ) (name : List ℕ) (a b : Kind) (xs : List Component) → IsColumnAt place name a xs → IsColumnAt place name b xs → a ≡ b
 one_kind place name a b [] h i = absurd h
 one_kind zero name a b (x ∷ xs) h i = sym h.1 ∙ i.1
 one_kind (suc place) name a b (x ∷ xs) h i = one_kind place name a b xs h i
@@ -70,7 +60,7 @@ one_kind (suc place) name a b (x ∷ xs) h i = one_kind place name a b xs h i
 filled : (place : ℕ) (name : List ℕ) (kind : Kind) (xs : List Component) (r : Row) → IsColumnAt place name kind xs → AllByRecursion IsIdentifier xs → is_point xs r ≡ true → is_null (column_of place r) ≡ false
 filled place name kind [] r h all t = absurd h
 filled zero name kind (x ∷ xs) [] h all t = cc
-filled zero name kind (x ∷ xs) (v ∷ r) h all t = is_not (is_null v) (sym (ap (λ b. not (b && is_null v)) all.0) ∙ (point_parts x xs v r t).1)
+filled zero name kind (x ∷ xs) (v ∷ r) h all t = not-true (is_null v) (sym (ap (λ b. not (b && is_null v)) all.0) ∙ (point_parts x xs v r t).1)
 filled (suc place) name kind (x ∷ xs) [] h all t = cc
 filled (suc place) name kind (x ∷ xs) (v ∷ r) h all t = filled place name kind xs r h all.1 (point_parts x xs v r t).2
 
@@ -123,7 +113,7 @@ module _ (id : List ℕ) (a : Structure) (w : IsStructure a) where
     all_fit row item t =
         let Own : Component → Type 0 = λ y. IsColumnAt (place_of y.name ids) y.name y.kind ids in
         let Other : Component → Type 0 = λ y. IsColumnAt (place_of y.name others) y.name y.kind others in
-        both_all Own (λ y. is_other y ≡ true → Other y) (Fits row item) (cell_fits row item t) ids (own_identifiers a w) (unfiltered Other is_other ids (subst (AllByRecursion Other) others_is others_own))
+        all_both Own (λ y. is_other y ≡ true → Other y) (Fits row item) (cell_fits row item t) ids (own_identifiers a w) (all_from_filtered Other is_other ids (subst (AllByRecursion Other) others_is others_own))
 
     pub key_is_point : (row : Row) (item : List ℕ) → is_point others row ≡ true → is_point ids (key_at id a row item) ≡ true
     key_is_point row item t = go ids (all_fit row item t)
@@ -150,7 +140,7 @@ module _ (id : List ℕ) (a : Structure) (w : IsStructure a) where
       let Same : Component → Type 0 = λ y. cell_at row item y ≡ cell_at other name y in
       let all = subst (AllByRecursion Same) (sym others_is) (AllByRecursion-filter Same is_other ids (each_same (cell_at row item) (cell_at other name) ids e)) in
       let passed = subst (AllByRecursion (λ y. is_other y ≡ true)) (sym others_is) (all_filtered is_other ids) in
-      let values = both_all (λ y. is_other y ≡ true) Same (λ y. value_named others row y.name ≡ value_named others other y.name) (λ y p q. sym (named row item y p) ∙ q ∙ named other name y p) others passed all in
+      let values = all_both (λ y. is_other y ≡ true) Same (λ y. value_named others row y.name ≡ value_named others other y.name) (λ y p q. sym (named row item y p) ∙ q ∙ named other name y p) others passed all in
       sym (whole row t) ∙ all_same (λ y. value_named others row y.name) (λ y. value_named others other y.name) others values ∙ whole other u
 
   -- and so is the item
@@ -162,7 +152,7 @@ module _ (id : List ℕ) (a : Structure) (w : IsStructure a) where
   pub item_back : (row other : Row) (item name : List ℕ) → IsColumnAt (place_of id ids) id k.Text ids → key_at id a row item ≡ key_at id a other name → item ≡ name
   item_back row other item name coded e =
       let there = column_there (λ y. cell_at row item y ≡ cell_at other name y) (place_of id ids) id k.Text ids coded (each_same (cell_at row item) (cell_at other name) ids e) in
-      let is : same_name there.0.name id ≡ true = ap (λ l. same_name l id) there.1 ∙ same_name-refl id in
+      let is : same_name there.0.name id ≡ true = ap (λ l. same_name l id) there.1 ∙ same_itself id in
       let texts : c.Text item ≡ c.Text name = sym (ap (λ b. cond b (c.Text item) (value_named others row there.0.name)) is) ∙ there.2 ∙ ap (λ b. cond b (c.Text name) (value_named others other there.0.name)) is in
       cc
 
@@ -171,7 +161,7 @@ pub combinations_typed : (id : List ℕ) (a : Structure) (d : List Row) → IsDa
 combinations_typed id a d set =
     let P : Row → Type 0 = λ row. is_point (other_identifiers id a) row ≡ true in
     let f = values_in a (other_identifiers id a) in
-    once_hold P same_row (map f d) (all_map f P d (all_more (λ r. is_point (columns_of a) r ≡ true) (λ r. P (f r)) (λ r t. other_key_is id a r set.well_formed t) d set.typed))
+    once_hold P same_row (map f d) (AllByRecursion-map f P d (all_more (λ r. is_point (columns_of a) r ≡ true) (λ r. P (f r)) (λ r t. other_key_is id a r set.well_formed t) d set.typed))
 
 pub items_are : (h : Ruled) (a : Structure) (d : List Row) → IsItemized h a → IsDataSet a d → (row : Row) → AreOf h.kind (items_at h (with_points a d) row)
 items_are h a d i set row name = go (find (is_coded a h.id row name) d) refl

@@ -6,6 +6,8 @@ use Rattle.std.specs.Option.{option_and_then, option_to_list}
 use Rattle.std.specs.Result.{result_ok}
 use Rattle.std.proofs.Math.Nat.{one-le-pow}
 use Rattle.std.proofs.lemmas.Bool.{lt-ltb}
+use Rattle.vtl_lists.proofs.Alls.{all_append, all_each, all_flat_map, all_more}
+use Rattle.vtl_lists.proofs.Sorts.{AllByRecursion-map}
 use Rattle.vtl_decimal.specs.Numeral.{Numeral, denominator, integer_of, numeral_of, numerator, signed}
 use Rattle.vtl_decimal.specs.Range.{fit_integer, fit_number}
 use Rattle.vtl_decimal.specs.Settings.{Settings}
@@ -49,30 +51,30 @@ use Rattle.vtl_meaning.specs.Turned.{is_coded, other_identifiers}
 use Rattle.vtl_meaning.proofs.JoinKept.{once_hold}
 use Rattle.vtl_meaning.proofs.JoinParts.{found_is}
 use Rattle.vtl_meaning.proofs.JoinProfiles.{values_hold}
-use Rattle.vtl_meaning.proofs.Places.{all_append, all_map, all_more, each}
 use Rattle.vtl_meaning.proofs.Profiles.{IsRowOfProfile, cell_is, drawn_are}
 use Rattle.vtl_meaning.proofs.SetsKept.{all_flat}
 use Rattle.vtl_meaning.proofs.SetsProfiles.{left_profile}
-use Rattle.vtl_meaning.proofs.TurnedKept.{all_drawn, filter_map_drawn}
+use Rattle.vtl_meaning.proofs.TurnedKept.{filter_map_drawn}
 use Rattle.vtl_meaning.proofs.ValueKinds.{after_if}
+use Rattle.vtl_meaning.proofs.AnalyticPoints.{unless_has}
 use Rattle.vtl_rulings.specs.Hierarchies.{hierarchy_of, made_at, made_fault, made_point, made_points, shown_points}
 use Rattle.vtl_rulings.specs.HierarchyChecks.{Ruled, SidedRule, check_cells, check_fault, check_hierarchy_of, check_point, combinations, is_checked, items_at, key_at, key_cell, sided_rules}
 use Rattle.vtl_rulings.specs.Modes.{Items, zero_of}
 use Rattle.vtl_rulings.specs.Outputs.{is_shown}
 use Rattle.vtl_rulings.specs.Sides.{comparison_op, difference, first_value, holds, left_side, right_side, rule_errors, sign_op}
 use Rattle.vtl_rulings.proofs.Checked.{given_or_null, parts_hold}
-use Rattle.vtl_rulings.proofs.Profiles.{errors_profile, unless_if}
+use Rattle.vtl_rulings.proofs.Profiles.{errors_profile}
 use Rattle.vtl_rulings.proofs.SidesHold.{AllHave, IsKept, left_holds, made_holds, right_holds}
 
 -- ---- integers that digits write, and 0
-fits : (s : ℕ) (n : ℤ) → IfSome (result_ok (fit_integer s n)) (λ m. IsOk (fit_integer s m))
+pub fits : (s : ℕ) (n : ℤ) → IfSome (result_ok (fit_integer s n)) (λ m. IsOk (fit_integer s m))
 fits s n = go (nat_lt (unsigned_abs n) (10 ^ (18 - s))) refl
   where
     go : (b : Bool) → nat_lt (unsigned_abs n) (10 ^ (18 - s)) ≡ b → IfSome (result_ok {T = ℤ} {E = Fault} (cond b (Ok n) (Err Range))) (λ m. IsOk (fit_integer s m))
     go true e = subst (λ b. IsOk {T = ℤ} {E = Fault} (cond b (Ok n) (Err Range))) (sym e) refl
     go false e = tt
 
-written_fits : (p : Settings) (digits : List ℕ) → IfSome (integer_written p digits) (λ n. IsOk (fit_integer p.scale n))
+pub written_fits : (p : Settings) (digits : List ℕ) → IfSome (integer_written p digits) (λ n. IsOk (fit_integer p.scale n))
 written_fits p digits = read (numeral_of (encode_utf8_all digits))
   where
     whole : (n : Numeral) (b : Bool) → IfSome (cond b (result_ok (fit_integer p.scale (signed n.negative (numerator 0 n / denominator n)))) None) (λ m. IsOk (fit_integer p.scale m))
@@ -83,7 +85,7 @@ written_fits p digits = read (numeral_of (encode_utf8_all digits))
     read None = tt
     read (Some n) = whole n (numerator 0 n % denominator n == 0)
 
-level_fits : (p : Settings) (level : Option (List ℕ)) → IfSome (option_and_then (integer_written p) level) (λ n. IsOfProfile p (c.Int n))
+pub level_fits : (p : Settings) (level : Option (List ℕ)) → IfSome (option_and_then (integer_written p) level) (λ n. IsOfProfile p (c.Int n))
 level_fits p None = tt
 level_fits p (Some digits) = written_fits p digits
 
@@ -93,7 +95,7 @@ zero_fits s =
     let is : nat_lt 0 (10 ^ (18 - s)) ≡ true = lt-ltb 0 (10 ^ (18 - s)) some in
     subst (λ b. IsOk {T = ℤ} {E = Fault} (cond b (Ok (pos 0)) (Err Range))) (sym is) refl
 
-zero_profile : (p : Settings) (kind : Kind) → IsOfProfile p (zero_of kind)
+pub zero_profile : (p : Settings) (kind : Kind) → IsOfProfile p (zero_of kind)
 zero_profile p k.Int = zero_fits p.scale
 zero_profile p other = tt
 
@@ -155,13 +157,13 @@ module _ (p : Settings) where
     rows_profile id =
         let ids = other_identifiers id a in
         let f = values_in a ids in
-        once_hold (IsRowOfProfile p) same_row (map f d) (all_map f (IsRowOfProfile p) d (all_more (IsRowOfProfile p) (λ r. IsRowOfProfile p (f r)) (λ r i. values_hold Of tt (columns_of a) ids r i) d h))
+        once_hold (IsRowOfProfile p) same_row (map f d) (AllByRecursion-map f (IsRowOfProfile p) d (all_more (IsRowOfProfile p) (λ r. IsRowOfProfile p (f r)) (λ r i. values_hold Of tt (columns_of a) ids r i) d h))
 
     key_profile_at : (id : List ℕ) (row : Row) (item : List ℕ) → IsRowOfProfile p row → IsRowOfProfile p (key_at id a row item)
     key_profile_at id row item t =
         let others = other_identifiers id a in
         let f = key_cell id others row item in
-        all_map f Of (identifiers_of a) (each (λ y. Of (f y)) (λ y. cell y (same_name y.name id)) (identifiers_of a))
+        AllByRecursion-map f Of (identifiers_of a) (all_each (λ y. Of (f y)) (λ y. cell y (same_name y.name id)) (identifiers_of a))
       where
         cell : (y : Component) (b : Bool) → Of (cond b (c.Text item) (value_named (other_identifiers id a) row y.name))
         cell y true = tt
@@ -200,8 +202,8 @@ module _ (p : Settings) where
           let rows = combinations ruled.id operand in
           let all = sided_rules rules in
           let points : SidedRule → List Row = λ x. filter_map (check_point p o ruled m operand x) rows in
-          unless_if (AreOfProfile p) (faults_by (λ x. faults_by (λ row. check_fault p m ruled.kind (items_at ruled operand row) x.1) rows) all) (flat_map points all)
-          (all_drawn (IsRowOfProfile p) points all (each (λ x. AreOfProfile p (points x)) (λ x. made_of_rows ruled.id (check_point p o ruled m operand x) (sided_profile x)) all))
+          unless_has (AreOfProfile p) (faults_by (λ x. faults_by (λ row. check_fault p m ruled.kind (items_at ruled operand row) x.1) rows) all) (flat_map points all)
+          (all_flat_map (IsRowOfProfile p) points all (all_each (λ x. AreOfProfile p (points x)) (λ x. made_of_rows ruled.id (check_point p o ruled m operand x) (sided_profile x)) all))
 
     -- ---- `hierarchy`
     module _ (ruled : Ruled) (m : Mode) (i : HierInput) (rules : List HierRule) where
@@ -216,7 +218,7 @@ module _ (p : Settings) where
       made_profile =
           let all = definitions rules in
           let points : HierRule → List Row = λ r. filter_map (made_point p ruled m i rules operand r) (combinations ruled.id operand) in
-          all_drawn (IsRowOfProfile p) points all (each (λ r. AreOfProfile p (points r)) (λ r. made_of_rows ruled.id (made_point p ruled m i rules operand r) (point_profile r)) all)
+          all_flat_map (IsRowOfProfile p) points all (all_each (λ r. AreOfProfile p (points r)) (λ r. made_of_rows ruled.id (made_point p ruled m i rules operand r) (point_profile r)) all)
 
       shown_profile : (o : HierOut) (s : Structure) → AreOfProfile p (shown_points p ruled m i rules operand o s)
       shown_profile out.Computed s = made_profile
@@ -225,4 +227,4 @@ module _ (p : Settings) where
           once_hold (IsRowOfProfile p) (same_key (key_width s)) (flat_map (λ l. l) both) (all_flat (IsRowOfProfile p) both (made_profile, (left_profile p operand s h, tt)))
 
       pub hierarchy_profile : (o : HierOut) (s : Structure) → IfOk (hierarchy_of p ruled m i rules operand o s) (AreOfProfile p)
-      hierarchy_profile o s = unless_if (AreOfProfile p) (faults_by (λ r. faults_by (made_fault p ruled m i rules operand r) (combinations ruled.id operand)) (definitions rules)) (shown_points p ruled m i rules operand o s) (shown_profile o s)
+      hierarchy_profile o s = unless_has (AreOfProfile p) (faults_by (λ r. faults_by (made_fault p ruled m i rules operand r) (combinations ruled.id operand)) (definitions rules)) (shown_points p ruled m i rules operand o s) (shown_profile o s)

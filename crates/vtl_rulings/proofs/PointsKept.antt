@@ -4,6 +4,7 @@ use Rattle.std.specs.List.{AllByRecursion, flat_map}
 use Rattle.std.specs.Option.{option_to_list}
 use Rattle.vtl_decimal.specs.Settings.{Settings}
 use Rattle.vtl_lists.specs.Apart.{all_apart}
+use Rattle.vtl_lists.proofs.Alls.{all_append, all_flat_map, all_more}
 use Rattle.vtl_cell.specs.Outcome.{faults_by}
 use Rattle.vtl_cell.specs.Row.{Row, same_key, same_row}
 use Rattle.vtl_cell.specs.declared.cell.Cell.{Cell}
@@ -26,10 +27,11 @@ use Rattle.vtl_meaning.proofs.Drawn.{AtMostOne, drawn_all, drawn_apart}
 use Rattle.vtl_meaning.proofs.Kept.{unless_ok}
 use Rattle.vtl_meaning.proofs.LookUps.{named_cells}
 use Rattle.vtl_meaning.proofs.OwnColumns.{own_measures}
-use Rattle.vtl_meaning.proofs.Places.{IsIdentifier, all_append, all_more, are_identifiers, are_others, cells_fit, columns_split, joined_point_is, key_of_joined, key_of_point, point_append, point_of_identifiers, same_name-refl}
-use Rattle.vtl_meaning.proofs.TurnedKept.{all_drawn, each_apart, filter_map_drawn, front_same}
+use Rattle.vtl_meaning.proofs.Places.{IsIdentifier, are_identifiers, are_others, cells_fit, columns_split, joined_point_is, key_of_joined, key_of_point, point_append, point_of_identifiers}
+use Rattle.vtl_meaning.proofs.TurnedKept.{each_apart, filter_map_drawn, front_same}
 use Rattle.vtl_rulings.specs.Outputs.{code_cell, is_shown, level_cell}
 use Rattle.vtl_tree.specs.Checks.{error_measures, output_parts, ruleid}
+use Rattle.vtl_tree.proofs.NotNullLemmas.{same_itself}
 use Rattle.vtl_rulings.specs.PointChecks.{PointRule, datapoint_of, errors_of, point_rules, rule_fault, rule_points, ruled_point, truth_of}
 use Rattle.vtl_rulings.specs.Shaped.{IsPointChecked, IsPointRuleOver}
 use Rattle.vtl_rulings.proofs.Checked.{all_with_ids, code_is, errors_fit, level_is, parts_fit, parts_mapped, truth_is}
@@ -113,7 +115,7 @@ module _ (p : Settings) (o : CheckOut) (rules : List PointRuleTree) (a s : Struc
   rule_names x t q z f g e =
       let texts = (keys_back x.0 t.0 f.0 g.0 q z f.1 g.1 e).1 in
       let same : x.0 ≡ t.0 = cc in
-      ap (same_name x.0) (sym same) ∙ same_name-refl x.0
+      ap (same_name x.0) (sym same) ∙ same_itself x.0
 
   abbrev pub all : List PointRule
   all = point_rules rules
@@ -127,7 +129,7 @@ module _ (p : Settings) (o : CheckOut) (rules : List PointRuleTree) (a s : Struc
   pub whole_kept : IsDataSet s (flat_map points all)
   whole_kept = record {
     well_formed = i.well_formed;
-    typed = all_drawn (λ q. is_point (columns_of s) q ≡ true) points all
+    typed = all_flat_map (λ q. is_point (columns_of s) q ≡ true) points all
         (all_more (λ x. AllByRecursion (IsDrawn x) (points x)) (λ x. AllByRecursion (λ q. is_point (columns_of s) q ≡ true) (points x)) (λ x l. all_more (IsDrawn x) (λ q. is_point (columns_of s) q ≡ true) (λ q t. t.1.0) (points x) l) all all_points_drawn);
     distinct = each_apart IsDrawn (λ x y. same_name x.0 y.0) (same_key (key_width s)) rule_names points all all_points_drawn
         (all_more (λ x. IsPointRuleOver p xs x.1) (λ x. all_apart (same_key (key_width s)) (points x) ≡ true) one_apart all all_rules) i.apart;

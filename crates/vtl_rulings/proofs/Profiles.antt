@@ -3,10 +3,10 @@ use Rattle.std.proofs.Common.{ℕ, ℤ, Bool, true, false, cond, List, ◌∷◌
 use Rattle.std.specs.Prelude.{IfOk}
 use Rattle.std.specs.List.{AllByRecursion, flat_map}
 use Rattle.std.specs.Option.{IfSome, option_map_or, option_to_list}
+use Rattle.vtl_lists.proofs.Alls.{all_append, all_flat_map, all_more}
 use Rattle.vtl_decimal.specs.Settings.{Settings}
-use Rattle.vtl_decimal.specs.declared.number.Fault.{Fault}
 use Rattle.vtl_cell.specs.Conversion.{as_kind}
-use Rattle.vtl_cell.specs.Outcome.{faults_by, unless}
+use Rattle.vtl_cell.specs.Outcome.{faults_by}
 use Rattle.vtl_cell.specs.Profile.{IsOfProfile}
 use Rattle.vtl_cell.specs.Row.{Row, column_of}
 use Rattle.vtl_cell.specs.declared.cell.Cell.{Cell}
@@ -29,19 +29,15 @@ use Rattle.vtl_tree.specs.declared.structure.Structure.{Structure}
 use Rattle.vtl_meaning.specs.Agreement.{first_agreeing, key_of, values_in}
 use Rattle.vtl_meaning.specs.Points.{cell_or_null, with_points}
 use Rattle.vtl_meaning.proofs.JoinProfiles.{front_holds, values_hold}
-use Rattle.vtl_meaning.proofs.Places.{all_append, all_more}
 use Rattle.vtl_meaning.proofs.Profiles.{IsRowOfProfile, cell_is, drawn_are, value_gives}
-use Rattle.vtl_meaning.proofs.TurnedKept.{all_drawn, filter_map_drawn}
+use Rattle.vtl_meaning.proofs.TurnedKept.{filter_map_drawn}
 use Rattle.vtl_meaning.proofs.ValueKinds.{after_if}
+use Rattle.vtl_meaning.proofs.AnalyticPoints.{unless_has}
 use Rattle.vtl_rulings.specs.Outputs.{code_cell, errors_at, is_basic_shown, is_shown, level_cell}
 use Rattle.vtl_tree.specs.Checks.{output_parts}
 use Rattle.vtl_rulings.specs.PointChecks.{PointRule, check_of, checked_point, datapoint_of, errors_of, held, imbalance_at, point_rules, rule_fault, rule_points, ruled_point, truth_of, under}
 use Rattle.vtl_rulings.specs.Shaped.{IsConditionOver, IsPointRuleOver}
 use Rattle.vtl_rulings.proofs.Checked.{all_with_ids, code_of_profile, errors_hold, given_or_null, level_of_profile, parts_hold, under_holds}
-
-pub unless_if : {A : Type 0} (P : A → Type 0) (f : Option Fault) (x : A) → P x → IfOk (unless f x) P
-unless_if P None x h = h
-unless_if P (Some f) x h = tt
 
 module _ (p : Settings) where
   abbrev Of : Cell → Type 0
@@ -90,8 +86,8 @@ module _ (p : Settings) where
     datapoint_profile =
         let all = point_rules rules in
         let points : PointRule → List Row = rule_points p o (with_points a d) in
-        unless_if (AreOfProfile p) (faults_by (rule_fault p (with_points a d)) all) (flat_map points all)
-        (all_drawn (IsRowOfProfile p) points all (all_more (λ x. IsPointRuleOver p (columns_of a) x.1) (λ x. AreOfProfile p (points x)) rule_profile all (all_with_ids (IsPointRuleOver p (columns_of a)) (λ r. r.name) 1 rules i)))
+        unless_has (AreOfProfile p) (faults_by (rule_fault p (with_points a d)) all) (flat_map points all)
+        (all_flat_map (IsRowOfProfile p) points all (all_more (λ x. IsPointRuleOver p (columns_of a) x.1) (λ x. AreOfProfile p (points x)) rule_profile all (all_with_ids (IsPointRuleOver p (columns_of a)) (λ r. r.name) 1 rules i)))
 
   -- ---- `check`
   imbalance_profile : (a : Structure) (imbalance : Option DataSet) (r : Row) → Of (imbalance_at p a imbalance r)

@@ -6,6 +6,8 @@ use Rattle.std.specs.Option.{option_and_then, option_or, option_to_list}
 use Rattle.vtl_decimal.specs.Settings.{Settings}
 use Rattle.vtl_lists.specs.Apart.{all_apart}
 use Rattle.vtl_lists.proofs.Aparts.{apart_parts}
+use Rattle.vtl_lists.proofs.Alls.{all_both, all_flat_map, all_more}
+use Rattle.vtl_lists.proofs.Tests.{or_none}
 use Rattle.vtl_cell.specs.Row.{Row, same_key, same_row}
 use Rattle.vtl_cell.specs.declared.cell.Cell.TheVariants as c
 use Rattle.vtl_cell.proofs.Rows.{same_row-is, same_row-refl}
@@ -14,21 +16,18 @@ use Rattle.vtl_tree.specs.DataSet.{Distinct, IsDataSet, look}
 use Rattle.vtl_tree.specs.Structure.{columns_of, key_width, same_name}
 use Rattle.vtl_tree.specs.Trees.{PointRuleTree}
 use Rattle.vtl_tree.specs.declared.structure.Structure.{Structure}
+use Rattle.vtl_tree.proofs.NotNullLemmas.{same_itself}
 use Rattle.vtl_meaning.specs.Agreement.{key_of}
 use Rattle.vtl_meaning.specs.Points.{with_points}
 use Rattle.vtl_meaning.proofs.Drawn.{AtMostOne}
-use Rattle.vtl_meaning.proofs.Kept.{both_all, look_is}
+use Rattle.vtl_meaning.proofs.Kept.{look_is}
 use Rattle.vtl_meaning.proofs.Looks.{behind_none, look_absent, look_key}
-use Rattle.vtl_meaning.proofs.Places.{all_more, same_name-is, same_name-refl, same_name-sym}
+use Rattle.vtl_meaning.proofs.Places.{same_name-is, same_name-sym}
 use Rattle.vtl_meaning.proofs.SetsLooks.{look-append}
-use Rattle.vtl_meaning.proofs.TurnedKept.{all_drawn, front_same}
+use Rattle.vtl_meaning.proofs.TurnedKept.{front_same}
 use Rattle.vtl_rulings.specs.PointChecks.{PointRule, datapoint_of}
 use Rattle.vtl_rulings.specs.Shaped.{IsPointChecked, IsPointRuleOver}
 use Rattle.vtl_rulings.proofs.PointsKept.{IsDrawn, IsRuled, all, all_rules, are_drawn, at_each, datapoint_is, drawn_is, point_at, points}
-
-or_none : {X : Type 0} (o : Option X) → option_or o None ≡ o
-or_none None = refl
-or_none (Some x) = refl
 
 -- what is not true is false
 not_true : (b : Bool) → (b ≡ true → false ≡ true) → b ≡ false
@@ -56,7 +55,7 @@ module _ (p : Settings) (o : CheckOut) (rules : List PointRuleTree) (a s : Struc
   other_rule id name r q k f e = not_true (same_row (take m q) (key_with k name)) (λ g. differ ((front_same (key_of a r) k (c.Text id) (c.Text name) (sym f.1 ∙ same_row-is (take m q) (key_with k name) g)).1))
     where
       differ : c.Text id ≡ c.Text name → false ≡ true
-      differ g = let same : id ≡ name = cc in sym e ∙ ap (same_name id) (sym same) ∙ same_name-refl id
+      differ g = let same : id ≡ name = cc in sym e ∙ ap (same_name id) (sym same) ∙ same_itself id
 
   other_point : (id : List ℕ) (r q k : Row) → Ruled id r q → same_row (take n r) k ≡ false → same_row (take m q) (key_with k id) ≡ false
   other_point id r q k f e = not_true (same_row (take m q) (key_with k id)) (λ g. differ ((front_same (key_of a r) k (c.Text id) (c.Text id) (sym f.1 ∙ same_row-is (take m q) (key_with k id) g)).0))
@@ -149,13 +148,13 @@ module _ (p : Settings) (o : CheckOut) (rules : List PointRuleTree) (a s : Struc
 
       every : (ys : List PointRule) → ((name : List ℕ) → is_some (named name ys) ≡ true → is_some (named name xs) ≡ true) → AllByRecursion (λ x. is_some (named x.0 xs) ≡ true) ys
       every [] f = tt
-      every (y ∷ ys) f = (f y.0 (ap (λ b. is_some (cond b (Some y) (named y.0 ys))) (same_name-refl y.0)), every ys (λ name e. f name (step y ys name e)))
+      every (y ∷ ys) f = (f y.0 (ap (λ b. is_some (cond b (Some y) (named y.0 ys))) (same_itself y.0)), every ys (λ name e. f name (step y ys name e)))
 
   pub datapoint_only : (made : List Row) (j q : Row) → datapoint_of p o rules (with_points a d) ≡ Ok made → look m made j ≡ Some q → (k : Row) × (name : List ℕ) × (is_some (named name (all p o rules a s d i h)) ≡ true) × (j ≡ key_with k name)
   datapoint_only made j q e found =
       let xs = all p o rules a s d i h in
-      let every : AllByRecursion IsOfRule (flat_map of_rule xs) = all_drawn IsOfRule of_rule xs
-      (both_all (λ x. is_some (named x.0 xs) ≡ true) (λ x. IsPointRuleOver p (columns_of a) x.1) (λ x. AllByRecursion IsOfRule (of_rule x))
+      let every : AllByRecursion IsOfRule (flat_map of_rule xs) = all_flat_map IsOfRule of_rule xs
+      (all_both (λ x. is_some (named x.0 xs) ≡ true) (λ x. IsPointRuleOver p (columns_of a) x.1) (λ x. AllByRecursion IsOfRule (of_rule x))
       (λ x t f. all_more (IsDrawn p o rules a s d i h x) IsOfRule (λ z r. (key_of a r.0, x.0, t, r.1.1)) (of_rule x) (are_drawn p o rules a s d i h x f)) xs (found_itself xs) (all_rules p o rules a s d i h)) in
       let is = look_is IsOfRule m made j q (subst (AllByRecursion IsOfRule) (datapoint_is p o rules a s d i h made e) every) found in
       (is.0, is.1, is.2, sym (look_key m made j q found) ∙ is.3)

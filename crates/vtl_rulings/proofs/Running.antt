@@ -8,19 +8,20 @@ use Rattle.vtl_lists.specs.Apart.{all_apart}
 use Rattle.vtl_lists.specs.Perm.{Perm}
 use Rattle.vtl_lists.proofs.Aparts.{apart_parts}
 use Rattle.vtl_lists.proofs.Perms.{AllByRecursion-Perm, Perm-sym, length-Perm}
+use Rattle.vtl_lists.proofs.Alls.{all_both, all_more}
 use Rattle.vtl_cell.specs.declared.kind.Kind.{Kind}
 use Rattle.vtl_syntax.specs.declared.statements.HierRule.{HierRule}
 use Rattle.vtl_syntax.specs.declared.word_groups.HierInput.{HierInput}
 use Rattle.vtl_syntax.specs.declared.word_groups.Mode.{Mode}
 use Rattle.vtl_tree.specs.Structure.{same_name}
 use Rattle.vtl_tuples.proofs.Lists.{map_same}
-use Rattle.vtl_meaning.proofs.Kept.{both_all}
-use Rattle.vtl_meaning.proofs.Places.{all_more, same_name-is, same_name-refl}
+use Rattle.vtl_meaning.proofs.Places.{same_name-is}
 use Rattle.vtl_rulings.specs.Hierarchies.{computed, defines, items_within, taken}
 use Rattle.vtl_rulings.specs.Modes.{Found, Items, appears, counted}
 use Rattle.vtl_rulings.specs.Running.{AreOrdered, AreThese, IsFree, made_in_run, ran, step}
 use Rattle.vtl_rulings.specs.Sides.{sum_of}
 use Rattle.vtl_tree.specs.RuleItems.{left_item, right_items}
+use Rattle.vtl_tree.proofs.NotNullLemmas.{same_itself}
 
 module _ (p : Settings) (m : Mode) (kind : Kind) (i : HierInput) (given : Items) (rules : List HierRule) where
   abbrev within : ℕ → Items
@@ -91,8 +92,8 @@ own_found : (rules : List HierRule) → all_apart one_item rules ≡ true → Al
 own_found [] e = tt
 own_found (r ∷ rs) e =
     let parts = apart_parts one_item r rs e in (
-      ap (λ b. cond b (Some r) (find (defines (left_item r)) rs)) (same_name-refl (left_item r)),
-      both_all (λ t. one_item r t ≡ false) (λ t. find (defines (left_item t)) rs ≡ Some t) (λ t. find (defines (left_item t)) (r ∷ rs) ≡ Some t) (λ t f g. ap (λ b. cond b (Some r) (find (defines (left_item t)) rs)) f ∙ g) rs parts.0 (own_found rs parts.1),
+      ap (λ b. cond b (Some r) (find (defines (left_item r)) rs)) (same_itself (left_item r)),
+      all_both (λ t. one_item r t ≡ false) (λ t. find (defines (left_item t)) rs ≡ Some t) (λ t. find (defines (left_item t)) (r ∷ rs) ≡ Some t) (λ t f g. ap (λ b. cond b (Some r) (find (defines (left_item t)) rs)) f ∙ g) rs parts.0 (own_found rs parts.1),
     )
 
 none_found : (rules : List HierRule) (item : List ℕ) → IsFree rules item → find (defines item) rules ≡ None

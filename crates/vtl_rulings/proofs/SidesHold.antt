@@ -3,6 +3,8 @@ use Rattle.std.proofs.Common.{ℕ, zero, suc, Bool, true, false, cond, List, [],
 use Rattle.std.specs.Prelude.{IfOk, IfSome}
 use Rattle.std.specs.List.{AllByRecursion, find}
 use Rattle.std.specs.Option.{option_map_or}
+use Rattle.vtl_lists.proofs.Sorts.{AllByRecursion-map}
+use Rattle.vtl_lists.proofs.Alls.{all_each}
 use Rattle.vtl_decimal.specs.Settings.{Settings}
 use Rattle.vtl_cell.specs.Kinds.{is_null}
 use Rattle.vtl_cell.specs.Outcome.{Outcome, after}
@@ -20,7 +22,6 @@ use Rattle.vtl_syntax.specs.declared.word_groups.Mode.{Mode}
 use Rattle.vtl_syntax.specs.declared.word_groups.Mode.TheVariants as mode
 use Rattle.vtl_tree.specs.RuleItems.{left_item, right_items}
 use Rattle.vtl_meaning.specs.Points.{cell_or_null}
-use Rattle.vtl_meaning.proofs.Places.{all_map, each}
 use Rattle.vtl_meaning.proofs.ValueKinds.{after_if}
 use Rattle.vtl_rulings.specs.Hierarchies.{computed, defines, items_of, items_within, taken}
 use Rattle.vtl_rulings.specs.Modes.{Found, Items, appears, counted, missing_as, zero_of}
@@ -34,7 +35,7 @@ pub record IsKept (p : Settings) (kind : Kind) (P : Cell → Type 0) : Type 0 wh
   pub signed : (s : Addition) (v : Cell) → P v → IfOk (first_value p kind (Some s) v) P
   pub added : (s : Addition) (u v : Cell) → P u → P v → IfOk (result_of p (sign_op s) kind (u ∷ v ∷ [])) P
 
--- it holds of what there is of each item
+-- it holds of what there is of all_each item
 abbrev pub AllHave : (P : Cell → Type 0) → Items → Type 0
 AllHave P items = (name : List ℕ) → IfSome (items name) P
 
@@ -74,7 +75,7 @@ module _ (p : Settings) (kind : Kind) (P : Cell → Type 0) (kept : IsKept p kin
     pub right_holds : (items : Items) → AllHave P items → (r : HierRule) → IfOk (right_side p m kind items r) P
     right_holds items have r =
         let f : List ℕ → Cell = λ name. counted m kind (items name) in
-        sum_holds r (map f (right_items r)) (all_map f P (right_items r) (each (λ name. P (f name)) (λ name. counted_holds m (items name) (have name)) (right_items r)))
+        sum_holds r (map f (right_items r)) (AllByRecursion-map f P (right_items r) (all_each (λ name. P (f name)) (λ name. counted_holds m (items name) (have name)) (right_items r)))
 
     -- ---- items
     abbrev Gives : Outcome Cell → Type 0

@@ -33,7 +33,7 @@ small p n h = go (nat_lt (unsigned_abs n) (10 ^ (18 - p.scale))) refl h
     go true e h = ltb-true (unsigned_abs n) (10 ^ (18 - p.scale)) e
     go false e h = cc
 
-number_fits : (k : ℤ) → unsigned_abs k < 10 ^ 18 → fit_number k ≡ Ok k
+pub number_fits : (k : ℤ) → unsigned_abs k < 10 ^ 18 → fit_number k ≡ Ok k
 number_fits k h = grind arith
 
 pub integer_is_a_number : (p : Settings) (n : ℤ) → p.scale ≤ 9 → IsOfProfile p (c.Int n) → as_number p n ≡ Ok (units p n)

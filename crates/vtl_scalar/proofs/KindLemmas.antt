@@ -1,7 +1,8 @@
 -- Which kinds stand for which, and the kind that operands share.
 use Rattle.std.proofs.Common.{◌≡◌, Bool, true, false, List, [], ◌∷◌, Option, Some, None, ◌⊎◌, inl, inr, refl, subst}
-use Rattle.std.specs.Prelude.{◌&&◌, if◌then◌else◌}
+use Rattle.std.specs.Prelude.{if◌then◌else◌}
 use Rattle.std.specs.Option.{option_map}
+use Rattle.std.proofs.lemmas.Bool.{and_from, and_parts}
 use Rattle.vtl_cell.specs.ScalarKinds.{meets, meet, to, only, first_met, shared_kind, common_kind, truth_of_alike, is_set_of, truth_of_set}
 use Rattle.vtl_cell.specs.declared.kind.Kind.{Kind}
 use Rattle.vtl_cell.specs.declared.kind.Kind.TheVariants as k
@@ -18,25 +19,17 @@ meets_through w k.Day k.Day h i = h
 meets_through w k.Period k.Period h i = h
 meets_through w g v h i = cc
 
-pub both : (a b : Bool) → (a && b) ≡ true → (a ≡ true) × (b ≡ true)
-both true b h = (refl, h)
-both false b h = cc
-
-joined : (a b : Bool) → a ≡ true → b ≡ true → (a && b) ≡ true
-joined true b h i = i
-joined false b h i = cc
-
 pub meet_through : (ws gs vs : List Kind) → meet ws gs ≡ true → meet gs vs ≡ true → meet ws vs ≡ true
 meet_through [] [] vs h i = i
 meet_through [] (g ∷ gs) vs h i = cc
 meet_through (w ∷ ws) [] vs h i = cc
 meet_through (w ∷ ws) (g ∷ gs) [] h i = cc
 meet_through (w ∷ ws) (g ∷ gs) (v ∷ vs) h i =
-    let h' = both (meets w g) (meet ws gs) h in
-    let i' = both (meets g v) (meet gs vs) i in
-    joined (meets w v) (meet ws vs) (meets_through w g v h'.0 i'.0) (meet_through ws gs vs h'.1 i'.1)
+    let h' = and_parts (meets w g) (meet ws gs) h in
+    let i' = and_parts (meets g v) (meet gs vs) i in
+    and_from (meets w v) (meet ws vs) (meets_through w g v h'.0 i'.0) (meet_through ws gs vs h'.1 i'.1)
 
--- ---- the shared kind is one that both may have
+-- ---- the shared kind is one that and_parts may have
 
 abbrev covers : Option Kind → Kind → Bool
 covers None v = true
@@ -62,7 +55,7 @@ covers_right k.Day k.Day = refl
 covers_right k.Period k.Period = refl
 covers_right a b = refl
 
-shared_with_null : (a : Kind) → shared_kind a k.Null ≡ Some a
+pub shared_with_null : (a : Kind) → shared_kind a k.Null ≡ Some a
 shared_with_null k.Null = refl
 shared_with_null k.Bool = refl
 shared_with_null k.Int = refl

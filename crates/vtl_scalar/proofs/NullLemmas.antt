@@ -1,9 +1,10 @@
 -- A null operand gives null.
-use Rattle.std.proofs.Common.{◌≡◌, ℕ, Bool, true, false, ℤ, List, [], ◌∷◌, Option, Some, None, ◌⊎◌, inl, inr, Ok, refl, ap}
+use Rattle.std.proofs.Common.{◌≡◌, ℕ, Bool, true, false, ℤ, List, [], ◌∷◌, Option, Some, None, inl, inr, Ok, refl, ap}
 use Rattle.std.specs.Prelude.{◌&&◌, ◌||◌}
 use Rattle.std.specs.List.{list_any}
 use Rattle.std.specs.Ordering.{is_eq, is_ne, is_lt, is_le, is_gt, is_ge}
 use Rattle.std.specs.declared.cmp.Ordering.{Ordering}
+use Rattle.std.proofs.lemmas.Bool.{or_cases}
 use Rattle.vtl_decimal.specs.Settings.{Settings}
 use Rattle.vtl_cell.specs.Kinds.{is_null}
 use Rattle.vtl_cell.specs.Logic.{xor_of}
@@ -148,7 +149,7 @@ ternary_null_third p o a x h = refl
 
 -- ---- some operand is null
 
-null_is : (a : Cell) → is_null a ≡ true → a ≡ c.Null
+pub null_is : (a : Cell) → is_null a ≡ true → a ≡ c.Null
 null_is c.Null h = refl
 null_is (c.Bool x) h = cc
 null_is (c.Int x) h = cc
@@ -157,13 +158,9 @@ null_is (c.Text x) h = cc
 null_is (c.Day x) h = cc
 null_is (c.Period x) h = cc
 
-one_or : (a b : Bool) → (a || b) ≡ true → (a ≡ true) ⊎ (b ≡ true)
-one_or true b h = inl refl
-one_or false b h = inr h
-
 null_member : (p : Settings) (a : Cell) (members : List Cell) → list_any is_null members ≡ true → member_of p a members ≡ None
 null_member p a [] h = cc
-null_member p a (x ∷ rest) h = elim (one_or (is_null x) (list_any is_null rest) h) [
+null_member p a (x ∷ rest) h = elim (or_cases (is_null x) (list_any is_null rest) h) [
   | inl i ↦ rw (null_is x i) (rw (order_with_null p a) refl)
   | inr i ↦ rw (null_member p a rest i) (nothing_combined (λ s t. s || t) (compared is_eq p a x))
 ]
@@ -171,26 +168,26 @@ null_member p a (x ∷ rest) h = elim (one_or (is_null x) (list_any is_null rest
 null_membership : (p : Settings) (args : List Cell) → list_any is_null args ≡ true → membership_of p args ≡ None
 null_membership p [] h = refl
 null_membership p (a ∷ []) h = refl
-null_membership p (a ∷ x ∷ members) h = elim (one_or (is_null a) (list_any is_null (x ∷ members)) h) [
+null_membership p (a ∷ x ∷ members) h = elim (or_cases (is_null a) (list_any is_null (x ∷ members)) h) [
   | inl i ↦ rw (null_is a i) refl
   | inr i ↦ null_member p a (x ∷ members) i
 ]
 
 only_operand : (p : Settings) (o : ScalarOp) (a : Cell) → is_strict o ≡ true → list_any is_null (a ∷ []) ≡ true → unary_of p o a ≡ Ok c.Null
-only_operand p o a s h = elim (one_or (is_null a) false h) [ inl i ↦ rw (null_is a i) (unary_null p o s) | inr i ↦ cc ]
+only_operand p o a s h = elim (or_cases (is_null a) false h) [ inl i ↦ rw (null_is a i) (unary_null p o s) | inr i ↦ cc ]
 
 either_operand : (p : Settings) (o : ScalarOp) (a b : Cell) → is_strict o ≡ true → list_any is_null (a ∷ b ∷ []) ≡ true → binary_of p o a b ≡ Ok c.Null
-either_operand p o a b s h = elim (one_or (is_null a) (list_any is_null (b ∷ [])) h) [
+either_operand p o a b s h = elim (or_cases (is_null a) (list_any is_null (b ∷ [])) h) [
   | inl i ↦ rw (null_is a i) (binary_null_left p o b s)
-  | inr i ↦ elim (one_or (is_null b) false i) [ inl j ↦ rw (null_is b j) (binary_null_right p o a s) | inr j ↦ cc ]
+  | inr i ↦ elim (or_cases (is_null b) false i) [ inl j ↦ rw (null_is b j) (binary_null_right p o a s) | inr j ↦ cc ]
 ]
 
 any_operand : (p : Settings) (o : ScalarOp) (a x y : Cell) → is_strict o ≡ true → list_any is_null (a ∷ x ∷ y ∷ []) ≡ true → ternary_of p o a x y ≡ Ok c.Null
-any_operand p o a x y s h = elim (one_or (is_null a) (list_any is_null (x ∷ y ∷ [])) h) [
+any_operand p o a x y s h = elim (or_cases (is_null a) (list_any is_null (x ∷ y ∷ [])) h) [
   | inl i ↦ rw (null_is a i) (ternary_null_first p o x y s)
-  | inr i ↦ elim (one_or (is_null x) (list_any is_null (y ∷ [])) i) [
+  | inr i ↦ elim (or_cases (is_null x) (list_any is_null (y ∷ [])) i) [
     | inl j ↦ rw (null_is x j) (ternary_null_second p o a y s)
-    | inr j ↦ elim (one_or (is_null y) false j) [ inl l ↦ rw (null_is y l) (ternary_null_third p o a x s) | inr l ↦ cc ]
+    | inr j ↦ elim (or_cases (is_null y) false j) [ inl l ↦ rw (null_is y l) (ternary_null_third p o a x s) | inr l ↦ cc ]
   ]
 ]
 

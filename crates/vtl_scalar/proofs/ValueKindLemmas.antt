@@ -15,6 +15,7 @@ use Rattle.vtl_cell.specs.ScalarChoice.{truth_in, on_truth, on_truths, beside, v
 use Rattle.vtl_cell.specs.ScalarComparison.{truth, compared, between_of, membership_of}
 use Rattle.vtl_cell.specs.Logic.{not_of, and_of, or_of, xor_of}
 use Rattle.std.specs.Ordering.{is_eq, is_ne, is_lt, is_le, is_gt, is_ge}
+use Rattle.std.proofs.lemmas.Bool.{and_parts}
 use Rattle.vtl_cell.specs.ScalarKinds.{meets, meet, to, only, first_met, numeric_one, numeric_two, shared_kind, common_kind, truth_of_alike, kinds_of}
 use Rattle.vtl_time.specs.Periods.{YearPart, shift_of}
 use Rattle.vtl_cell.specs.ScalarPeriods.{frequency_of, period, places_in, shifted_of}
@@ -27,15 +28,15 @@ use Rattle.vtl_cell.specs.declared.kind.Kind.TheVariants as k
 use Rattle.vtl_cell.specs.declared.operator.ScalarOp.{ScalarOp}
 use Rattle.vtl_cell.specs.declared.operator.ScalarOp.TheVariants as op
 use Rattle.vtl_scalar.specs.KindLaws.{IsOfKind, HasKind}
-use Rattle.vtl_scalar.proofs.KindLemmas.{both, meet_through, common_left, common_right, two_give, only_gives, alike_give, set_gives}
+use Rattle.vtl_scalar.proofs.KindLemmas.{meet_through, common_left, common_right, two_give, only_gives, alike_give, set_gives}
 
 -- ---- whole numbers and numbers
 
-whole_is : (r : Result ℤ DecimalFault) → HasKind k.Int (integer r)
+pub whole_is : (r : Result ℤ DecimalFault) → HasKind k.Int (integer r)
 whole_is (Ok n) = refl
 whole_is (Err e) = tt
 
-whole_is_number : (r : Result ℤ DecimalFault) → HasKind k.Num (integer r)
+pub whole_is_number : (r : Result ℤ DecimalFault) → HasKind k.Num (integer r)
 whole_is_number (Ok n) = refl
 whole_is_number (Err e) = tt
 
@@ -286,23 +287,23 @@ scalar_is p other args h = by_number_is p other args h
 -- ---- operands by their number
 
 none_left : (a : Bool) → (a && false) ≡ true → false ≡ true
-none_left a h = (both a false h).1
+none_left a h = (and_parts a false h).1
 
 one_of : (w : Kind) (Q : List Cell → Type 0) → ((a : Cell) → IsOfKind w a → Q (a ∷ [])) → (args : List Cell) → meet (w ∷ []) (map kind_of args) ≡ true → Q args
 one_of w Q q [] h = cc
-one_of w Q q (a ∷ []) h = q a (both (meets w (kind_of a)) true h).0
+one_of w Q q (a ∷ []) h = q a (and_parts (meets w (kind_of a)) true h).0
 one_of w Q q (a ∷ b ∷ rest) h = let e = none_left (meets w (kind_of a)) h in cc
 
 two_of : (w v : Kind) (Q : List Cell → Type 0) → ((a b : Cell) → IsOfKind w a → IsOfKind v b → Q (a ∷ b ∷ [])) → (args : List Cell) → meet (w ∷ v ∷ []) (map kind_of args) ≡ true → Q args
 two_of w v Q q [] h = cc
 two_of w v Q q (a ∷ rest) h =
-    let h' = both (meets w (kind_of a)) (meet (v ∷ []) (map kind_of rest)) h in
+    let h' = and_parts (meets w (kind_of a)) (meet (v ∷ []) (map kind_of rest)) h in
     one_of v (λ xs. Q (a ∷ xs)) (λ b i. q a b h'.0 i) rest h'.1
 
 three_of : (u w v : Kind) (Q : List Cell → Type 0) → ((t a b : Cell) → IsOfKind w a → IsOfKind v b → Q (t ∷ a ∷ b ∷ [])) → (args : List Cell) → meet (u ∷ w ∷ v ∷ []) (map kind_of args) ≡ true → Q args
 three_of u w v Q q [] h = cc
 three_of u w v Q q (t ∷ rest) h =
-    let h' = both (meets u (kind_of t)) (meet (w ∷ v ∷ []) (map kind_of rest)) h in
+    let h' = and_parts (meets u (kind_of t)) (meet (w ∷ v ∷ []) (map kind_of rest)) h in
     two_of w v (λ xs. Q (t ∷ xs)) (λ a b i j. q t a b i j) rest h'.1
 
 -- ---- of integers an integer
@@ -347,7 +348,7 @@ choice_gives : (p : Settings) (t a x kind : Kind) (args : List Cell) → common_
 choice_gives p t a x kind args e met =
     three_of t a x (λ xs. HasKind kind (scalar_of p op.If xs)) (λ test v w i j. chosen_is p kind test v w (common_left a x (kind_of v) kind e i) (common_right a x (kind_of w) kind e j)) args met
 
-when : (b : Bool) (o : Option Kind) (kind : Kind) → (if b then o else None) ≡ Some kind → o ≡ Some kind
+pub when : (b : Bool) (o : Option Kind) (kind : Kind) → (if b then o else None) ≡ Some kind → o ≡ Some kind
 when true o kind e = e
 when false o kind e = cc
 

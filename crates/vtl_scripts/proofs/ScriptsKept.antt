@@ -45,7 +45,7 @@ use Rattle.vtl_timing.specs.Timed.{timed_of}
 use Rattle.vtl_timing.proofs.Timed.{timed_kept}
 
 -- what a node's data set gives, where it has one
-operand_ok : (a : NodeTree) (m : Outcome (List Row)) (f : DataSet → Outcome (List Row)) (out : List Row) → with_operand a m f ≡ Ok out → (points : List Row) × (m ≡ Ok points) × (f (with_points (structure_of a) points) ≡ Ok out)
+pub operand_ok : (a : NodeTree) (m : Outcome (List Row)) (f : DataSet → Outcome (List Row)) (out : List Row) → with_operand a m f ≡ Ok out → (points : List Row) × (m ≡ Ok points) × (f (with_points (structure_of a) points) ≡ Ok out)
 operand_ok a m f out e = after_ok m (λ points. f (with_points (structure_of a) points)) out e
 
 -- ---- expressions

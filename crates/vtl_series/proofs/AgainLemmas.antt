@@ -2,12 +2,15 @@
 use Rattle.std.proofs.Common.{◌≡◌, ◌<◌, ◌*◌, ℕ, Bool, true, false, cond, not, ◌&&◌, List, [], ◌∷◌, ◌++◌, Option, Some, None, map, length, refl, sym, ap, ◌∙◌, arith, nat_eq, nat_le, eq-eqb, eqb-true, true≢false}
 use Rattle.std.specs.List.{AllByRecursion, filter, flat_map, list_any, range_with_len}
 use Rattle.std.specs.Option.{option_map_or}
-use Rattle.std.proofs.lemmas.Bool.{and_parts}
+use Rattle.std.proofs.lemmas.Bool.{and_parts, or_left, or_right}
 use Rattle.std.proofs.lemmas.Bool.Decides.{nat_tests}
 use Rattle.std.proofs.lemmas.List.{length-map}
 use Rattle.vtl_lists.specs.Apart.{all_apart}
 use Rattle.vtl_lists.proofs.Aparts.{apart_parts}
-use Rattle.vtl_lists.proofs.Sorts.{AllByRecursion-filter}
+use Rattle.vtl_lists.proofs.Sorts.{AllByRecursion-filter, AllByRecursion-map}
+use Rattle.vtl_lists.proofs.Alls.{all_each, all_more}
+use Rattle.vtl_lists.proofs.Filters.{filter_all}
+use Rattle.vtl_lists.proofs.Tests.{same_tests}
 use Rattle.vtl_tuples.proofs.Lists.{flat_map_same, map-flat_map, map_same}
 use Rattle.vtl_cell.specs.Row.{Row, column_of, same_row}
 use Rattle.vtl_cell.specs.declared.cell.Cell.TheVariants as c
@@ -23,7 +26,7 @@ use Rattle.vtl_series.specs.declared.extent.Extent.{Extent}
 use Rattle.vtl_series.specs.declared.extent.Extent.TheVariants as extent
 use Rattle.vtl_series.specs.Series.{dated, frequencies, is_spanned, keys_by, number_at, rows_by, seen_by, series_at, series_rows, some_number, tuple_rows}
 use Rattle.vtl_series.proofs.DatedLemmas.{front_is, number_is}
-use Rattle.vtl_series.proofs.ListLemmas.{all_each, all_flat_map, all_map, all_more, all_there, any_filter, any_flat_map, any_gives, any_more, or_left, or_right, same_answer}
+use Rattle.vtl_series.proofs.ListLemmas.{all_flat_map, any_filter, any_flat_map, any_gives, any_more}
 use Rattle.vtl_series.proofs.WholeLemmas.{all_rows, among_all, row_among, row_there, spanned}
 
 -- ---- items that come once, each again and again
@@ -72,11 +75,11 @@ module _ {Y : Type 0} (F : Row → List Y) where
       others =
           all_flat_map (λ other. copies other (F other)) (λ y. same_row key y ≡ false) keys
           (all_more (λ other. same_row key other ≡ false) (λ other. AllByRecursion (λ y. same_row key y ≡ false) (copies other (F other)))
-          (λ other ne. all_map (λ y. other) (λ y. same_row key y ≡ false) (F other) (all_each (λ y. same_row key other ≡ false) (λ y. ne) (F other))) keys parts.0)
+          (λ other ne. AllByRecursion-map (λ y. other) (λ y. same_row key y ≡ false) (F other) (all_each (λ y. same_row key other ≡ false) (λ y. ne) (F other))) keys parts.0)
 
       stay : filter (λ y. not (same_row key y)) (each_once same_row rest) ≡ each_once same_row rest
       stay =
-          all_there (λ y. not (same_row key y)) (each_once same_row rest)
+          filter_all (λ y. not (same_row key y)) (each_once same_row rest)
           (all_more (λ y. same_row key y ≡ false) (λ y. not (same_row key y) ≡ true) (λ y ne. ap not ne) (each_once same_row rest) (once_kept (λ y. same_row key y ≡ false) rest others))
 
       go : (ys : List Y) → each_once same_row rest ≡ filter has_some keys → each_once same_row (copies key ys ++ rest) ≡ cond (has_items ys) (key ∷ filter has_some keys) (filter has_some keys)
@@ -118,7 +121,7 @@ module _ (e : Extent) (on : ℕ) (by : List ℕ) (rows : List Row) where
   are_keys = both keys wide there
     where
       wide : AllByRecursion (λ key. length key ≡ n) keys
-      wide = once_kept (λ (r : Row). r) (λ key. length key ≡ n) (map (cells_at by) rows) (all_map (cells_at by) (λ key. length key ≡ n) rows (all_each (λ r. length (cells_at by r) ≡ n) (λ r. length-map by (λ i. column_of i r)) rows))
+      wide = once_kept (λ (r : Row). r) (λ key. length key ≡ n) (map (cells_at by) rows) (AllByRecursion-map (cells_at by) (λ key. length key ≡ n) rows (all_each (λ r. length (cells_at by r) ≡ n) (λ r. length-map by (λ i. column_of i r)) rows))
 
       later : (x : Row) (xs : List Row) → AllByRecursion (λ key. list_any (same_row key) xs ≡ true) xs → AllByRecursion (λ key. list_any (same_row key) (x ∷ xs) ≡ true) xs
       later x xs all = all_more (λ key. list_any (same_row key) xs ≡ true) (λ key. list_any (same_row key) (x ∷ xs) ≡ true) (λ key h. or_right (same_row key x) (list_any (same_row key) xs) h) xs all
@@ -250,7 +253,7 @@ module _ (on : ℕ) (by : List ℕ) (rows : List Row) (key : Row) where
     own_again = rows_by (range_with_len 0 (length by)) (series_rows e on by rows) key
 
     spanned_again : (f : Frequency) (i : ℕ) → i < 10000 * parts_in_year f → spanned e (length by) (range_with_len 0 (length by)) (series_rows e on by rows) key f i ≡ spanned e on by rows key f i
-    spanned_again f i k = same_answer (is_spanned f (length by) own_again (seen_again e) i) (is_spanned f on own_rows (seen_in e) i) to back
+    spanned_again f i k = same_tests (is_spanned f (length by) own_again (seen_again e) i) (is_spanned f on own_rows (seen_in e) i) to back
       where
         to : is_spanned f (length by) own_again (seen_again e) i ≡ true → is_spanned f on own_rows (seen_in e) i ≡ true
         to s =

@@ -3,6 +3,7 @@ use Rattle.std.proofs.Common.{◌≡◌, ℕ, Bool, true, false, cond, ◌||◌,
 use Rattle.std.specs.List.{list_any, range_with_len}
 use Rattle.std.proofs.lemmas.List.{get_or_append_left, get_or_push, length_push}
 use Rattle.std.proofs.lemmas.List.FromFn.{fill_by_all}
+use Rattle.std.proofs.lemmas.Bool.{or_left, or_right}
 use Rattle.vtl_cell.specs.Row.{Row, column_of, same_row}
 use Rattle.vtl_cell.specs.declared.cell.Cell.{Cell}
 use Rattle.vtl_cell.specs.declared.cell.Cell.TheVariants as c
@@ -13,7 +14,6 @@ use Rattle.vtl_time.specs.declared.periods.Frequency.{Frequency}
 use Rattle.vtl_time.specs.declared.periods.Frequency.TheVariants.{Annual, Semester, Quarter, Month}
 use Rattle.vtl_time.proofs.PeriodLemmas.{index-period_at}
 use Rattle.vtl_series.specs.Series.{dated, frequencies, number_at, number_of, period_in}
-use Rattle.vtl_series.proofs.ListLemmas.{or_left, or_right}
 
 -- ---- two such rows
 longer : (xs : Row) (x y : Cell) → [] ≡ xs ++ x ∷ [] → ⊥

@@ -4,6 +4,7 @@ use Rattle.std.specs.List.{AllByRecursion}
 use Rattle.std.specs.Option.{option_map_or}
 use Rattle.std.proofs.lemmas.Bool.{and_parts}
 use Rattle.std.proofs.lemmas.List.Elements.{recursion_from_All}
+use Rattle.vtl_lists.proofs.Alls.{all_each, all_more}
 use Rattle.vtl_cell.specs.Kinds.{is_of, same_kind}
 use Rattle.vtl_cell.specs.Row.{Row, column_of}
 use Rattle.vtl_cell.specs.declared.cell.Cell.{Cell}
@@ -17,7 +18,7 @@ use Rattle.vtl_time.specs.Periods.{YearPart}
 use Rattle.vtl_time.specs.declared.periods.Frequency.{Frequency}
 use Rattle.vtl_series.specs.declared.extent.Extent.{Extent}
 use Rattle.vtl_series.specs.Series.{keys_by, number_of, period_in, rows_by, seen_by, series_rows, some_number, tuple_rows}
-use Rattle.vtl_series.proofs.ListLemmas.{all_each, all_flat_map, all_more}
+use Rattle.vtl_series.proofs.ListLemmas.{all_flat_map}
 use Rattle.vtl_series.proofs.WholeLemmas.{all_rows, among_all, spanned}
 
 -- a period is of no other kind

@@ -2,7 +2,8 @@
 use Rattle.std.proofs.Common.{◌≡◌, ◌++◌, ◌∷◌, [], ◌&&◌, ℕ, true, not, List, map, refl, sym, ap, ◌∙◌, true≢false}
 use Rattle.std.specs.List.{AllByRecursion}
 use Rattle.std.proofs.lemmas.Bool.{and_parts}
-use Rattle.vtl_lists.proofs.Sorts.{AllByRecursion-filter}
+use Rattle.vtl_lists.proofs.Sorts.{AllByRecursion-filter, AllByRecursion-map}
+use Rattle.vtl_lists.proofs.Alls.{all_more}
 use Rattle.vtl_cell.specs.Kinds.{is_of}
 use Rattle.vtl_cell.specs.Row.{Row, same_row}
 use Rattle.vtl_cell.specs.declared.cell.Cell.TheVariants as c
@@ -16,7 +17,7 @@ use Rattle.vtl_time.specs.declared.periods.Frequency.{Frequency}
 use Rattle.vtl_series.specs.declared.extent.Extent.{Extent}
 use Rattle.vtl_series.specs.Kept.{FitsDated}
 use Rattle.vtl_series.specs.Series.{dated, keys_by, series_rows, tuple_rows}
-use Rattle.vtl_series.proofs.ListLemmas.{all_flat_map, all_map, all_more}
+use Rattle.vtl_series.proofs.ListLemmas.{all_flat_map}
 use Rattle.vtl_series.proofs.WholeLemmas.{all_rows}
 
 -- the cells of a row that fits, and behind them any period
@@ -42,4 +43,4 @@ series_fit e on by kinds rows all =
     let P : Row → Type 0 = λ r. fits_kinds (kinds ++ k.Period ∷ []) r ≡ true in
     all_flat_map (tuple_rows e on by rows) P (keys_by by rows)
     (all_more (λ key. fits_kinds kinds key ≡ true) (λ key. AllByRecursion P (tuple_rows e on by rows key)) (λ key fit. all_rows e on by rows P key (λ f i h s. dated_kinds kinds key f i fit)) (keys_by by rows)
-    (once_fit kinds (map (cells_at by) rows) (all_map (cells_at by) (λ r. fits_kinds kinds r ≡ true) rows all)))
+    (once_fit kinds (map (cells_at by) rows) (AllByRecursion-map (cells_at by) (λ r. fits_kinds kinds r ≡ true) rows all)))

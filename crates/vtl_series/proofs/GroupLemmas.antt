@@ -5,6 +5,7 @@ use Rattle.std.specs.Prelude.{All}
 use Rattle.std.proofs.lemmas.List.Elements.{All-from_recursion}
 use Rattle.std.proofs.lemmas.List.{get_or-map, length-map}
 use Rattle.vtl_lists.proofs.Sorts.{AllByRecursion-filter}
+use Rattle.vtl_lists.proofs.Alls.{numbers_within}
 use Rattle.vtl_tuples.proofs.Lists.{filter-map}
 use Rattle.vtl_cell.specs.Row.{Row, same_row}
 use Rattle.vtl_rows.specs.Places.{row_at}
@@ -14,7 +15,6 @@ use Rattle.vtl_index.specs.Leads.{leads_of}
 use Rattle.vtl_index.proofs.KeyGroups.{are_leads, keys_once, rows_of_key}
 use Rattle.vtl_index.proofs.Ranges.{all_indexed, none_pass, passing, passing_at, passing_is}
 use Rattle.vtl_series.specs.Series.{keys_by, rows_by}
-use Rattle.vtl_series.proofs.ListLemmas.{numbers_within}
 
 -- the rows of a group are rows
 pub led_below : (leads : List ℕ) (n f : ℕ) → length leads ≡ n → All (λ i. i < n) (rows_led leads f)

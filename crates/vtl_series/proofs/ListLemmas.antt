@@ -1,24 +1,13 @@
 -- Tests on lists of lists, and what holds of all their items.
-use Rattle.std.proofs.Common.{◌≡◌, ◌<◌, ◌≤◌, ◌+◌, ℕ, zero, suc, Bool, true, false, cond, ◌&&◌, ◌||◌, List, [], ◌∷◌, ◌++◌, map, get_or, refl, sym, ap, ◌∙◌, arith, nat_eq, ne_eqb, true≢false}
+use Rattle.std.proofs.Common.{◌≡◌, ◌<◌, ◌+◌, ℕ, zero, suc, Bool, true, false, cond, ◌&&◌, ◌||◌, List, [], ◌∷◌, ◌++◌, map, get_or, refl, sym, ap, ◌∙◌, arith, nat_eq, ne_eqb, true≢false}
 use Rattle.std.specs.List.{AllByRecursion, filter, flat_map, list_any, range_with_len}
 use Rattle.std.proofs.lemmas.List.FromFn.{get_or-range_with_len, length-range_with_len}
 use Rattle.std.proofs.lemmas.List.Folds.{list_any-append, list_any_at}
+use Rattle.std.proofs.lemmas.Bool.{or_left, or_right}
 use Rattle.vtl_lists.specs.Apart.{all_apart}
 use Rattle.vtl_lists.proofs.Aparts.{apart_more, apart_parts}
-
--- ---- two answers that follow from each other
-pub same_answer : (a b : Bool) → (a ≡ true → b ≡ true) → (b ≡ true → a ≡ true) → a ≡ b
-same_answer true b to back = sym (to refl)
-same_answer false true to back = back refl
-same_answer false false to back = refl
-
-pub or_left : (a b : Bool) → a ≡ true → (a || b) ≡ true
-or_left true b e = refl
-or_left false b e = absurd (true≢false (sym e))
-
-pub or_right : (a b : Bool) → b ≡ true → (a || b) ≡ true
-or_right true b e = refl
-or_right false b e = e
+use Rattle.vtl_lists.proofs.Alls.{all_append, all_each, all_more}
+use Rattle.vtl_lists.proofs.Sorts.{AllByRecursion-map}
 
 -- ---- some item passes
 module _ {X Y : Type 0} (p : Y → Bool) where
@@ -61,22 +50,6 @@ any_more p q f (x ∷ xs) e = go (p x) refl (any_more p q f xs) e
     go false h ih e = or_right (q x) (list_any q xs) (ih e)
 
 -- ---- what holds of all items
-pub all_each : {X : Type 0} (P : X → Type 0) → ((x : X) → P x) → (xs : List X) → AllByRecursion P xs
-all_each P f [] = tt
-all_each P f (x ∷ xs) = (f x, all_each P f xs)
-
-pub all_more : {X : Type 0} (P Q : X → Type 0) → ((x : X) → P x → Q x) → (xs : List X) → AllByRecursion P xs → AllByRecursion Q xs
-all_more P Q f [] all = tt
-all_more P Q f (x ∷ xs) all = (f x all.0, all_more P Q f xs all.1)
-
-all_append : {X : Type 0} (P : X → Type 0) (xs ys : List X) → AllByRecursion P xs → AllByRecursion P ys → AllByRecursion P (xs ++ ys)
-all_append P [] ys h i = i
-all_append P (x ∷ xs) ys h i = (h.0, all_append P xs ys h.1 i)
-
-pub all_map : {X Y : Type 0} (f : X → Y) (P : Y → Type 0) (xs : List X) → AllByRecursion (λ x. P (f x)) xs → AllByRecursion P (map f xs)
-all_map f P [] all = tt
-all_map f P (x ∷ xs) all = (all.0, all_map f P xs all.1)
-
 pub all_flat_map : {X Y : Type 0} (F : X → List Y) (P : Y → Type 0) (xs : List X) → AllByRecursion (λ x. AllByRecursion P (F x)) xs → AllByRecursion P (flat_map F xs)
 all_flat_map F P [] all = tt
 all_flat_map F P (x ∷ xs) all = all_append P (F x) (flat_map F xs) all.0 (all_flat_map F P xs all.1)
@@ -89,11 +62,6 @@ all_kept P Q p f (x ∷ xs) all = go (p x) refl (all_kept P Q p f xs all.1)
     go : (b : Bool) → p x ≡ b → AllByRecursion Q (filter p xs) → AllByRecursion Q (cond b (x ∷ filter p xs) (filter p xs))
     go true e ih = (f x all.0 e, ih)
     go false e ih = ih
-
--- of an item by itself
-pub all_there : {X : Type 0} (p : X → Bool) (xs : List X) → AllByRecursion (λ x. p x ≡ true) xs → filter p xs ≡ xs
-all_there p [] all = refl
-all_there p (x ∷ xs) all = ap (λ b. cond b (x ∷ filter p xs) (filter p xs)) all.0 ∙ ap (λ l. x ∷ l) (all_there p xs all.1)
 
 -- ---- no two items are the same
 module _ {X : Type 0} (same : X → X → Bool) where
@@ -125,13 +93,9 @@ module _ {X Y : Type 0} (alike : X → X → Bool) (same : Y → Y → Bool) whe
   apart_map f cross [] e = refl
   apart_map f cross (x ∷ xs) e =
       let parts = apart_parts alike x xs e in
-      apart_more same (f x) (map f xs) (all_map f (λ y. same (f x) y ≡ false) xs (all_more (λ z. alike x z ≡ false) (λ z. same (f x) (f z) ≡ false) (cross x) xs parts.0)) (apart_map f cross xs parts.1)
+      apart_more same (f x) (map f xs) (AllByRecursion-map f (λ y. same (f x) y ≡ false) xs (all_more (λ z. alike x z ≡ false) (λ z. same (f x) (f z) ≡ false) (cross x) xs parts.0)) (apart_map f cross xs parts.1)
 
 -- ---- numbers from one on
-pub numbers_within : (a n m : ℕ) → a + n ≤ m → AllByRecursion (λ i. i < m) (range_with_len a n)
-numbers_within a zero m h = tt
-numbers_within a (suc n) m h = (omega (arith, h), numbers_within (a + 1) n m (omega (arith, h)))
-
 numbers_behind : (a b n : ℕ) → a < b → AllByRecursion (λ i. nat_eq a i ≡ false) (range_with_len b n)
 numbers_behind a b zero h = tt
 numbers_behind a b (suc n) h = (ne_eqb a b (λ e. absurd (omega (arith, h, e))), numbers_behind a (b + 1) n (omega (arith, h)))

@@ -6,6 +6,9 @@ use Rattle.vtl_lists.specs.Apart.{all_apart}
 use Rattle.vtl_lists.specs.Perm.{Perm, empty, keep, cross, chain}
 use Rattle.vtl_lists.proofs.Aparts.{all_apart-filter, list_any-Perm}
 use Rattle.vtl_lists.proofs.Perms.{Perm-filter, Perm-flat_map, Perm-map, Perm-refl, Perm-same}
+use Rattle.vtl_lists.proofs.Alls.{all_each}
+use Rattle.vtl_lists.proofs.Sorts.{AllByRecursion-map}
+use Rattle.vtl_lists.proofs.Filters.{filter_swap}
 use Rattle.vtl_cell.specs.Row.{Row, same_row}
 use Rattle.vtl_cell.proofs.Rows.{same_row-is, same_row-sym}
 use Rattle.vtl_index.specs.Groups.{each_once}
@@ -17,7 +20,7 @@ use Rattle.vtl_series.specs.declared.extent.Extent.{Extent}
 use Rattle.vtl_series.specs.declared.extent.Extent.TheVariants as extent
 use Rattle.vtl_series.specs.Series.{dated, frequencies, is_spanned, keys_by, number_at, numbers_of, rows_by, seen_by, series_at, series_rows, some_number, tuple_rows}
 use Rattle.vtl_series.proofs.DatedLemmas.{frequencies_part, keys_part, numbers_part}
-use Rattle.vtl_series.proofs.ListLemmas.{all_each, all_map, apart_flat_map, apart_map, numbers_apart}
+use Rattle.vtl_series.proofs.ListLemmas.{apart_flat_map, apart_map, numbers_apart}
 use Rattle.vtl_series.proofs.WholeLemmas.{all_rows, spanned}
 
 -- ---- no row twice
@@ -33,9 +36,9 @@ module _ (e : Extent) (on : ℕ) (by : List ℕ) (rows : List Row) where
   parts_differ : (key : Row) (f g : Frequency) → nat_eq (frequency_rank f) (frequency_rank g) ≡ false → AllByRecursion (λ y. AllByRecursion (λ w. same_row y w ≡ false) (part key g)) (part key f)
   parts_differ key f g ne =
       let own = rows_by by rows key in
-      all_map (dated f key) (λ y. AllByRecursion (λ w. same_row y w ≡ false) (part key g)) (numbers_of f on own (seen_by e rows own))
+      AllByRecursion-map (dated f key) (λ y. AllByRecursion (λ w. same_row y w ≡ false) (part key g)) (numbers_of f on own (seen_by e rows own))
       (all_each (λ i. AllByRecursion (λ w. same_row (dated f key i) w ≡ false) (part key g))
-      (λ i. all_map (dated g key) (λ w. same_row (dated f key i) w ≡ false) (numbers_of g on own (seen_by e rows own))
+      (λ i. AllByRecursion-map (dated g key) (λ w. same_row (dated f key i) w ≡ false) (numbers_of g on own (seen_by e rows own))
       (all_each (λ j. same_row (dated f key i) (dated g key j) ≡ false) (λ j. frequencies_part key f g i j ne) (numbers_of g on own (seen_by e rows own))))
       (numbers_of f on own (seen_by e rows own)))
 
@@ -57,11 +60,7 @@ cond_swap p q x xs true false e h ih = rw h ih
 cond_swap p q x xs false true e h ih = rw e ih
 cond_swap p q x xs false false e h ih = ih
 
-filter_swap : {X : Type 0} (p q : X → Bool) (xs : List X) → filter p (filter q xs) ≡ filter q (filter p xs)
-filter_swap p q [] = refl
-filter_swap p q (x ∷ xs) = cond_swap p q x xs (p x) (q x) refl refl (filter_swap p q xs)
-
-once_cross : (a b : Bool) (x y : Row) (l m : List Row) → a ≡ true → b ≡ true → l ≡ m → Perm (x ∷ cond a (y ∷ l) l) (y ∷ cond b (x ∷ m) m)
+pub once_cross : (a b : Bool) (x y : Row) (l m : List Row) → a ≡ true → b ≡ true → l ≡ m → Perm (x ∷ cond a (y ∷ l) l) (y ∷ cond b (x ∷ m) m)
 once_cross true true x y l m e h same = chain (cross x y l) (Perm-same (y ∷ x ∷ l) (y ∷ x ∷ m) (ap (λ n. y ∷ x ∷ n) same))
 once_cross false b x y l m e h same = absurd (true≢false (sym e))
 once_cross true false x y l m e h same = absurd (true≢false (sym h))
@@ -78,7 +77,7 @@ once-Perm (cross x y xs) = go (same_row x y) refl
         (ap not e) (ap not (sym (same_row-sym x y) ∙ e)) (filter_swap (λ z. not (same_row x z)) (λ z. not (same_row y z)) (each_once same_row xs))
 once-Perm (chain p q) = chain (once-Perm p) (once-Perm q)
 
-seen-Perm : (e : Extent) {rows others own mine : List Row} → Perm rows others → Perm own mine → Perm (seen_by e rows own) (seen_by e others mine)
+pub seen-Perm : (e : Extent) {rows others own mine : List Row} → Perm rows others → Perm own mine → Perm (seen_by e rows own) (seen_by e others mine)
 seen-Perm extent.Single p q = q
 seen-Perm extent.All p q = p
 

@@ -3,6 +3,9 @@ use Rattle.std.proofs.Common.{◌≡◌, ◌<◌, ◌*◌, ℕ, Bool, true, fals
 use Rattle.std.specs.List.{AllByRecursion, list_any, range_with_len}
 use Rattle.std.specs.Option.{option_map_or}
 use Rattle.std.proofs.lemmas.Bool.{and_parts}
+use Rattle.vtl_lists.proofs.Alls.{all_each, numbers_within}
+use Rattle.vtl_lists.proofs.Sorts.{AllByRecursion-map}
+use Rattle.vtl_lists.proofs.Tests.{same_tests}
 use Rattle.vtl_cell.specs.Row.{Row, same_row}
 use Rattle.vtl_cell.proofs.Rows.{same_row-is, same_row-refl, same_row-sym}
 use Rattle.vtl_index.proofs.KeyGroups.{once_all}
@@ -13,7 +16,7 @@ use Rattle.vtl_series.specs.declared.extent.Extent.{Extent}
 use Rattle.vtl_series.specs.declared.extent.Extent.TheVariants as extent
 use Rattle.vtl_series.specs.Series.{dated, frequencies, is_spanned, keys_by, number_at, numbers_of, rows_by, seen_by, series_at, series_rows, some_number, tuple_rows}
 use Rattle.vtl_series.proofs.DatedLemmas.{dated_are, some_frequency}
-use Rattle.vtl_series.proofs.ListLemmas.{all_each, all_flat_map, all_kept, all_map, any_filter, any_flat_map, any_gives, any_map, any_more, any_number, numbers_within, same_answer}
+use Rattle.vtl_series.proofs.ListLemmas.{all_flat_map, all_kept, any_filter, any_flat_map, any_gives, any_map, any_more, any_number}
 
 module _ (e : Extent) (on : ℕ) (by : List ℕ) (rows : List Row) where
   -- whether a period belongs to the series of a tuple
@@ -28,7 +31,7 @@ module _ (e : Extent) (on : ℕ) (by : List ℕ) (rows : List Row) where
   all_rows P key h =
       all_flat_map (series_at e on rows (rows_by by rows key) key) P frequencies
       (all_each (λ f. AllByRecursion P (series_at e on rows (rows_by by rows key) key f))
-      (λ f. all_map (dated f key) P (numbers_of f on (rows_by by rows key) (seen_by e rows (rows_by by rows key)))
+      (λ f. AllByRecursion-map (dated f key) P (numbers_of f on (rows_by by rows key) (seen_by e rows (rows_by by rows key)))
       (all_kept (λ i. i < 10000 * parts_in_year f) (λ i. P (dated f key i)) (spanned key f) (h f) (range_with_len 0 (10000 * parts_in_year f)) (numbers_within 0 (10000 * parts_in_year f) (10000 * parts_in_year f) (omega arith))))
       frequencies)
 
@@ -60,7 +63,7 @@ module _ (e : Extent) (on : ℕ) (by : List ℕ) (rows : List Row) where
       ∙ any_more (same_row key) (λ other. list_any p (rows_at other)) (λ other s. subst (λ k. list_any p (rows_at k) ≡ true) (same_row-is key other s) h) (keys_by by rows) there
 
   pub exactly : (key : Row) (f : Frequency) (i : ℕ) → i < 10000 * parts_in_year f → list_any (same_row (dated f key i)) (series_rows e on by rows) ≡ spanned key f i
-  exactly key f i k = same_answer (list_any (same_row (dated f key i)) (series_rows e on by rows)) (spanned key f i) to back
+  exactly key f i k = same_tests (list_any (same_row (dated f key i)) (series_rows e on by rows)) (spanned key f i) to back
     where
       one : (other : Row) (g : Frequency) (j : ℕ) → spanned other g j ≡ true → same_row (dated f key i) (dated g other j) ≡ true → spanned key f i ≡ true
       one other g j s h =

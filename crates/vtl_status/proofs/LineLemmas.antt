@@ -37,14 +37,6 @@ front_before t u a b f = (
 pub front_of_all : (t u : Option (List ℕ)) (a : List ℕ) → TakesAll t u a → TakesFront t u a
 front_of_all t u a all = ([], record { front = a; whole = sym (append-nil a); told = all })
 
-pub err_always : {T E P : Type 0} (r : Result T E) → P → OnErr r P
-err_always (Ok x) p = tt
-err_always (Err e) p = p
-
-pub err_leads : {T E P Q : Type 0} (r : Result T E) → (P → Q) → OnErr r P → OnErr r Q
-err_leads (Ok x) f p = tt
-err_leads (Err e) f p = f p
-
 -- the whole or a front of it
 pub front_anyway : {T E : Type 0} (r : Result T E) (t u : Option (List ℕ)) (a : List ℕ) → OnOk r (TakesAll t u a) → OnErr r (TakesFront t u a) → TakesFront t u a
 front_anyway (Ok x) t u a all front = front_of_all t u a all
@@ -56,10 +48,6 @@ ok_always (Err e) p = tt
 
 pub all_after : (t u v : Option (List ℕ)) (a b : List ℕ) → TakesAll t u a → TakesAll u v b → TakesAll t v (a ++ b)
 all_after t u v a b first then = then ∙ ap (option_map (λ x. x ++ b)) first ∙ taken_twice t a b
-
-pub ok_leads : {T E P Q : Type 0} (r : Result T E) → (P → Q) → OnOk r P → OnOk r Q
-ok_leads (Ok x) f p = f p
-ok_leads (Err e) f p = tt
 
 -- ---- parts of a line, one after the other
 module _ (t u v : Option (List ℕ)) (parts : List Said) (i : ℕ) (other : Said) (h : i < length parts) (so_far : AddsUpTo (λ front taken. taken ++ front) t u (all_said parts) (all_said (drop i parts))) where

@@ -7,6 +7,8 @@ use Rattle.std.specs.Cmp.Lexicographic.{slice_cmp}
 use Rattle.std.proofs.lemmas.Cmp.{nat_list_cmp_total}
 use Rattle.std.proofs.lemmas.Bool.Decides.{nat_tests}
 use Rattle.std.proofs.Math.Utf8.{encode, encodes}
+use Rattle.std.proofs.lemmas.Bool.{cases_lt}
+use Rattle.std.proofs.lemmas.Str.{encode_ascii}
 
 abbrev by_number : List ℕ → List ℕ → Ordering
 by_number = slice_cmp nat_cmp
@@ -36,10 +38,6 @@ at_most : (x y : ℕ) (xs ys : List ℕ) → x ≤ y → (x ≡ y → by_number 
 at_most x y xs ys h rest = ⊎_elim (λ lt. first_below x y xs ys lt) (λ e. first_same x y xs ys e ∙ rest e) (split x y h)
 
 -- ---- the bytes of a character, by how many they are
-one : (c : ℕ) → c < 128 → encode c ≡ c ∷ []
-unfolding encode
-one c h = grind (arith, nat_tests)
-
 two : (c : ℕ) → 128 ≤ c → c < 2048 → encode c ≡ (192 + c / 64) ∷ (128 + c % 64) ∷ []
 unfolding encode
 two c h k = grind (arith, nat_tests)
@@ -51,9 +49,6 @@ three c h k = grind (arith, nat_tests)
 four : (c : ℕ) → 65536 ≤ c → encode c ≡ (240 + c / 262144) ∷ (128 + c / 4096 % 64) ∷ (128 + c / 64 % 64) ∷ (128 + c % 64) ∷ []
 unfolding encode
 four c h = grind (arith, nat_tests)
-
-low_or_high : (c limit : ℕ) → (c < limit) ⊎ (limit ≤ c)
-low_or_high c limit = search arith
 
 -- ---- the lower of two characters has the lower bytes, whatever stands behind them
 abbrev last : ℕ → List ℕ → List ℕ
@@ -67,11 +62,11 @@ last_three c xs = (128 + c / 4096 % 64) ∷ last_two c xs
 
 from_one : (c d : ℕ) (xs ys : List ℕ) → c < d → c < 128 → by_number (encode c ++ xs) (encode d ++ ys) ≡ Less
 from_one c d xs ys lt size =
-    ⊎_elim (λ h. rw (one c size, one d h) (first_below c d xs ys lt))
-    (λ k. ⊎_elim (λ h. rw (one c size, two d k h) (first_below c (192 + d / 64) xs (last d ys) (omega arith)))
-    (λ l. ⊎_elim (λ h. rw (one c size, three d l h) (first_below c (224 + d / 4096) xs (last_two d ys) (omega arith)))
-    (λ m. rw (one c size, four d m) (first_below c (240 + d / 262144) xs (last_three d ys) (omega arith)))
-    (low_or_high d 65536)) (low_or_high d 2048)) (low_or_high d 128)
+    ⊎_elim (λ h. rw (encode_ascii c size, encode_ascii d h) (first_below c d xs ys lt))
+    (λ k. ⊎_elim (λ h. rw (encode_ascii c size, two d k h) (first_below c (192 + d / 64) xs (last d ys) (omega arith)))
+    (λ l. ⊎_elim (λ h. rw (encode_ascii c size, three d l h) (first_below c (224 + d / 4096) xs (last_two d ys) (omega arith)))
+    (λ m. rw (encode_ascii c size, four d m) (first_below c (240 + d / 262144) xs (last_three d ys) (omega arith)))
+    (cases_lt d 65536)) (cases_lt d 2048)) (cases_lt d 128)
 
 from_two : (c d : ℕ) (xs ys : List ℕ) → c < d → 128 ≤ c → c < 2048 → by_number (encode c ++ xs) (encode d ++ ys) ≡ Less
 from_two c d xs ys lt low size =
@@ -80,7 +75,7 @@ from_two c d xs ys lt low size =
     (λ e. first_below (128 + c % 64) (128 + d % 64) xs ys (omega arith))))
     (λ l. ⊎_elim (λ h. rw (two c low size, three d l h) (first_below (192 + c / 64) (224 + d / 4096) (last c xs) (last_two d ys) (omega arith)))
     (λ m. rw (two c low size, four d m) (first_below (192 + c / 64) (240 + d / 262144) (last c xs) (last_three d ys) (omega arith)))
-    (low_or_high d 65536)) (low_or_high d 2048)
+    (cases_lt d 65536)) (cases_lt d 2048)
 
 from_three : (c d : ℕ) (xs ys : List ℕ) → c < d → 2048 ≤ c → c < 65536 → by_number (encode c ++ xs) (encode d ++ ys) ≡ Less
 from_three c d xs ys lt low size =
@@ -89,7 +84,7 @@ from_three c d xs ys lt low size =
     (λ e. at_most (128 + c / 64 % 64) (128 + d / 64 % 64) (last c xs) (last d ys) (omega arith)
     (λ f. first_below (128 + c % 64) (128 + d % 64) xs ys (omega arith)))))
     (λ m. rw (three c low size, four d m) (first_below (224 + c / 4096) (240 + d / 262144) (last_two c xs) (last_three d ys) (omega arith)))
-    (low_or_high d 65536)
+    (cases_lt d 65536)
 
 from_four : (c d : ℕ) (xs ys : List ℕ) → c < d → 65536 ≤ c → by_number (encode c ++ xs) (encode d ++ ys) ≡ Less
 from_four c d xs ys lt low =
@@ -104,7 +99,7 @@ lower c d xs ys lt =
     ⊎_elim (λ h. from_one c d xs ys lt h)
     (λ k. ⊎_elim (λ h. from_two c d xs ys lt k h)
     (λ l. ⊎_elim (λ h. from_three c d xs ys lt l h) (λ m. from_four c d xs ys lt m)
-    (low_or_high c 65536)) (low_or_high c 2048)) (low_or_high c 128)
+    (cases_lt c 65536)) (cases_lt c 2048)) (cases_lt c 128)
 
 -- ---- texts
 higher : (xs ys : List ℕ) → by_number ys xs ≡ Less → by_number xs ys ≡ Greater
@@ -112,10 +107,10 @@ higher xs ys h = nat_list_cmp_total.antisymm xs ys ∙ ap ordering_reverse h
 
 some_bytes : (c : ℕ) (xs : List ℕ) → by_number [] (encode c ++ xs) ≡ Less
 some_bytes c xs =
-    ⊎_elim (λ h. rw (one c h) refl)
+    ⊎_elim (λ h. rw (encode_ascii c h) refl)
     (λ k. ⊎_elim (λ h. rw (two c k h) refl)
     (λ l. ⊎_elim (λ h. rw (three c l h) refl) (λ m. rw (four c m) refl)
-    (low_or_high c 65536)) (low_or_high c 2048)) (low_or_high c 128)
+    (cases_lt c 65536)) (cases_lt c 2048)) (cases_lt c 128)
 
 pub order_of_bytes : (s t : List ℕ) → by_number s t ≡ by_number (encodes s) (encodes t)
 order_of_bytes [] [] = refl
@@ -126,4 +121,4 @@ order_of_bytes (c ∷ s) (d ∷ t) =
     (λ le. ⊎_elim (λ gt. higher (c ∷ s) (d ∷ t) (first_below d c t s gt) ∙ sym (higher (encodes (c ∷ s)) (encodes (d ∷ t)) (lower d c (encodes t) (encodes s) gt)))
     (λ e. first_same c d s t (sym e) ∙ order_of_bytes s t ∙ sym (same_front (encode c) (encodes s) (encodes t)) ∙ ap (λ z. by_number (encode c ++ encodes s) (encode z ++ encodes t)) (sym e))
     (split d c le))
-    (low_or_high c d)
+    (cases_lt c d)

@@ -1,8 +1,8 @@
 -- In UTF-8 a pattern's bytes occur just where its characters do.
-use Rattle.std.proofs.Common.{◌≡◌, ℕ, suc, ◌+◌, ◌<◌, ◌≤◌, Bool, true, false, List, [], ◌∷◌, ◌++◌, length, take, drop, get_or, Option, None, Some, refl, sym, ap, subst, ◌∙◌, arith, append_assoc, length-append, length-drop, chars, IsUtf8, encode_utf8_all, ⊎_elim, add-one}
+use Rattle.std.proofs.Common.{◌≡◌, ℕ, suc, ◌+◌, ◌<◌, ◌≤◌, true, false, List, [], ◌∷◌, ◌++◌, length, take, drop, get_or, Option, None, Some, refl, sym, ap, subst, ◌∙◌, arith, append_assoc, length-append, length-drop, chars, IsUtf8, encode_utf8_all, add-one}
 use lib.Utf8.{encode, scalars}
 use Rattle.std.specs.Str.{IsCharBoundary}
-use Rattle.std.proofs.lemmas.Bool.{cases_Bool}
+use Rattle.std.proofs.lemmas.Bool.{false_from_ne_true}
 use Rattle.std.proofs.lemmas.List.{take-append-drop, take-append-le, length-take-le, drop_at}
 use Rattle.std.proofs.lemmas.List.Prefix.{at_reads, at_from_reads}
 use Rattle.std.proofs.lemmas.Str.{encodes-append, encodes-chars, scalars-chars, chars-append, IsUtf8-append, chars_from_encodes, cons_from_encodes, length-le-encodes, IsCharBoundary-start, IsCharBoundary-from_drop, IsUtf8-take, IsUtf8-drop}
@@ -19,7 +19,7 @@ chars_begin (p ∷ ps) cs rest e =
     let more = chars_begin ps first.0 rest first.2 in
     (more.0, first.1 ∙ ap (λ l. p ∷ l) more.1, more.2)
 
-occurs_after : (hay front needle back : List ℕ) → hay ≡ front ++ (needle ++ back) → OccursAt hay needle (length front)
+pub occurs_after : (hay front needle back : List ℕ) → hay ≡ front ++ (needle ++ back) → OccursAt hay needle (length front)
 occurs_after hay front needle back e = record {
   fits = omega (arith, ap length e, length-append front (needle ++ back), length-append needle back);
   reads = at_reads 0 hay needle (length front) back (ap (drop (length front)) e ∙ drop_at front (needle ++ back) (length front) refl);
@@ -45,9 +45,6 @@ pub record IsFirstAt (hay needle : List ℕ) (k : ℕ) : Type 0 where
   pub front : IsUtf8 (take k hay)
   pub back : IsUtf8 (drop (k + length needle) hay)
 
-not_from : (b : Bool) → (b ≡ true → ⊥) → b ≡ false
-not_from b h = ⊎_elim (λ yes. absurd (h yes)) (λ k. k) (cases_Bool b)
-
 pub found_first : (hay needle : List ℕ) (k : ℕ) → IsUtf8 hay → IsUtf8 needle → 0 < length needle → FindsNeedle hay needle 0 (Some k) → IsFirstAt hay needle k
 found_first hay needle k u v some found =
     let occurs = found.1 in
@@ -67,7 +64,7 @@ found_first hay needle k u v some found =
     ∙ ap (λ l. chars (take k hay) ++ l) (parts.1 ∙ ap (λ l. chars needle ++ l) (chars_from_encodes parts.0 (drop end hay) rest parts.2)) in
     record {
       split = split;
-      none = λ n below. not_from _ (λ yes.
+      none = λ n below. false_from_ne_true _ (λ yes.
           let before = chars (take k hay) in
           let early = occurs_where_begins hay needle n u v yes in
           let same : take n (chars hay) ≡ take n before = ap (take n) split ∙ take-append-le n before _ (omega arith) in
@@ -86,7 +83,7 @@ found_first hay needle k u v some found =
 -- a pattern whose bytes occur nowhere begins the text at no character
 pub found_none : (hay needle : List ℕ) → IsUtf8 hay → IsUtf8 needle → FindsNeedle hay needle 0 None → (n : ℕ) → begins (chars needle) (drop n (chars hay)) ≡ false
 found_none hay needle u v none n =
-    not_from _ (λ yes.
+    false_from_ne_true _ (λ yes.
     let early = occurs_where_begins hay needle n u v yes in
     none _ (omega arith) (omega (arith, early.fits)) early)
 

@@ -4,7 +4,7 @@ use Rattle.std.specs.Cmp.Lexicographic.{pointwise}
 use Rattle.std.specs.List.{list_all, list_any, position, position_or_len}
 use Rattle.std.proofs.lemmas.Str.{encodes-chars, length-le-encodes, chars-IsAscii, IsUtf8-from_ascii}
 use Rattle.std.proofs.lemmas.Str.Ascii.{IsAscii-nil, IsAscii-cons}
-use Rattle.std.proofs.lemmas.Bool.{false≢true}
+use Rattle.std.proofs.lemmas.Bool.{and_parts}
 use Rattle.std.specs.Str.{IsAscii}
 use Rattle.std.proofs.lemmas.List.{take_at}
 use Rattle.std.proofs.lemmas.Slice.Eq.{bytes_eq-Decides}
@@ -35,14 +35,10 @@ same_empty bs u = elim (chars bs) as (λ cs. encode_utf8_all cs ≡ bs → (leng
   | c ∷ cs ↦ λ e. not_none (length bs) (omega (arith, ap length e, length-le-encodes (c ∷ cs))) ∙ sym (not_none (length (c ∷ cs)) (omega arith))
 ] (encodes-chars bs u)
 
-both : (a b : Bool) → a && b ≡ true → (a ≡ true) × (b ≡ true)
-both true b h = (refl, h)
-both false b h = absurd (false≢true h)
-
 ascii_from : (w : List ℕ) → list_all (λ b. nat_lt b 128) w ≡ true → IsAscii w
 ascii_from [] h = IsAscii-nil
 ascii_from (b ∷ w) h =
-    let parts = both (nat_lt b 128) (list_all (λ x. nat_lt x 128) w) h in
+    let parts = and_parts (nat_lt b 128) (list_all (λ x. nat_lt x 128) w) h in
     IsAscii-cons b w (ltb-true b 128 parts.0) (ascii_from w parts.1)
 
 -- the words are looked up by their bytes
@@ -55,7 +51,7 @@ same_any : (ws : List (List ℕ)) (bs : List ℕ) → IsUtf8 bs → list_all (li
     → list_any (λ w. pointwise nat_eq w bs) ws ≡ list_any (λ w. pointwise nat_eq w (chars bs)) ws
 same_any [] bs u h = refl
 same_any (w ∷ ws) bs u h =
-    let parts = both (list_all (λ b. nat_lt b 128) w) (list_all (list_all (λ b. nat_lt b 128)) ws) h in
+    let parts = and_parts (list_all (λ b. nat_lt b 128) w) (list_all (list_all (λ b. nat_lt b 128)) ws) h in
     let first = same_word w bs u parts.0 in
     ap (λ b. b || list_any (λ x. pointwise nat_eq x bs) ws) first ∙ ap (λ b. pointwise nat_eq w (chars bs) || b) (same_any ws bs u parts.1)
 
@@ -63,7 +59,7 @@ same_prefix : (ws : List (List ℕ)) (bs : List ℕ) → IsUtf8 bs → list_all 
     → position_or_len (λ w. pointwise nat_eq w bs) ws ≡ position_or_len (λ w. pointwise nat_eq w (chars bs)) ws
 same_prefix [] bs u h = refl
 same_prefix (w ∷ ws) bs u h =
-    let parts = both (list_all (λ b. nat_lt b 128) w) (list_all (list_all (λ b. nat_lt b 128)) ws) h in
+    let parts = and_parts (list_all (λ b. nat_lt b 128) w) (list_all (list_all (λ b. nat_lt b 128)) ws) h in
     ap (λ b. cond (not b) (1 + position_or_len (λ x. pointwise nat_eq x bs) ws) 0) (same_word w bs u parts.0)
     ∙ ap (λ n. cond (not (pointwise nat_eq w (chars bs))) (1 + n) 0) (same_prefix ws bs u parts.1)
 
@@ -90,5 +86,5 @@ is_quoted_name-quoted name =
 pub quoted_name_is : (cs : List ℕ) → is_quoted_name cs ≡ true → (cs ≡ quoted (unquoted cs)) × (is_component_name (unquoted cs) ≡ true)
 unfolding is_quoted_name
 quoted_name_is cs h =
-    let parts = both (pointwise nat_eq cs (quoted (unquoted cs))) (is_component_name (unquoted cs)) h in
+    let parts = and_parts (pointwise nat_eq cs (quoted (unquoted cs))) (is_component_name (unquoted cs)) h in
     ((bytes_eq-Decides cs (quoted (unquoted cs))).0 parts.0, parts.1)

@@ -1,8 +1,8 @@
 -- Days of the calendar.
-use Rattle.std.proofs.Common.{◌++◌, ◌≡◌, ℕ, ◌≤◌, Bool, true, false, cond, ◌&&◌, ◌==◌, nat_le, List, ◌∷◌, length, take, drop, get_or, Option, None, Some, option_and_then, IfSome, refl, sym, ap, subst, ◌∙◌, arith, lit≤, lit<, ⊎_elim, ◌||◌, ℤ, pos, to_z, w8, w16}
+use Rattle.std.proofs.Common.{◌++◌, ◌≡◌, ℕ, ◌≤◌, Bool, true, false, cond, ◌&&◌, ◌==◌, nat_le, List, ◌∷◌, length, take, drop, get_or, Option, None, Some, option_and_then, IfSome, refl, sym, ap, subst, ◌∙◌, arith, lit≤, lit<, ◌||◌, ℤ, pos, to_z, w8, w16}
 use Rattle.std.specs.Str.{IsAscii}
 use Rattle.jiff.specs.Words.{IsDate, days_in_month as date_month_length}
-use Rattle.std.proofs.lemmas.Bool.{false≢true, cases_Bool, eqb-true}
+use Rattle.std.proofs.lemmas.Bool.{false≢true, eqb-true, and_parts, false_from_ne_true}
 use Rattle.std.proofs.lemmas.Bool.Decides.{nat_tests}
 use Rattle.std.proofs.lemmas.Int.{ints, to_z_pos}
 use Rattle.std.proofs.lemmas.List.{take-append-drop, drop-drop, drop_more, length-take-le, length-drop}
@@ -10,7 +10,7 @@ use Rattle.std.proofs.lemmas.Str.{IsAscii-append}
 use Rattle.std.proofs.lemmas.Str.Ascii.{IsAscii-cons}
 use Rattle.vtl_time.specs.Days.{CalendarDay, is_leap_year, days_in_month, is_calendar_day, day_of, day_text, has_day_shape, read_day_of}
 use Rattle.vtl_time.specs.Numerals.{number_in_digits, two_digits, four_digits}
-use Rattle.vtl_time.proofs.NumeralLemmas.{both, number_in_digits-two, number_in_digits-four, number_ascii, chosen_value, two_digits_are, four_digits_are}
+use Rattle.vtl_time.proofs.NumeralLemmas.{number_in_digits-two, number_in_digits-four, number_ascii, chosen_value, two_digits_are, four_digits_are}
 
 five_hold : (y m d last : ℕ) → y ≤ 9999 → 1 ≤ m → m ≤ 12 → 1 ≤ d → d ≤ last → nat_le y 9999 && (nat_le 1 m && (nat_le m 12 && (nat_le 1 d && nat_le d last))) ≡ true
 five_hold y m d last a b c e f = grind (arith, nat_tests)
@@ -24,10 +24,10 @@ pub record AreDayNumbers (y m d : ℕ) : Type 0 where
 
 five_are : (y m d last : ℕ) → nat_le y 9999 && (nat_le 1 m && (nat_le m 12 && (nat_le 1 d && nat_le d last))) ≡ true → (y ≤ 9999) × (1 ≤ m) × (m ≤ 12) × (1 ≤ d) × (d ≤ last)
 five_are y m d last h =
-    let a = both (nat_le y 9999) _ h in
-    let b = both (nat_le 1 m) _ a.1 in
-    let c = both (nat_le m 12) _ b.1 in
-    let e = both (nat_le 1 d) _ c.1 in
+    let a = and_parts (nat_le y 9999) _ h in
+    let b = and_parts (nat_le 1 m) _ a.1 in
+    let c = and_parts (nat_le m 12) _ b.1 in
+    let e = and_parts (nat_le 1 d) _ c.1 in
     (grind (arith, nat_tests), grind (arith, nat_tests), grind (arith, nat_tests), grind (arith, nat_tests), grind (arith, nat_tests))
 
 pub day_numbers : (y m d : ℕ) → is_calendar_day y m d ≡ true → AreDayNumbers y m d
@@ -62,9 +62,6 @@ day_from_date y m d h = five_hold y m d (days_in_month y m) (omega (arith, ints,
 abbrev day_with : ℕ → ℕ → ℕ → CalendarDay
 day_with y m d = record { year = y; month = m; day = d }
 
-not_from : (b : Bool) → (b ≡ true → ⊥) → b ≡ false
-not_from b h = ⊎_elim (λ yes. absurd (h yes)) (λ k. k) (cases_Bool b)
-
 -- the day with these numbers, and no day
 pub day_of-some : (y m d : ℕ) → is_calendar_day y m d ≡ true → day_of y m d ≡ Some (record { year = y; month = m; day = d })
 day_of-some y m d h = ap (λ b. cond b (Some (day_with y m d)) None) h
@@ -80,8 +77,8 @@ has_shape cs p q r = shape_is (length cs) (get_or cs 4 0) (get_or cs 7 0) p q r
 
 shape_parts : (n a b : ℕ) → (n == 10) && ((a == 45) && (b == 45)) ≡ true → (n ≡ 10) × (a ≡ 45) × (b ≡ 45)
 shape_parts n a b h =
-    let p = both (n == 10) ((a == 45) && (b == 45)) h in
-    let q = both (a == 45) (b == 45) p.1 in
+    let p = and_parts (n == 10) ((a == 45) && (b == 45)) h in
+    let q = and_parts (a == 45) (b == 45) p.1 in
     (eqb-true n 10 p.0, eqb-true a 45 q.0, eqb-true b 45 q.1)
 
 pub shape_of : (cs : List ℕ) → has_day_shape cs ≡ true → (length cs ≡ 10) × (get_or cs 4 0 ≡ 45) × (get_or cs 7 0 ≡ 45)
@@ -100,7 +97,7 @@ read_shaped cs h = ap (λ b. cond b (option_and_then (λ y. after_year cs y) (nu
 
 pub read_shapeless : (cs : List ℕ) → (has_day_shape cs ≡ true → ⊥) → read_day_of cs ≡ None
 unfolding read_day_of
-read_shapeless cs h = ap (λ b. cond b (option_and_then (λ y. after_year cs y) (number_in_digits (take 4 cs))) None) (not_from (has_day_shape cs) h)
+read_shapeless cs h = ap (λ b. cond b (option_and_then (λ y. after_year cs y) (number_in_digits (take 4 cs))) None) (false_from_ne_true (has_day_shape cs) h)
 
 module _ (cs : List ℕ) (shape : has_day_shape cs ≡ true) where
   pub read_no_year : number_in_digits (take 4 cs) ≡ None → read_day_of cs ≡ None
@@ -201,7 +198,7 @@ module _ (y m d : ℕ) (year : y ≤ 9999) (month : m ≤ 99) (day : d ≤ 99) w
 
   pub no_day_from_cast : (IsDate (to_z w16 y) (to_z w8 m) (to_z w8 d) → false ≡ true) → is_calendar_day y m d ≡ false
   no_day_from_cast h =
-      not_from (is_calendar_day y m d) (λ is. false≢true (h (date_back y m d _ _ _ (to_z_pos w16 y (omega arith)) (to_z_pos w8 m (omega arith)) (to_z_pos w8 d (omega arith)) (date_from_day y m d is))))
+      false_from_ne_true (is_calendar_day y m d) (λ is. false≢true (h (date_back y m d _ _ _ (to_z_pos w16 y (omega arith)) (to_z_pos w8 m (omega arith)) (to_z_pos w8 d (omega arith)) (date_from_day y m d is))))
 
 -- what a read day says of the text that it was read from
 pub text_of_read : (cs : List ℕ) (r : Option CalendarDay) → r ≡ read_day_of cs → IfSome r (λ d. cs ≡ day_text d)

@@ -4,7 +4,7 @@ use Rattle.std.specs.Char.{is_ascii_digit}
 use Rattle.std.specs.Str.{all_ascii_digits, IsAscii}
 use Rattle.std.proofs.lemmas.Str.Ascii.{IsAscii-nil, IsAscii-cons}
 use Rattle.std.proofs.Math.Nat.{pow-suc, pow-le-pow_right}
-use Rattle.std.proofs.lemmas.Bool.{false≢true}
+use Rattle.std.proofs.lemmas.Bool.{and_parts}
 use Rattle.std.proofs.lemmas.Bool.Decides.{nat_tests}
 use Rattle.std.specs.Str.Parse.{digits_value}
 use Rattle.std.proofs.lemmas.Str.Parse.{numerals_by_weight, tells_all_ascii_digits}
@@ -19,10 +19,6 @@ value_of (d ∷ ds) = (d - 48) * 10 ^ length ds + value_of ds
 abbrev pub number_from : ℕ → List ℕ → Option ℕ
 number_from n [] = Some n
 number_from n (d ∷ ds) = cond (is_ascii_digit d) (number_from (n * 10 + (d - 48)) ds) None
-
-pub both : (a b : Bool) → a && b ≡ true → (a ≡ true) × (b ≡ true)
-both true b h = (refl, h)
-both false b h = absurd (false≢true h)
 
 -- a choice that gave a value was made for a true test
 pub chosen : {X : Type 0} (b : Bool) (x y : X) → cond b (Some x) None ≡ Some y → b ≡ true
@@ -101,7 +97,7 @@ number_in_digits-one n small = number_of_digits ((48 + n) ∷ []) n (ap (λ k. k
 digits_ascii : (cs : List ℕ) → all_ascii_digits cs ≡ true → IsAscii cs
 digits_ascii [] h = IsAscii-nil
 digits_ascii (c ∷ cs) h =
-    let parts = both (is_ascii_digit c) (all_ascii_digits cs) h in
+    let parts = and_parts (is_ascii_digit c) (all_ascii_digits cs) h in
     IsAscii-cons c cs (digit_below c parts.0) (digits_ascii cs parts.1)
 
 pub number_ascii : (cs : List ℕ) (n : ℕ) → number_in_digits cs ≡ Some n → IsAscii cs
@@ -121,7 +117,7 @@ cons_same a b xs ys p q = ap (λ c. c ∷ xs) p ∙ ap (λ l. b ∷ l) q
 pub one_digit_is : (cs : List ℕ) (n : ℕ) → length cs ≡ 1 → number_in_digits cs ≡ Some n → cs ≡ (48 + n) ∷ []
 one_digit_is [] n size h = absurd (omega arith)
 one_digit_is (a ∷ []) n size h =
-    let digits = both (is_ascii_digit a) true (chosen (all_ascii_digits (a ∷ [])) (value_of (a ∷ [])) n (sym (weighed (a ∷ [])) ∙ h)) in
+    let digits = and_parts (is_ascii_digit a) true (chosen (all_ascii_digits (a ∷ [])) (value_of (a ∷ [])) n (sym (weighed (a ∷ [])) ∙ h)) in
     let value = chosen_value (all_ascii_digits (a ∷ [])) (value_of (a ∷ [])) n (sym (weighed (a ∷ [])) ∙ h) in
     cons_same a (48 + n) [] [] (omega (arith, digit_range a digits.0, value)) refl
 one_digit_is (a ∷ b ∷ cs) n size h = absurd (omega arith)
@@ -130,8 +126,8 @@ pub two_digits_are : (cs : List ℕ) (n : ℕ) → length cs ≡ 2 → number_in
 two_digits_are [] n size h = absurd (omega arith)
 two_digits_are (a ∷ []) n size h = absurd (omega arith)
 two_digits_are (a ∷ b ∷ []) n size h =
-    let digits = both (is_ascii_digit a) (is_ascii_digit b && true) (chosen (all_ascii_digits (a ∷ b ∷ [])) (value_of (a ∷ b ∷ [])) n (sym (weighed (a ∷ b ∷ [])) ∙ h)) in
-    let last = both (is_ascii_digit b) true digits.1 in
+    let digits = and_parts (is_ascii_digit a) (is_ascii_digit b && true) (chosen (all_ascii_digits (a ∷ b ∷ [])) (value_of (a ∷ b ∷ [])) n (sym (weighed (a ∷ b ∷ [])) ∙ h)) in
+    let last = and_parts (is_ascii_digit b) true digits.1 in
     let value = chosen_value (all_ascii_digits (a ∷ b ∷ [])) (value_of (a ∷ b ∷ [])) n (sym (weighed (a ∷ b ∷ [])) ∙ h) in
     let from_a = digit_range a digits.0 in
     let from_b = digit_range b last.0 in
@@ -145,10 +141,10 @@ four_digits_are (a ∷ b ∷ []) n size h = absurd (omega arith)
 four_digits_are (a ∷ b ∷ c ∷ []) n size h = absurd (omega arith)
 four_digits_are (a ∷ b ∷ c ∷ d ∷ []) n size h =
     let all = a ∷ b ∷ c ∷ d ∷ [] in
-    let first = both (is_ascii_digit a) (is_ascii_digit b && (is_ascii_digit c && (is_ascii_digit d && true))) (chosen (all_ascii_digits all) (value_of all) n (sym (weighed all) ∙ h)) in
-    let second = both (is_ascii_digit b) (is_ascii_digit c && (is_ascii_digit d && true)) first.1 in
-    let third = both (is_ascii_digit c) (is_ascii_digit d && true) second.1 in
-    let fourth = both (is_ascii_digit d) true third.1 in
+    let first = and_parts (is_ascii_digit a) (is_ascii_digit b && (is_ascii_digit c && (is_ascii_digit d && true))) (chosen (all_ascii_digits all) (value_of all) n (sym (weighed all) ∙ h)) in
+    let second = and_parts (is_ascii_digit b) (is_ascii_digit c && (is_ascii_digit d && true)) first.1 in
+    let third = and_parts (is_ascii_digit c) (is_ascii_digit d && true) second.1 in
+    let fourth = and_parts (is_ascii_digit d) true third.1 in
     let value = chosen_value (all_ascii_digits all) (value_of all) n (sym (weighed all) ∙ h) in
     let from_a = digit_range a first.0 in
     let from_b = digit_range b second.0 in

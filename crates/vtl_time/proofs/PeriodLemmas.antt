@@ -4,7 +4,7 @@ use Rattle.std.specs.declared.cmp.Ordering.{Ordering}
 use Rattle.std.specs.Ordering.{ordering_then, nat_cmp, int_cmp}
 use Rattle.std.specs.Int.{FitsUnsigned}
 use Rattle.std.specs.Str.{IsAscii}
-use Rattle.std.proofs.lemmas.Bool.{cases_Bool, eqb-true, eq-eqb}
+use Rattle.std.proofs.lemmas.Bool.{cases_Bool, eqb-true, eq-eqb, and_parts, false_from_ne_true}
 use borrow.Author.Tests.{leb-true}
 use Rattle.std.proofs.lemmas.List.{take-append-drop, length-take-le}
 use Rattle.std.proofs.lemmas.Str.{IsAscii-append}
@@ -16,7 +16,7 @@ use Rattle.vtl_time.specs.declared.periods.Frequency.{Frequency}
 use Rattle.vtl_time.specs.declared.periods.Frequency.TheVariants.{Annual, Semester, Quarter, Month}
 use Rattle.vtl_time.specs.Numerals.{number_in_digits, two_digits, four_digits}
 use Rattle.vtl_time.specs.Periods.{YearPart, parts_in_year, is_year_part, period_of, period_cmp, frequency_rank, index_of, period_at, period_within, shift_of, period_text, part_text, short_part_text, SpellsPeriod, letter_of, width_of, numbered_part_of, part_of, behind_year, read_period_of}
-use Rattle.vtl_time.proofs.NumeralLemmas.{both, number_in_digits-one, number_in_digits-two, number_in_digits-four, number_ascii, chosen_value, one_digit_is, two_digits_are, four_digits_are}
+use Rattle.vtl_time.proofs.NumeralLemmas.{number_in_digits-one, number_in_digits-two, number_in_digits-four, number_ascii, chosen_value, one_digit_is, two_digits_are, four_digits_are}
 
 pub parts_from : (f : Frequency) → 1 ≤ parts_in_year f
 parts_from Annual = omega arith
@@ -37,8 +37,8 @@ pub record ArePartNumbers (f : Frequency) (y n : ℕ) : Type 0 where
 
 three_are : (y n last : ℕ) → nat_le y 9999 && (nat_le 1 n && nat_le n last) ≡ true → (y ≤ 9999) × (1 ≤ n) × (n ≤ last)
 three_are y n last h =
-    let a = both (nat_le y 9999) _ h in
-    let b = both (nat_le 1 n) _ a.1 in
+    let a = and_parts (nat_le y 9999) _ h in
+    let b = and_parts (nat_le 1 n) _ a.1 in
     (grind (arith, nat_tests), grind (arith, nat_tests), grind (arith, nat_tests))
 
 three_hold : (y n last : ℕ) → y ≤ 9999 → 1 ≤ n → n ≤ last → nat_le y 9999 && (nat_le 1 n && nat_le n last) ≡ true
@@ -59,9 +59,6 @@ IsPart p = is_year_part p.frequency p.year p.part ≡ true
 
 abbrev part_with : Frequency → ℕ → ℕ → YearPart
 part_with f y n = record { frequency = f; year = y; part = n }
-
-not_from : (b : Bool) → (b ≡ true → ⊥) → b ≡ false
-not_from b h = ⊎_elim (λ yes. absurd (h yes)) (λ k. k) (cases_Bool b)
 
 at_least : (a b : ℕ) → a ≤ b → nat_le a b ≡ true
 at_least a b h = grind (arith, nat_tests)
@@ -184,7 +181,7 @@ pub period_of-some : (f : Frequency) (y n : ℕ) → is_year_part f y n ≡ true
 period_of-some f y n h = ap (λ b. cond b (Some (part_with f y n)) None) h
 
 pub period_of-none : (f : Frequency) (y n : ℕ) → (is_year_part f y n ≡ true → ⊥) → period_of f y n ≡ None
-period_of-none f y n h = ap (λ b. cond b (Some (part_with f y n)) None) (not_from (is_year_part f y n) h)
+period_of-none f y n h = ap (λ b. cond b (Some (part_with f y n)) None) (false_from_ne_true (is_year_part f y n) h)
 
 -- a text of at least four characters, by its year and by what follows
 pub read_long : (cs : List ℕ) → 4 ≤ length cs → read_period_of cs ≡ option_and_then (λ y. behind_year y (drop 4 cs)) (number_in_digits (take 4 cs))

@@ -4,7 +4,7 @@ use Rattle.std.specs.List.{AllByRecursion, concat, list_any, sum}
 use Rattle.std.proofs.lemmas.List.{drop-append-le, length-drop, take-append-drop, take-append-le, take_all}
 use Rattle.std.proofs.lemmas.List.Folds.{list_any-append}
 use Rattle.std.proofs.lemmas.List.Sums.{sum_by-cons}
-use Rattle.vtl_meaning.proofs.Places.{all_append}
+use Rattle.vtl_lists.proofs.Alls.{all_append}
 use Rattle.vtl_times.specs.InOrder.{has_number}
 use Rattle.vtl_times.specs.Lists.{cut_by}
 

@@ -6,6 +6,7 @@ use Rattle.std.proofs.lemmas.List.{append-nil, map-append}
 use Rattle.std.proofs.lemmas.List.Elements.{All-from_recursion}
 use Rattle.std.proofs.lemmas.List.Folds.{find_at}
 use Rattle.std.proofs.lemmas.Option.{unwrap_or-slice_get}
+use Rattle.vtl_lists.proofs.Alls.{all_append, all_back}
 use Rattle.vtl_cell.specs.Row.{Row, column_of, same_row}
 use Rattle.vtl_index.specs.Seekers.{first_meant}
 use Rattle.vtl_rows.specs.Gathered.{picked, picked_cell, picked_kind, pieces}
@@ -25,13 +26,14 @@ use Rattle.vtl_meaning.specs.Agreement.{values_in}
 use Rattle.vtl_meaning.specs.Joined.{tuple_at, tuple_point, values_or_nulls}
 use Rattle.vtl_meaning.specs.Made.{AreAmong, IsColumnAt}
 use Rattle.vtl_meaning.proofs.OwnColumns.{own_columns}
-use Rattle.vtl_meaning.proofs.Places.{all_back, columns_split}
+use Rattle.vtl_meaning.proofs.Places.{columns_split}
+use Rattle.vtl_meaning.proofs.LookUps.{named_cells}
 use Rattle.vtl_expr.proofs.ColumnPlaces.{chosen_columns}
 use Rattle.vtl_tuples.proofs.Lists.{map-map}
 use Rattle.vtl_series.specs.Series.{series_rows}
 use Rattle.vtl_series.specs.declared.extent.Extent.{Extent}
 use Rattle.vtl_timing.specs.Times.{fill_of, in_order, other_identifiers, series_columns, time_place}
-use Rattle.vtl_timing.proofs.FilledPoints.{behind_cells, named_cells}
+use Rattle.vtl_timing.proofs.FilledPoints.{behind_cells}
 use Rattle.vtl_timing.proofs.SeriesColumns.{identifiers_among}
 use Rattle.vtl_times.specs.Filling.{beside_each, filled_picks, numbered, picks_of, sought_in}
 
@@ -66,10 +68,6 @@ module _ (s t : Listed) where
 picks_within : (part : ℕ) → part < 2 → (places : List ℕ) → AllByRecursion (λ (p : Pick). p.part < 2) (picks_of part places)
 picks_within part h [] = tt
 picks_within part h (p ∷ ps) = (h, picks_within part h ps)
-
-all_append : {X : Type 0} (P : X → Type 0) (xs ys : List X) → AllByRecursion P xs → AllByRecursion P ys → AllByRecursion P (xs ++ ys)
-all_append P [] ys a b = b
-all_append P (x ∷ xs) ys a b = (a.0, all_append P xs ys a.1 b)
 
 pub all_within : (a : Structure) → All (λ (p : Pick). p.part < 2) (filled_picks a)
 all_within a =

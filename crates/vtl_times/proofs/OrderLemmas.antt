@@ -1,7 +1,8 @@
 -- Points by series, in the order of their times.
-use Rattle.std.proofs.Common.{◌≡◌, ℕ, zero, suc, ◌<◌, List, [], ◌∷◌, ◌++◌, length, map, take, drop, ap, arith}
+use Rattle.std.proofs.Common.{◌≡◌, ℕ, zero, suc, ◌<◌, List, [], ◌∷◌, ◌++◌, length, map, ap, arith}
 use Rattle.std.specs.List.{AllByRecursion}
 use Rattle.std.proofs.lemmas.List.{length-append}
+use Rattle.vtl_lists.proofs.Alls.{all_append}
 use Rattle.vtl_rows.specs.declared.column.SortKey.{SortKey}
 use Rattle.vtl_tree.specs.Columns.{identifiers_of, others_of, place_of}
 use Rattle.vtl_tree.specs.Structure.{IsStructure, columns_of}
@@ -9,20 +10,10 @@ use Rattle.vtl_tree.specs.declared.structure.Component.{Component}
 use Rattle.vtl_tree.specs.declared.structure.Structure.{Structure}
 use Rattle.vtl_meaning.specs.Made.{AreAmong}
 use Rattle.vtl_meaning.proofs.Kept.{column_within}
-use Rattle.vtl_meaning.proofs.Places.{all_append, columns_split}
+use Rattle.vtl_meaning.proofs.Places.{columns_split}
 use Rattle.vtl_timing.specs.Times.{HasTime, other_identifiers, time_place}
 use Rattle.vtl_timing.proofs.SeriesColumns.{others_among, time_only}
 use Rattle.vtl_times.specs.InOrder.{group_keys, rising_key, time_keys}
-
-pub all_drop : {X : Type 0} (P : X → Type 0) (n : ℕ) (xs : List X) → AllByRecursion P xs → AllByRecursion P (drop n xs)
-all_drop P zero xs all = all
-all_drop P (suc n) [] all = tt
-all_drop P (suc n) (x ∷ xs) all = all_drop P n xs all.1
-
-pub all_take : {X : Type 0} (P : X → Type 0) (n : ℕ) (xs : List X) → AllByRecursion P xs → AllByRecursion P (take n xs)
-all_take P zero xs all = tt
-all_take P (suc n) [] all = tt
-all_take P (suc n) (x ∷ xs) all = (all.0, all_take P n xs all.1)
 
 -- ---- the keys of the sort are columns
 keys_within : (xs ys : List Component) → AreAmong ys xs → AllByRecursion (λ (k : SortKey). k.column < length xs) (map (λ y. rising_key (place_of y.name xs)) ys)

@@ -3,7 +3,7 @@ use Rattle.std.proofs.Common.{◌≡◌, ◌⊎◌, inl, inr, ℕ, zero, suc, �
 use Rattle.std.specs.Prelude.{filter, find, nat_eq}
 use Rattle.std.specs.List.{AllByRecursion, list_all}
 use Rattle.std.specs.Option.{option_map_or}
-use Rattle.std.specs.Ordering.{is_le, is_lt, ordering_reverse, ordering_then}
+use Rattle.std.specs.Ordering.{is_le, is_lt, ordering_reverse}
 use Rattle.std.specs.declared.cmp.Ordering.{Ordering}
 use Rattle.std.specs.declared.cmp.Ordering.TheVariants.{Less, Equal, Greater}
 use Rattle.std.proofs.lemmas.Bool.{cases_order, eqb-true}
@@ -11,6 +11,7 @@ use Rattle.std.proofs.lemmas.List.{get_or_append_left, length-append}
 use Rattle.std.proofs.lemmas.List.Folds.{list_all_at}
 use Rattle.vtl_lists.specs.Apart.{all_apart}
 use Rattle.vtl_lists.proofs.Aparts.{apart_parts}
+use Rattle.vtl_lists.proofs.Alls.{all_filtered, all_get}
 use Rattle.vtl_cell.specs.Order.{cell_cmp, same_cell}
 use Rattle.vtl_cell.specs.Row.{Row, column_of}
 use Rattle.vtl_cell.specs.ScalarPeriods.{frequency_of}
@@ -18,7 +19,6 @@ use Rattle.vtl_cell.specs.declared.cell.Cell.{Cell}
 use Rattle.vtl_cell.specs.declared.cell.Cell.TheVariants as c
 use Rattle.vtl_cell.proofs.Orders.{cell_cmp-ties, cell_cmp_total}
 use Rattle.vtl_cell.proofs.Times.{rank_apart}
-use Rattle.vtl_frames.proofs.ListLemmas.{all_get}
 use Rattle.vtl_series.specs.Series.{has_frequency, period_in}
 use Rattle.vtl_time.specs.Periods.{YearPart, frequency_rank, letter_of}
 use Rattle.vtl_time.specs.declared.periods.Frequency.{Frequency}
@@ -29,7 +29,6 @@ use Rattle.vtl_tree.specs.Structure.{columns_of}
 use Rattle.vtl_tree.specs.declared.structure.Component.{Component}
 use Rattle.vtl_tree.specs.declared.structure.Structure.{Structure}
 use Rattle.vtl_meaning.proofs.GroupPoints.{HasCell}
-use Rattle.vtl_meaning.proofs.Lists.{passing}
 use Rattle.vtl_meaning.proofs.Places.{all_of_map, columns_split}
 use Rattle.vtl_meaning.proofs.ValueKinds.{point_parts}
 use Rattle.vtl_timing.specs.Times.{HasTime, is_time, time_of, time_place}
@@ -95,11 +94,6 @@ less u v h none = go (cell_cmp v u) refl h
     go Less e i = cc
     go Equal e i = absurd (none (sym (cell_cmp-ties v u e)))
     go Greater e i = cell_cmp_total.antisymm u v ∙ ap ordering_reverse e
-
-pub then_equal : (o : Ordering) → ordering_then o Equal ≡ o
-then_equal Less = refl
-then_equal Equal = refl
-then_equal Greater = refl
 
 module _ (at : ℕ → Cell) (n : ℕ) (rise : (j k : ℕ) → j < k → k < n → cell_cmp (at j) (at k) ≡ Less) where
   own : (v : Cell) → cell_cmp v v ≡ Equal
@@ -189,5 +183,5 @@ time_is a timed r h =
     let wide : length xs ≡ length (ids ++ others_of a) = ap length (columns_split a) in
     let many = length-append ids (others_of a) in
     let there : get_or xs place one.item ≡ one.item = ap (λ (l : List Component). get_or l place one.item) (columns_split a) ∙ get_or_append_left ids (others_of a) one.item place one.within ∙ one.at in
-    let passes = subst (AllByRecursion (λ x. is_time x ≡ true)) one.only (passing is_time ids) in
+    let passes = subst (AllByRecursion (λ x. is_time x ≡ true)) one.only (all_filtered is_time ids) in
     time_cell one.item (time_of a r) (subst (λ y. HasCell y (time_of a r)) there (point_cell xs r place one.item h (omega (arith, one.within, wide, many)))) passes.0

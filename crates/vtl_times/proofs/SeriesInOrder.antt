@@ -21,8 +21,11 @@ use Rattle.vtl_cell.specs.Sorted.{rising}
 use Rattle.vtl_cell.specs.declared.cell.Cell.{Cell}
 use Rattle.vtl_cell.proofs.Rows.{same_key-sym}
 use Rattle.std.specs.declared.cmp.Ordering.TheVariants.{Less}
+use Rattle.vtl_lists.proofs.Alls.{all_append, all_filtered, all_get, all_kept}
+use Rattle.vtl_lists.proofs.Filters.{map-filter}
+use Rattle.vtl_lists.proofs.Tests.{or_false, or_true}
 use Rattle.vtl_frames.specs.Stretches.{stretches_of}
-use Rattle.vtl_frames.proofs.ListLemmas.{all_filtered, all_get, filter-map, rises_get}
+use Rattle.vtl_frames.proofs.ListLemmas.{rises_get}
 use Rattle.vtl_frames.proofs.OrderLemmas.{at_most}
 use Rattle.vtl_frames.proofs.PartitionLemmas.{by_order, members, run_is, within}
 use Rattle.vtl_frames.proofs.RunLemmas.{IsOne, joined, one_found}
@@ -32,6 +35,7 @@ use Rattle.vtl_rows.specs.Places.{IsOrderOf, row_at}
 use Rattle.vtl_rows.specs.Tables.{cells_at}
 use Rattle.vtl_rows.specs.declared.column.SortKey.{SortKey}
 use Rattle.vtl_rows.proofs.Placed.{all_places}
+use Rattle.vtl_rows.proofs.AllColumns.{then_equal}
 use Rattle.vtl_series.specs.Series.{frequencies}
 use Rattle.vtl_time.specs.Periods.{frequency_rank}
 use Rattle.vtl_time.specs.declared.periods.Frequency.{Frequency}
@@ -42,11 +46,11 @@ use Rattle.vtl_tree.specs.Environment.{DataSet}
 use Rattle.vtl_tree.specs.Structure.{columns_of, key_width}
 use Rattle.vtl_tree.specs.declared.structure.Component.{Component}
 use Rattle.vtl_tree.specs.declared.structure.Structure.{Structure}
-use Rattle.vtl_meaning.proofs.Places.{all_append, all_of_map}
+use Rattle.vtl_meaning.proofs.Places.{all_of_map}
 use Rattle.vtl_timing.specs.Times.{HasTime, before, in_one_series, other_identifiers, previous, series_of, time_of, time_place, up_to}
-use Rattle.vtl_timing.proofs.FlowOrders.{cells_are_values, keys_same, kept_too, previous_same}
+use Rattle.vtl_timing.proofs.FlowOrders.{cells_are_values, keys_same, previous_same}
 use Rattle.vtl_times.specs.InOrder.{AreSeries, IsSeries, group_keys, has_number, is_at, of_frequency, one_if_some, part_of, parts_of, point_at, point_before, rising_key, time_keys}
-use Rattle.vtl_times.proofs.RisingTimes.{apart_at, before_is, behind_is, filter_both, filter_front, from_is, is_in, last_found, less, same_in, then_equal, time_is, up_to_is}
+use Rattle.vtl_times.proofs.RisingTimes.{apart_at, before_is, behind_is, filter_both, filter_front, from_is, is_in, last_found, less, same_in, time_is, up_to_is}
 
 -- ---- lists
 all_flat : {X Y : Type 0} (K : X → Type 0) (P : Y → Type 0) (g : X → List Y) → ((x : X) → K x → AllByRecursion P (g x)) → (xs : List X) → AllByRecursion K xs → AllByRecursion P (flat_map g xs)
@@ -56,14 +60,6 @@ all_flat K P g f (x ∷ xs) all = all_append P (g x) (flat_map g xs) (f x all.0)
 all_at : {X : Type 0} (P : X → Type 0) (xs : List X) (d : X) → ((k : ℕ) → k < length xs → P (get_or xs k d)) → AllByRecursion P xs
 all_at P [] d f = tt
 all_at P (x ∷ xs) d f = (f 0 (omega arith), all_at P xs d (λ k h. f (suc k) (omega (arith, h))))
-
-or_true : (b : Bool) → (b || true) ≡ true
-or_true true = refl
-or_true false = refl
-
-or_false : (b : Bool) → (b || false) ≡ b
-or_false true = refl
-or_false false = refl
 
 flat_any : {X Y : Type 0} (test : Y → Bool) (g : X → List Y) (xs : List X) (i : ℕ) (d : X) → i < length xs → list_any test (g (get_or xs i d)) ≡ true → list_any test (flat_map g xs) ≡ true
 flat_any test g [] i d h e = absurd (omega (arith, h))
@@ -171,8 +167,8 @@ module _ (d : DataSet) (timed : HasTime d.structure) (held : IsDataSet d.structu
         let dated : Row → Bool = is_at (time_place a) f in
         ap (λ t. filter t sorted.points) (tests f r (dated_at i h))
         ∙ filter_both other dated sorted.points
-        ∙ ap (filter dated) (sym (filter-map (row_at rows) other places) ∙ ap (map (row_at rows)) (run_is agreed keys (named others) last [] rows places whole start end cut r (member_at i h)))
-        ∙ sym (filter-map (row_at rows) dated run)
+        ∙ ap (filter dated) (sym (map-filter (row_at rows) other places) ∙ ap (map (row_at rows)) (run_is agreed keys (named others) last [] rows places whole start end cut r (member_at i h)))
+        ∙ sym (map-filter (row_at rows) dated run)
 
     abbrev IsIn : Row → Row → Type 0
     IsIn r q = (is_point (columns_of d.structure) q ≡ true) × (in_one_series d.structure r q ≡ true)
@@ -180,7 +176,7 @@ module _ (d : DataSet) (timed : HasTime d.structure) (held : IsDataSet d.structu
     inside : (i k : ℕ) → i < length s → k < length s → IsIn (x i) (x k)
     inside i k h l =
         all_get (λ j. IsIn (x i) (row_at rows j)) s k 0 l (all_of_map (row_at rows) (IsIn (x i)) s
-        (subst (AllByRecursion (IsIn (x i))) (series_is i h) (kept_too IsRow (in_one_series a (x i)) sorted.points (AllByRecursion-Perm IsRow sorted_perm held.typed))))
+        (subst (AllByRecursion (IsIn (x i))) (series_is i h) (all_kept IsRow (in_one_series a (x i)) sorted.points (AllByRecursion-Perm IsRow sorted_perm held.typed))))
 
     apart : (i : ℕ) → i < length s → all_apart (same_key (key_width a)) (map (row_at rows) s) ≡ true
     apart i h =
@@ -205,13 +201,13 @@ module _ (d : DataSet) (timed : HasTime d.structure) (held : IsDataSet d.structu
         let no_later : Row → Bool = λ q. is_le (cell_cmp (time_of a q) (time_of a (x i))) in
         let kept = filter_front (λ k. no_later (row_at rows k)) s (i + 1) 0 (omega (arith, h)) (λ k l. up_to_is at (length s) rises i k (omega (arith, l)) h) (λ k l m. behind_is at (length s) rises i k (omega (arith, l)) m) in
         chain (Perm-filter no_later (Perm-filter (in_one_series a (x i)) sorted_perm))
-        (Perm-same (up_to sorted (x i)) (map (row_at rows) (take (i + 1) s)) (ap (filter no_later) (series_is i h) ∙ sym (filter-map (row_at rows) no_later s) ∙ ap (map (row_at rows)) kept))
+        (Perm-same (up_to sorted (x i)) (map (row_at rows) (take (i + 1) s)) (ap (filter no_later) (series_is i h) ∙ sym (map-filter (row_at rows) no_later s) ∙ ap (map (row_at rows)) kept))
 
     before_place : (i : ℕ) → i < length s → before sorted (x i) ≡ map (row_at rows) (take i s)
     before_place i h =
         let earlier : Row → Bool = λ q. is_lt (cell_cmp (time_of a q) (time_of a (x i))) in
         let kept = filter_front (λ k. earlier (row_at rows k)) s i 0 (omega (arith, h)) (λ k l. before_is at (length s) rises i k l h) (λ k l m. from_is at (length s) rises i k l m) in
-        ap (filter earlier) (series_is i h) ∙ sym (filter-map (row_at rows) earlier s) ∙ ap (map (row_at rows)) kept
+        ap (filter earlier) (series_is i h) ∙ sym (map-filter (row_at rows) earlier s) ∙ ap (map (row_at rows)) kept
 
     abbrev no_later : Row → Row → Bool
     no_later z q = is_le (cell_cmp (time_of d.structure z) (time_of d.structure q))

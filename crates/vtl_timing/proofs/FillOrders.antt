@@ -6,7 +6,6 @@ use Rattle.vtl_lists.specs.Perm.{Perm}
 use Rattle.vtl_lists.proofs.Perms.{Perm-map}
 use Rattle.vtl_cell.specs.Row.{Row, same_key, same_row}
 use Rattle.vtl_cell.proofs.Rows.{same_row-is, same_row-refl}
-use Rattle.vtl_rows.specs.Tables.{cells_at}
 use Rattle.vtl_series.proofs.OrderLemmas.{in_no_order}
 use Rattle.vtl_series.specs.declared.extent.Extent.{Extent}
 use Rattle.vtl_tree.specs.Columns.{identifiers_of, places_in}
@@ -17,15 +16,11 @@ use Rattle.vtl_tree.specs.declared.structure.Component.{Component}
 use Rattle.vtl_tree.specs.declared.structure.Structure.{Structure}
 use Rattle.vtl_meaning.specs.Agreement.{values_in}
 use Rattle.vtl_meaning.specs.Joined.{tuple_at, tuple_point}
-use Rattle.vtl_meaning.specs.LookUps.{value_named}
 use Rattle.vtl_meaning.proofs.AnalyticColumns.{identifier_cells}
 use Rattle.vtl_meaning.proofs.JoinAgreements.{only_one}
 use Rattle.vtl_meaning.proofs.JoinOrders.{find_respects}
 use Rattle.vtl_timing.specs.Times.{fill_of, filled_keys, in_order, other_identifiers, time_place}
-
-cells_are_values : (xs ys : List Component) (r : Row) → cells_at (places_in xs ys) r ≡ map (λ y. value_named xs r y.name) ys
-cells_are_values xs [] r = refl
-cells_are_values xs (y ∷ ys) r = ap (λ l. value_named xs r y.name ∷ l) (cells_are_values xs ys r)
+use Rattle.vtl_timing.proofs.FlowOrders.{cells_are_values}
 
 module _ (a : Structure) (us vs : List Row) (h : IsDataSet a us) (q : Perm us vs) where
   abbrev first : DataSet

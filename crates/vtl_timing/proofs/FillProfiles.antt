@@ -2,6 +2,8 @@
 use Rattle.std.proofs.Common.{◌≡◌, ℕ, Bool, List, [], ◌∷◌, ◌++◌, map, Option, Some, None, refl}
 use Rattle.std.specs.Prelude.{find}
 use Rattle.std.specs.List.{AllByRecursion, flat_map}
+use Rattle.vtl_lists.proofs.Alls.{all_append, all_each, all_more}
+use Rattle.vtl_lists.proofs.Sorts.{AllByRecursion-map}
 use Rattle.vtl_decimal.specs.Settings.{Settings}
 use Rattle.vtl_cell.specs.Profile.{IsOfProfile}
 use Rattle.vtl_cell.specs.Row.{Row, same_row}
@@ -19,11 +21,10 @@ use Rattle.vtl_tree.specs.declared.structure.Component.{Component}
 use Rattle.vtl_tree.specs.declared.structure.Structure.{Structure}
 use Rattle.vtl_meaning.specs.Agreement.{values_in}
 use Rattle.vtl_meaning.specs.Joined.{Part, attributes_in, measures_in, tuple_at, tuple_point, values_or_nulls}
-use Rattle.vtl_meaning.proofs.CallProfiles.{column_gives}
 use Rattle.vtl_meaning.proofs.JoinKept.{once_hold}
 use Rattle.vtl_meaning.proofs.JoinParts.{found_is}
 use Rattle.vtl_meaning.proofs.JoinProfiles.{values_hold}
-use Rattle.vtl_meaning.proofs.Places.{all_append, all_map, all_more, each}
+use Rattle.vtl_meaning.proofs.GroupPoints.{column_gives}
 use Rattle.vtl_timing.specs.Times.{fill_of, filled_keys, in_order, other_identifiers, series_columns, time_place}
 
 module _ (p : Settings) where
@@ -36,7 +37,7 @@ module _ (p : Settings) where
   cells_hold (i ∷ places) r h = (column_gives p i r h, cells_hold places r h)
 
   keys_hold : (by : List ℕ) (rows : List Row) → AllByRecursion Holds rows → AllByRecursion Holds (keys_by by rows)
-  keys_hold by rows h = once_hold Holds same_row (map (cells_at by) rows) (all_map (cells_at by) Holds rows (all_more Holds (λ r. Holds (cells_at by r)) (cells_hold by) rows h))
+  keys_hold by rows h = once_hold Holds same_row (map (cells_at by) rows) (AllByRecursion-map (cells_at by) Holds rows (all_more Holds (λ r. Holds (cells_at by r)) (cells_hold by) rows h))
 
   dated_hold : (f : Frequency) (key : Row) (is : List ℕ) → Holds key → AllByRecursion Holds (map (dated f key) is)
   dated_hold f key [] h = tt
@@ -56,11 +57,11 @@ module _ (p : Settings) where
   series_hold e on by rows h = tuples_hold e on by rows (keys_by by rows) (keys_hold by rows h)
 
   ordered_hold : (a : Structure) (keys : List Row) → AllByRecursion Holds keys → AllByRecursion Holds (map (in_order a) keys)
-  ordered_hold a keys h = all_map (in_order a) Holds keys (all_more Holds (λ k. Holds (in_order a k)) (λ k i. values_hold (IsOfProfile p) tt (series_columns a) (identifiers_of a) k i) keys h)
+  ordered_hold a keys h = AllByRecursion-map (in_order a) Holds keys (all_more Holds (λ k. Holds (in_order a k)) (λ k i. values_hold (IsOfProfile p) tt (series_columns a) (identifiers_of a) k i) keys h)
 
   -- ---- the points at the keys
   part_holds : (a : Structure) (ys : List Component) (o : Option Row) → ((q : Row) → o ≡ Some q → Holds q) → Holds (values_or_nulls a ys o)
-  part_holds a ys None h = all_map (λ y. c.Null) (IsOfProfile p) ys (each (λ y. IsOfProfile p c.Null) (λ y. tt) ys)
+  part_holds a ys None h = AllByRecursion-map (λ y. c.Null) (IsOfProfile p) ys (all_each (λ y. IsOfProfile p c.Null) (λ y. tt) ys)
   part_holds a ys (Some q) h = values_hold (IsOfProfile p) tt (columns_of a) ys q (h q refl)
 
   point_holds : (d : DataSet) (key : Row) → AreOfProfile p d.points → Holds key → Holds (tuple_point (tuple_at (identifiers_of d.structure) (d ∷ []) key))

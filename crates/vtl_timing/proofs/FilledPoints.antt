@@ -6,8 +6,9 @@ use Rattle.std.proofs.lemmas.List.{append-nil, take_all}
 use Rattle.vtl_lists.specs.Apart.{all_apart}
 use Rattle.vtl_lists.proofs.Perms.{AllByRecursion-Perm, Perm-sym}
 use Rattle.vtl_lists.proofs.Sorts.{AllByRecursion-filter}
+use Rattle.vtl_lists.proofs.Alls.{all_append, all_back, all_each, all_filtered}
 use Rattle.vtl_index.specs.Groups.{each_once}
-use Rattle.vtl_cell.specs.Row.{Row, column_of, same_key, same_row}
+use Rattle.vtl_cell.specs.Row.{Row, same_key, same_row}
 use Rattle.vtl_cell.specs.declared.cell.Cell.{Cell}
 use Rattle.vtl_cell.specs.declared.cell.Cell.TheVariants as c
 use Rattle.vtl_cell.proofs.Rows.{same_row-is, same_row-refl}
@@ -29,28 +30,20 @@ use Rattle.vtl_meaning.specs.LookUps.{value_named, values_named}
 use Rattle.vtl_meaning.specs.Made.{AreAmong, IsColumnAt}
 use Rattle.vtl_meaning.proofs.Drawn.{drawn_all, drawn_apart, map_drawn}
 use Rattle.vtl_meaning.proofs.GroupKinds.{null_is_of}
-use Rattle.vtl_meaning.proofs.Kept.{some_identifiers}
-use Rattle.vtl_meaning.proofs.Lists.{passing}
+use Rattle.vtl_meaning.proofs.Kept.{some_identifiers, cells_append}
 use Rattle.vtl_meaning.proofs.OwnColumns.{own_columns, own_identifiers}
-use Rattle.vtl_meaning.proofs.Places.{IsIdentifier, all_append, all_back, are_identifiers, are_others, cells_fit, columns_split, first_cells, joined_point_is, key_of_joined, point_append, point_length}
+use Rattle.vtl_meaning.proofs.Places.{IsIdentifier, are_identifiers, are_others, cells_fit, columns_split, first_cells, joined_point_is, key_of_joined, point_append, point_length}
 use Rattle.vtl_meaning.proofs.ValueKinds.{point_from}
+use Rattle.vtl_meaning.proofs.LookUps.{named_cells}
 use Rattle.vtl_tuples.proofs.Lists.{map-map}
 use Rattle.vtl_timing.specs.Times.{HasTime, fill_of, in_order, is_time, other_identifiers, series_columns, time_place}
 use Rattle.vtl_timing.proofs.SeriesColumns.{identifiers_among, series_apart, series_identifiers, series_perm, time_only}
 use Rattle.vtl_timing.proofs.ShiftKept.{period_has}
 
 -- ---- cells by names
-pub named_cells : (xs ys : List Component) (r : Row) → cells_at (places_in xs ys) r ≡ values_named xs ys r
-named_cells xs [] r = refl
-named_cells xs (y ∷ ys) r = ap (λ l. column_of (place_of y.name xs) r ∷ l) (named_cells xs ys r)
-
 nulls_are : (xs ys : List Component) → cells_at (places_in xs ys) [] ≡ map (λ y. c.Null) ys
 nulls_are xs [] = refl
 nulls_are xs (y ∷ ys) = ap (λ l. c.Null ∷ l) (nulls_are xs ys)
-
-cells_of_two : (xs ys zs : List Component) (r : Row) → cells_at (places_in xs (ys ++ zs)) r ≡ cells_at (places_in xs ys) r ++ cells_at (places_in xs zs) r
-cells_of_two xs [] zs r = refl
-cells_of_two xs (y ∷ ys) zs r = ap (λ l. column_of (place_of y.name xs) r ∷ l) (cells_of_two xs ys zs r)
 
 -- ---- what stands behind the identifiers
 module _ (a : Structure) where
@@ -58,7 +51,7 @@ module _ (a : Structure) where
   behind o = values_or_nulls a (measures_of a) o ++ values_or_nulls a (of_role role.Attribute a) o
 
   pub behind_cells : (o : Option Row) → cells_at (places_in (columns_of a) (others_of a)) (unwrap_or o []) ≡ values_or_nulls a (measures_of a) o ++ values_or_nulls a (of_role role.Attribute a) o
-  behind_cells o = cells_of_two (columns_of a) (measures_of a) (of_role role.Attribute a) (unwrap_or o []) ∙ go o
+  behind_cells o = cells_append (columns_of a) (measures_of a) (of_role role.Attribute a) (unwrap_or o []) ∙ go o
     where
       go : (o : Option Row) → cells_at (places_in (columns_of a) (measures_of a)) (unwrap_or o []) ++ cells_at (places_in (columns_of a) (of_role role.Attribute a)) (unwrap_or o []) ≡ values_or_nulls a (measures_of a) o ++ values_or_nulls a (of_role role.Attribute a) o
       go None = λ j. nulls_are (columns_of a) (measures_of a) j ++ nulls_are (columns_of a) (of_role role.Attribute a) j
@@ -93,17 +86,13 @@ all_mapped : {X Y : Type 0} (G : X → Type 0) (K : Y → Type 0) (g : X → Y) 
 all_mapped G K g f [] all = tt
 all_mapped G K g f (x ∷ xs) all = (f x all.0, all_mapped G K g f xs all.1)
 
-all_any : {X : Type 0} (P : X → Type 0) → ((x : X) → P x) → (xs : List X) → AllByRecursion P xs
-all_any P f [] = tt
-all_any P f (x ∷ xs) = (f x, all_any P f xs)
-
 pub series_each : (e : Extent) (on : ℕ) (by : List ℕ) (G P : Row → Type 0) → ((q : Row) → G q → (f : Frequency) (i : ℕ) → P (dated f (cells_at by q) i)) → (rows : List Row) → AllByRecursion G rows → AllByRecursion P (series_rows e on by rows)
 series_each e on by G P h rows all =
     let K : Row → Type 0 = λ key. (f : Frequency) (i : ℕ) → P (dated f key i) in
     all_flat K P (tuple_rows e on by rows)
     (λ key d. all_flat (λ f. Unit {0}) P (series_at e on rows (rows_by by rows key) key)
-    (λ f u. all_mapped (λ i. Unit {0}) P (dated f key) (λ i v. d f i) (numbers_of f on (rows_by by rows key) (seen_by e rows (rows_by by rows key))) (all_any (λ i. Unit {0}) (λ i. tt) (numbers_of f on (rows_by by rows key) (seen_by e rows (rows_by by rows key)))))
-    frequencies (all_any (λ f. Unit {0}) (λ f. tt) frequencies))
+    (λ f u. all_mapped (λ i. Unit {0}) P (dated f key) (λ i v. d f i) (numbers_of f on (rows_by by rows key) (seen_by e rows (rows_by by rows key))) (all_each (λ i. Unit {0}) (λ i. tt) (numbers_of f on (rows_by by rows key) (seen_by e rows (rows_by by rows key)))))
+    frequencies (all_each (λ f. Unit {0}) (λ f. tt) frequencies))
     (keys_by by rows) (all_once K (map (cells_at by) rows) (all_mapped G K (cells_at by) h rows all))
 
 -- ---- their cells
@@ -131,7 +120,7 @@ module _ (a : Structure) (well : IsStructure a) (timed : HasTime a) where
   pub last_is : (f : Frequency) (i : ℕ) → is_point (filter is_time ids) (c.Period (period_at f i) ∷ []) ≡ true
   last_is f i =
       let one = time_only a timed in
-      let passes = subst (AllByRecursion (λ x. is_time x ≡ true)) one.only (passing is_time ids) in
+      let passes = subst (AllByRecursion (λ x. is_time x ≡ true)) one.only (all_filtered is_time ids) in
       let has = period_has one.item (period_at f i) passes.0 in
       ap (λ l. is_point l (c.Period (period_at f i) ∷ [])) one.only ∙ point_from one.item [] (c.Period (period_at f i)) [] has.0 has.1 refl
 

@@ -6,11 +6,13 @@ use Rattle.std.specs.Option.{option_map_or}
 use Rattle.std.specs.Ordering.{is_le, is_lt}
 use Rattle.std.specs.declared.cmp.Ordering.{Ordering}
 use Rattle.std.specs.declared.cmp.Ordering.TheVariants.{Less, Equal, Greater}
+use Rattle.std.proofs.lemmas.Bool.{and_parts}
 use Rattle.vtl_lists.specs.Apart.{all_apart}
 use Rattle.vtl_lists.specs.Perm.{Perm}
 use Rattle.vtl_lists.proofs.Aparts.{all_apart-filter}
 use Rattle.vtl_lists.proofs.Perms.{Perm-filter, Perm-map, list_all-Perm}
 use Rattle.vtl_lists.proofs.Sorts.{AllByRecursion-filter}
+use Rattle.vtl_lists.proofs.Alls.{all_both, all_kept}
 use Rattle.vtl_decimal.specs.Settings.{Settings}
 use Rattle.vtl_cell.specs.Order.{cell_cmp}
 use Rattle.vtl_cell.specs.Outcome.{faults_by}
@@ -21,7 +23,7 @@ use Rattle.vtl_cell.specs.declared.cell.Cell.TheVariants as c
 use Rattle.vtl_cell.specs.declared.operator.ScalarOp.TheVariants as op
 use Rattle.vtl_cell.proofs.Aggregates.{rising_order}
 use Rattle.vtl_cell.proofs.Orders.{cell_cmp-ties}
-use Rattle.vtl_cell.proofs.Rows.{same_row-is, same_row-refl, split_and}
+use Rattle.vtl_cell.proofs.Rows.{same_row-is, same_row-refl}
 use Rattle.vtl_rows.specs.Tables.{cells_at}
 use Rattle.vtl_tree.specs.Columns.{identifiers_of, places_in}
 use Rattle.vtl_tree.specs.DataSet.{IsDataSet, is_point}
@@ -46,19 +48,7 @@ use Rattle.vtl_timing.specs.Times.{HasTime, before, by_measure, flow_of, flow_va
 each_of : {X : Type 0} (g : X → X → Bool) (xs ys : List X) → ((z : X) → list_all (λ w. g w z) ys ≡ true → list_all (λ w. g w z) xs ≡ true) → AllByRecursion (λ q. (z : X) → list_all (λ w. g w z) ys ≡ true → g q z ≡ true) xs
 each_of g [] ys f = tt
 each_of g (x ∷ xs) ys f =
-    ((λ z e. (split_and (g x z) (list_all (λ w. g w z) xs) (f z e)).0), each_of g xs ys (λ z e. (split_and (g x z) (list_all (λ w. g w z) xs) (f z e)).1))
-
-pub kept_too : {X : Type 0} (P : X → Type 0) (p : X → Bool) (xs : List X) → AllByRecursion P xs → AllByRecursion (λ x. P x × (p x ≡ true)) (filter p xs)
-kept_too P p [] h = tt
-kept_too P p (x ∷ xs) h = go (p x) refl (kept_too P p xs h.1)
-  where
-    go : (b : Bool) → p x ≡ b → AllByRecursion (λ x. P x × (p x ≡ true)) (filter p xs) → AllByRecursion (λ x. P x × (p x ≡ true)) (cond b (x ∷ filter p xs) (filter p xs))
-    go true e ih = ((h.0, e), ih)
-    go false e ih = ih
-
-pub all_both : {X : Type 0} (P Q R : X → Type 0) → ((x : X) → P x → Q x → R x) → (xs : List X) → AllByRecursion P xs → AllByRecursion Q xs → AllByRecursion R xs
-all_both P Q R f [] h i = tt
-all_both P Q R f (x ∷ xs) h i = (f x h.0 i.0, all_both P Q R f xs h.1 i.1)
+    ((λ z e. (and_parts (g x z) (list_all (λ w. g w z) xs) (f z e)).0), each_of g xs ys (λ z e. (and_parts (g x z) (list_all (λ w. g w z) xs) (f z e)).1))
 
 -- neither later than the other
 pub one_time : (u v : Cell) → is_le (cell_cmp u v) ≡ true → is_le (cell_cmp v u) ≡ true → u ≡ v
@@ -150,7 +140,7 @@ module _ (a : Structure) (well : IsStructure a) (time : HasTime a) where
   keys_same r q t hq ht sq st e =
       let ids = identifiers_of a in
       let others = other_identifiers a in
-      let rest : (z : Row) → in_one_series a r z ≡ true → values_in a others z ≡ values_in a others r = λ z s. same_row-is (values_in a others z) (values_in a others r) (split_and (same_row (values_in a others z) (values_in a others r)) _ s).0 in
+      let rest : (z : Row) → in_one_series a r z ≡ true → values_in a others z ≡ values_in a others r = λ z s. same_row-is (values_in a others z) (values_in a others r) (and_parts (same_row (values_in a others z) (values_in a others r)) _ s).0 in
       let timed = all_both (At (at q) (time_place a) ids) (At (at t) (time_place a) ids) (λ y. is_time y ≡ true → at q y ≡ at t y) (λ y f g u. f u ∙ own_time q hq ∙ e ∙ sym (own_time t ht) ∙ sym (g u)) ids (time_at (at q) ids time).0 (time_at (at t) ids time).0 in
       let whole = sym (whole_key q hq) ∙ both_same (at q) (at t) ids (rest q sq ∙ sym (rest t st)) timed ∙ whole_key t ht in
       ap (λ z. same_row z (take (key_width a) t)) whole ∙ same_row-refl (take (key_width a) t)
@@ -179,7 +169,7 @@ module _ (a : Structure) (well : IsStructure a) (time : HasTime a) where
     befores r =
         let B = before first r in
         all_both (λ x. (is_point xs x ≡ true) × (in_one_series a r x ≡ true)) (λ x. (z : Row) → is_last B z ≡ true → no_later x z ≡ true) (IsBefore r) (λ x i j. (i, j)) B
-        (AllByRecursion-filter (λ x. (is_point xs x ≡ true) × (in_one_series a r x ≡ true)) _ (series_of first r) (kept_too (λ x. is_point xs x ≡ true) (in_one_series a r) us h.typed))
+        (AllByRecursion-filter (λ x. (is_point xs x ≡ true) × (in_one_series a r x ≡ true)) _ (series_of first r) (all_kept (λ x. is_point xs x ≡ true) (in_one_series a r) us h.typed))
         (each_of no_later B B (λ z e. e))
 
     before_apart : (r : Row) → all_apart (same_key (key_width a)) (before first r) ≡ true

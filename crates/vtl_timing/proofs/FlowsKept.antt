@@ -1,23 +1,23 @@
 -- Totals and differences give data sets: the identifiers stay, and each measure keeps its kind.
-use Rattle.std.proofs.Common.{◌≡◌, ℕ, ℤ, pos, Result, Bool, true, false, not, ◌&&◌, ◌||◌, cond, List, [], ◌∷◌, ◌++◌, map, take, length, Ok, Err, Option, Some, None, refl, sym, ap, ◌∙◌, subst, true≢false}
-use Rattle.std.specs.Prelude.{IfOk, IfSome, find, if◌then◌else◌, unwrap_or}
-use Rattle.std.specs.List.{AllByRecursion, filter, list_any}
+use Rattle.std.proofs.Common.{◌≡◌, ℕ, pos, Bool, true, false, not, ◌&&◌, cond, List, [], ◌∷◌, ◌++◌, map, take, length, Ok, Err, Option, Some, None, refl, sym, ap, ◌∙◌, subst, true≢false}
+use Rattle.std.specs.Prelude.{IfOk, IfSome, if◌then◌else◌, unwrap_or}
+use Rattle.std.specs.List.{AllByRecursion, filter}
 use Rattle.std.specs.Option.{option_map_or}
 use Rattle.std.proofs.Math.Seq.{take-append_seam}
 use Rattle.std.proofs.lemmas.List.{append-nil, length-map, map-append}
 use Rattle.std.proofs.lemmas.List.Elements.{filter-append}
-use Rattle.vtl_lists.specs.Apart.{all_apart}
 use Rattle.vtl_lists.proofs.Perms.{AllByRecursion-Perm}
-use Rattle.vtl_lists.proofs.Sorts.{AllByRecursion-filter}
+use Rattle.vtl_lists.proofs.Sorts.{AllByRecursion-filter, AllByRecursion-map}
+use Rattle.vtl_lists.proofs.Alls.{all_append, all_both, all_filtered, all_front, all_more}
+use Rattle.vtl_lists.proofs.Filters.{filter_all, filter_none, found_has}
 use Rattle.vtl_decimal.specs.Range.{fit_number}
-use Rattle.vtl_decimal.specs.declared.number.Fault.{Fault}
 use Rattle.vtl_decimal.specs.Settings.{Settings}
 use Rattle.vtl_cell.specs.AggregateKinds.{is_number}
 use Rattle.vtl_cell.specs.Conversion.{as_kind}
 use Rattle.vtl_cell.specs.Groups.{group_value}
 use Rattle.vtl_cell.specs.Kinds.{is_null, kind_of}
-use Rattle.vtl_cell.specs.Outcome.{Outcome, after, faults_by, unless}
-use Rattle.vtl_cell.specs.Row.{Row, column_of, same_key, same_row}
+use Rattle.vtl_cell.specs.Outcome.{Outcome, after, faults_by}
+use Rattle.vtl_cell.specs.Row.{Row, column_of}
 use Rattle.vtl_cell.specs.ScalarArithmetic.{number, units}
 use Rattle.vtl_cell.specs.ScalarKinds.{meets}
 use Rattle.vtl_cell.specs.Scalars.{scalar_of}
@@ -45,48 +45,18 @@ use Rattle.vtl_meaning.specs.Aggregates.{Made, group_fault as point_fault}
 use Rattle.vtl_meaning.specs.Analytics.{each_point as each_made, point_of}
 use Rattle.vtl_meaning.specs.LookUps.{value_named}
 use Rattle.vtl_meaning.specs.Points.{cell_or_null}
-use Rattle.vtl_meaning.proofs.AnalyticColumns.{IsOther, all_append, all_filtered, all_front, attribute_role, by_roles, cells_are, columns_found, columns_split, identifier_cells, measure_role}
+use Rattle.vtl_meaning.proofs.AnalyticColumns.{IsOther, attribute_role, by_roles, cells_are, columns_found, identifier_cells, measure_role}
 use Rattle.vtl_meaning.proofs.GroupKinds.{GivesOf, IsOf, group_is, null_is_of}
-use Rattle.vtl_meaning.proofs.GroupPoints.{HasCell, all_more, found_cell}
-use Rattle.vtl_meaning.proofs.Partitions.{all_map}
+use Rattle.vtl_meaning.proofs.GroupPoints.{HasCell, found_cell}
 use Rattle.vtl_meaning.proofs.ValueKinds.{after_if}
+use Rattle.vtl_meaning.proofs.Places.{columns_split}
+use Rattle.vtl_meaning.proofs.AnalyticPoints.{keys_apart, unless_has}
+use Rattle.vtl_meaning.proofs.AnalyticShaped.{no_measure}
+use Rattle.vtl_meaning.proofs.CallKinds.{number_is}
 use Rattle.vtl_tree.specs.Times.{flow_components, flow_gives}
 use Rattle.vtl_timing.specs.Times.{before, by_measure, flow_of, flow_value, in_one_series, previous, series_of, stock_of, stock_value, up_to}
 
--- ---- lists
-all_both : {X : Type 0} (P Q R : X → Type 0) → ((x : X) → P x → Q x → R x) → (xs : List X) → AllByRecursion P xs → AllByRecursion Q xs → AllByRecursion R xs
-all_both P Q R f [] h i = tt
-all_both P Q R f (x ∷ xs) h i = (f x h.0 i.0, all_both P Q R f xs h.1 i.1)
-
-pub keep_all : {X : Type 0} (p : X → Bool) (xs : List X) → AllByRecursion (λ x. p x ≡ true) xs → filter p xs ≡ xs
-keep_all p [] all = refl
-keep_all p (x ∷ xs) all = ap (λ b. cond b (x ∷ filter p xs) (filter p xs)) all.0 ∙ ap (λ l. x ∷ l) (keep_all p xs all.1)
-
-pub drop_all : {X : Type 0} (p : X → Bool) (xs : List X) → AllByRecursion (λ x. p x ≡ false) xs → filter p xs ≡ []
-drop_all p [] all = refl
-drop_all p (x ∷ xs) all = ap (λ b. cond b (x ∷ filter p xs) (filter p xs)) all.0 ∙ drop_all p xs all.1
-
-unless_has : {X : Type 0} (P : X → Type 0) (f : Option Fault) (x : X) → P x → IfOk (unless f x) P
-unless_has P None x h = h
-unless_has P (Some f) x h = tt
-
--- keys that stay are as far apart as before
-any_by_key : (n m : ℕ) (f : Row → Row) (key : Row) (points : List Row) → AllByRecursion (λ r. take n (f r) ≡ take m r) points → list_any (λ q. same_row key (take n q)) (map f points) ≡ list_any (λ q. same_row key (take m q)) points
-any_by_key n m f key [] all = refl
-any_by_key n m f key (r ∷ points) all = λ i. same_row key (all.0 i) || any_by_key n m f key points all.1 i
-
-keys_apart : (n m : ℕ) (f : Row → Row) (points : List Row) → AllByRecursion (λ r. take n (f r) ≡ take m r) points → all_apart (same_key n) (map f points) ≡ all_apart (same_key m) points
-keys_apart n m f [] all = refl
-keys_apart n m f (r ∷ points) all =
-    ap (λ b. not b && all_apart (same_key n) (map f points)) (ap (λ key. list_any (λ q. same_row key (take n q)) (map f points)) all.0 ∙ any_by_key n m f (take m r) points all.1)
-    ∙ ap (λ b. not (list_any (λ q. same_row (take m r) (take m q)) points) && b) (keys_apart n m f points all.1)
-
 -- ---- the columns of the result
-no_measure : (r : Role) → same_role r role.Identifier ≡ true → same_role r role.Measure ≡ false
-no_measure role.Identifier h = refl
-no_measure role.Measure h = cc
-no_measure role.Attribute h = cc
-
 -- a measure of the result is made of one among these columns
 pub record IsOfMeasure (xs : List Component) (y : Component) : Type 0 where
   pub measure : is_measure y ≡ true
@@ -95,11 +65,11 @@ pub record IsOfMeasure (xs : List Component) (y : Component) : Type 0 where
   pub kind : own.kind ≡ y.kind
   pub number : is_number y.kind ≡ true
 
-kind_kept : (b : Bool) (kind : Kind) → unwrap_or (cond b (Some kind) None) kind ≡ kind
+pub kind_kept : (b : Bool) (kind : Kind) → unwrap_or (cond b (Some kind) None) kind ≡ kind
 kind_kept true kind = refl
 kind_kept false kind = refl
 
-all_identify : (ys : List Component) → chosen choice.Except [] ys ≡ filter is_identifier ys
+pub all_identify : (ys : List Component) → chosen choice.Except [] ys ≡ filter is_identifier ys
 all_identify [] = refl
 all_identify (y ∷ ys) = go (is_identifier y) (all_identify ys)
   where
@@ -122,10 +92,10 @@ module _ (a s : Structure) (w : IsStructure a) (numbers : AllByRecursion (λ x. 
   identify =
       ap (filter is_identifier) shape
       ∙ filter-append is_identifier ids given
-      ∙ ap (λ l. filter is_identifier ids ++ l) (drop_all is_identifier given (no_identifiers (measures a.components)))
+      ∙ ap (λ l. filter is_identifier ids ++ l) (filter_none is_identifier given (no_identifiers (measures a.components)))
       ∙ append-nil (filter is_identifier ids)
       ∙ ap (filter is_identifier) (all_identify a.components)
-      ∙ keep_all is_identifier (filter is_identifier a.components) (all_filtered is_identifier a.components)
+      ∙ filter_all is_identifier (filter is_identifier a.components) (all_filtered is_identifier a.components)
 
   abbrev Good : Component → Type 0
   Good y = IsOther y → IsOfMeasure (columns_of a) y
@@ -226,7 +196,7 @@ module _ (a s : Structure) (w : IsStructure a) (numbers : AllByRecursion (λ x. 
         let f : Row → Row = point_of made (columns_of s) in
         record {
           well_formed = v;
-          typed = all_map f (λ r. is_point (columns_of s) r ≡ true) points (all_more IsRow (λ r. is_point (columns_of s) (f r) ≡ true) (λ r t. cells_are (λ y. cell_or_null (made y r)) (columns_of s) (cells_have r t)) points h.typed);
+          typed = AllByRecursion-map f (λ r. is_point (columns_of s) r ≡ true) points (all_more IsRow (λ r. is_point (columns_of s) (f r) ≡ true) (λ r t. cells_are (λ y. cell_or_null (made y r)) (columns_of s) (cells_have r t)) points h.typed);
           distinct = keys_apart (key_width s) (key_width a) f points (all_more IsRow (λ r. take (key_width s) (f r) ≡ take (key_width a) r) key_of_point points h.typed) ∙ h.distinct;
         }
 
@@ -241,7 +211,7 @@ pub own_cells : (columns : List Component) (y : Component) (points : List Row) �
 own_cells columns y [] i h = tt
 own_cells columns y (r ∷ points) i h = (own_cell columns y r i h.0, own_cells columns y points i h.1)
 
-null_alone : (v : Cell) → IsOf k.Null v → is_null v ≡ true
+pub null_alone : (v : Cell) → IsOf k.Null v → is_null v ≡ true
 null_alone c.Null h = refl
 null_alone v h = cc
 
@@ -290,10 +260,6 @@ zero_beside k.Num n some = refl
 zero_beside k.Null n some = absurd (some refl)
 zero_beside kind n some = cc
 
-number_is : (r : Result ℤ Fault) → GivesOf k.Num (number r)
-number_is (Ok n) = refl
-number_is (Err e) = tt
-
 as_int : (p : Settings) (v : Cell) → IsBeside k.Int v → GivesOf k.Int (as_kind p k.Int v)
 as_int p c.Null h = refl
 as_int p (c.Int x) h = refl
@@ -316,14 +282,6 @@ difference_is p k.Num x y n h b =
     after_if (scalar_of p op.Subtract (x ∷ y ∷ [])) (as_kind p k.Num) (IsBeside k.Num) (IsOf k.Num) (value_is_of_kind p op.Subtract (k.Num ∷ k.Num ∷ []) (x ∷ y ∷ []) k.Num refl (rw (hx, hy) refl)) (as_num p)
 difference_is p k.Null c.Null y n h b = refl
 difference_is p kind x y n h b = cc
-
-found_has : {X : Type 0} (P : X → Type 0) (test : X → Bool) (xs : List X) → AllByRecursion P xs → IfSome (find test xs) P
-found_has P test [] h = tt
-found_has P test (x ∷ xs) h = go (test x) (found_has P test xs h.1)
-  where
-    go : (b : Bool) → IfSome (find test xs) P → IfSome (if b then Some x else find test xs) P
-    go true ih = h.0
-    go false ih = ih
 
 flow_is : (p : Settings) (d : DataSet) (y : Component) (r : Row) → AllByRecursion (λ q. is_point (columns_of d.structure) q ≡ true) d.points → IsOfMeasure (columns_of d.structure) y → is_point (columns_of d.structure) r ≡ true → GivesOf y.kind (flow_value p d y r)
 flow_is p d y r all i t =

@@ -6,13 +6,14 @@ use Rattle.vtl_lists.specs.Perm.{Perm, empty, keep, chain}
 use Rattle.vtl_lists.proofs.Aparts.{all_apart-Perm}
 use Rattle.vtl_lists.proofs.Perms.{AllByRecursion-Perm, Perm-map, Perm-middle, Perm-sym}
 use Rattle.vtl_lists.proofs.Sorts.{AllByRecursion-filter}
+use Rattle.vtl_lists.proofs.Alls.{all_front}
 use Rattle.vtl_tree.specs.Columns.{identifiers_of, others_of, place_of}
 use Rattle.vtl_tree.specs.Structure.{IsStructure, columns_of, names_of, same_name}
 use Rattle.vtl_tree.specs.declared.structure.Component.{Component}
 use Rattle.vtl_tree.specs.declared.structure.Structure.{Structure}
 use Rattle.vtl_meaning.specs.Made.{AreAmong, IsColumnAt}
 use Rattle.vtl_meaning.proofs.OwnColumns.{own_among, own_columns}
-use Rattle.vtl_meaning.proofs.Places.{IsIdentifier, all_front, are_identifiers, columns_split, identifiers_apart, same_name-sym}
+use Rattle.vtl_meaning.proofs.Places.{IsIdentifier, are_identifiers, columns_split, identifiers_apart, same_name-sym}
 use Rattle.vtl_timing.specs.Times.{HasTime, is_time, other_identifiers, series_columns}
 
 -- ---- a list in two parts

@@ -5,6 +5,8 @@ use Rattle.std.specs.List.{AllByRecursion}
 use Rattle.std.proofs.Math.Seq.{take-append_seam}
 use Rattle.std.proofs.lemmas.Int.{ints}
 use Rattle.std.proofs.lemmas.List.{length-map, map-append}
+use Rattle.std.proofs.lemmas.Bool.{and_parts}
+use Rattle.vtl_lists.proofs.Alls.{all_front, all_more}
 use Rattle.vtl_cell.specs.Kinds.{is_null, same_kind}
 use Rattle.vtl_cell.specs.Outcome.{Outcome, fault_in, faults_by, join}
 use Rattle.vtl_cell.specs.Row.{Row, column_of, same_key, same_row}
@@ -13,7 +15,7 @@ use Rattle.vtl_cell.specs.declared.cell.Cell.{Cell}
 use Rattle.vtl_cell.specs.declared.cell.Cell.TheVariants as c
 use Rattle.vtl_cell.specs.declared.kind.Kind.{Kind}
 use Rattle.vtl_cell.specs.declared.kind.Kind.TheVariants as k
-use Rattle.vtl_cell.proofs.Rows.{same_row-is, same_row-refl, split_and}
+use Rattle.vtl_cell.proofs.Rows.{same_row-is, same_row-refl}
 use Rattle.vtl_decimal.specs.declared.number.Fault.{Fault}
 use Rattle.vtl_decimal.specs.declared.number.Fault.TheVariants.{DivZero, Range}
 use Rattle.vtl_rows.specs.Tables.{cells_at}
@@ -31,11 +33,12 @@ use Rattle.vtl_tree.specs.declared.structure.Structure.{Structure}
 use Rattle.vtl_meaning.specs.Aggregates.{Made, group_fault as point_fault}
 use Rattle.vtl_meaning.specs.Analytics.{point_of}
 use Rattle.vtl_meaning.specs.Points.{cell_or_null}
-use Rattle.vtl_meaning.proofs.AnalyticColumns.{all_front, cells_are, columns_found, columns_split, identifier_cells}
+use Rattle.vtl_meaning.proofs.AnalyticColumns.{cells_are, columns_found, identifier_cells}
 use Rattle.vtl_meaning.proofs.Drawn.{drawn_all, drawn_apart, map_drawn}
 use Rattle.vtl_meaning.proofs.GroupKinds.{IsOf, null_is_of}
-use Rattle.vtl_meaning.proofs.GroupPoints.{HasCell, all_more, found_cell}
+use Rattle.vtl_meaning.proofs.GroupPoints.{HasCell, found_cell}
 use Rattle.vtl_meaning.proofs.Kept.{unless_ok}
+use Rattle.vtl_meaning.proofs.Places.{columns_split}
 use Rattle.vtl_timing.specs.Times.{is_time, shifted_value, timeshift_of}
 
 -- ---- a shift can be taken back
@@ -67,7 +70,7 @@ one_back q s m n hq hs e f =
     sym (period_at-index q hq) ∙ (λ i. period_at (frequency i) (index i)) ∙ period_at-index s hs
 
 -- ---- cells
-period_kind : (kind : Kind) → same_kind kind k.Period ≡ true → kind ≡ k.Period
+pub period_kind : (kind : Kind) → same_kind kind k.Period ≡ true → kind ≡ k.Period
 period_kind k.Null e = cc
 period_kind k.Bool e = cc
 period_kind k.Int e = cc
@@ -79,7 +82,7 @@ period_kind k.Period e = refl
 -- a time is a period
 pub time_cell : (y : Component) (v : Cell) → HasCell y v → is_time y ≡ true → (q : YearPart) × (v ≡ c.Period q)
 time_cell y v h t =
-    let both = split_and (same_role y.role role.Identifier) (same_kind y.kind k.Period) t in
+    let both = and_parts (same_role y.role role.Identifier) (same_kind y.kind k.Period) t in
     go v (subst (λ kind. IsOf kind v) (period_kind y.kind both.1) h.0) (subst (λ b. not (b && is_null v) ≡ true) both.0 h.1)
   where
     go : (v : Cell) → IsOf k.Period v → not (true && is_null v) ≡ true → (q : YearPart) × (v ≡ c.Period q)
@@ -93,7 +96,7 @@ time_cell y v h t =
 
 pub period_has : (y : Component) (q : YearPart) → is_time y ≡ true → HasCell y (c.Period q)
 period_has y q t =
-    let both = split_and (same_role y.role role.Identifier) (same_kind y.kind k.Period) t in
+    let both = and_parts (same_role y.role role.Identifier) (same_kind y.kind k.Period) t in
     (subst (λ kind. IsOf kind (c.Period q)) (sym (period_kind y.kind both.1)) refl, ap (λ b. not (b && false)) both.0)
 
 module _ (n : ℤ) where
@@ -136,7 +139,7 @@ module _ (n : ℤ) where
       go q s (Some m) (Some l) e f a b same = let one : m ≡ l = cc in one_back q s m n (shift_whole q m n e) (shift_whole s l n f) e (f ∙ ap Some (sym one))
 
 -- ---- lists
-none_parts : (f g : Option Fault) → join f g ≡ None → (f ≡ None) × (g ≡ None)
+pub none_parts : (f g : Option Fault) → join f g ≡ None → (f ≡ None) × (g ≡ None)
 none_parts None g e = (refl, e)
 none_parts (Some DivZero) g e = cc
 none_parts (Some Range) None e = cc

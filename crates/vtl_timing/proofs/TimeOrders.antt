@@ -7,7 +7,7 @@ use Rattle.vtl_lists.proofs.Perms.{Perm-filter, Perm-map}
 use Rattle.vtl_decimal.specs.Settings.{Settings}
 use Rattle.vtl_cell.specs.Kinds.{is_null}
 use Rattle.vtl_cell.specs.Order.{cell_cmp}
-use Rattle.vtl_cell.specs.Outcome.{Outcome, faults_by}
+use Rattle.vtl_cell.specs.Outcome.{Outcome}
 use Rattle.vtl_cell.specs.Outcomes.{Same}
 use Rattle.vtl_cell.specs.Row.{Row}
 use Rattle.vtl_cell.specs.declared.cell.Cell.{Cell}
@@ -19,15 +19,10 @@ use Rattle.vtl_tree.specs.Measures.{is_measure}
 use Rattle.vtl_tree.specs.Structure.{columns_of}
 use Rattle.vtl_tree.specs.declared.structure.Component.{Component}
 use Rattle.vtl_tree.specs.declared.structure.Structure.{Structure}
-use Rattle.vtl_tree.proofs.Faults.{Same_unless, faults_by-Perm}
-use Rattle.vtl_meaning.specs.Aggregates.{Made, group_fault as point_fault}
-use Rattle.vtl_meaning.specs.Analytics.{each_point as each_made, point_of}
+use Rattle.vtl_meaning.specs.Analytics.{each_point as each_made}
 use Rattle.vtl_meaning.specs.LookUps.{value_named}
+use Rattle.vtl_meaning.proofs.AnalyticOrders.{points_respect}
 use Rattle.vtl_timing.specs.Times.{by_measure, in_one_series, shifted_value, stock_of, stock_value, time_of, timeshift_of, up_to}
-
--- a value for each column of each point
-made_respects : (made : Made) (ys : List Component) (us vs : List Row) → Perm us vs → Same (each_made made ys us) (each_made made ys vs)
-made_respects made ys us vs q = Same_unless (faults_by (point_fault made ys) us) (faults_by (point_fault made ys) vs) (map (point_of made ys) us) (map (point_of made ys) vs) (faults_by-Perm (point_fault made ys) q) (Perm-map (point_of made ys) q)
 
 module _ (a : Structure) (us vs : List Row) (q : Perm us vs) where
   abbrev first : DataSet
@@ -37,13 +32,13 @@ module _ (a : Structure) (us vs : List Row) (q : Perm us vs) where
   second = record { structure = a; points = vs }
 
   pub shift_respects : (n : ℤ) → Same (timeshift_of n first) (timeshift_of n second)
-  shift_respects n = made_respects (shifted_value n (columns_of a)) (columns_of a) us vs q
+  shift_respects n = points_respect (shifted_value n (columns_of a)) (columns_of a) us vs q
 
   -- a value for each measure that is the same among the points in another order
   measures_respect : (value other : Component → Row → Outcome Cell) (s : Structure) → ((y : Component) (r : Row) → value y r ≡ other y r) → Same (each_made (by_measure value a) (columns_of s) us) (each_made (by_measure other a) (columns_of s) vs)
   measures_respect value other s e =
       let same : by_measure value a ≡ by_measure other a = λ i y r. if is_measure y then e y r i else Ok (value_named (columns_of a) r y.name) in
-      subst (λ made. Same (each_made (by_measure value a) (columns_of s) us) (each_made made (columns_of s) vs)) same (made_respects (by_measure value a) (columns_of s) us vs q)
+      subst (λ made. Same (each_made (by_measure value a) (columns_of s) us) (each_made made (columns_of s) vs)) same (points_respect (by_measure value a) (columns_of s) us vs q)
 
   up_to_same : (r : Row) → Perm (up_to first r) (up_to second r)
   up_to_same r = Perm-filter (λ z. is_le (cell_cmp (time_of a z) (time_of a r))) (Perm-filter (in_one_series a r) q)

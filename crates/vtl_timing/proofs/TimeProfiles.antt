@@ -1,15 +1,14 @@
 -- What a shift, totals and differences give is of the profile where their operand is.
-use Rattle.std.proofs.Common.{◌≡◌, ◌-◌, ◌^◌, ◌≤◌, ℕ, ℤ, pos, Bool, true, false, List, [], ◌∷◌, map, Ok, Err, Option, Some, None, nat_lt, refl, arith}
-use Rattle.std.specs.Prelude.{IfOk, IfSome, find, if◌then◌else◌}
+use Rattle.std.proofs.Common.{◌-◌, ℕ, ℤ, pos, Bool, true, false, List, [], ◌∷◌, map, Ok, Option, Some, None, refl}
+use Rattle.std.specs.Prelude.{IfOk, IfSome, if◌then◌else◌}
 use Rattle.std.specs.List.{AllByRecursion}
 use Rattle.std.specs.Option.{option_map_or}
 use Rattle.vtl_lists.proofs.Sorts.{AllByRecursion-filter}
+use Rattle.vtl_lists.proofs.Filters.{found_has}
 use Rattle.vtl_decimal.specs.Settings.{Settings}
-use Rattle.vtl_decimal.specs.declared.number.Fault.{Fault}
-use Rattle.vtl_decimal.proofs.PowerLemmas.{power_of_ten_fits}
 use Rattle.vtl_cell.specs.Groups.{group_value}
 use Rattle.vtl_cell.specs.Kinds.{is_null}
-use Rattle.vtl_cell.specs.Outcome.{Outcome, faults_by, unless}
+use Rattle.vtl_cell.specs.Outcome.{Outcome, faults_by}
 use Rattle.vtl_cell.specs.Profile.{IsOfProfile}
 use Rattle.vtl_cell.specs.Row.{Row, column_of}
 use Rattle.vtl_cell.specs.ScalarPeriods.{period, shifted_of}
@@ -30,26 +29,19 @@ use Rattle.vtl_tree.specs.declared.structure.Structure.{Structure}
 use Rattle.vtl_meaning.specs.Aggregates.{Made, group_fault as point_fault}
 use Rattle.vtl_meaning.specs.Analytics.{each_point as each_made, point_of}
 use Rattle.vtl_meaning.specs.LookUps.{value_named}
-use Rattle.vtl_meaning.specs.Points.{cell_or_null}
-use Rattle.vtl_meaning.proofs.CallProfiles.{column_gives, stays_proper}
-use Rattle.vtl_meaning.proofs.GroupKinds.{GivesOfProfile, group_gives}
+use Rattle.vtl_meaning.proofs.CallProfiles.{stays_proper}
+use Rattle.vtl_meaning.proofs.GroupKinds.{GivesOfProfile, group_gives, zero_gives}
+use Rattle.vtl_meaning.proofs.GroupPoints.{column_gives, value_gives}
+use Rattle.vtl_meaning.proofs.AnalyticPoints.{unless_has}
 use Rattle.vtl_timing.specs.Times.{before, by_measure, flow_of, flow_value, in_one_series, is_time, previous, series_of, shifted_value, stock_of, stock_value, timeshift_of, up_to}
 
 abbrev IsProper : Settings → Row → Type 0
 IsProper p r = AllByRecursion (IsOfProfile p) r
 
 -- ---- a value for each column of each point
-unless_has : {X : Type 0} (P : X → Type 0) (f : Option Fault) (x : X) → P x → IfOk (unless f x) P
-unless_has P None x h = h
-unless_has P (Some f) x h = tt
-
-cell_given : (p : Settings) (m : Outcome Cell) → GivesOfProfile p m → IsOfProfile p (cell_or_null m)
-cell_given p (Ok v) g = g
-cell_given p (Err f) g = tt
-
 point_proper : (p : Settings) (made : Made) (ys : List Component) (r : Row) → ((y : Component) → GivesOfProfile p (made y r)) → IsProper p (point_of made ys r)
 point_proper p made [] r g = tt
-point_proper p made (y ∷ ys) r g = (cell_given p (made y r) (g y), point_proper p made ys r g)
+point_proper p made (y ∷ ys) r g = (value_gives p (made y r) (g y), point_proper p made ys r g)
 
 points_proper : (p : Settings) (made : Made) (ys : List Component) (points : List Row) → ((y : Component) (r : Row) → IsProper p r → GivesOfProfile p (made y r)) → AreOfProfile p points → AreOfProfile p (map (point_of made ys) points)
 points_proper p made ys [] g h = tt
@@ -97,24 +89,6 @@ stock_gives p d y r h = go (is_null (at r))
     go : (b : Bool) → GivesOfProfile p (if b then Ok c.Null else group_value p agg.Sum (map at (up_to d r)))
     go true = tt
     go false = group_gives p agg.Sum (map at (up_to d r)) (values_proper p (place_of y.name (columns_of d.structure)) (up_to d r) (AllByRecursion-filter (IsProper p) _ (series_of d r) (series_proper p d r h)))
-
-zero_gives : (p : Settings) → IsOfProfile p (c.Int (pos 0))
-zero_gives p = go (nat_lt 0 (10 ^ (18 - p.scale))) refl
-  where
-    go : (b : Bool) → nat_lt 0 (10 ^ (18 - p.scale)) ≡ b → IsOfProfile p (c.Int (pos 0))
-    go true e = rw e refl
-    go false e =
-        let most : 18 - p.scale ≤ 18 = omega arith in
-        let some = (power_of_ten_fits (18 - p.scale) most).0 in
-        absurd (grind (arith, e, some))
-
-found_has : {X : Type 0} (P : X → Type 0) (test : X → Bool) (xs : List X) → AllByRecursion P xs → IfSome (find test xs) P
-found_has P test [] h = tt
-found_has P test (x ∷ xs) h = go (test x) (found_has P test xs h.1)
-  where
-    go : (b : Bool) → IfSome (find test xs) P → IfSome (if b then Some x else find test xs) P
-    go true ih = h.0
-    go false ih = ih
 
 flow_gives : (p : Settings) (d : DataSet) (y : Component) (r : Row) → AreOfProfile p d.points → IsProper p r → GivesOfProfile p (flow_value p d y r)
 flow_gives p d y r h t =

@@ -21,21 +21,15 @@ use Rattle.sql_lexer.specs.Spelling.{has_no_control, size, is_name as is_sql_nam
 use Rattle.sql_lexer.proofs.NameParts.{size-append}
 use Rattle.sql_tree.specs.Formed.{IsName}
 use Rattle.selects_to_sql.specs.Writable.{HaveNames}
-use Rattle.selects_to_sql.proofs.Names.{all_pass, component_is_name}
+use Rattle.selects_to_sql.proofs.Names.{all_pass, component_is_name, component_is_no_control, fits}
 
 -- ---- names behind aliases
-no_control : (c : ℕ) → is_component_character c ≡ true → not (is_control c) ≡ true
-no_control c h = (and_parts (not (c == 39)) (not (is_control c)) h).1
-
 column_parts : (x : List ℕ) → IsColumnName x → (size x ≤ 64) × (has_no_control x ≡ true)
 unfolding is_component_name
 column_parts x h =
     let one = and_parts (fits_name x) (not (length x == 0) && list_all is_component_character x) h in
     let two = and_parts (not (length x == 0)) (list_all is_component_character x) one.1 in
-    (let fit = one.0 in grind (arith, nat_tests, fit), all_pass is_component_character (λ c. not (is_control c)) no_control x two.1)
-
-fits : (n : ℕ) → 1 ≤ n → n ≤ 256 → sql.fits_name n ≡ true
-fits n h i = grind (arith, nat_tests)
+    (let fit = one.0 in grind (arith, nat_tests, fit), all_pass is_component_character (λ c. not (is_control c)) component_is_no_control x two.1)
 
 mark_size : size (39 ∷ []) ≡ 1
 unfolding encode

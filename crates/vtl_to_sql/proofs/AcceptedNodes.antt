@@ -21,7 +21,7 @@ use Rattle.vtl_tree.specs.Structures.{Named}
 use Rattle.vtl_tree.specs.declared.structure.Component.{Component}
 use Rattle.vtl_tree.specs.declared.structure.Role.TheVariants as role
 use Rattle.vtl_tree.specs.declared.structure.Structure.{Structure}
-use Rattle.vtl_meaning.proofs.Places.{same_name-is, same_name-refl}
+use Rattle.vtl_meaning.proofs.Places.{same_name-is}
 use Rattle.vtl_tree.specs.Columns.{identifiers_of, kind_named, place_of}
 use Rattle.vtl_meaning.specs.Made.{IsColumnAt, IsSub}
 use Rattle.vtl_scripts.specs.Made.{AreMade, AreMadeOperands, IsMade, IsMadeForm, IsMadeMaybe}
@@ -31,6 +31,7 @@ use Rattle.vtl_meaning.specs.Shapes.{IsShaped}
 use Rattle.vtl_tree.specs.Trees as nodes
 use Rattle.vtl_tree.specs.Trees.{AnalyticTree, FormTree, ItemTree, MaybeNode, NodeTree, NodeTrees, OperandTrees, PointRuleTree, ValueTree, structure_of}
 use Rattle.vtl_tree.specs.declared.clauses.SubItem.{SubItem}
+use Rattle.vtl_tree.proofs.NotNullLemmas.{same_itself}
 use Rattle.check_laws.specs.Depths.{analytic_exps, exps_in, held_exps, item_exps, made_exps, rule_exps, value_exps}
 use Rattle.check_laws.proofs.DepthBounds.{AreNodesUpTo, AreUpTo, IsUpTo}
 use Rattle.check_laws.proofs.Inner.{made-shaped}
@@ -142,7 +143,7 @@ no_more (x ∷ xs) ys apart all =
 column_among : (place : ℕ) (name : List ℕ) (kind : Kind) (xs : List Component) → IsColumnAt place name kind xs → IsAmong (names_of xs) name
 unfolding IsAmong
 column_among place name kind [] h = absurd h
-column_among zero name kind (x ∷ xs) h = ap (λ b. b || list_any (same_name name) (names_of xs)) (ap (same_name name) h.0 ∙ same_name-refl name)
+column_among zero name kind (x ∷ xs) h = ap (λ b. b || list_any (same_name name) (names_of xs)) (ap (same_name name) h.0 ∙ same_itself name)
 column_among (suc place) name kind (x ∷ xs) h = ap (λ b. same_name name x.name || b) (column_among place name kind xs h) ∙ or_true (same_name name x.name)
   where
     or_true : (b : Bool) → (b || true) ≡ true

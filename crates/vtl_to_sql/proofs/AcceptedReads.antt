@@ -11,8 +11,9 @@ use Rattle.vtl_text.proofs.Apart.{apart_push}
 use Rattle.vtl_tree.specs.Structure.{same_name}
 use Rattle.vtl_tree.specs.Structures.{AreStructures, Named, has_name, is_declarable, is_declarable_entry}
 use Rattle.vtl_tree.specs.declared.structure.Structure.{Structure}
-use Rattle.vtl_meaning.proofs.Places.{same_name-is, same_name-refl}
+use Rattle.vtl_meaning.proofs.Places.{same_name-is}
 use Rattle.vtl_tree.specs.Trees.{NodeTree}
+use Rattle.vtl_tree.proofs.NotNullLemmas.{same_itself}
 use Rattle.vtl_check.specs.Names.{names_of}
 use Rattle.vtl_check.specs.Uses.{read_behind, reads, with_declared, with_new}
 use Rattle.vtl_check.proofs.KnownLemmas.{has_name-lookup}
@@ -102,7 +103,7 @@ module _ (declared : Named) where
           new false e =
               ap (list_any (same_name name)) (map-append (λ (x : List ℕ × Structure). x.0) known ((name, s) ∷ []))
               ∙ list_any-append (same_name name) (keys_of known) (name ∷ [])
-              ∙ ap (λ b. list_any (same_name name) (keys_of known) || (b || false)) (same_name-refl name)
+              ∙ ap (λ b. list_any (same_name name) (keys_of known) || (b || false)) (same_itself name)
               ∙ or_true (list_any (same_name name) (keys_of known))
 
   there_behind : (known : Named) (names : List (List ℕ)) (name : List ℕ) → IsThere known name → IsThere (read_behind declared known names) name

@@ -1,7 +1,6 @@
 -- `exists_in` is a select with EXISTS as an item, or with the one answer that is retained.
-use Rattle.std.proofs.Common.{◌≡◌, Bool, true, false, ◌||◌, cond, List, [], ◌∷◌, ◌++◌, map, Some, None, Ok, refl, ap, sym, ◌∙◌, subst, arith}
-use Rattle.std.specs.Prelude.{is_some}
-use Rattle.std.specs.List.{AllByRecursion, filter, find, list_any}
+use Rattle.std.proofs.Common.{◌≡◌, Bool, true, false, ◌||◌, List, [], ◌∷◌, ◌++◌, map, Some, None, Ok, refl, ap, sym, ◌∙◌, subst, arith}
+use Rattle.std.specs.List.{AllByRecursion, filter, list_any}
 use Rattle.std.proofs.lemmas.Bool.{not-true}
 use Rattle.vtl_cell.specs.Kinds.{is_of}
 use Rattle.vtl_cell.specs.Outcome.{faults_by, join, unless}
@@ -10,6 +9,8 @@ use Rattle.vtl_decimal.specs.Settings.{Settings}
 use Rattle.vtl_cell.specs.declared.cell.Cell.TheVariants as c
 use Rattle.vtl_cell.specs.declared.kind.Kind.TheVariants as k
 use Rattle.vtl_lists.proofs.Sorts.{AllByRecursion-filter}
+use Rattle.vtl_lists.proofs.Alls.{all_front, all_kept}
+use Rattle.vtl_lists.proofs.Filters.{filter_true, find_any}
 use Rattle.vtl_rows.specs.Tables.{cells_at}
 use Rattle.vtl_syntax.specs.declared.word_groups.Retain.{Retain}
 use Rattle.vtl_syntax.specs.declared.word_groups.Retain.TheVariants as retain
@@ -26,8 +27,7 @@ use Rattle.vtl_meaning.specs.Sets.{existence_of, is_retained, with_answer}
 use Rattle.vtl_meaning.proofs.LookUps.{named_cells}
 use Rattle.vtl_meaning.proofs.OwnColumns.{columns_apart}
 use Rattle.vtl_tuples.proofs.Lists.{filter_each}
-use Rattle.vtl_meaning.proofs.SetsKept.{filter_true}
-use Rattle.vtl_meaning.proofs.Places.{all_front, columns_split, key_cells, key_within}
+use Rattle.vtl_meaning.proofs.Places.{columns_split, key_cells, key_within}
 use Rattle.sql_tree.specs.Formed.{IsExp, IsMaybeExp, IsName}
 use Rattle.sql_tree.specs.Trees.{Exp, Text}
 use Rattle.sql_check_laws.specs.Fits.{Fits, IsMaybeCondition}
@@ -71,22 +71,6 @@ all_columns xs [] i = tt
 all_columns xs (z ∷ zs) i = (i.0.column, all_columns xs zs i.1)
 
 -- ---- rows that pass a test
-
-pub all_passing : {X : Type 0} (P : X → Type 0) (t : X → Bool) (xs : List X) → AllByRecursion P xs → AllByRecursion (λ x. P x × (t x ≡ true)) (filter t xs)
-all_passing P t [] h = tt
-all_passing P t (x ∷ xs) h = go (t x) refl (all_passing P t xs h.1)
-  where
-    go : (b : Bool) → t x ≡ b → AllByRecursion (λ y. P y × (t y ≡ true)) (filter t xs) → AllByRecursion (λ y. P y × (t y ≡ true)) (cond b (x ∷ filter t xs) (filter t xs))
-    go true e ih = ((h.0, e), ih)
-    go false e ih = ih
-
-find_any : {X : Type 0} (p : X → Bool) (xs : List X) → is_some (find p xs) ≡ list_any p xs
-find_any p [] = refl
-find_any p (x ∷ xs) = go (p x) (find_any p xs)
-  where
-    go : (b : Bool) → is_some (find p xs) ≡ list_any p xs → is_some (cond b (Some x) (find p xs)) ≡ (b || list_any p xs)
-    go true ih = refl
-    go false ih = ih
 
 any_each : {X : Type 0} (p q : X → Bool) → ((x : X) → p x ≡ q x) → (xs : List X) → list_any p xs ≡ list_any q xs
 any_each p q h [] = refl
@@ -257,4 +241,4 @@ module _ (p : Settings) (law : Translates p) (before : Data) (x y : Text) (a b s
       exactly_same p before (q ∷ []) s (each_by values rows) (Ok (existence_of (with_points a d) (with_points b e) kept)) (each_value rows points ∙ ap (λ l. Ok (map (with_answer a (with_points b e)) l)) same)
       (one_exactly p before s given q (each_by values rows)
       (select_gives p before (one_scope xs) (IsKeptPoint kept) values (items kept) s (all_items kept) given (source_as first_alias x) [] (retained kept answer)
-      (one_from p law before x a d tx nx sa.well_formed na (items_as (items kept) (columns_of s)) (retained kept answer) (fits kept) (printed kept)) (Ok rows) (rows_are kept) (all_passing (IsPointOf xs) (is_kept kept) d sa.typed)))
+      (one_from p law before x a d tx nx sa.well_formed na (items_as (items kept) (columns_of s)) (retained kept answer) (fits kept) (printed kept)) (Ok rows) (rows_are kept) (all_kept (IsPointOf xs) (is_kept kept) d sa.typed)))

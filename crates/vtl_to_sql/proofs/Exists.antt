@@ -2,7 +2,7 @@
 use Rattle.std.proofs.Common.{◌≡◌, Bool, true, false, not, ◌&&◌, ◌||◌, cond, List, [], ◌∷◌, map, Some, None, Ok, refl, ap, sym, ◌∙◌, subst, arith}
 use Rattle.std.specs.List.{AllByRecursion, filter, list_all, list_any}
 use Rattle.grammar_forms.specs.Written.{Each}
-use Rattle.vtl_cell.specs.Kinds.{is_null, kind_of, same_kind}
+use Rattle.vtl_cell.specs.Kinds.{is_null, kind_of}
 use Rattle.vtl_cell.specs.Literals.{is_null_kind}
 use Rattle.vtl_cell.specs.Order.{same_cell}
 use Rattle.vtl_cell.specs.Outcome.{fault_in, faults_by, join, unless}
@@ -12,7 +12,6 @@ use Rattle.vtl_cell.specs.Scalars.{scalar_of}
 use Rattle.vtl_decimal.specs.Settings.{Settings}
 use Rattle.vtl_cell.specs.declared.cell.Cell.{Cell}
 use Rattle.vtl_cell.specs.declared.cell.Cell.TheVariants as c
-use Rattle.vtl_cell.specs.declared.kind.Kind.{Kind}
 use Rattle.vtl_cell.specs.declared.kind.Kind.TheVariants as k
 use Rattle.vtl_cell.specs.declared.operator.ScalarOp.TheVariants as op
 use Rattle.vtl_rows.specs.Tables.{cells_at}
@@ -37,6 +36,7 @@ use Rattle.vtl_to_sql.specs.Sets.{is_matched, tied}
 use Rattle.selects_to_sql.specs.Runs.{entries, printable_depth}
 use Rattle.selects_to_sql.proofs.Identifiers.{AreIdentifiersAt, IsIdentifierAt, kind_is}
 use Rattle.selects_to_sql.proofs.Sources.{AreApart, first_is_name, kind_found, one_names, one_scope, place_found, second_is_name}
+use Rattle.times_to_sql.proofs.FlowWindows.{kind_self}
 
 -- ---- equality of values that are there
 
@@ -48,15 +48,6 @@ equal_scalars p (c.Text x) (c.Text y) e n = refl
 equal_scalars p (c.Day x) (c.Day y) e n = refl
 equal_scalars p (c.Period x) (c.Period y) e n = refl
 equal_scalars p u v e n = cc
-
-kinds_equal : (kind : Kind) → same_kind kind kind ≡ true
-kinds_equal k.Null = refl
-kinds_equal k.Bool = refl
-kinds_equal k.Int = refl
-kinds_equal k.Num = refl
-kinds_equal k.Text = refl
-kinds_equal k.Day = refl
-kinds_equal k.Period = refl
 
 denied : (p : Settings) (t : Bool) → operated p k.Bool (Ok (c.Bool t) ∷ []) op.Not ≡ Ok (c.Bool (not t))
 denied p true = refl
@@ -139,7 +130,7 @@ module _ (b : Base) (xs ys : List Component) (ax : AreApart xs) (ay : AreApart y
     one_tie z i j =
         let left = kind_found (place_of z.name ys) z.name z.kind ys j.column ay in
         let right = kind_found (place_of z.name xs) z.name z.kind xs i.column ax in
-        ((rw left refl, refl), (rw right refl, refl), rw left (rw right (ap (λ b. b || (is_null_kind z.kind || is_null_kind z.kind)) (kinds_equal z.kind))))
+        ((rw left refl, refl), (rw right refl, refl), rw left (rw right (ap (λ b. b || (is_null_kind z.kind || is_null_kind z.kind)) (kind_self z.kind))))
 
     all_ties : (us : List Component) → AreIdentifiersAt xs us → AreIdentifiersAt ys us → AllByRecursion (Ties (one_scope xs) None inner_entries) (map tied us)
     all_ties [] i j = tt

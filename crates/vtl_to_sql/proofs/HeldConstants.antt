@@ -5,6 +5,7 @@ use Rattle.std.specs.Prelude.{Box, Vec}
 use Rattle.std.specs.declared.alloc.Global.{Global}
 use Rattle.std.specs.Option.{IfSome, option_map_or}
 use Rattle.std.proofs.lemmas.List.{length-map}
+use Rattle.vtl_lists.proofs.Alls.{all_append}
 use Rattle.vtl_cell.specs.declared.kind.Kind.{Kind}
 use Rattle.vtl_cell.specs.declared.operator.ScalarOp.{ScalarOp}
 use Rattle.vtl_cell.specs.Held.{IsHeld}
@@ -30,10 +31,8 @@ use Rattle.vtl_tree.specs.declared.rules.DatapointRules.{DatapointRules}
 use Rattle.vtl_tree.specs.declared.rules.HierRules.{HierRules}
 use Rattle.vtl_tree.specs.declared.specifications.CheckSpec.{CheckSpec}
 use Rattle.vtl_tree.specs.declared.specifications.JoinSpec.{JoinSpec}
-use Rattle.vtl_tree.specs.declared.nodes.JoinOperand as operand
 use Rattle.vtl_tree.specs.declared.nodes.JoinOperand.{JoinOperand}
 use Rattle.vtl_tree.specs.declared.nodes.MeasureOp.{MeasureOp}
-use Rattle.vtl_tree.specs.declared.nodes.Node as node
 use Rattle.vtl_tree.specs.declared.nodes.Node.{Node}
 use Rattle.vtl_tree.specs.declared.nodes.NodeForm as forms
 use Rattle.vtl_tree.specs.declared.nodes.NodeForm.{NodeForm}
@@ -43,20 +42,18 @@ use Rattle.vtl_tree.specs.declared.structure.Structure.{Structure}
 use Rattle.vtl_tree.specs.Pairs.{contains}
 use Rattle.vtl_tree.specs.Columns.{column_behind, column_named, columns_named, identifiers_of, measures_of}
 use Rattle.vtl_meaning.specs.Operators.{calculated_exp, calculated_exps, for_measures, measured_exps, pair_exps, value_exp, with_measure, with_namesake}
-use Rattle.vtl_tree.specs.Trees.{FormTree, ItemTree, MeasureTree, NodeTree, OperandTree, nodes_of, operands_of, structure_of}
+use Rattle.vtl_tree.specs.Trees.{FormTree, ItemTree, MeasureTree, NodeTree, nodes_of, operands_of, structure_of}
+use Rattle.vtl_walks.proofs.Laws.{operand_node}
 use Rattle.expressions_to_sql.specs.Held.{AllHold, HoldsValues, IsMemberHeld, OperandsHold, asks_a_set}
 use Rattle.rules_to_sql.specs.Writable.{AreErrorsHeld}
 use Rattle.vtl_to_sql.specs.Accepted.{AllHoldValues, FormHoldsParts, HoldsParts, NodesHoldParts, OperandsHoldParts, RuleHoldsValues, RulesHoldTexts}
+use Rattle.vtl_to_sql.proofs.Walked.{node_is}
 
 -- ---- lists
 
 pub of_mapped : {X Y : Type 0} (P : Y → Type 0) (f : X → Y) (xs : List X) → AllByRecursion (λ x. P (f x)) xs → AllByRecursion P (map f xs)
 of_mapped P f [] h = h
 of_mapped P f (x ∷ xs) h = (h.0, of_mapped P f xs h.1)
-
-both_hold : {X : Type 0} (P : X → Type 0) (xs ys : List X) → AllByRecursion P xs → AllByRecursion P ys → AllByRecursion P (xs ++ ys)
-both_hold P [] ys h k = k
-both_hold P (x ∷ xs) ys h k = (h.0, both_hold P xs ys h.1 k)
 
 pub nodes_hold : (ns : List NodeTree) → AllByRecursion HoldsParts ns → NodesHoldParts (nodes_of ns)
 nodes_hold [] h = h
@@ -95,8 +92,8 @@ measures_hold f h (x ∷ xs) (y ∷ ys) = (h x y, measures_hold f h xs ys)
 
 pub measured_held : (m : MeasureTree) (a s : Structure) → AllHoldValues m.before → AllHoldValues m.after → AllHoldValues (measured_exps m a s)
 measured_held m a s before after =
-    both_hold HoldsValues (columns_named (columns_of a) (identifiers_of s)) (for_measures (with_measure m (columns_of a)) (measures_of a) (measures_of s)) (columns_hold (columns_of a) (identifiers_of s))
-    (measures_hold (with_measure m (columns_of a)) (λ x y. call_held m.op y.kind (m.before ++ column_named (columns_of a) x.name ∷ m.after) (both_hold HoldsValues m.before (column_named (columns_of a) x.name ∷ m.after) before (tt, after))) (measures_of a) (measures_of s))
+    all_append HoldsValues (columns_named (columns_of a) (identifiers_of s)) (for_measures (with_measure m (columns_of a)) (measures_of a) (measures_of s)) (columns_hold (columns_of a) (identifiers_of s))
+    (measures_hold (with_measure m (columns_of a)) (λ x y. call_held m.op y.kind (m.before ++ column_named (columns_of a) x.name ∷ m.after) (all_append HoldsValues m.before (column_named (columns_of a) x.name ∷ m.after) before (tt, after))) (measures_of a) (measures_of s))
 
 pub pair_held : (o : ScalarOp) (a b s : Structure) → AllHoldValues (pair_exps o a b s)
 pair_held o a b s = go (contains a b)
@@ -110,8 +107,8 @@ pair_held o a b s = go (contains a b)
     go : (leads : Bool) → AllHoldValues (cond leads
         (columns_named (columns_of a) (identifiers_of s) ++ for_measures (with_namesake o (column_named (columns_of a)) (column_behind (length (columns_of a)) (columns_of b))) (measures_of a) (measures_of s))
         (columns_named (columns_of b) (identifiers_of s) ++ for_measures (with_namesake o (column_behind (length (columns_of b)) (columns_of a)) (column_named (columns_of b))) (measures_of a) (measures_of s)))
-    go true = both_hold HoldsValues (columns_named (columns_of a) (identifiers_of s)) _ (columns_hold (columns_of a) (identifiers_of s)) (namesakes (length (columns_of a)) (columns_of a) (columns_of b) (measures_of a) (measures_of s))
-    go false = both_hold HoldsValues (columns_named (columns_of b) (identifiers_of s)) _ (columns_hold (columns_of b) (identifiers_of s)) (turned (length (columns_of b)) (columns_of b) (columns_of a) (measures_of a) (measures_of s))
+    go true = all_append HoldsValues (columns_named (columns_of a) (identifiers_of s)) _ (columns_hold (columns_of a) (identifiers_of s)) (namesakes (length (columns_of a)) (columns_of a) (columns_of b) (measures_of a) (measures_of s))
+    go false = all_append HoldsValues (columns_named (columns_of b) (identifiers_of s)) _ (columns_hold (columns_of b) (identifiers_of s)) (turned (length (columns_of b)) (columns_of b) (columns_of a) (measures_of a) (measures_of s))
 
 -- the value of the first target for which a test holds, or a column
 target_held : (test : ItemTree → Bool) (items : List ItemTree) (e : CompExp) → AllByRecursion (λ i. HoldsValues (value_exp i.value)) items → HoldsValues e → HoldsValues (option_map_or (λ i. value_exp i.value) (find test items) e)
@@ -135,9 +132,6 @@ pub apply_held : (e : CompExpr) (o : ScalarOp) (kind : Kind) (args : Vec CompExp
 apply_held e o kind args is h =
     let tree : comp_exp_of (expr.Apply o kind args) ≡ call o kind (comp_exps_of (map comp_exp_of args.items)) = search (rules, exprs.the_lemmas) in
     subst HoldsValues (sym (ap comp_exp_of is ∙ tree)) (call_held o kind (map comp_exp_of args.items) (of_mapped HoldsValues comp_exp_of args.items h))
-
-node_is : (n : Node) → node_tree n ≡ nodes.node n.structure (form_tree n.form)
-node_is n = search (rules, node.the_lemmas)
 
 form_held : (n : Node) (f : NodeForm) (t : FormTree) → n.form ≡ f → form_tree f ≡ t → FormHoldsParts n.structure t → HoldsParts (node_tree n)
 form_held n f t e d h = subst HoldsParts (sym (node_is n ∙ ap (λ (g : NodeForm). nodes.node n.structure (form_tree g)) e ∙ ap (nodes.node n.structure) d)) h
@@ -168,9 +162,6 @@ pub intersect_node_held : (n : Node) (ns : Vec Node Global) → n.form ≡ form.
 intersect_node_held n ns e h =
     let tree : form_tree (form.Intersect ns) ≡ nodes.intersect (nodes_of (map node_tree ns.items)) = search (rules, forms.the_lemmas) in
     form_held n (form.Intersect ns) (nodes.intersect (nodes_of (map node_tree ns.items))) e tree (nodes_hold (map node_tree ns.items) (of_mapped HoldsParts node_tree ns.items h))
-
-operand_node : (o : JoinOperand) → (operand_tree o).node ≡ node_tree o.node
-operand_node o = let e : operand_tree o ≡ record { node = node_tree o.node; alias = o.alias } = search (rules, operand.the_lemmas) in ap (λ (t : OperandTree). t.node) e
 
 operands_hold_parts : (os : List JoinOperand) → AllByRecursion (λ o. HoldsParts (node_tree o.node)) os → OperandsHoldParts (operands_of (map operand_tree os))
 operands_hold_parts [] h = tt

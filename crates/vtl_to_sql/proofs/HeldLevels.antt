@@ -9,8 +9,8 @@ use Rattle.vtl_cell.specs.Held.{IsHeld}
 use Rattle.vtl_cell.specs.Literals.{integer_written}
 use Rattle.vtl_cell.specs.Profile.{IsOfProfile}
 use Rattle.vtl_cell.specs.declared.cell.Cell.TheVariants as c
+use Rattle.vtl_rulings.proofs.HierarchyProfiles.{level_fits}
 use Rattle.expressions_to_sql.proofs.WrittenConstants.{small_of}
-use Rattle.hierarchies_to_sql.proofs.Levels.{level_fits}
 
 number_fits : (n : ℤ) → unsigned_abs n < 10 ^ 18 → FitsSigned w64 n
 number_fits (pos n) h = omega arith

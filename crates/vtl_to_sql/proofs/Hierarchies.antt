@@ -39,6 +39,7 @@ use Rattle.selects_to_sql.proofs.Expressions.{Translates}
 use Rattle.selects_to_sql.proofs.Givens.{AreGiven}
 use Rattle.selects_to_sql.proofs.Running.{run_stops}
 use Rattle.joins_to_sql.proofs.FullMeans.{beside_there}
+use Rattle.joins_to_sql.proofs.KeyColumns.{identifiers_named}
 use Rattle.hierarchies_to_sql.specs.CheckTables.{check_hierarchy_made, checked_items, sided}
 use Rattle.hierarchies_to_sql.specs.ComputedTables.{computed_by, computed_made, given_items, ordered_tables}
 use Rattle.hierarchies_to_sql.specs.Writable.{CanBeSided}
@@ -46,7 +47,7 @@ use Rattle.hierarchies_to_sql.proofs.ComputedTables.{computed_gives}
 use Rattle.vtl_to_sql.specs.Hierarchies.{computed_table, hierarchy_made}
 use Rattle.vtl_to_sql.specs.Sets.{union_query}
 use Rattle.vtl_to_sql.proofs.SetQueries.{IsShown}
-use Rattle.vtl_to_sql.proofs.SetSteps.{identifiers_named, shown_own, shown_self, shown_set_of, union_step}
+use Rattle.vtl_to_sql.proofs.SetSteps.{shown_own, shown_self, shown_set_of, union_step}
 
 -- ---- the tables of an operand stand before those that are made of it
 

@@ -8,6 +8,7 @@ use Rattle.std.specs.List.{AllByRecursion, list_any}
 use Rattle.std.proofs.lemmas.Bool.{and_from, and_parts}
 use Rattle.std.proofs.lemmas.List.{length-map}
 use Rattle.vtl_lists.specs.Apart.{all_apart}
+use Rattle.vtl_lists.proofs.Alls.{all_more}
 use Rattle.vtl_cell.specs.Kinds.{is_null, is_of}
 use Rattle.vtl_cell.specs.Row.{Row, same_key}
 use Rattle.vtl_cell.specs.declared.cell.Cell.{Cell}
@@ -24,7 +25,7 @@ use Rattle.vtl_tree.specs.declared.structure.Component.{Component}
 use Rattle.vtl_tree.specs.declared.structure.Role.TheVariants as role
 use Rattle.vtl_tree.specs.declared.structure.Structure.{Structure}
 use Rattle.vtl_tree.specs.Columns.{identifiers_of, others_of}
-use Rattle.vtl_meaning.proofs.Places.{IsIdentifier, IsOther, all_more, are_identifiers, are_others, columns_split}
+use Rattle.vtl_meaning.proofs.Places.{IsIdentifier, IsOther, are_identifiers, are_others, columns_split}
 use Rattle.sql_meaning.specs.Inputs as asked
 use Rattle.sql_meaning.specs.Inputs.{IsInputData, has_whole_key}
 use Rattle.sql_meaning.specs.Tables.{RowsFit, kinds_of}
@@ -43,7 +44,7 @@ neither : (a b : Bool) → not a ≡ true → not b ≡ true → not (a || b) �
 neither true b h i = cc
 neither false b h i = i
 
-no_codes : (x : Component) → x.codes ≡ Some [] → codes_fit x ≡ true → ⊥
+pub no_codes : (x : Component) → x.codes ≡ Some [] → codes_fit x ≡ true → ⊥
 no_codes x e f =
     let fit : (is_string_identifier x.role x.kind && are_codes []) ≡ true = cc in
     absurd (true≢false (sym (and_parts (is_string_identifier x.role x.kind) (are_codes []) fit).1))

@@ -15,6 +15,7 @@ use Rattle.vtl_text.specs.Words.{is_word}
 use Rattle.vtl_cell.specs.declared.kind.Kind.{Kind}
 use Rattle.vtl_cell.specs.declared.kind.Kind.TheVariants as k
 use Rattle.vtl_lists.proofs.Aparts.{apart_more}
+use Rattle.vtl_lists.proofs.Alls.{all_each, all_front, all_more}
 use Rattle.vtl_cell.specs.Literals.{lies_between}
 use Rattle.vtl_tree.specs.Structure.{IsStructure, columns_of, names_of, same_name}
 use Rattle.vtl_tree.specs.Structures as structures
@@ -23,12 +24,11 @@ use Rattle.vtl_tree.specs.Structures.{Named}
 use Rattle.vtl_tree.specs.declared.structure.Component.{Component}
 use Rattle.vtl_tree.specs.declared.structure.Structure.{Structure}
 use Rattle.vtl_tree.specs.Columns.{identifiers_of, others_of}
-use Rattle.vtl_scripts.specs.Made.{IsMade}
 use Rattle.vtl_scripts.specs.Meaning.{Outputs, Statement, meaning}
-use Rattle.vtl_meaning.specs.Shapes.{IsShaped}
-use Rattle.vtl_tree.specs.Trees as nodes
-use Rattle.vtl_tree.specs.Trees.{NodeTree, structure_of}
-use Rattle.vtl_meaning.proofs.Places.{all_front, each, all_more, columns_split, same_name-sym}
+use Rattle.vtl_tree.specs.Trees.{structure_of}
+use Rattle.vtl_meaning.proofs.Places.{columns_split, same_name-sym}
+use Rattle.vtl_meaning.proofs.FoundColumns.{of-columns}
+use Rattle.check_laws.proofs.Inner.{made-shaped}
 use Rattle.sql_tree.specs.Formed.{IsInputColumn, IsName, IsStatement, PrintableScript, is_column_kind}
 use Rattle.sql_check_laws.specs.Statements.{AreTyped}
 use Rattle.sql_check_laws.proofs.TypedStatements.{script_typed, typed_behind}
@@ -48,7 +48,8 @@ use Rattle.vtl_to_sql.proofs.EmptyData.{empty_are_sets, empty_empty, empty_known
 use Rattle.selects_to_sql.proofs.Names.{word_is_name}
 use Rattle.vtl_to_sql.proofs.Nodes.{names_in}
 use Rattle.selects_to_sql.proofs.Running.{columns_there, given_is}
-use Rattle.selects_to_sql.proofs.Givens.{columns_count, each_column}
+use Rattle.selects_to_sql.proofs.Givens.{columns_count}
+use Rattle.times_to_sql.proofs.FillKeys.{names_each}
 use Rattle.vtl_to_sql.proofs.TranslatedScripts.{all_apart_from, all_translated, tables_give}
 use Rattle.vtl_to_sql.proofs.TypedScripts.{IsReadable, IsWritten, all_readable, creates_fit, creates_give, exports_fit, giving, inputs_fit, inputs_give}
 use Rattle.vtl_to_sql.proofs.WholeScript.{scale_read, set_is, written_are}
@@ -61,15 +62,12 @@ pub record IsResult (e : List ℕ × Structure) : Type 0 where
   pub well_formed : IsStructure e.1
   pub named : HaveNames (columns_of e.1)
 
-shaped_in : (p : Settings) (known : Named) (n : NodeTree) → IsMade p known n → IsShaped (structure_of n)
-shaped_in p known (nodes.node s form) i = i.0
-
 pub all_results : (p : Settings) (known : Named) (ss : List Statement) → AreTranslated p known ss → AllByRecursion IsResult (written_of ss)
 all_results p known [] h = tt
 all_results p known (s ∷ ss) h = go s.persistent (all_results p ((s.result, structure_of s.node) ∷ known) ss h.1)
   where
     go : (b : Bool) → AllByRecursion IsResult (written_of ss) → AllByRecursion IsResult (cond b ((s.result, structure_of s.node) ∷ written_of ss) (written_of ss))
-    go true ih = (record { word = h.0.word; well_formed = (shaped_in p known s.node h.0.made).well_formed; named = names_in p s.node h.0.translated }, ih)
+    go true ih = (record { word = h.0.word; well_formed = (made-shaped p known s.node h.0.made).well_formed; named = names_in p s.node h.0.translated }, ih)
     go false ih = ih
 
 pub results_apart : (p : Settings) (known : Named) (ss : List Statement) → AreTranslated p known ss → all_apart same_name (keys_of (written_of ss)) ≡ true
@@ -107,12 +105,8 @@ columns_printed : (l : List (List ℕ)) (xs : List Component) → HaveNames xs �
 columns_printed l [] n h = tt
 columns_printed l (x ∷ xs) n h = ((n.0, column_kind x.kind h.0), columns_printed l xs n.1 h.1)
 
-names_printed : (xs : List Component) → HaveNames xs → Each IsName (names_of xs)
-names_printed [] n = tt
-names_printed (x ∷ xs) n = (n.0, names_printed xs n.1)
-
 identifiers_printed : (s : Structure) → HaveNames (columns_of s) → Each IsName (names_of (identifiers_of s))
-identifiers_printed s n = names_printed (identifiers_of s) (all_front (λ x. IsName x.name) (identifiers_of s) (others_of s) (subst HaveNames (columns_split s) n))
+identifiers_printed s n = names_each (identifiers_of s) (all_front (λ x. IsName x.name) (identifiers_of s) (others_of s) (subst HaveNames (columns_split s) n))
 
 inputs_printed : (ls : NotNull) (reads : Named) → AllByRecursion IsReadable reads → Each (IsStatement printable_depth) (map (input_for ls) reads)
 inputs_printed ls [] h = tt
@@ -120,7 +114,7 @@ inputs_printed ls (e ∷ es) h =
     let size = columns_count e.1 in
     let many = length-map (columns_of e.1) (input_column (not_null_of e.0 ls)) in
     let some = h.0.shaped.well_formed.some in (
-      (word_is_name e.0 h.0.word, omega (arith, size, many, some), columns_printed (not_null_of e.0 ls) (columns_of e.1) h.0.named (each_column (λ x. structures.is_null_kind x.kind ≡ false) e.1 h.0.shaped.kinds), identifiers_printed e.1 h.0.named),
+      (word_is_name e.0 h.0.word, omega (arith, size, many, some), columns_printed (not_null_of e.0 ls) (columns_of e.1) h.0.named (of-columns (λ x. structures.is_null_kind x.kind ≡ false) e.1 h.0.shaped.kinds), identifiers_printed e.1 h.0.named),
       inputs_printed ls es h.1,
     )
 
@@ -189,12 +183,12 @@ module _ (p : Settings) (ls : NotNull) (reads : Named) (ss : List Statement) (sc
   typed : AreTyped p nothing (statements_for p ls reads ss)
   typed =
       (typed_behind p (giving [] []) (map (input_for ls) reads) (map create_for (script_tables p ss) ++ map export_for (written_of ss))).from (
-        inputs_fit p ls [] reads readable script.readable.structures.distinct (each (λ e. is_taken [] e.0 ≡ false) (λ e. refl) reads),
+        inputs_fit p ls [] reads readable script.readable.structures.distinct (all_each (λ e. is_taken [] e.0 ≡ false) (λ e. refl) reads),
         subst (λ g. AreTyped p g (map create_for (script_tables p ss) ++ map export_for (written_of ss))) (sym (inputs_give [] ls [] reads))
             ((typed_behind p (giving (tables_in before) []) (map create_for (script_tables p ss)) (map export_for (written_of ss))).from (
               creates_fit p (tables_in before) [] (script_tables p ss) stores.lawful,
               subst (λ g. AreTyped p g (map export_for (written_of ss))) (sym (creates_give (tables_in before) [] (script_tables p ss) ∙ ap (λ t. giving t []) given))
-                  (exports_fit p now [] (written_of ss) (written (written_of ss) results all_there) (results_apart p reads ss script.translated) (each (λ w. is_among w.0 [] ≡ false) (λ w. refl) (written_of ss))),
+                  (exports_fit p now [] (written_of ss) (written (written_of ss) results all_there) (results_apart p reads ss script.translated) (all_each (λ w. is_among w.0 [] ≡ false) (λ w. refl) (written_of ss))),
             )),
       )
 

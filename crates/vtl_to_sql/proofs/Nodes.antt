@@ -62,9 +62,10 @@ use Rattle.selects_to_sql.proofs.Exact.{means_by, means_turned, set_turned}
 use Rattle.selects_to_sql.proofs.Expressions.{Translates}
 use Rattle.selects_to_sql.proofs.OneOperand.{calc_means, copy_means, filter_means, left_means, measures_mean, rename_means, same_functions}
 use Rattle.vtl_to_sql.proofs.SetQueries.{IsShown, shown_means}
-use Rattle.vtl_to_sql.proofs.SetSteps.{IsStep, difference_step, identifiers_named, intersection_step, intersections_fold, shown_own, shown_self, shown_set_of, symmetric_difference_step, union_step, unions_fold}
+use Rattle.vtl_to_sql.proofs.SetSteps.{IsStep, difference_step, intersection_step, intersections_fold, shown_own, shown_self, shown_set_of, symmetric_difference_step, union_step, unions_fold}
 use Rattle.selects_to_sql.proofs.Givens.{AreGiven, columns_given}
 use Rattle.joins_to_sql.proofs.Joins.{filtered_gives, join_gives, operands_first}
+use Rattle.joins_to_sql.proofs.KeyColumns.{identifiers_named}
 use Rattle.groups_to_sql.proofs.Pivots.{pivot_means}
 use Rattle.selects_to_sql.proofs.Subs.{sub_means}
 use Rattle.selects_to_sql.proofs.TwoOperands.{pair_means}

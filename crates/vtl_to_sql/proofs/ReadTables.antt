@@ -1,22 +1,24 @@
 -- The tables of the inputs stand for the data sets that are read.
-use Rattle.vtl_meaning.proofs.SetsFolds.{filter_once}
 use Rattle.std.proofs.lemmas.List.Elements.{filter-append}
 use Rattle.std.proofs.lemmas.List.{map-append}
 use Rattle.std.proofs.Common.{◌≡◌, ℕ, Bool, true, false, not, ◌||◌, cond, List, [], ◌∷◌, ◌++◌, map, Some, refl, ap, sym, ◌∙◌, subst, append_assoc, append-nil, true≢false}
 use Rattle.std.specs.List.{AllByRecursion, filter}
 use Rattle.std.specs.Map.{lookup}
 use Rattle.std.specs.Option.{option_map_or}
+use Rattle.std.proofs.lemmas.Bool.{or_right}
 use Rattle.vtl_text.specs.Texts.{same_text}
 use Rattle.vtl_text.specs.Words.{is_word}
 use Rattle.vtl_lists.proofs.Aparts.{apart_parts}
+use Rattle.vtl_lists.proofs.Filters.{filter_all, filter_none}
 use Rattle.vtl_tree.specs.Environment.{Environment, data_of, known_in, points_named}
 use Rattle.vtl_tree.specs.NotNull.{NotNull, not_null_of}
 use Rattle.vtl_tree.specs.Structure.{IsStructure, columns_of, names_of, same_name}
 use Rattle.vtl_tree.specs.declared.structure.Component.{Component}
 use Rattle.vtl_tree.specs.declared.structure.Structure.{Structure}
 use Rattle.vtl_tree.specs.Columns.{identifiers_of, others_of}
+use Rattle.vtl_tree.proofs.NotNullLemmas.{same_itself}
 use Rattle.vtl_meaning.proofs.OwnColumns.{columns_apart}
-use Rattle.vtl_meaning.proofs.Places.{columns_split, same_name-is, same_name-refl, same_name-sym}
+use Rattle.vtl_meaning.proofs.Places.{columns_split, same_name-is, same_name-sym}
 use Rattle.sql_tree.specs.Formed.{IsName}
 use Rattle.sql_tree.specs.Trees.{Text}
 use Rattle.sql_tree.specs.declared.statements.InputColumn.{InputColumn}
@@ -36,23 +38,14 @@ entries_are : (l : List Text) (xs : List Component) → map column_entry (map (i
 entries_are l [] = refl
 entries_are l (x ∷ xs) = ap (λ es. (x.name, x.kind) ∷ es) (entries_are l xs)
 
--- a test that passes no item leaves none
-kept_none : {X : Type 0} (p : X → Bool) (xs : List X) → AllByRecursion (λ x. p x ≡ false) xs → filter p xs ≡ []
-kept_none p [] all = refl
-kept_none p (x ∷ xs) all = ap (λ b. cond b (x ∷ filter p xs) (filter p xs)) all.0 ∙ kept_none p xs all.1
-
 own_true : (b : Bool) → b ≡ true → (c : Bool) → (b || c) ≡ true
 own_true true e c = refl
 own_true false e c = cc
 
-any_more : (b c : Bool) → c ≡ true → (b || c) ≡ true
-any_more true c e = refl
-any_more false c e = e
-
 -- each name is among a list that holds all of them
 here : (ns : List Text) (name : Text) (more : List Text) → is_among name (ns ++ name ∷ more) ≡ true
-here [] name more = own_true (same_text name name) (same_name-refl name) (is_among name more)
-here (n ∷ ns) name more = any_more (same_text name n) (is_among name (ns ++ name ∷ more)) (here ns name more)
+here [] name more = own_true (same_text name name) (same_itself name) (is_among name more)
+here (n ∷ ns) name more = or_right (same_text name n) (is_among name (ns ++ name ∷ more)) (here ns name more)
 
 pub all_among : (l : List Text) (front : List Text) (ys : List Component) → AllByRecursion (λ x. is_of_key (front ++ names_of ys) x ≡ true) (map (input_column l) ys)
 all_among l front [] = tt
@@ -115,14 +108,14 @@ module _ (ls : NotNull) (e : List ℕ × Structure) (w : IsStructure e.1) where
 
   -- the identifiers are those of the key
   pub key_read : filter is_key (map column (columns_of s)) ≡ ids
-  key_read = ap (filter is_key) both ∙ filter-append is_key ids rest ∙ ap (λ l. l ++ filter is_key rest) (filter_once is_key ids inside) ∙ ap (λ l. ids ++ l) (kept_none is_key rest outside) ∙ append-nil ids
+  key_read = ap (filter is_key) both ∙ filter-append is_key ids rest ∙ ap (λ l. l ++ filter is_key rest) (filter_all is_key ids inside) ∙ ap (λ l. ids ++ l) (filter_none is_key rest outside) ∙ append-nil ids
 
   rest_read : filter is_rest (map column (columns_of s)) ≡ rest
   rest_read =
       ap (filter is_rest) both
       ∙ filter-append is_rest ids rest
-      ∙ ap (λ l. l ++ filter is_rest rest) (kept_none is_rest ids (turned is_key is_rest ids true false (λ x h. ap not h) inside))
-      ∙ filter_once is_rest rest (turned is_key is_rest rest false true (λ x h. ap not h) outside)
+      ∙ ap (λ l. l ++ filter is_rest rest) (filter_none is_rest ids (turned is_key is_rest ids true false (λ x h. ap not h) inside))
+      ∙ filter_all is_rest rest (turned is_key is_rest rest false true (λ x h. ap not h) outside)
 
   pub order_read : in_table_order key (map column (columns_of s)) ≡ map column (columns_of s)
   order_read = ap (λ l. l ++ filter is_rest (map column (columns_of s))) key_read ∙ ap (λ l. ids ++ l) rest_read ∙ sym both

@@ -5,6 +5,8 @@ use Rattle.vtl_cell.specs.Outcome.{unless}
 use Rattle.vtl_cell.specs.Row.{Row, column_of, same_key, same_row}
 use Rattle.vtl_decimal.specs.Settings.{Settings}
 use Rattle.vtl_lists.proofs.Sorts.{AllByRecursion-filter}
+use Rattle.vtl_lists.proofs.Alls.{all_append}
+use Rattle.vtl_lists.proofs.Filters.{list_any-map}
 use Rattle.vtl_rows.specs.Tables.{cells_at}
 use Rattle.vtl_tree.specs.DataSet.{IsDataSet}
 use Rattle.vtl_tree.specs.Structure.{columns_of, key_width}
@@ -16,7 +18,6 @@ use Rattle.vtl_meaning.specs.Operators.{left_of}
 use Rattle.vtl_meaning.specs.Points.{each_point, with_points}
 use Rattle.vtl_meaning.specs.Sets.{has_point}
 use Rattle.vtl_meaning.proofs.OwnColumns.{columns_apart}
-use Rattle.vtl_meaning.proofs.Places.{all_append}
 use Rattle.vtl_meaning.proofs.SetsKept.{has_any}
 use Rattle.vtl_tuples.proofs.Lists.{filter-map, filter_same}
 use Rattle.sql_tree.specs.Formed.{IsName}
@@ -54,10 +55,6 @@ key_shown (i ∷ ids) rest xs r = ap (λ l. column_of (place_of i.name xs) r ∷
 
 pub key_cells_shown : (a s : Structure) → columns_of s ≡ identifiers_of s ++ measures_of s → (r : Row) → take (key_width s) (cells_at (places_in (columns_of a) (columns_of s)) r) ≡ cells_at (places_in (columns_of a) (identifiers_of s)) r
 key_cells_shown a s plain r = ap (λ ys. take (key_width s) (cells_at (places_in (columns_of a) ys) r)) plain ∙ key_shown (identifiers_of s) (measures_of s) (columns_of a) r
-
-any_map : {X Y : Type 0} (p : Y → Bool) (f : X → Y) (xs : List X) → list_any p (map f xs) ≡ list_any (λ x. p (f x)) xs
-any_map p f [] = refl
-any_map p f (x ∷ xs) = ap (λ b. p (f x) || b) (any_map p f xs)
 
 any_each : {X : Type 0} (p q : X → Bool) → ((x : X) → p x ≡ q x) → (xs : List X) → list_any p xs ≡ list_any q xs
 any_each p q h [] = refl
@@ -122,7 +119,7 @@ module _ (p : Settings) (law : Translates p) (before : Data) (x : Text) (a s : S
         let shown_r = cells_at (places_in xs (columns_of s)) r in
         any_each (λ q. same_row (cells_at (places_in ys (identifiers_of s)) q) (cells_at (places_in xs (identifiers_of s)) r)) (λ q. same_key n (cells_at (places_in ys (columns_of s)) q) shown_r)
         (λ q. ap (λ z. same_row z (cells_at (places_in xs (identifiers_of s)) r)) (sym (key_cells_shown b s alike.plain q)) ∙ ap (same_row (take n (cells_at (places_in ys (columns_of s)) q))) (sym (key_cells_shown a s shown.plain r))) e
-        ∙ sym (any_map (λ q. same_key n q shown_r) (cells_at (places_in ys (columns_of s))) e)
+        ∙ sym (list_any-map (λ q. same_key n q shown_r) (cells_at (places_in ys (columns_of s))) e)
         ∙ sym (has_any n those shown_r)
 
     answer_is : (wanted : Bool) (r : Row) → answer wanted r ≡ has wanted (cells_at (places_in xs (columns_of s)) r)

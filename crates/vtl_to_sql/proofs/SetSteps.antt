@@ -1,11 +1,12 @@
 -- Set operators on rows in the columns of the result: what their queries mean, and operands taken one after the other.
-use Rattle.std.proofs.Common.{◌≡◌, ℕ, Bool, true, false, not, ◌&&◌, List, [], ◌∷◌, ◌++◌, take, None, Ok, refl, ap, sym, subst, ◌∙◌, append-nil}
+use Rattle.std.proofs.Common.{◌≡◌, ℕ, Bool, true, false, not, ◌&&◌, List, [], ◌∷◌, ◌++◌, take, None, Ok, refl, ap, sym, ◌∙◌, append-nil}
 use Rattle.std.specs.Prelude.{fold, is_some}
 use Rattle.std.specs.List.{filter, list_all, list_any}
 use Rattle.vtl_lists.specs.Perm.{Perm, chain}
 use Rattle.vtl_cell.specs.Row.{Row, same_key}
 use Rattle.vtl_decimal.specs.Settings.{Settings}
-use Rattle.vtl_lists.proofs.Perms.{Perm-append, Perm-filter, Perm-same, Perm-sym}
+use Rattle.vtl_lists.proofs.Perms.{Perm-append, Perm-same, Perm-sym}
+use Rattle.vtl_lists.proofs.Alls.{all_more}
 use Rattle.vtl_rows.specs.Tables.{cells_at}
 use Rattle.vtl_tree.specs.DataSet.{Distinct, IsDataSet, is_point}
 use Rattle.vtl_tree.specs.Environment.{DataSet}
@@ -15,14 +16,14 @@ use Rattle.vtl_tree.proofs.LookUps.{look_respects}
 use Rattle.vtl_tuples.specs.Keys.{each_once}
 use Rattle.vtl_tuples.proofs.Lists.{filter_each}
 use Rattle.vtl_tuples.proofs.Onces.{once_already, once_more}
-use Rattle.vtl_tree.specs.Columns.{identifiers_of, measures_of, others_of, places_in}
+use Rattle.vtl_tree.specs.Columns.{identifiers_of, measures_of, places_in}
 use Rattle.vtl_meaning.specs.Operators.{left_of}
 use Rattle.vtl_meaning.specs.Points.{with_points}
 use Rattle.vtl_meaning.specs.Sets.{all_left_of, either_only, has_point, intersected, intersection_of, reduced, union_of, united}
 use Rattle.vtl_meaning.proofs.OwnColumns.{own_identifiers, own_measures}
-use Rattle.vtl_meaning.proofs.Places.{all_front, all_more, columns_split}
 use Rattle.vtl_meaning.proofs.SetsFolds.{each_own, intersected_fold, own_cells, united_fold}
 use Rattle.vtl_meaning.proofs.SetsKept.{either_only_kept, has_any, reduced_kept, shown_kept, some_kept, united_kept}
+use Rattle.vtl_meaning.proofs.SetsOrders.{filter_respects}
 use Rattle.sql_tree.specs.Trees.{QueryTree, Text}
 use Rattle.sql_tree.specs.Formed.{IsName}
 use Rattle.sql_meaning.specs.Scripts.{Data}
@@ -37,9 +38,6 @@ use Rattle.vtl_to_sql.proofs.SetQueries.{IsShown, ids_there, matched_gives, show
 use Rattle.selects_to_sql.proofs.Unions.{one_exactly, union_there}
 
 -- ---- the columns of a result
-
-pub identifiers_named : (s : Structure) → HaveNames (columns_of s) → HaveNames (identifiers_of s)
-identifiers_named s n = all_front (λ x. IsName x.name) (identifiers_of s) (others_of s) (subst HaveNames (columns_split s) n)
 
 -- an operand in the columns of the result is a data set
 pub shown_set_of : (s a : Structure) (d : List Row) → IsStructure s → IsShown a s → IsDataSet a d → IsDataSet s (left_of (with_points a d) s)
@@ -73,14 +71,11 @@ and_true false = refl
 
 -- ---- in another order
 
-filter_turned : (p q : Row → Bool) (l m : List Row) → ((r : Row) → p r ≡ q r) → Perm l m → Perm (filter p l) (filter q m)
-filter_turned p q l m same h = chain (Perm-filter p h) (Perm-same (filter p m) (filter q m) (filter_each p q same m))
-
 has_turned : (n : ℕ) (l m : List Row) → Perm l m → Distinct n l → (r : Row) → has_point n l r ≡ has_point n m r
 has_turned n l m h a r = ap is_some (look_respects n (take n r) h a)
 
 reduced_turned : (n : ℕ) (l m k j : List Row) → Perm l k → Perm m j → Distinct n m → Perm (reduced n l m) (reduced n k j)
-reduced_turned n l m k j p q a = filter_turned (λ r. not (has_point n m r)) (λ r. not (has_point n j r)) l k (λ r. ap not (has_turned n m j q a r)) p
+reduced_turned n l m k j p q a = filter_respects (λ r. not (has_point n m r)) (λ r. not (has_point n j r)) l k (λ r. ap not (has_turned n m j q a r)) p
 
 -- ---- operands one after the other
 
@@ -133,7 +128,7 @@ module _ (p : Settings) (law : Translates p) (s : Structure) (given : AreGiven (
         exactly_same p before (intersection_query p a b s x y) s (Ok (filter (λ r. has_point n m r) l)) (Ok (intersected n l (m ∷ []))) (ap Ok (filter_each (λ r. has_point n m r) (λ r. has_point n m r && true) (λ r. and_true (has_point n m r)) l))
         (one_exactly p before s given (matched_select p true a s x y) (Ok (filter (λ r. has_point n m r) l)) (with_row before x y a b d e tx ty nx ny na nb sa sb ia ib));
     kept = λ l m h i. some_kept s (λ r. list_all (λ e. has_point n e r) (m ∷ [])) l h;
-    turned = λ l m k j h i q r. filter_turned (λ z. list_all (λ e. has_point n e z) (m ∷ [])) (λ z. list_all (λ e. has_point n e z) (j ∷ [])) l k (λ z. ap (λ b. b && true) (has_turned n m j r i.distinct z)) q;
+    turned = λ l m k j h i q r. filter_respects (λ z. list_all (λ e. has_point n e z) (m ∷ [])) (λ z. list_all (λ e. has_point n e z) (j ∷ [])) l k (λ z. ap (λ b. b && true) (has_turned n m j r i.distinct z)) q;
   }
 
   pub difference_step : IsStep p s (λ a b. difference_query p a b s) (reduced n)

@@ -6,6 +6,7 @@ use Rattle.std.specs.Map.{lookup}
 use Rattle.std.specs.Option.{option_map_or}
 use Rattle.vtl_cell.specs.Outcome.{Outcome, after}
 use Rattle.vtl_lists.specs.Perm.{Perm}
+use Rattle.vtl_lists.proofs.Alls.{all_append, all_more}
 use Rattle.vtl_cell.specs.Row.{Row}
 use Rattle.vtl_decimal.specs.Settings.{Settings}
 use Rattle.vtl_text.specs.Texts.{same_text}
@@ -18,7 +19,8 @@ use Rattle.vtl_meaning.specs.Points.{with_points}
 use Rattle.vtl_meaning.specs.Profiles.{AllAreOfProfile}
 use Rattle.vtl_tree.specs.DataSet.{AreOfProfile}
 use Rattle.vtl_tree.specs.Trees.{structure_of}
-use Rattle.vtl_meaning.proofs.Places.{all_append, all_more, same_name-is, same_name-refl, same_name-sym}
+use Rattle.vtl_tree.proofs.NotNullLemmas.{same_itself}
+use Rattle.vtl_meaning.proofs.Places.{same_name-is, same_name-sym}
 use Rattle.vtl_scripts.proofs.ScriptsKept.{node_kept}
 use Rattle.vtl_scripts.proofs.ScriptsProfiles as profiles
 use Rattle.sql_tree.specs.Formed.{IsName}
@@ -93,7 +95,7 @@ module _ (p : Settings) (s : Statement) where
     lawful = lawful_on p before (before ++ x.more) m.tables (table_of r m.query ∷ []) x.ran x.lawful ((named, means.query.printed), (name_free (before ++ x.more) r free, means.query.typed), tt)
 
     there : IsTable (before ++ added) r (structure_of s.node) rows
-    there = subst (λ now. IsTable now r (structure_of s.node) rows) (append_assoc before x.more ((r, held (structure_of s.node) rows) ∷ [])) (there_last (before ++ x.more) (same_text r) r (held (structure_of s.node) rows) free (same_name-refl r))
+    there = subst (λ now. IsTable now r (structure_of s.node) rows) (append_assoc before x.more ((r, held (structure_of s.node) rows) ∷ [])) (there_last (before ++ x.more) (same_text r) r (held (structure_of s.node) rows) free (same_itself r))
 
     own : StandsAs (before ++ added) r (structure_of s.node) d
     own = record { named = named; rows = rows; table = there; same = rows_made.2 }

@@ -1,6 +1,7 @@
 -- What is asked of a script gives what is asked of its tables.
 use Rattle.std.proofs.Common.{◌≡◌, ◌≤◌, Bool, true, false, ◌||◌, List, [], ◌∷◌, refl, ap, sym, ◌∙◌, subst}
 use Rattle.std.specs.List.{AllByRecursion}
+use Rattle.vtl_lists.proofs.Alls.{all_more}
 use Rattle.vtl_decimal.specs.Settings.{Settings}
 use Rattle.vtl_text.specs.Texts.{same_text}
 use Rattle.vtl_text.specs.Words.{is_word}
@@ -12,7 +13,6 @@ use Rattle.vtl_scripts.specs.Made.{AreMadeStatements}
 use Rattle.vtl_scripts.specs.Meaning.{AreDataSets, Statement, meaning}
 use Rattle.vtl_tree.specs.Trees.{structure_of}
 use Rattle.vtl_meaning.specs.Profiles.{AllAreOfProfile}
-use Rattle.vtl_meaning.proofs.Places.{all_more}
 use Rattle.sql_tree.specs.Trees.{Text}
 use Rattle.sql_meaning.specs.Scripts.{Data, Inputs, script_value}
 use Rattle.vtl_to_sql.specs.Conditions.{AreTranslated, IsScript, IsTranslated}

@@ -4,7 +4,7 @@ use Rattle.std.specs.Prelude.{◌==◌, IsSome, fold, nat_le, unwrap_or}
 use Rattle.std.specs.List.{AllByRecursion, list_all, list_any}
 use Rattle.std.specs.Map.{keys_of, lookup}
 use Rattle.std.specs.Option.{option_map_or}
-use Rattle.std.proofs.lemmas.Bool.{and_from, and_parts}
+use Rattle.std.proofs.lemmas.Bool.{and_from, and_parts, or_right}
 use Rattle.std.proofs.lemmas.List.{length-map}
 use Rattle.vtl_lists.specs.Apart.{all_apart}
 use Rattle.vtl_decimal.specs.Settings.{Settings}
@@ -13,6 +13,7 @@ use Rattle.vtl_text.specs.Words.{is_component_name, is_word}
 use Rattle.vtl_cell.specs.declared.kind.Kind.{Kind}
 use Rattle.vtl_cell.specs.declared.kind.Kind.TheVariants as k
 use Rattle.vtl_lists.proofs.Aparts.{apart_parts}
+use Rattle.vtl_lists.proofs.Alls.{all_back, all_from_test, all_front, all_more}
 use Rattle.vtl_tree.specs.Structure.{IsStructure, columns_of, most_components, names_of, same_name, same_role}
 use Rattle.vtl_tree.specs.Structures as structures
 use Rattle.vtl_tree.specs.Names.{is_among as is_named}
@@ -22,9 +23,11 @@ use Rattle.vtl_tree.specs.declared.structure.Component.{Component}
 use Rattle.vtl_tree.specs.declared.structure.Role.TheVariants as role
 use Rattle.vtl_tree.specs.declared.structure.Structure.{Structure}
 use Rattle.vtl_tree.specs.Columns.{identifiers_of, others_of}
+use Rattle.vtl_tree.proofs.NotNullLemmas.{same_itself}
 use Rattle.vtl_meaning.specs.Shapes.{IsShaped}
 use Rattle.vtl_meaning.proofs.OwnColumns.{columns_apart}
-use Rattle.vtl_meaning.proofs.Places.{IsOther, all_back, all_front, all_more, are_others, columns_split, identifiers_apart, same_name-refl, same_name-sym}
+use Rattle.vtl_meaning.proofs.Places.{IsOther, are_others, columns_split, identifiers_apart, same_name-sym}
+use Rattle.vtl_meaning.proofs.FoundColumns.{of-columns}
 use Rattle.check_laws.proofs.Scripts.{structures-shaped}
 use Rattle.sql_tree.specs.Formed.{IsName}
 use Rattle.sql_tree.specs.Trees.{Text}
@@ -41,7 +44,7 @@ use Rattle.selects_to_sql.specs.Tables.{create_for, Table}
 use Rattle.vtl_to_sql.specs.Scripts.{export_for, input_column, input_for, input_of, ordered}
 use Rattle.selects_to_sql.proofs.Names.{component_is_name}
 use Rattle.vtl_to_sql.proofs.ReadTables.{all_among, columns_read}
-use Rattle.selects_to_sql.proofs.Givens.{columns_count, each_column}
+use Rattle.selects_to_sql.proofs.Givens.{columns_count}
 
 abbrev pub giving : Tables → List Text → Given
 giving tables exported = record { tables = tables; exported = exported }
@@ -55,10 +58,6 @@ pub record IsReadable (e : List ℕ × Structure) : Type 0 where
   pub named : HaveNames (columns_of e.1)
   pub coded : AllByRecursion (λ x. structures.codes_fit x ≡ true) (columns_of e.1)
 
-passed_each : {X : Type 0} (p : X → Bool) (xs : List X) → list_all p xs ≡ true → AllByRecursion (λ x. p x ≡ true) xs
-passed_each p [] h = tt
-passed_each p (x ∷ xs) h = let parts = and_parts (p x) (list_all p xs) h in (parts.0, passed_each p xs parts.1)
-
 component_parts : (x : Component) → is_declarable_component x ≡ true → (is_component_name x.name ≡ true) × (structures.codes_fit x ≡ true)
 component_parts x h =
     let two = and_parts (is_component_name x.name && not (structures.is_null_kind x.kind)) (structures.codes_fit x) h in
@@ -68,19 +67,19 @@ components_declarable : (s : Structure) → is_declarable s ≡ true → list_al
 components_declarable s h = (and_parts (nat_le 1 (length s.components) && nat_le (length s.components) most_components && all_apart same_name (names_of s.components)) (list_all is_declarable_component s.components) h).1
 
 pub declared_each_entry : (reads : Named) → AreStructures reads → AllByRecursion (λ e. is_declarable_entry e ≡ true) reads
-declared_each_entry reads h = passed_each is_declarable_entry reads h.declarable
+declared_each_entry reads h = all_from_test is_declarable_entry reads h.declarable
 
 pub declared_shaped : (e : List ℕ × Structure) → is_declarable e.1 ≡ true → IsShaped e.1
 declared_shaped e h = (structures-shaped (e ∷ []) (record { declarable = and_from (is_declarable e.1) true h refl; distinct = refl })).0
 
 declared_each : (s : Structure) → is_declarable s ≡ true → AllByRecursion (λ x. is_declarable_component x ≡ true) s.components
-declared_each s h = passed_each is_declarable_component s.components (components_declarable s h)
+declared_each s h = all_from_test is_declarable_component s.components (components_declarable s h)
 
 pub declared_coded : (s : Structure) → is_declarable s ≡ true → AllByRecursion (λ x. structures.codes_fit x ≡ true) (columns_of s)
-declared_coded s h = each_column (λ x. structures.codes_fit x ≡ true) s (all_more (λ x. is_declarable_component x ≡ true) (λ x. structures.codes_fit x ≡ true) (λ x i. (component_parts x i).1) s.components (declared_each s h))
+declared_coded s h = of-columns (λ x. structures.codes_fit x ≡ true) s (all_more (λ x. is_declarable_component x ≡ true) (λ x. structures.codes_fit x ≡ true) (λ x i. (component_parts x i).1) s.components (declared_each s h))
 
 declared_named : (s : Structure) → is_declarable s ≡ true → HaveNames (columns_of s)
-declared_named s h = each_column (λ x. IsName x.name) s (all_more (λ x. is_declarable_component x ≡ true) (λ x. IsName x.name) (λ x i. component_is_name x.name (component_parts x i).0) s.components (declared_each s h))
+declared_named s h = of-columns (λ x. IsName x.name) s (all_more (λ x. is_declarable_component x ≡ true) (λ x. IsName x.name) (λ x i. component_is_name x.name (component_parts x i).0) s.components (declared_each s h))
 
 pub all_readable : (reads : Named) → AreReadable reads → AllByRecursion IsReadable reads
 all_readable reads h = go reads (declared_each_entry reads h.structures) h.words
@@ -91,13 +90,13 @@ all_readable reads h = go reads (declared_each_entry reads h.structures) h.words
 
 -- ---- columns by their names
 
-keys_of_entries : (xs : List Component) → keys_of (entries xs) ≡ names_of xs
+pub keys_of_entries : (xs : List Component) → keys_of (entries xs) ≡ names_of xs
 keys_of_entries [] = refl
 keys_of_entries (x ∷ xs) = ap (λ l. x.name ∷ l) (keys_of_entries xs)
 
 -- a name that stands among them is found
 there : (ys : List Component) (x : Component) (zs : List Component) → IsSome (lookup (same_text x.name) (entries (ys ++ x ∷ zs)))
-there [] x zs = go (same_text x.name x.name) (same_name-refl x.name)
+there [] x zs = go (same_text x.name x.name) (same_itself x.name)
   where
     go : (b : Bool) → b ≡ true → IsSome (cond b (Some x.kind) (lookup (same_text x.name) (entries zs)))
     go true e = refl
@@ -130,10 +129,6 @@ none_empty [] h = refl
 none_empty ([] ∷ texts) h = cc
 none_empty ((x ∷ xs) ∷ texts) h = none_empty texts (and_parts (structures.is_filled (x ∷ xs)) (list_all structures.is_filled texts) h).1
 
-or_true : (a b : Bool) → b ≡ true → (a || b) ≡ true
-or_true true b h = refl
-or_true false b h = h
-
 one_coded : (l : List Text) (key : List Text) (x : Component) → structures.codes_fit x ≡ true → (same_role x.role role.Identifier ≡ true → is_of_key key (input_column l x) ≡ true) → HasCodes key (input_column l x)
 one_coded l key x h f = go x.codes h
   where
@@ -146,7 +141,7 @@ one_coded l key x h f = go x.codes h
         let filled = none_empty texts (and_parts (not (length texts == 0)) (list_all structures.is_filled texts) last.0).1 in
         let kind = text_told x.kind role_kind.1 in
         let there = f role_kind.0 in
-        or_true (is_empty texts) (is_text x.kind && is_among x.name key && not (list_any is_empty texts) && not (repeats texts))
+        or_right (is_empty texts) (is_text x.kind && is_among x.name key && not (list_any is_empty texts) && not (repeats texts))
         (and_from (is_text x.kind && is_among x.name key && not (list_any is_empty texts)) (not (repeats texts))
         (and_from (is_text x.kind && is_among x.name key) (not (list_any is_empty texts)) (and_from (is_text x.kind) (is_among x.name key) kind there) filled)
         (ap (λ b. not (not b)) last.1))

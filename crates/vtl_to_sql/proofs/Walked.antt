@@ -109,7 +109,7 @@ tree_of_join f os spec e = ap form_tree e ∙ search (rules, forms.the_lemmas)
 
 -- ---- nodes
 
-node_is : (n : Node) → node_tree n ≡ nodes.node n.structure (form_tree n.form)
+pub node_is : (n : Node) → node_tree n ≡ nodes.node n.structure (form_tree n.form)
 node_is n = search (rules, node.the_lemmas)
 
 -- ---- an operand that is more than a name

@@ -7,6 +7,7 @@ use Rattle.std.proofs.lemmas.Bool.{and_from, and_parts}
 use Rattle.std.proofs.lemmas.Bool.Decides.{nat_tests}
 use Rattle.std.proofs.lemmas.List.{append-nil}
 use Rattle.vtl_lists.specs.Results.{◌>>=◌}
+use Rattle.vtl_lists.proofs.Alls.{all_push}
 use Rattle.vtl_cell.specs.declared.cell.Cell.{Cell}
 use Rattle.vtl_cell.specs.declared.cell.Cell.TheVariants as c
 use Rattle.vtl_cell.specs.Reading.{reads}
@@ -24,7 +25,7 @@ use Rattle.vtl_csv.specs.InputSteps.{IsLayout}
 use Rattle.vtl_csv.specs.StructuresFile.{◌at_line◌, is_identifier, records_in}
 use Rattle.vtl_csv.proofs.InputDataSetLemmas.{components_read}
 use Rattle.vtl_csv.proofs.InputLayoutLemmas.{IsLaidOut, IsPlaceOf, layout_lays_out}
-use Rattle.vtl_csv.proofs.InputPointLemmas.{all_more, ok_if, ok_same, ok_unless}
+use Rattle.vtl_csv.proofs.InputPointLemmas.{ok_if, ok_same, ok_unless, first_of_pairs}
 use Rattle.vtl_to_sql.specs.Inputs.{are_listed, is_listed}
 
 abbrev AreListed : List Component → List Row → Type 0
@@ -64,12 +65,6 @@ row_listed p (x ∷ xs) row out e = go (field_cell p x.0 x.1) refl (λ longer. r
         let g = ih (row ++ v ∷ []) q in
         (v ∷ g.0, g.1 ∙ append_assoc row (v ∷ []) g.0, and_from (is_listed x.0.component v) (are_listed (map (λ x. x.0.component) xs) g.0) (field_listed p x.0 x.1 v t) g.2)
 
-first_of_pairs : {B : Type 0} (xs : List ReadColumn) (ys : List B) → length ys ≡ length xs → map (λ p. p.0.component) (zip xs ys) ≡ components_in xs
-first_of_pairs [] [] e = refl
-first_of_pairs [] (y ∷ ys) e = cc
-first_of_pairs (x ∷ xs) [] e = cc
-first_of_pairs (x ∷ xs) (y ∷ ys) e = ap (λ l. x.component ∷ l) (first_of_pairs xs ys (omega (arith, e)))
-
 record_listed : (p : Settings) (columns : List ReadColumn) (count : ℕ) (fields : List (List ℕ)) (row : Row) → record_row p columns count fields ≡ Ok row → are_listed (components_in columns) row ≡ true
 record_listed p columns count fields row e =
     let few = ok_unless (nat_le most_points count) (cond (length fields == length columns) (row_with p [] (zip columns fields)) (Err (min (length fields) (length columns) + 1, i.WrongWidth))) (1, i.TooManyRows) row e in
@@ -91,7 +86,7 @@ rows_listed p columns keys (fields ∷ rest) before rows are e = go (record_row 
       where
         new : (b : Bool) → (cond b (Err (1, i.DuplicateKey)) (Ok (before ++ row ∷ [])) at_line (length before + 2) >>= λ longer. rows_with p columns keys longer rest) ≡ Ok rows → AreListed (components_in columns) rows
         new true u = cc
-        new false u = ih (before ++ row ∷ []) (all_more (λ r. are_listed (components_in columns) r ≡ true) before row are (record_listed p columns (length before) fields row t)) u
+        new false u = ih (before ++ row ∷ []) (all_push (λ r. are_listed (components_in columns) r ≡ true) before row are (record_listed p columns (length before) fields row t)) u
 
 -- ---- the rows in column order
 listed_at : (ys : List Component) (row : Row) (n : ℕ) (d : Component) → are_listed ys row ≡ true → n < length ys → is_listed (get_or ys n d) (column_of n row) ≡ true

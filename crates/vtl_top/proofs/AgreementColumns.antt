@@ -1,24 +1,25 @@
 -- An INPUT asks of a file what the structure of its data set asks.
-use Rattle.std.proofs.Common.{◌≡◌, ℕ, Bool, true, false, cond, ◌&&◌, List, [], ◌∷◌, ◌++◌, length, map, Option, Some, None, refl, sym, ap, ◌∙◌, subst, arith, append-nil, true≢false}
+use Rattle.std.proofs.Common.{◌≡◌, ℕ, Bool, true, false, cond, List, [], ◌∷◌, ◌++◌, length, map, Option, Some, None, refl, sym, ap, ◌∙◌, subst, arith, append-nil}
 use Rattle.std.specs.Prelude.{unwrap_or}
 use Rattle.std.specs.List.{AllByRecursion, filter}
-use Rattle.std.proofs.lemmas.Bool.{and_parts}
 use Rattle.std.proofs.lemmas.List.{length-map, map-append}
 use Rattle.std.proofs.lemmas.List.Elements.{filter-append}
 use Rattle.vtl_lists.specs.Apart.{all_apart}
+use Rattle.vtl_lists.proofs.Alls.{all_append, all_more}
+use Rattle.vtl_lists.proofs.Sorts.{AllByRecursion-map}
+use Rattle.vtl_lists.proofs.Filters.{filter_all, filter_none}
 use Rattle.vtl_decimal.specs.Settings.{Settings}
 use Rattle.vtl_tree.specs.Names.{is_among}
 use Rattle.vtl_tree.specs.NotNull.{NotNull, not_null_of as list_of}
 use Rattle.vtl_tree.specs.Structure.{IsStructure, columns_of, names_of, of_role, same_name, same_role}
-use Rattle.vtl_tree.specs.Structures.{are_codes, codes_fit, is_string_identifier}
+use Rattle.vtl_tree.specs.Structures.{codes_fit}
 use Rattle.vtl_tree.specs.declared.structure.Component.{Component}
 use Rattle.vtl_tree.specs.declared.structure.Role.{Role}
 use Rattle.vtl_tree.specs.declared.structure.Role.TheVariants as role
 use Rattle.vtl_tree.specs.declared.structure.Structure.{Structure}
 use Rattle.vtl_tree.specs.Columns.{identifiers_of, others_of}
 use Rattle.vtl_meaning.proofs.OwnColumns.{columns_apart}
-use Rattle.vtl_meaning.proofs.Places.{IsIdentifier, IsOther, all_append, all_map, all_more, all_of_map, are_identifiers, are_others, columns_split}
-use Rattle.vtl_meaning.proofs.SetsFolds.{filter_once}
+use Rattle.vtl_meaning.proofs.Places.{IsIdentifier, IsOther, all_of_map, are_identifiers, are_others, columns_split}
 use Rattle.vtl_csv.specs.InputFile.{dataset_rows}
 use Rattle.vtl_csv.specs.Plain.{plain, plain_columns}
 use Rattle.vtl_csv.specs.StructuresFile.{is_identifier}
@@ -29,14 +30,10 @@ use Rattle.sql_check_parts.specs.Statements.{is_of_key}
 use Rattle.vtl_to_sql.specs.Scripts.{input_column, input_of}
 use Rattle.selects_to_sql.proofs.Givens.{columns_count}
 use Rattle.vtl_to_sql.proofs.ReadTables.{all_among, none_among}
+use Rattle.vtl_to_sql.proofs.InputData.{no_codes}
 use Rattle.vtl_top.proofs.AgreementLists.{columns_alike, columns_named, rows_alike}
 
 -- ---- one component
-no_codes : (x : Component) → x.codes ≡ Some [] → codes_fit x ≡ true → ⊥
-no_codes x e f =
-    let fit : (is_string_identifier x.role x.kind && are_codes []) ≡ true = cc in
-    absurd (true≢false (sym (and_parts (is_string_identifier x.role x.kind) (are_codes []) fit).1))
-
 codes_again : (x : Component) → codes_fit x ≡ true → listed_codes (unwrap_or x.codes []) ≡ x.codes
 codes_again x fit = go x.codes refl
   where
@@ -58,10 +55,6 @@ plain_again x = ap (λ r. record x { role = r }) (go (is_identifier x))
     go false = refl
 
 -- ---- components by their roles
-none_kept : {X : Type 0} (p : X → Bool) (xs : List X) → AllByRecursion (λ x. p x ≡ false) xs → filter p xs ≡ []
-none_kept p [] all = refl
-none_kept p (x ∷ xs) all = ap (λ b. cond b (x ∷ filter p xs) (filter p xs)) all.0 ∙ none_kept p xs all.1
-
 of_one_role : (q r : Role) (b : Bool) (xs : List Component) → same_role q r ≡ b → AllByRecursion (λ x. x.role ≡ q) xs → AllByRecursion (λ x. same_role x.role r ≡ b) xs
 of_one_role q r b xs e all = all_more (λ x. x.role ≡ q) (λ x. same_role x.role r ≡ b) (λ x i. ap (λ k. same_role k r) i ∙ e) xs all
 
@@ -76,21 +69,21 @@ module _ (ids rest : List Component) (first : AllByRecursion (λ x. x.role ≡ r
   keys_kept : of_role role.Identifier both ≡ ids
   keys_kept =
       kept_parts role.Identifier
-      ∙ ap (λ l. l ++ filter is_identifier rest) (filter_once is_identifier ids (of_one_role role.Identifier role.Identifier true ids refl first))
-      ∙ ap (λ l. ids ++ l) (none_kept is_identifier rest (of_one_role role.Measure role.Identifier false rest refl others))
+      ∙ ap (λ l. l ++ filter is_identifier rest) (filter_all is_identifier ids (of_one_role role.Identifier role.Identifier true ids refl first))
+      ∙ ap (λ l. ids ++ l) (filter_none is_identifier rest (of_one_role role.Measure role.Identifier false rest refl others))
       ∙ append-nil ids
 
   rest_kept : of_role role.Measure both ≡ rest
   rest_kept =
       kept_parts role.Measure
-      ∙ ap (λ l. l ++ filter (λ x. same_role x.role role.Measure) rest) (none_kept (λ x. same_role x.role role.Measure) ids (of_one_role role.Identifier role.Measure false ids refl first))
-      ∙ filter_once (λ x. same_role x.role role.Measure) rest (of_one_role role.Measure role.Measure true rest refl others)
+      ∙ ap (λ l. l ++ filter (λ x. same_role x.role role.Measure) rest) (filter_none (λ x. same_role x.role role.Measure) ids (of_one_role role.Identifier role.Measure false ids refl first))
+      ∙ filter_all (λ x. same_role x.role role.Measure) rest (of_one_role role.Measure role.Measure true rest refl others)
 
   none_left : of_role role.Attribute both ≡ []
   none_left =
       kept_parts role.Attribute
-      ∙ ap (λ l. l ++ filter (λ x. same_role x.role role.Attribute) rest) (none_kept (λ x. same_role x.role role.Attribute) ids (of_one_role role.Identifier role.Attribute false ids refl first))
-      ∙ none_kept (λ x. same_role x.role role.Attribute) rest (of_one_role role.Measure role.Attribute false rest refl others)
+      ∙ ap (λ l. l ++ filter (λ x. same_role x.role role.Attribute) rest) (filter_none (λ x. same_role x.role role.Attribute) ids (of_one_role role.Identifier role.Attribute false ids refl first))
+      ∙ filter_none (λ x. same_role x.role role.Attribute) rest (of_one_role role.Measure role.Attribute false rest refl others)
 
   pub columns_stand : columns_of both ≡ ids ++ rest
   columns_stand =
@@ -147,10 +140,10 @@ module _ (ls : NotNull) (e : List ℕ × Structure) (w : IsStructure e.1) (coded
   plain_split = ap (map plain) (columns_split e.1) ∙ map-append plain ids rest
 
   identifiers_plain : AllByRecursion (λ x. x.role ≡ role.Identifier) (map plain ids)
-  identifiers_plain = all_map plain (λ x. x.role ≡ role.Identifier) ids (all_more IsIdentifier (λ x. (plain x).role ≡ role.Identifier) (λ x h. ap (λ b. cond b role.Identifier role.Measure) h) ids (are_identifiers e.1))
+  identifiers_plain = AllByRecursion-map plain (λ x. x.role ≡ role.Identifier) ids (all_more IsIdentifier (λ x. (plain x).role ≡ role.Identifier) (λ x h. ap (λ b. cond b role.Identifier role.Measure) h) ids (are_identifiers e.1))
 
   others_plain : AllByRecursion (λ x. x.role ≡ role.Measure) (map plain rest)
-  others_plain = all_map plain (λ x. x.role ≡ role.Measure) rest (all_more IsOther (λ x. (plain x).role ≡ role.Measure) (λ x h. ap (λ b. cond b role.Identifier role.Measure) h) rest (are_others e.1))
+  others_plain = AllByRecursion-map plain (λ x. x.role ≡ role.Measure) rest (all_more IsOther (λ x. (plain x).role ≡ role.Measure) (λ x h. ap (λ b. cond b role.Identifier role.Measure) h) rest (are_others e.1))
 
   columns_again : columns_of (structure_of (input_of ls e)) ≡ map plain (columns_of e.1)
   columns_again =

@@ -10,6 +10,7 @@ use Rattle.vtl_tree.specs.Structure.{same_name}
 use Rattle.vtl_tree.specs.Structures.{AreStructures, Named, is_declarable_entry}
 use Rattle.vtl_tree.specs.declared.structure.Structure.{Structure}
 use Rattle.vtl_tree.proofs.StructuresLemmas.{all_found}
+use Rattle.vtl_lineage.proofs.ReadInputs.{declared_structure}
 use Rattle.vtl_csv.specs.InputFile.{dataset_rows}
 use Rattle.sql_engine.specs.Structures.{not_null_of, structure_of}
 use Rattle.vtl_to_sql.specs.Scripts.{input_of}
@@ -24,7 +25,7 @@ use Rattle.vtl_status.specs.declared.status.Status.{Status}
 use Rattle.vtl_status.specs.declared.status.Status.TheVariants as st
 use Rattle.vtl_top.proofs.AgreementColumns.{files_fit_alike}
 use Rattle.vtl_top.proofs.AgreementInputs.{IsDeclared}
-use Rattle.vtl_top.proofs.DeclaredLemmas.{declarable_is_structure, file_are}
+use Rattle.vtl_top.proofs.DeclaredLemmas.{file_are}
 use Rattle.vtl_top.proofs.MeantLemmas.{went_on}
 
 -- ---- a structures file
@@ -50,11 +51,11 @@ all_declared es are = go es (declared_each_entry es are)
   where
     go : (xs : Named) → AllByRecursion (λ e. is_declarable_entry e ≡ true) xs → AllByRecursion IsDeclared xs
     go [] all = tt
-    go (x ∷ xs) all = (record { lawful = declarable_is_structure x.1 all.0; coded = declared_coded x.1 all.0 }, go xs all.1)
+    go (x ∷ xs) all = (record { lawful = declared_structure x.1 all.0; coded = declared_coded x.1 all.0 }, go xs all.1)
 
 -- ---- the INPUT for one of them asks of a file what its structure asks
 pub takes_alike : (name text : List ℕ) (all : Whole) (t : Structure) (p : Settings) (bytes : List ℕ) → structures_of_file text ≡ Ok all → lookup (same_name name) all.structures.sets ≡ Some t
     → dataset_rows p (structure_of (input_of all.structures.not_null (name, t))) (not_null_of (input_of all.structures.not_null (name, t))) bytes ≡ dataset_rows p t (list_of name all.structures.not_null) bytes
 takes_alike name text all t p bytes declares found =
     let fits = all_found (same_name name) all.structures.sets t (file_are text all declares).declarable found in
-    sym (files_fit_alike all.structures.not_null (name, t) (declarable_is_structure t fits) (declared_coded t fits) p bytes)
+    sym (files_fit_alike all.structures.not_null (name, t) (declared_structure t fits) (declared_coded t fits) p bytes)

@@ -24,6 +24,7 @@ use Rattle.sql_engine.specs.Exported.{entry_column}
 use Rattle.sql_check_parts.specs.Scopes.{Columns}
 use Rattle.sql_meaning.specs.Scripts.{sort_key}
 use Rattle.vtl_to_sql.specs.Exports.{exported, exported_as}
+use Rattle.vtl_to_sql.proofs.TypedScripts.{keys_of_entries}
 use Rattle.selects_to_sql.specs.Runs.{entries}
 use Rattle.vtl_top.specs.Expected.{file_in, output_of, outputs_of}
 use Rattle.vtl_top.specs.SqlRun.{export_file, exports_of}
@@ -35,10 +36,6 @@ places_of_keys : (columns : Columns) (names : List (List ℕ)) → map (sort_key
 places_of_keys columns [] = refl
 places_of_keys columns (n ∷ names) = ap (λ l. sort_key columns n ∷ l) (places_of_keys columns names)
 
-names_of_entries : (xs : List Component) → keys_of (entries xs) ≡ names_of xs
-names_of_entries [] = refl
-names_of_entries (x ∷ xs) = ap (λ l. x.name ∷ l) (names_of_entries xs)
-
 module _ (s : Structure) (w : IsStructure s) where
   split : names_of (columns_of s) ≡ names_of (identifiers_of s) ++ names_of (others_of s)
   split = ap names_of (columns_split s) ∙ map-append (λ x. x.name) (identifiers_of s) (others_of s)
@@ -46,7 +43,7 @@ module _ (s : Structure) (w : IsStructure s) where
   keys_are_first : map (sort_key (entries (columns_of s))) (names_of (identifiers_of s)) ≡ map rising (range_with_len 0 (key_width s))
   keys_are_first =
       places_of_keys (entries (columns_of s)) (names_of (identifiers_of s))
-      ∙ ap (λ all. map rising (map (λ n. position_or_len (same_text n) all) (names_of (identifiers_of s)))) (names_of_entries (columns_of s) ∙ split)
+      ∙ ap (λ all. map rising (map (λ n. position_or_len (same_text n) all) (names_of (identifiers_of s)))) (keys_of_entries (columns_of s) ∙ split)
       ∙ ap (map rising) (first_places [] (names_of (identifiers_of s)) (names_of (others_of s)) (subst (λ l. all_apart same_name l ≡ true) split (columns_apart s w)))
       ∙ ap (λ n. map rising (range_with_len 0 n)) (length-map (identifiers_of s) (λ x. x.name))
 

@@ -1,8 +1,8 @@
 -- What the command `sql` prints is a text of the script.
 use Rattle.std.proofs.Common.{◌≡◌, Some, Ok, ap, ◌∙◌}
+use Rattle.vtl_lists.proofs.Alls.{all_each}
 use Rattle.vtl_files.specs.Outside.{bytes_at}
 use Rattle.vtl_check.specs.Uses.{reads}
-use Rattle.vtl_meaning.proofs.Places.{each}
 use Rattle.vtl_top.specs.Agreement.{AreTwins, IsPrinted}
 use Rattle.vtl_top.specs.Expected.{file_in, text_step}
 use Rattle.vtl_top.specs.Steps.{Held, Made, only_text, settled}
@@ -19,5 +19,5 @@ printed_are_twins r e held other is =
       script = script;
       sql_file = is.sql_file ∙ ap (λ (m : Made). Some m.text) said;
       input = is.input;
-      same = each (λ d. bytes_at (file_in r.input d.0) other ≡ bytes_at (file_in r.input d.0) held) (λ d. is.same d.0) (reads script.typed.structures script.typed.nodes);
+      same = all_each (λ d. bytes_at (file_in r.input d.0) other ≡ bytes_at (file_in r.input d.0) held) (λ d. is.same d.0) (reads script.typed.structures script.typed.nodes);
     }

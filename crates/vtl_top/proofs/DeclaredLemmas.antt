@@ -1,21 +1,19 @@
 -- What a structures file declares: structures, each with an identifier.
-use Rattle.std.proofs.Common.{◌≡◌, ℕ, ◌+◌, ◌≤◌, Bool, true, false, cond, not, ◌&&◌, ◌||◌, nat_le, List, [], ◌∷◌, ◌++◌, length, filter, Option, Some, None, Result, Ok, Err, arith, refl, sym, ap, subst, ◌∙◌}
-use Rattle.std.specs.List.{list_all, list_any}
+use Rattle.std.proofs.Common.{◌≡◌, ℕ, ◌+◌, ◌≤◌, Bool, true, false, cond, not, ◌||◌, List, [], ◌∷◌, ◌++◌, length, filter, Option, Some, None, Result, Ok, Err, arith, refl, sym, ap, subst, ◌∙◌}
+use Rattle.std.specs.List.{list_any}
 use Rattle.std.specs.Map.{lookup}
 use Rattle.std.specs.Option.{option_and_then, option_map_or}
 use Rattle.std.specs.Cmp.Lexicographic.{bytes_decides}
 use Rattle.std.specs.Prelude.{ok_or}
-use Rattle.std.proofs.lemmas.Bool.{and_parts}
-use Rattle.std.proofs.lemmas.Bool.Decides.{nat_tests}
 use Rattle.vtl_tree.specs.NotNull.{Declared, no_sets}
-use Rattle.vtl_tree.specs.Structure.{IsStructure, key_width, most_components, names_of, same_name}
-use Rattle.vtl_tree.specs.Structures.{AreStructures, Named, components_of, has_name, is_declarable, is_declarable_component, structure_of, with_component}
+use Rattle.vtl_tree.specs.Structure.{IsStructure, key_width, same_name}
+use Rattle.vtl_tree.specs.Structures.{AreStructures, Named, components_of, has_name, structure_of, with_component}
 use Rattle.vtl_tree.specs.declared.structure.Component.{Component}
 use Rattle.vtl_tree.specs.declared.structure.Structure.{Structure}
 use Rattle.vtl_tree.proofs.StructuresLemmas.{add_are, all_found}
 use Rattle.vtl_lists.specs.Aliases.{Record}
-use Rattle.vtl_lists.specs.Apart.{all_apart}
 use Rattle.vtl_lists.specs.Results.{◌>>=◌}
+use Rattle.vtl_lineage.proofs.ReadInputs.{declared_structure}
 use Rattle.vtl_csv.specs.declared.declarations.NewComponent.{NewComponent}
 use Rattle.vtl_csv.specs.declared.structures.Declared.{Declared as Whole}
 use Rattle.vtl_csv.specs.declared.version.Opening.{Opening}
@@ -23,7 +21,7 @@ use Rattle.vtl_csv.specs.declared.version.Version.{Version}
 use Rattle.vtl_csv.specs.Declarations.{Declaration, codes_of, component_in, dataset_in, declaration_of, declared_by, has_component, is_full, kind_in, listed_by, record_of, role_in, with_new}
 use Rattle.vtl_csv.specs.Opening.{Fault, first_line, opening_of}
 use Rattle.vtl_csv.specs.StructuresFile.{◌at_line◌, declaring, is_identifier, lacks_identifier, lines_behind, lines_declare, lines_in, missing_in, records_in, structures_of_file, with_identifiers, without_identifier}
-use Rattle.vtl_csv.proofs.DeclarationLemmas.{record_fits}
+use Rattle.vtl_csv.proofs.DeclarationLemmas.{record_fits, or_rule-kept}
 
 abbrev pub Records : Type 0
 Records = List Record
@@ -48,24 +46,20 @@ speaks_of version name fields = option_map_or (same_name name) (name_in version 
 abbrev has_record : Version → List ℕ → Records → Bool
 has_record version name rs = list_any (speaks_of version name) rs
 
-or_kept : {X Y : Type 0} (n : ℕ) (o : Option X) (f : X → Result Y ℕ) (y : Y) → (ok_or o n >>= f) ≡ Ok y → (x : X) × (o ≡ Some x) × (f x ≡ Ok y)
-or_kept n None f y e = cc
-or_kept n (Some x) f y e = (x, refl, e)
-
 unless_rule_kept : {Y : Type 0} (n : ℕ) (b : Bool) (r : Result Y ℕ) (y : Y) → cond b (Err n) r ≡ Ok y → r ≡ Ok y
 unless_rule_kept n true r y e = cc
 unless_rule_kept n false r y e = e
 
 declares_its_name : (version : Version) (so_far : Named) (d : Declaration) (n : NewComponent) → declared_by version so_far d ≡ Ok n → dataset_in d.dataset ≡ Some n.dataset
 declares_its_name version so_far d n e =
-    let s3 = or_kept 3 (dataset_in d.dataset) _ n e in
-    let s4 = or_kept 4 (component_in d.component) _ n s3.2 in
-    let s5 = or_kept 5 (role_in d.role) _ n s4.2 in
-    let s6 = or_kept 6 (kind_in d.kind) _ n s5.2 in
+    let s3 = or_rule-kept 3 (dataset_in d.dataset) _ n e in
+    let s4 = or_rule-kept 4 (component_in d.component) _ n s3.2 in
+    let s5 = or_rule-kept 5 (role_in d.role) _ n s4.2 in
+    let s6 = or_rule-kept 6 (kind_in d.kind) _ n s5.2 in
     let s7 = unless_rule_kept 7 (has_component so_far s3.0 s4.0) _ n s6.2 in
-    let s8 = or_kept 8 (codes_of s5.0 s6.0 d.code_list) _ n s7 in
+    let s8 = or_rule-kept 8 (codes_of s5.0 s6.0 d.code_list) _ n s7 in
     let s9 = unless_rule_kept 9 (is_full version so_far s3.0) _ n s8.2 in
-    let s11 = or_kept 11 (listed_by s5.0 d.nullable) _ n s9 in
+    let s11 = or_rule-kept 11 (listed_by s5.0 d.nullable) _ n s9 in
     let x : NewComponent = record { dataset = s3.0; component = record { name = s4.0; role = s5.0; kind = s6.0; codes = s8.0 }; is_listed = s11.0 } in
     s3.1 ∙ ap (λ (m : NewComponent). Some m.dataset) (ok_same x n s11.2)
   where
@@ -199,25 +193,12 @@ some_kept p (x ∷ xs) e = go (p x) (some_kept p xs) e
     go true h q = omega arith
     go false h q = h q
 
-pub declarable_is_structure : (t : Structure) → is_declarable t ≡ true → IsStructure t
-declarable_is_structure t e =
-    let parts = and_parts (nat_le 1 (length t.components) && nat_le (length t.components) most_components && all_apart same_name (names_of t.components)) (list_all is_declarable_component t.components) e in
-    let front = and_parts (nat_le 1 (length t.components) && nat_le (length t.components) most_components) (all_apart same_name (names_of t.components)) parts.0 in
-    let sizes = and_parts (nat_le 1 (length t.components)) (nat_le (length t.components) most_components) front.0 in
-    record { some = from (length t.components) sizes.0; few = upto (length t.components) sizes.1; distinct = front.1 }
-  where
-    from : (n : ℕ) → nat_le 1 n ≡ true → 1 ≤ n
-    from n e = grind (arith, nat_tests)
-
-    upto : (n : ℕ) → nat_le n most_components ≡ true → n ≤ most_components
-    upto n e = grind (arith, nat_tests)
-
 module _ (name text : List ℕ) (all : Whole) (t : Structure) (read : structures_of_file text ≡ Ok all) (found : lookup (same_name name) all.structures.sets ≡ Some t) where
   declared : IsDeclared all.structures.sets
   declared = file_declares (records_in text) all read
 
   pub read_is_structure : IsStructure t
-  read_is_structure = declarable_is_structure t (all_found (same_name name) all.structures.sets t declared.are.declarable found)
+  read_is_structure = declared_structure t (all_found (same_name name) all.structures.sets t declared.are.declarable found)
 
   pub read_has_identifier : 1 ≤ key_width t
   read_has_identifier =

@@ -9,6 +9,7 @@ use Rattle.std.proofs.lemmas.List.{map-append}
 use Rattle.std.proofs.lemmas.List.Splits.{length-slice_split, slice_split_first, slice_split_none}
 use Rattle.std.proofs.lemmas.List.Sums.{fails_before_first}
 use Rattle.std.proofs.lemmas.Str.{IsUtf8-from_is_utf8, is_utf8-from_IsUtf8}
+use Rattle.vtl_lists.proofs.Alls.{all_push}
 use Rattle.vtl_tree.specs.Structure.{same_name}
 use Rattle.vtl_tree.specs.Structures.{Named}
 use Rattle.vtl_tree.specs.declared.structure.Structure.{Structure}
@@ -21,7 +22,7 @@ use Rattle.vtl_top.specs.Steps.{Name, Text}
 use Rattle.vtl_top.specs.Words.{is_path}
 use Rattle.vtl_top.specs.declared.edits.Edit.{Edit as Program}
 use Rattle.vtl_top.specs.InputsRead.{AreReadable}
-use Rattle.vtl_top.proofs.InputLemmas.{all_and_one, key_taken, new_at}
+use Rattle.vtl_top.proofs.InputLemmas.{key_taken, new_at}
 
 module _ (inputs : List Name) (before : List Edit) where
   -- what comes of a line that others stand behind
@@ -71,7 +72,7 @@ one_found true e o x found is = record { is = refl; same = let f : option_map ed
 one_found false e o x found is = let f : option_map edit_view o ≡ Some (edit_view x) = ap (option_map edit_view) found in cc
 
 pub one_put : (P : Program → Type 0) (before now : List Program) (x : Program) → AllByRecursion P before → P x → now ≡ before ++ x ∷ [] → AllByRecursion P now
-one_put P before now x all p e = subst (AllByRecursion P) (sym e) (all_and_one P before x all p)
+one_put P before now x all p e = subst (AllByRecursion P) (sym e) (all_push P before x all p)
 
 pub put_view : (before now : List Program) (x : Program) (e : Edit) → now ≡ before ++ x ∷ [] → edit_view x ≡ e → map edit_view now ≡ map edit_view before ++ e ∷ []
 put_view before now x e is same = ap (map edit_view) is ∙ map-append edit_view before (x ∷ []) ∙ ap (λ (y : Edit). map edit_view before ++ y ∷ []) same

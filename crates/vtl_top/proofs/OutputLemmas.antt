@@ -1,8 +1,8 @@
 -- A new file is made of its pieces, and the files of a run are written one after the other.
-use Rattle.std.proofs.Common.{◌≡◌, ℕ, ◌≤◌, List, [], ◌∷◌, ◌++◌, Option, Some, None, refl, sym, ap, ◌∙◌, inr, arith, inl, length, map, subst, append_assoc}
+use Rattle.std.proofs.Common.{◌≡◌, ℕ, ◌≤◌, List, [], ◌∷◌, ◌++◌, Option, Some, None, refl, sym, ap, ◌∙◌, inr, arith, inl, map, subst, append_assoc}
 use Rattle.std.specs.Option.{option_map}
 use Rattle.std.proofs.lemmas.List.{append-nil, map-append}
-use Rattle.vtl_files.specs.Outside.{Rose, append_last, AppendsAll, FaultAt}
+use Rattle.vtl_files.specs.Outside.{append_last, AppendsAll, FaultAt}
 use Rattle.vtl_files.specs.Whole.{AppendsFront}
 use Rattle.std.specs.Prelude.{chars, string_bytes}
 use Rattle.vtl_files.specs.declared.files.Files.{Ghosts}
@@ -10,6 +10,7 @@ use Rattle.vtl_top.specs.OutputView.{NamesPath, output_view}
 use Rattle.vtl_top.specs.Steps.{File}
 use Rattle.vtl_top.specs.declared.output.Output.{Output}
 use Rattle.vtl_top.specs.Answered.{Adds, AddsFront, AddsUpTo, Faulted, OnlyWrites}
+use Rattle.vtl_top.proofs.StepLemmas.{rose_before}
 
 -- ---- a new file
 grown : (fs : List (List ℕ × List ℕ)) (name bytes more : List ℕ) → append_last more (fs ++ (name, bytes) ∷ []) ≡ fs ++ (name, bytes ++ more) ∷ []
@@ -30,14 +31,7 @@ front_of_file w0 w1 w2 name bytes e f = inr (f.1.front, f.0, f.1.whole, f.1.told
 pub whole_as_front : (w0 w1 w2 : Option (List (List ℕ × List ℕ))) (name bytes : List ℕ) → Adds w0 w1 ((name, bytes) ∷ []) → w2 ≡ w1 → AddsFront w0 w2 (name, bytes)
 whole_as_front w0 w1 w2 name bytes a e = inr (bytes, [], sym (append-nil bytes), e ∙ a)
 
-pub rose_earlier : (a b c : ℕ) → a ≤ b → Rose b c → Rose a c
-rose_earlier a b c h r = omega (arith, r)
-
 -- ---- outputs, one after the other
-pub nothing_left : {X : Type 0} (l : List X) → length l ≡ 0 → l ≡ []
-nothing_left [] h = refl
-nothing_left (x ∷ xs) h = absurd (omega arith)
-
 pub only_writes_nothing : {F : Type 0} (g : Ghosts F) (a : F) → OnlyWrites g a a
 only_writes_nothing g a = record { held = refl; misuses = refl; faults = omega arith; absences = refl }
 
@@ -87,4 +81,4 @@ stopped_in w0 w1 w2 all came x rest bytes same is named done (inr f) = record {
 }
 
 pub faulted_at : {F : Type 0} (g : Ghosts F) (a b c : F) (x : Output) → NamesPath x → g.faults a ≤ g.faults b → FaultAt (g.faults b) (g.faults c) (g.mark c) (g.place c) (string_bytes x.path) → Faulted g a c x.named
-faulted_at g a b c x named le f = (named ∙ sym (ap chars f.at_path), record { in_call = rose_earlier (g.faults a) (g.faults b) (g.faults c) le f.in_call; since_mark = f.since_mark; at_path = refl })
+faulted_at g a b c x named le f = (named ∙ sym (ap chars f.at_path), record { in_call = rose_before (g.faults a) (g.faults b) (g.faults c) le f.in_call; since_mark = f.since_mark; at_path = refl })

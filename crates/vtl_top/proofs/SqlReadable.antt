@@ -1,11 +1,11 @@
 -- The INPUTs of a script that is formed and typed can be read, and tables of their data sets are what the engine asks for.
-use Rattle.std.proofs.Common.{◌≡◌, ℕ, Bool, true, false, ◌||◌, List, [], ◌∷◌, ◌++◌, map, Option, Some, None, refl, sym, ap, subst, ◌∙◌, Result, Ok, Err, IfOk}
+use Rattle.std.proofs.Common.{◌≡◌, ℕ, true, false, List, [], ◌∷◌, ◌++◌, map, Option, Some, None, refl, sym, ap, subst, ◌∙◌, Result, Ok, Err, IfOk}
 use Rattle.std.specs.Cmp.Lexicographic.{nat_list_eq_equiv}
 use Rattle.std.specs.List.{AllByRecursion, list_any}
 use Rattle.std.specs.Map.{keys_of}
-use Rattle.std.specs.Option.{option_map_or}
 use Rattle.std.proofs.lemmas.List.Folds.{list_any-append}
 use Rattle.std.proofs.lemmas.List.{map-append}
+use Rattle.std.proofs.lemmas.Bool.{or_parts}
 use Rattle.vtl_lists.specs.Apart.{all_apart}
 use Rattle.vtl_cell.specs.Row.{Row}
 use Rattle.vtl_decimal.specs.Settings.{Settings}
@@ -30,7 +30,6 @@ use Rattle.sql_tree.specs.declared.statements.SqlScript.{SqlScript}
 use Rattle.vtl_top.specs.InputsRead.{AreReadable}
 use Rattle.vtl_status.specs.declared.status.Status.{Status}
 use Rattle.sql_check_laws.proofs.GivenColumns.{inputs_declared}
-use Rattle.sql_meaning.specs.Tables.{rows_of}
 use Rattle.sql_engine.specs.InputTables.{AreInputsInRange, HaveInputTables, IsInputTable, rows_given}
 use Rattle.sql_engine.specs.Structures.{structure_of}
 use Rattle.vtl_backend.specs.Inputs.{Holds, input_of, rows_named}
@@ -38,6 +37,7 @@ use Rattle.vtl_meaning.specs.Profiles.{AllAreOfProfile}
 use Rattle.vtl_top.specs.Wanted.{entry_wanted}
 use Rattle.vtl_top.specs.SqlInputs.{input_structures, inputs_wanted, rows_by_name}
 use Rattle.sql_engine.proofs.DeclaredInputs.{lawful_structure, table_is_input}
+use Rattle.sql_back.proofs.InputTables.{same_rows}
 
 -- ---- the structures of INPUTs
 pub structures_wanted : (ss : ScriptTree) → map entry_wanted (inputs_wanted ss) ≡ input_structures ss
@@ -62,11 +62,6 @@ AreFree tables inputs = AllByRecursion (λ e. is_taken tables e.0 ≡ false) inp
 record Apart (tables : Tables) (name : List ℕ) (columns : Columns) (inputs : Named) : Type 0 where
   free : AreFree tables inputs
   other : AllByRecursion (λ x. same_text name x ≡ false) (keys_of inputs)
-
-or_parts : (a b : Bool) → (a || b) ≡ false → (a ≡ false) × (b ≡ false)
-or_parts false false e = (refl, refl)
-or_parts false true e = cc
-or_parts true b e = cc
 
 taken_parts : (tables : Tables) (name other : List ℕ) (columns : Columns) → is_taken (tables ++ (name, columns) ∷ []) other ≡ false → (is_taken tables other ≡ false) × (same_text name other ≡ false)
 taken_parts tables name other columns e =
@@ -106,10 +101,6 @@ inputs_have_tables tables (tree.input s ∷ ss) held = (one (table_of s.name tab
     one (Some t) e h = table_is_input s tables t e h
 inputs_have_tables tables (tree.create name q ∷ ss) held = (tt, inputs_have_tables tables ss held)
 inputs_have_tables tables (tree.export s ∷ ss) held = (tt, inputs_have_tables tables ss held)
-
-same_rows : (o : Option Listed) → option_map_or (λ t. t.rows) o [] ≡ rows_of o
-same_rows None = refl
-same_rows (Some t) = refl
 
 pub inputs_are_in_range : (p : Settings) (tables : NamedTables) (ss : List StatementTree) → AllAreOfProfile p (map (input_of tables) (input_structures ss)) → AreInputsInRange p tables ss
 inputs_are_in_range p tables [] all = tt

@@ -8,6 +8,7 @@ use Rattle.std.proofs.lemmas.List.Folds.{list_all_at}
 use Rattle.std.proofs.lemmas.List.Sums.{fails_before_first, passes_at_first}
 use Rattle.std.proofs.lemmas.Option.{none-some, same_Some}
 use Rattle.std.proofs.lemmas.Slice.Eq.{bytes_eq-Decides}
+use Rattle.vtl_lists.proofs.Filters.{found_passes}
 use Rattle.vtl_cell.specs.Kinds.{same_kind}
 use Rattle.vtl_tree.specs.Structure.{same_name, same_role}
 use Rattle.vtl_tree.specs.declared.structure.Component.{Component}
@@ -35,14 +36,6 @@ module _ {X : Type 0} (p q : X → Bool) where
             → list_all q (cond b (x ∷ filter kept xs) (filter kept xs)) ≡ true
         go true i h ih = let parts = and_parts (p x) (list_all p (filter kept xs)) h in ap (λ b. b && list_all q (filter kept xs)) (f x i parts.0) ∙ ih parts.1
         go false i h ih = ih h
-
-found_passes : {X : Type 0} (f : X → Bool) (xs : List X) (y : X) → find f xs ≡ Some y → f y ≡ true
-found_passes f [] y e = absurd (none-some y e)
-found_passes f (x ∷ xs) y e = go (f x) refl e (found_passes f xs y)
-  where
-    go : (b : Bool) → f x ≡ b → cond b (Some x) (find f xs) ≡ Some y → (find f xs ≡ Some y → f y ≡ true) → f y ≡ true
-    go true i e ih = subst (λ z. f z ≡ true) (same_Some x y e) i
-    go false i e ih = ih e
 
 found_kept_passes : {X : Type 0} (p kept f : X → Bool) (xs : List X) (y : X) → list_all p (filter kept xs) ≡ true → find f xs ≡ Some y → kept y ≡ true → p y ≡ true
 found_kept_passes p kept f [] y h e k = absurd (none-some y e)

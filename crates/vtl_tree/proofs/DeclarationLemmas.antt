@@ -5,7 +5,7 @@ use Rattle.std.specs.Prelude.{OnErr, OnOk}
 use Rattle.std.specs.List.{AllByRecursion, flat_map, list_all, list_any}
 use Rattle.std.specs.Map.{keys_of, lookup, set_value}
 use Rattle.std.specs.Option.{option_map_or}
-use Rattle.std.proofs.lemmas.Bool.{and_from, and_parts}
+use Rattle.std.proofs.lemmas.Bool.{and_from, and_parts, not-true, or_parts}
 use Rattle.std.proofs.lemmas.List.{append-nil}
 use Rattle.std.proofs.lemmas.Map.Steps.{set_value_same}
 use Rattle.vtl_lists.specs.Apart.{all_apart}
@@ -69,19 +69,10 @@ pub same_any : (p q : List ℕ) (ks : List (List ℕ)) → same_name p q ≡ tru
 same_any p q [] s = refl
 same_any p q (k ∷ ks) s = ap (λ b. b || list_any (same_name p) ks) (nat_list_eq_equiv.congr p q k s) ∙ ap (λ b. same_name q k || b) (same_any p q ks s)
 
-pub or_none : (a b : Bool) → (a || b) ≡ false → (a ≡ false) × (b ≡ false)
-or_none false false e = (refl, refl)
-or_none false true e = cc
-or_none true b e = cc
-
-pub not_false : (b : Bool) → not b ≡ true → b ≡ false
-not_false false e = refl
-not_false true e = cc
-
 pub not_listed : (xs : Held) (name : List ℕ) → list_any (same_name name) (keys_of xs) ≡ false → lookup (same_name name) (lists_of xs) ≡ None
 not_listed [] name e = refl
 not_listed (x ∷ xs) name e =
-    let parts = or_none (same_name name x.0) (list_any (same_name name) (keys_of xs)) e in
+    let parts = or_parts (same_name name x.0) (list_any (same_name name) (keys_of xs)) e in
     go x.1.not_null parts.0 (not_listed xs name parts.1)
   where
     go : (ns : List (List ℕ)) → same_name name x.0 ≡ false → lookup (same_name name) (lists_of xs) ≡ None → lookup (same_name name) (with_list x.0 ns ++ lists_of xs) ≡ None
@@ -93,7 +84,7 @@ pub list_found : (xs : Held) (name : List ℕ) → all_apart same_name (keys_of 
 list_found [] name h = refl
 list_found (x ∷ xs) name h =
     let parts = and_parts (not (list_any (same_name x.0) (keys_of xs))) (all_apart same_name (keys_of xs)) h in
-    go (not_false (list_any (same_name x.0) (keys_of xs)) parts.0) (list_found xs name parts.1) (same_name name x.0) x.1.not_null refl refl
+    go (not-true (list_any (same_name x.0) (keys_of xs)) parts.0) (list_found xs name parts.1) (same_name name x.0) x.1.not_null refl refl
   where
     go : list_any (same_name x.0) (keys_of xs) ≡ false → not_null_of name (lists_of xs) ≡ option_map_or (λ d. d.not_null) (lookup (same_name name) xs) [] → (b : Bool) (ns : List (List ℕ)) → same_name name x.0 ≡ b → x.1.not_null ≡ ns
         → not_null_of name (with_list x.0 ns ++ lists_of xs) ≡ option_map_or (λ d. d.not_null) (cond b (Some x.1) (lookup (same_name name) xs)) []
@@ -118,12 +109,12 @@ found_own : (xs : Held) → all_apart same_name (keys_of xs) ≡ true → AllByR
 found_own [] h = tt
 found_own (x ∷ xs) h =
     let parts = and_parts (not (list_any (same_name x.0) (keys_of xs))) (all_apart same_name (keys_of xs)) h in
-    (ap (λ b. cond b (Some x.1) (lookup (same_name x.0) xs)) (nat_list_eq_equiv.refl x.0), behind xs (found_own xs parts.1) (not_false (list_any (same_name x.0) (keys_of xs)) parts.0))
+    (ap (λ b. cond b (Some x.1) (lookup (same_name x.0) xs)) (nat_list_eq_equiv.refl x.0), behind xs (found_own xs parts.1) (not-true (list_any (same_name x.0) (keys_of xs)) parts.0))
   where
     behind : (ys : Held) → AllByRecursion (λ y. lookup (same_name y.0) xs ≡ Some y.1) ys → list_any (same_name x.0) (keys_of ys) ≡ false → AllByRecursion (λ y. cond (same_name y.0 x.0) (Some x.1) (lookup (same_name y.0) xs) ≡ Some y.1) ys
     behind [] h f = tt
     behind (y ∷ ys) h f =
-        let parts = or_none (same_name x.0 y.0) (list_any (same_name x.0) (keys_of ys)) f in
+        let parts = or_parts (same_name x.0 y.0) (list_any (same_name x.0) (keys_of ys)) f in
         (ap (λ b. cond b (Some x.1) (lookup (same_name y.0) xs)) (nat_list_eq_equiv.symm y.0 x.0 ∙ parts.0) ∙ h.0, behind ys h.1 parts.1)
 
 own_lists : (all xs : Held) → all_apart same_name (keys_of all) ≡ true → AllByRecursion (λ x. lookup (same_name x.0) all ≡ Some x.1) xs → HaveOwn all xs

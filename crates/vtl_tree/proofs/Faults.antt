@@ -7,7 +7,7 @@ use Rattle.vtl_cell.specs.Outcome.{join, faults_by, unless}
 use Rattle.vtl_cell.specs.Outcomes.{Same}
 use Rattle.vtl_lists.specs.Perm.{Perm, empty, keep, cross, chain}
 
-join_swap : (f g h : Option Fault) → join f (join g h) ≡ join g (join f h)
+pub join_swap : (f g h : Option Fault) → join f (join g h) ≡ join g (join f h)
 join_swap None g h = refl
 join_swap (Some DivZero) None h = refl
 join_swap (Some DivZero) (Some DivZero) h = refl

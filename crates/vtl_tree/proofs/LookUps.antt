@@ -5,14 +5,11 @@ use Rattle.vtl_lists.specs.Perm.{Perm, empty, keep, cross, chain}
 use Rattle.vtl_lists.proofs.Aparts.{all_apart-Perm, apart_parts}
 use Rattle.vtl_lists.proofs.Perms.{Perm-same, Perm-sym, Perm-middle}
 use Rattle.vtl_lists.proofs.Sorts.{AllByRecursion-filter}
+use Rattle.vtl_lists.proofs.Alls.{all_more}
 use Rattle.vtl_cell.specs.Row.{Row, same_key, same_row}
 use Rattle.vtl_cell.proofs.Rows.{same_key-sym, same_row-is, same_row-refl, same_row-sym}
 use Rattle.vtl_tree.specs.DataSet.{Distinct, look}
 use Rattle.vtl_tree.specs.Kept.{kept_row}
-
-weaker : {X : Type 0} (P Q : X → Type 0) → ((x : X) → P x → Q x) → (xs : List X) → AllByRecursion P xs → AllByRecursion Q xs
-weaker P Q f [] all = tt
-weaker P Q f (x ∷ xs) all = (f x all.0, weaker P Q f xs all.1)
 
 -- the rows whose keys differ from that of a row, and what it is for the first point to differ from all others
 abbrev Apart : ℕ → Row → Row → Type 0
@@ -28,7 +25,7 @@ look_nowhere n k (r ∷ d) all = rw all.0 (look_nowhere n k d all.1)
 
 apart_key : (n : ℕ) (r : Row) (k : Row) (d : List Row) → AllByRecursion (Apart n r) d → same_row (take n r) k ≡ true → AllByRecursion (λ s. same_row (take n s) k ≡ false) d
 apart_key n r k d all e =
-    weaker (Apart n r) _ (λ s h. subst (λ z. same_row (take n s) z ≡ false) (same_row-is (take n r) k e) (same_row-sym (take n s) (take n r) ∙ h)) d all
+    all_more (Apart n r) _ (λ s h. subst (λ z. same_row (take n s) z ≡ false) (same_row-is (take n r) k e) (same_row-sym (take n s) (take n r) ∙ h)) d all
 
 -- ---- filter
 look_filter_at : (n : ℕ) (p : Row → Bool) (r : Row) (d : List Row) (k : Row) (b q : Bool) → same_row (take n r) k ≡ b → p r ≡ q → look n (filter p d) k ≡ kept_row p (look n d k) → (b ≡ true → look n (filter p d) k ≡ None) → look n (cond q (r ∷ filter p d) (filter p d)) k ≡ kept_row p (cond b (Some r) (look n d k))

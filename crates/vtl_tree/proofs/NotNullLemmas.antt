@@ -5,9 +5,10 @@ use Rattle.std.specs.Prelude.{OnErr, OnOk}
 use Rattle.std.specs.List.{AllByRecursion, list_all, list_any}
 use Rattle.std.specs.Map.{keys_of, lookup, set_value}
 use Rattle.std.specs.Option.{option_map_or}
-use Rattle.std.proofs.lemmas.Bool.{and_from, and_parts}
+use Rattle.std.proofs.lemmas.Bool.{and_from, and_parts, not-true, or_parts}
 use Rattle.std.proofs.lemmas.List.{append-nil}
 use Rattle.vtl_lists.specs.Apart.{all_apart}
+use Rattle.vtl_lists.proofs.Tests.{or_true}
 use Rattle.vtl_text.proofs.Apart.{apart_push}
 use Rattle.vtl_tree.specs.declared.structure.Component.{Component}
 use Rattle.vtl_tree.specs.declared.structure.Role.TheVariants as role
@@ -17,17 +18,13 @@ use Rattle.vtl_tree.specs.Declarations.{AreDeclarations, Held, declared, lists_o
 use Rattle.vtl_tree.specs.NotNull.{NotNull, are_not_null, is_no_identifier, longer_list, not_null_of, with_list, with_name}
 use Rattle.vtl_tree.specs.Structure.{names_of, same_name, same_role}
 use Rattle.vtl_tree.specs.Structures.{Fits, components_of, has_name, is_declarable, structure_of}
-use Rattle.vtl_tree.proofs.DeclarationLemmas.{any_more, keys_seen, list_found, names_more, not_false, not_listed, or_none, same_any, same_are, seen_kept, set_are, fits, was, written}
+use Rattle.vtl_tree.proofs.DeclarationLemmas.{any_more, keys_seen, list_found, names_more, not_listed, same_any, same_are, seen_kept, set_are, fits, was, written}
 use Rattle.vtl_tree.proofs.StructuresLemmas.{all_push, more_is_declarable}
 
 -- ---- the name fits the longer structure
 
-same_itself : (n : List ℕ) → same_name n n ≡ true
+pub same_itself : (n : List ℕ) → same_name n n ≡ true
 same_itself n = nat_list_eq_equiv.refl n
-
-or_true : (b : Bool) → (b || true) ≡ true
-or_true true = refl
-or_true false = refl
 
 named : (cs : List Component) (n : List ℕ) → list_any (is_no_identifier n) cs ≡ true → list_any (same_name n) (names_of cs) ≡ true
 named [] n e = cc
@@ -73,14 +70,14 @@ past : (k : List ℕ) (ns : List (List ℕ)) (ls : NotNull) (ys : Held) → list
 past k [] ls ys e all = all
 past k (n ∷ ns) ls [] e all = tt
 past k (n ∷ ns) ls (y ∷ ys) e all =
-    let parts = or_none (same_name k y.0) (list_any (same_name k) (keys_of ys)) e in
+    let parts = or_parts (same_name k y.0) (list_any (same_name k) (keys_of ys)) e in
     (ap (λ b. unwrap_or (cond b (Some (n ∷ ns)) (lookup (same_name y.0) ls)) []) (nat_list_eq_equiv.symm y.0 k ∙ parts.0) ∙ all.0, past k (n ∷ ns) ls ys parts.1 all.1)
 
 own_lists : (xs : Held) → all_apart same_name (keys_of xs) ≡ true → AreListed (lists_of xs) xs
 own_lists [] h = tt
 own_lists (x ∷ xs) h =
     let parts = and_parts (not (list_any (same_name x.0) (keys_of xs))) (all_apart same_name (keys_of xs)) h in
-    (list_found (x ∷ xs) x.0 h ∙ first (same_name x.0 x.0) (same_itself x.0), past x.0 x.1.not_null (lists_of xs) xs (not_false (list_any (same_name x.0) (keys_of xs)) parts.0) (own_lists xs parts.1))
+    (list_found (x ∷ xs) x.0 h ∙ first (same_name x.0 x.0) (same_itself x.0), past x.0 x.1.not_null (lists_of xs) xs (not-true (list_any (same_name x.0) (keys_of xs)) parts.0) (own_lists xs parts.1))
   where
     first : (b : Bool) → b ≡ true → option_map_or (λ d. d.not_null) (cond b (Some x.1) (lookup (same_name x.0) xs)) [] ≡ x.1.not_null
     first true e = refl
@@ -90,7 +87,7 @@ own_lists (x ∷ xs) h =
 none_longer : (ls : NotNull) (name n : List ℕ) (ys : Held) → list_any (same_name name) (keys_of ys) ≡ false → AreListed ls ys → with_name name n (sets_of ys) ls ≡ lists_of ys
 none_longer ls name n [] e all = refl
 none_longer ls name n (y ∷ ys) e all =
-    let parts = or_none (same_name name y.0) (list_any (same_name name) (keys_of ys)) e in
+    let parts = or_parts (same_name name y.0) (list_any (same_name name) (keys_of ys)) e in
     ap (λ b. with_list y.0 (cond b (not_null_of y.0 ls ++ n ∷ []) (not_null_of y.0 ls)) ++ with_name name n (sets_of ys) ls) parts.0
     ∙ ap (λ ns. with_list y.0 ns ++ with_name name n (sets_of ys) ls) all.0
     ∙ ap (λ l. with_list y.0 y.1.not_null ++ l) (none_longer ls name n ys parts.1 all.1)
@@ -112,7 +109,7 @@ one_longer ls name n (x ∷ xs) s t h all e q = go (same_name name x.0) refl (on
         let list : not_null_of x.0 ls ++ n ∷ [] ≡ t.not_null = ap (λ l. l ++ n ∷ []) (all.0 ∙ ap (λ d. d.not_null) same) ∙ sym q in
         sym (ap (λ b. with_list x.0 (cond b (not_null_of x.0 ls ++ n ∷ []) (not_null_of x.0 ls)) ++ with_name name n (sets_of xs) ls) p
         ∙ ap (λ ns. with_list x.0 ns ++ with_name name n (sets_of xs) ls) list
-        ∙ ap (λ l. with_list x.0 t.not_null ++ l) (none_longer ls name n xs (same_any name x.0 (keys_of xs) p ∙ not_false (list_any (same_name x.0) (keys_of xs)) parts.0) all.1))
+        ∙ ap (λ l. with_list x.0 t.not_null ++ l) (none_longer ls name n xs (same_any name x.0 (keys_of xs) p ∙ not-true (list_any (same_name x.0) (keys_of xs)) parts.0) all.1))
     go false p ih f =
         sym (ap (λ b. with_list x.0 (cond b (not_null_of x.0 ls ++ n ∷ []) (not_null_of x.0 ls)) ++ with_name name n (sets_of (set_value (same_name name) xs t)) ls) p
         ∙ ap (λ ns. with_list x.0 ns ++ with_name name n (sets_of (set_value (same_name name) xs t)) ls) all.0
@@ -124,7 +121,7 @@ new_list : (ls : NotNull) (name n : List ℕ) (s : Structure) (ys : Held) → li
 new_list ls name n s [] e all none =
     ap (λ b. with_list name (cond b (not_null_of name ls ++ n ∷ []) (not_null_of name ls)) ++ []) (same_itself name) ∙ ap (λ l. with_list name (l ++ n ∷ []) ++ []) none
 new_list ls name n s (y ∷ ys) e all none =
-    let parts = or_none (same_name name y.0) (list_any (same_name name) (keys_of ys)) e in
+    let parts = or_parts (same_name name y.0) (list_any (same_name name) (keys_of ys)) e in
     ap (λ b. with_list y.0 (cond b (not_null_of y.0 ls ++ n ∷ []) (not_null_of y.0 ls)) ++ with_name name n (sets_of ys ++ (name, s) ∷ []) ls) parts.0
     ∙ ap (λ ns. with_list y.0 ns ++ with_name name n (sets_of ys ++ (name, s) ∷ []) ls) all.0
     ∙ ap (λ l. with_list y.0 y.1.not_null ++ l) (new_list ls name n s ys parts.1 all.1 none)
@@ -168,7 +165,7 @@ module _ (xs between new : Held) (name : List ℕ) (x : Component) (s t other : 
 no_key : (ys : Held) (n : List ℕ) → list_any (same_name n) (keys_of ys) ≡ false → list_any (same_name n) (keys_of (lists_of ys)) ≡ false
 no_key [] n e = refl
 no_key (y ∷ ys) n e =
-    let parts = or_none (same_name n y.0) (list_any (same_name n) (keys_of ys)) e in
+    let parts = or_parts (same_name n y.0) (list_any (same_name n) (keys_of ys)) e in
     go y.1.not_null parts.0 (no_key ys n parts.1)
   where
     go : (ms : List (List ℕ)) → same_name n y.0 ≡ false → list_any (same_name n) (keys_of (lists_of ys)) ≡ false → list_any (same_name n) (keys_of (with_list y.0 ms ++ lists_of ys)) ≡ false
@@ -179,8 +176,8 @@ differs : (ys : Held) (j : ℕ) (name : List ℕ) (d : Declaration) (k : List �
 differs [] j name d k e h = cc
 differs (y ∷ ys) zero name d k e h =
     let same : y ≡ (name, d) = cc in
-    nat_list_eq_equiv.symm name k ∙ ap (λ (q : List ℕ × Declaration). same_name k q.0) (sym same) ∙ (or_none (same_name k y.0) (list_any (same_name k) (keys_of ys)) h).0
-differs (y ∷ ys) (suc j) name d k e h = differs ys j name d k e (or_none (same_name k y.0) (list_any (same_name k) (keys_of ys)) h).1
+    nat_list_eq_equiv.symm name k ∙ ap (λ (q : List ℕ × Declaration). same_name k q.0) (sym same) ∙ (or_parts (same_name k y.0) (list_any (same_name k) (keys_of ys)) h).0
+differs (y ∷ ys) (suc j) name d k e h = differs ys j name d k e (or_parts (same_name k y.0) (list_any (same_name k) (keys_of ys)) h).1
 
 pub list_is_new : (xs : Held) (i : ℕ) (name : List ℕ) (d : Declaration) → all_apart same_name (keys_of xs) ≡ true → slice_get xs i ≡ Some (name, d) → list_any (same_name name) (keys_of (lists_of (take i xs))) ≡ false
 list_is_new xs i name d h e = no_key (take i xs) name (before xs i h e)
@@ -190,7 +187,7 @@ list_is_new xs i name d h e = no_key (take i xs) name (before xs i h e)
     before (y ∷ ys) zero p q = refl
     before (y ∷ ys) (suc j) p q =
         let parts = and_parts (not (list_any (same_name y.0) (keys_of ys))) (all_apart same_name (keys_of ys)) p in
-        ap (λ b. b || list_any (same_name name) (keys_of (take j ys))) (differs ys j name d y.0 q (not_false (list_any (same_name y.0) (keys_of ys)) parts.0)) ∙ before ys j parts.1 q
+        ap (λ b. b || list_any (same_name name) (keys_of (take j ys))) (differs ys j name d y.0 q (not-true (list_any (same_name y.0) (keys_of ys)) parts.0)) ∙ before ys j parts.1 q
 
 more_lists : (xs : Held) (i : ℕ) (name : List ℕ) (d : Declaration) → slice_get xs i ≡ Some (name, d) → lists_of (take (suc i) xs) ≡ lists_of (take i xs) ++ with_list name d.not_null
 more_lists [] i name d e = cc

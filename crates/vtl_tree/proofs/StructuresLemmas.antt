@@ -151,11 +151,6 @@ pub began : {A E : Type 0} (xs old new : Named) (name : List ℕ) (x : Component
 began xs old new name x s (Ok a) same none e q = q ∙ ap (λ l. l ++ (name, s) ∷ []) same ∙ ap (λ t. xs ++ (name, t) ∷ []) e ∙ sym (begins_data_set xs name x (not_there xs name none))
 began xs old new name x s (Err a) same none e q = tt
 
--- what stays where a call fails
-pub on_err : {T E P : Type 0} (r : Result T E) → P → OnErr r P
-on_err (Ok x) p = tt
-on_err (Err e) p = p
-
 pub kept_same : {X T E : Type 0} (xs old new : X) (r : Result T E) → old ≡ xs → OnErr r (new ≡ old) → OnErr r (new ≡ xs)
 kept_same xs old new (Ok x) same e = tt
 kept_same xs old new (Err e) same k = k ∙ same

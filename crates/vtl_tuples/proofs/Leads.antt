@@ -1,5 +1,5 @@
 -- Tuples of items that agree, from one of the lists.
-use Rattle.std.proofs.Common.{◌≡◌, List, [], ◌∷◌, ◌++◌, Bool, true, false, ◌&&◌, cond, map, Option, Some, None, refl, sym, ap, ◌∙◌, subst}
+use Rattle.std.proofs.Common.{◌≡◌, List, [], ◌∷◌, ◌++◌, Bool, true, ◌&&◌, cond, map, Option, Some, None, refl, sym, ap, ◌∙◌, subst}
 use Rattle.std.specs.List.{AllByRecursion, filter, flat_map, list_all}
 use Rattle.std.specs.Option.{option_to_list}
 use Rattle.std.proofs.lemmas.Bool.{and_parts}
@@ -8,6 +8,9 @@ use Rattle.std.proofs.lemmas.List.Folds.{list_all-append}
 use Rattle.vtl_lists.specs.Each.{cons_if, each_some}
 use Rattle.vtl_lists.specs.Perm.{Perm, chain}
 use Rattle.vtl_lists.proofs.Perms.{Perm-same, Perm-filter, Perm-flat_map_each, Perm-map}
+use Rattle.vtl_lists.proofs.Alls.{all_append, all_from_test, all_more, all_with, test_from_all}
+use Rattle.vtl_lists.proofs.Sorts.{AllByRecursion-map}
+use Rattle.vtl_lists.proofs.Tests.{same_tests}
 use Rattle.vtl_tuples.specs.Leads.{Finds, FindsOnly, Leads}
 use Rattle.vtl_tuples.specs.Tuples.{all_agree, combinations, led, matching}
 use Rattle.vtl_tuples.proofs.Lists.{filter-flat_map, filter-map, filter_before, filter_same, flat_map_each, flat_map_same, flat_map_turned, map-flat_map, map-map, map_same}
@@ -46,37 +49,7 @@ combinations_of_options f (o ∷ os) = ap (λ c. flat_map (λ x. map (λ t. x �
     go (Some x) None = refl
     go (Some x) (Some xs) = refl
 
--- ---- tests as facts
-all_from : {X : Type 0} (p : X → Bool) (xs : List X) → list_all p xs ≡ true → AllByRecursion (λ x. p x ≡ true) xs
-all_from p [] e = tt
-all_from p (x ∷ xs) e = let h = and_parts (p x) (list_all p xs) e in (h.0, all_from p xs h.1)
-
-all_to : {X : Type 0} (p : X → Bool) (xs : List X) → AllByRecursion (λ x. p x ≡ true) xs → list_all p xs ≡ true
-all_to p [] all = refl
-all_to p (x ∷ xs) all = ap (λ b. b && list_all p xs) all.0 ∙ all_to p xs all.1
-
-same_test : (a b : Bool) → (a ≡ true → b ≡ true) → (b ≡ true → a ≡ true) → a ≡ b
-same_test true b f g = sym (f refl)
-same_test false true f g = g refl
-same_test false false f g = refl
-
 -- ---- what holds of each combination
-all_append : {X : Type 0} (P : X → Type 0) (xs ys : List X) → AllByRecursion P xs → AllByRecursion P ys → AllByRecursion P (xs ++ ys)
-all_append P [] ys h i = i
-all_append P (x ∷ xs) ys h i = (h.0, all_append P xs ys h.1 i)
-
-all_map : {X Y : Type 0} (f : X → Y) (P : Y → Type 0) (xs : List X) → AllByRecursion (λ x. P (f x)) xs → AllByRecursion P (map f xs)
-all_map f P [] all = tt
-all_map f P (x ∷ xs) all = (all.0, all_map f P xs all.1)
-
-all_more : {X : Type 0} (P Q : X → Type 0) → ((x : X) → P x → Q x) → (xs : List X) → AllByRecursion P xs → AllByRecursion Q xs
-all_more P Q f [] all = tt
-all_more P Q f (x ∷ xs) all = (f x all.0, all_more P Q f xs all.1)
-
-all_both : {X : Type 0} (P Q : X → Type 0) (xs : List X) → AllByRecursion P xs → AllByRecursion Q xs → AllByRecursion (λ x. P x × Q x) xs
-all_both P Q [] h i = tt
-all_both P Q (x ∷ xs) h i = ((h.0, i.0), all_both P Q xs h.1 i.1)
-
 -- items of which P holds, in tuples that hold r at a place
 abbrev Around : {X : Type 0} → X → List X → Type 0
 Around {X = X} r t = (u : List X) × (v : List X) × (t ≡ u ++ r ∷ v)
@@ -85,7 +58,7 @@ fronts : {X : Type 0} (P : X → Type 0) (Q Q' : List X → Type 0) (xs : List X
 fronts P Q Q' [] ts f h i = tt
 fronts P Q Q' (x ∷ xs) ts f h i =
     all_append Q' (map (λ t. x ∷ t) ts) (flat_map (λ z. map (λ t. z ∷ t) ts) xs)
-    (all_map (λ t. x ∷ t) Q' ts (all_more Q (λ t. Q' (x ∷ t)) (λ t q. f x t h.0 q) ts i))
+    (AllByRecursion-map (λ t. x ∷ t) Q' ts (all_more Q (λ t. Q' (x ∷ t)) (λ t q. f x t h.0 q) ts i))
     (fronts P Q Q' xs ts f h.1 i)
 
 combined : {X : Type 0} (P : X → Type 0) (xss : List (List X)) → AllByRecursion (AllByRecursion P) xss → AllByRecursion (AllByRecursion P) (combinations xss)
@@ -99,7 +72,7 @@ around P r (xs ∷ pre) post h i = fronts P (Around r) (Around r) xs (combinatio
 -- ---- an item that tells for all others whether they agree
 module _ {X : Type 0} (P : X → Type 0) (agree : X → X → Bool) (r : X) (leads : Leads P agree r) where
   there : (u v : List X) → AllByRecursion P (u ++ r ∷ v) → all_agree agree (u ++ r ∷ v) ≡ true → AllByRecursion (λ y. agree r y ≡ true) (u ++ r ∷ v)
-  there [] v all e = (leads.self, all_from (agree r) v (and_parts (list_all (agree r) v) (all_agree agree v) e).0)
+  there [] v all e = (leads.self, all_from_test (agree r) v (and_parts (list_all (agree r) v) (all_agree agree v) e).0)
   there (x ∷ u) v all e =
       let h = and_parts (list_all (agree x) (u ++ r ∷ v)) (all_agree agree (u ++ r ∷ v)) e in
       let at_r = and_parts (list_all (agree x) u) (agree x r && list_all (agree x) v) (sym (list_all-append (agree x) u (r ∷ v)) ∙ h.0) in
@@ -108,15 +81,15 @@ module _ {X : Type 0} (P : X → Type 0) (agree : X → X → Bool) (r : X) (lea
   back : (t : List X) → AllByRecursion P t → AllByRecursion (λ y. agree r y ≡ true) t → all_agree agree t ≡ true
   back [] all h = refl
   back (x ∷ t) all h =
-      ap (λ b. b && all_agree agree t) (all_to (agree x) t (all_more (λ y. P y × (agree r y ≡ true)) (λ y. agree x y ≡ true) (λ y q. leads.covers x y all.0 q.0 h.0 q.1) t (all_both P (λ y. agree r y ≡ true) t all.1 h.1)))
+      ap (λ b. b && all_agree agree t) (test_from_all (agree x) t (all_more (λ y. P y × (agree r y ≡ true)) (λ y. agree x y ≡ true) (λ y q. leads.covers x y all.0 q.0 h.0 q.1) t (all_with P (λ y. agree r y ≡ true) t all.1 h.1)))
       ∙ back t all.1 h.1
 
   by_lead : (t : List X) → AllByRecursion P t → Around r t → all_agree agree t ≡ list_all (agree r) t
   by_lead t all q =
       let all' = subst (AllByRecursion P) q.2 all in
       ap (all_agree agree) q.2
-      ∙ same_test (all_agree agree (q.0 ++ r ∷ q.1)) (list_all (agree r) (q.0 ++ r ∷ q.1))
-      (λ e. all_to (agree r) (q.0 ++ r ∷ q.1) (there q.0 q.1 all' e)) (λ e. back (q.0 ++ r ∷ q.1) all' (all_from (agree r) (q.0 ++ r ∷ q.1) e))
+      ∙ same_tests (all_agree agree (q.0 ++ r ∷ q.1)) (list_all (agree r) (q.0 ++ r ∷ q.1))
+      (λ e. test_from_all (agree r) (q.0 ++ r ∷ q.1) (there q.0 q.1 all' e)) (λ e. back (q.0 ++ r ∷ q.1) all' (all_from_test (agree r) (q.0 ++ r ∷ q.1) e))
       ∙ ap (list_all (agree r)) (sym q.2)
 
 -- ---- the tuples that agree, from the lead
@@ -148,12 +121,12 @@ module _ {X O : Type 0} (P : X → Type 0) (agree : X → X → Bool) (items : O
       one r q =
           let us = map items pre in
           let vs = map items post in
-          let in_us = all_map items (AllByRecursion P) pre in_pre in
-          let in_vs = all_map items (AllByRecursion P) post in_post in
+          let in_us = AllByRecursion-map items (AllByRecursion P) pre in_pre in
+          let in_vs = AllByRecursion-map items (AllByRecursion P) post in_post in
           let tuples = combinations (us ++ (r ∷ []) ∷ vs) in
           let typed = combined P (us ++ (r ∷ []) ∷ vs) (all_append (AllByRecursion P) us ((r ∷ []) ∷ vs) in_us ((q.leads.of, tt), in_vs)) in
           filter_same (all_agree agree) (list_all (agree r)) tuples
-          (all_more (λ t. AllByRecursion P t × Around r t) (λ t. all_agree agree t ≡ list_all (agree r) t) (λ t h. by_lead P agree r q.leads t h.0 h.1) tuples (all_both (AllByRecursion P) (Around r) tuples typed (around P r us vs in_us in_vs)))
+          (all_more (λ t. AllByRecursion P t × Around r t) (λ t. all_agree agree t ≡ list_all (agree r) t) (λ t h. by_lead P agree r q.leads t h.0 h.1) tuples (all_with (AllByRecursion P) (Around r) tuples typed (around P r us vs in_us in_vs)))
           ∙ combinations_kept (agree r) (us ++ (r ∷ []) ∷ vs)
           ∙ ap combinations (kept_each r pre lead post q.before q.behind q.leads.self q.own)
           ∙ combinations_of_options (f r) (pre ++ lead ∷ post)

@@ -5,6 +5,7 @@ use Rattle.std.proofs.lemmas.List.{append-nil}
 use Rattle.std.proofs.lemmas.List.Elements.{filter-append}
 use Rattle.vtl_lists.specs.Apart.{all_apart}
 use Rattle.vtl_lists.proofs.Aparts.{all_apart-filter, apart_more, apart_parts}
+use Rattle.vtl_lists.proofs.Filters.{filter-filter, filter_all}
 use Rattle.vtl_tuples.specs.Keys.{TellsApart, and_once, each_once}
 use Rattle.vtl_tuples.proofs.Folds.{after_each}
 use Rattle.vtl_tuples.proofs.Lists.{filter_each}
@@ -14,18 +15,6 @@ not_either true true = refl
 not_either true false = refl
 not_either false true = refl
 not_either false false = refl
-
-filter-filter : {X : Type 0} (p q : X → Bool) (xs : List X) → filter p (filter q xs) ≡ filter (λ x. q x && p x) xs
-filter-filter p q [] = refl
-filter-filter p q (x ∷ xs) = go (q x) (filter-filter p q xs)
-  where
-    go : (b : Bool) → filter p (filter q xs) ≡ filter (λ y. q y && p y) xs → filter p (cond b (x ∷ filter q xs) (filter q xs)) ≡ cond (b && p x) (x ∷ filter (λ y. q y && p y) xs) (filter (λ y. q y && p y) xs)
-    go true ih = ap (λ l. cond (p x) (x ∷ l) l) ih
-    go false ih = ih
-
-filter_all : {X : Type 0} (p : X → Bool) (xs : List X) → AllByRecursion (λ x. p x ≡ true) xs → filter p xs ≡ xs
-filter_all p [] all = refl
-filter_all p (x ∷ xs) all = ap (λ b. cond b (x ∷ filter p xs) (filter p xs)) all.0 ∙ ap (λ l. x ∷ l) (filter_all p xs all.1)
 
 -- what a filter for another item keeps is another one
 kept_apart : {X : Type 0} (same : X → X → Bool) (x : X) (xs : List X) → AllByRecursion (λ y. same x y ≡ false) (filter (λ y. not (same x y)) xs)

@@ -15,7 +15,7 @@ pub all_in_list : (ns : List NodeTree) → in_list (nodes_of ns) ≡ ns
 all_in_list [] = refl
 all_in_list (n ∷ ns) = ap (λ l. n ∷ l) (all_in_list ns)
 
-operand_node : (o : JoinOperand) → (operand_tree o).node ≡ node_tree o.node
+pub operand_node : (o : JoinOperand) → (operand_tree o).node ≡ node_tree o.node
 operand_node o = let e : operand_tree o ≡ record { node = node_tree o.node; alias = o.alias } = search (rules, operand.the_lemmas) in ap (λ (t : OperandTree). t.node) e
 
 pub all_in_join : (os : List JoinOperand) → in_join (operands_of (map operand_tree os)) ≡ map (λ o. node_tree o.node) os

@@ -5,7 +5,6 @@ use Rattle.std.specs.Prelude.{IfOk}
 use Rattle.std.specs.List.{range_with_len}
 use Rattle.std.specs.Option.{option_map_or}
 use Rattle.std.proofs.lemmas.List.{append-nil, drop-set-lt, drop_all, drop_more, map-append, map_more, take_all, take_more_set}
-use Rattle.vtl_decimal.specs.declared.number.Fault.TheVariants.{DivZero, Range}
 use Rattle.vtl_decimal.specs.declared.number.Fault.{Fault}
 use Rattle.vtl_cell.specs.Outcome.{Outcome, fault_in, faults_by, join}
 use Rattle.vtl_cell.specs.Row.{Row, column_of}
@@ -15,7 +14,7 @@ use Rattle.vtl_tree.specs.Environment.{DataSet}
 use Rattle.vtl_tree.specs.Shown.{shown}
 use Rattle.vtl_tree.specs.Structure.{columns_of}
 use Rattle.vtl_tree.specs.declared.structure.Component.{Component}
-use Rattle.vtl_tree.proofs.Faults.{faults_by-append, join_assoc, join_none}
+use Rattle.vtl_tree.proofs.Faults.{faults_by-append, join_assoc, join_none, join_swap}
 use Rattle.vtl_meaning.specs.Aggregates.{Made}
 use Rattle.vtl_meaning.specs.Points.{cell_or_null}
 use Rattle.vtl_meaning.specs.Analytics.{made_of, point_of, tree_value, value_for}
@@ -139,15 +138,6 @@ module _ (made : Made) (ys : List Component) (q : Row) (points : List Row) where
           cc
 
 -- ---- faults, column by column or point by point
-join_swap : (f g h : Option Fault) → join f (join g h) ≡ join g (join f h)
-join_swap None g h = refl
-join_swap (Some DivZero) None h = refl
-join_swap (Some DivZero) (Some DivZero) h = refl
-join_swap (Some DivZero) (Some Range) h = refl
-join_swap (Some Range) None h = refl
-join_swap (Some Range) (Some DivZero) h = refl
-join_swap (Some Range) (Some Range) h = refl
-
 pair_up : (a b f g : Option Fault) → join (join a b) (join f g) ≡ join (join a f) (join b g)
 pair_up a b f g = join_assoc a b (join f g) ∙ ap (join a) (join_swap b f g) ∙ sym (join_assoc a f (join b g))
 

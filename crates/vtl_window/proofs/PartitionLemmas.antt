@@ -2,6 +2,7 @@
 use Rattle.std.proofs.Common.{◌≡◌, ℕ, ◌-◌, ◌<◌, true, List, ◌++◌, length, drop, take, get_or, map}
 use Rattle.std.specs.List.{AllByRecursion}
 use Rattle.vtl_lists.specs.Perm.{Perm}
+use Rattle.vtl_lists.proofs.Alls.{all_more}
 use Rattle.vtl_cell.specs.Row.{Row}
 use Rattle.vtl_rows.specs.Places.{IsOrderOf, row_at}
 use Rattle.vtl_rows.specs.declared.column.SortKey.{SortKey}
@@ -15,7 +16,7 @@ use Rattle.vtl_tree.specs.declared.structure.Component.{Component}
 use Rattle.vtl_meaning.specs.Groups.{places_named}
 use Rattle.vtl_meaning.specs.Windows.{partition_of}
 use Rattle.vtl_tree.specs.declared.calls.Window.{Window}
-use Rattle.vtl_meaning.proofs.Places.{all_more, point_length}
+use Rattle.vtl_meaning.proofs.Places.{point_length}
 use Rattle.vtl_window.specs.Sorted.{order_keys, partition_keys}
 use Rattle.vtl_window.proofs.SortLemmas.{partition_is}
 

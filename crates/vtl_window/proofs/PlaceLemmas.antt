@@ -2,16 +2,17 @@
 use Rattle.std.proofs.Common.{◌≡◌, ℕ, zero, suc, ◌<◌, ◌≤◌, ◌⊎◌, inl, inr, List, [], ◌∷◌, length, take, get_or, Bool, true, false, not, refl, sym, ap, ◌∙◌, arith, true≢false}
 use Rattle.std.specs.Prelude.{count_by}
 use Rattle.std.specs.Ordering.{is_lt}
+use Rattle.std.proofs.lemmas.Bool.{cases_lt}
 use Rattle.vtl_lists.specs.Apart.{all_apart}
 use Rattle.vtl_cell.specs.Row.{Row, same_key, same_row}
 use Rattle.vtl_cell.specs.Sorted.{Key, window_cmp}
 use Rattle.vtl_lists.specs.Sorting.{Rises, le_by}
-use Rattle.vtl_lists.proofs.Aparts.{apart_more, apart_parts}
+use Rattle.vtl_lists.proofs.Aparts.{apart_parts}
+use Rattle.vtl_lists.proofs.Alls.{all_get}
 use Rattle.vtl_cell.proofs.Keys.{window_order}
 use Rattle.vtl_cell.proofs.Rows.{same_row-is, same_row-refl}
-use Rattle.vtl_meaning.proofs.Places.{all_more}
-use Rattle.vtl_frames.proofs.ListLemmas.{all_get, rises_get}
-use Rattle.vtl_frames.proofs.RankLemmas.{below_or_not, count_front}
+use Rattle.vtl_frames.proofs.ListLemmas.{rises_get}
+use Rattle.vtl_frames.proofs.RankLemmas.{count_front}
 
 -- ---- rows that are apart
 
@@ -21,13 +22,6 @@ key_apart n r q h = go (same_row r q) refl
     go : (b : Bool) → same_row r q ≡ b → b ≡ false
     go true e = absurd (true≢false (sym (same_row-refl (take n r)) ∙ ap (same_key n r) (same_row-is r q e) ∙ h))
     go false e = refl
-
--- rows whose keys are apart are apart
-pub apart_in : (n : ℕ) (rows : List Row) → all_apart (same_key n) rows ≡ true → all_apart same_row rows ≡ true
-apart_in n [] e = refl
-apart_in n (r ∷ rows) e =
-    let parts = apart_parts (same_key n) r rows e in
-    apart_more same_row r rows (all_more (λ q. same_key n r q ≡ false) (λ q. same_row r q ≡ false) (key_apart n r) rows parts.0) (apart_in n rows parts.1)
 
 pub apart_at : (same : Row → Row → Bool) (rows : List Row) (j k : ℕ) → j < k → k < length rows → all_apart same rows ≡ true → same (get_or rows j []) (get_or rows k []) ≡ false
 apart_at same [] j k h l e = absurd (omega (arith, l))
@@ -60,7 +54,7 @@ module _ (keys : List Key) (columns : List ℕ) (rows : List Row) (rises : Rises
           absurd (true≢false (sym (ap (same_row (at k)) (sym one) ∙ same_row-refl (at k)) ∙ apart_at same_row rows k i h l apart))
 
   behind : (i k : ℕ) → i ≤ k → k < length rows → is_lt (window_cmp keys columns (at k) (at i)) ≡ false
-  behind i k h l = not_false (is_lt (window_cmp keys columns (at k) (at i))) (go (below_or_not i k))
+  behind i k h l = not_false (is_lt (window_cmp keys columns (at k) (at i))) (go (cases_lt i k))
     where
       go : (i < k) ⊎ (k ≤ i) → le (at i) (at k) ≡ true
       go (inl below) = rises_get le rows i k [] below l rises

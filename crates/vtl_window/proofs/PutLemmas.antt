@@ -13,7 +13,7 @@ use Rattle.vtl_cell.specs.Outcome.{Outcome, fault_in, join}
 use Rattle.vtl_cell.specs.declared.cell.Cell.{Cell}
 use Rattle.vtl_cell.specs.declared.cell.Cell.TheVariants as c
 use Rattle.vtl_lists.proofs.Perms.{AllByRecursion-Perm, Perm-from_IsPermutation, Perm-sym, length-Perm}
-use Rattle.vtl_frames.proofs.ListLemmas.{all_get}
+use Rattle.vtl_lists.proofs.Alls.{all_get}
 use Rattle.vtl_tree.proofs.Faults.{faults_by-Perm, join_assoc}
 use Rattle.vtl_meaning.specs.Points.{cell_or_null}
 use Rattle.vtl_window.specs.Analyses.{cells_by, faults_of}

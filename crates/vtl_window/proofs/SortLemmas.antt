@@ -3,6 +3,7 @@ use Rattle.std.proofs.Common.{◌≡◌, ℕ, suc, ◌+◌, ◌<◌, Bool, true,
 use Rattle.std.specs.List.{AllByRecursion}
 use Rattle.std.proofs.lemmas.List.{map-append}
 use Rattle.std.proofs.lemmas.List.Elements.{All-from_recursion}
+use Rattle.vtl_lists.proofs.Alls.{all_append, all_front}
 use Rattle.vtl_cell.specs.Sorted.{rising}
 use Rattle.vtl_rows.specs.Keys.{key_of}
 use Rattle.vtl_rows.specs.declared.column.SortKey.{SortKey}
@@ -12,13 +13,14 @@ use Rattle.vtl_tree.specs.declared.structure.Structure.{Structure}
 use Rattle.vtl_tree.specs.Columns.{identifiers_of, others_of, place_of, places_in}
 use Rattle.vtl_meaning.specs.Groups.{places_named}
 use Rattle.vtl_meaning.proofs.Kept.{column_within}
-use Rattle.vtl_meaning.proofs.Places.{all_append, all_front, columns_split, same_name-refl}
+use Rattle.vtl_meaning.proofs.Places.{columns_split}
 use Rattle.vtl_meaning.specs.Made.{IsNamedColumn}
 use Rattle.vtl_meaning.specs.Windows.{key_in, keys_in}
 use Rattle.vtl_tree.specs.declared.calls.AnalyticOp.{AnalyticOp}
 use Rattle.vtl_tree.specs.declared.calls.AnalyticOp.TheVariants as op
 use Rattle.vtl_tree.specs.declared.calls.OrderKey.{OrderKey}
 use Rattle.vtl_tree.specs.declared.calls.Window.{Window}
+use Rattle.vtl_tree.proofs.NotNullLemmas.{same_itself}
 use Rattle.vtl_window.specs.Sorted.{identifier_keys, order_keys, ordering_key, partition_keys, rising_key, sort_keys, tie_breakers}
 
 -- ---- what they are
@@ -67,7 +69,7 @@ one_before name x xs h = go (same_name x.name name)
 
 own_places : (xs : List Component) → AllByRecursion (λ y. place_of y.name xs < length xs) xs
 own_places [] = tt
-own_places (x ∷ xs) = (first (same_name x.name x.name) (same_name-refl x.name), more xs (own_places xs))
+own_places (x ∷ xs) = (first (same_name x.name x.name) (same_itself x.name), more xs (own_places xs))
   where
     first : (b : Bool) → b ≡ true → cond (not b) (1 + place_of x.name xs) 0 < suc (length xs)
     first true e = omega arith

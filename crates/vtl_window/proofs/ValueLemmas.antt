@@ -17,6 +17,7 @@ use Rattle.vtl_cell.proofs.Keys.{window_order}
 use Rattle.vtl_lists.proofs.Perms.{Perm-sym}
 use Rattle.vtl_cell.proofs.Rows.{row_cmp_total, same_row-is, same_row-refl, same_row-sym}
 use Rattle.vtl_lists.proofs.Sorts.{Perm-sorted_by, Rises-map, sorted_is}
+use Rattle.vtl_lists.proofs.Alls.{all_get}
 use Rattle.vtl_rows.specs.Keys.{agree}
 use Rattle.vtl_rows.specs.Places.{IsOrderOf, row_at}
 use Rattle.vtl_rows.specs.Tables.{cells_at}
@@ -34,14 +35,15 @@ use Rattle.vtl_tree.specs.declared.calls.AnalyticCall.{AnalyticCall}
 use Rattle.vtl_tree.specs.declared.calls.AnalyticOp.{AnalyticOp}
 use Rattle.vtl_tree.specs.declared.calls.AnalyticOp.TheVariants as op
 use Rattle.vtl_meaning.proofs.Places.{key_cells, key_within}
+use Rattle.vtl_meaning.proofs.WindowPlaces.{rows_apart}
 use Rattle.vtl_window.specs.Runs.{run_values, stand_at, value_at}
 use Rattle.vtl_window.specs.Sorted.{identifier_keys, order_keys, partition_keys, sort_keys, tie_breakers}
-use Rattle.vtl_frames.proofs.ListLemmas.{all_get, listed, map_same, rises_with}
+use Rattle.vtl_frames.proofs.ListLemmas.{listed, map_same, rises_with}
 use Rattle.vtl_frames.proofs.OrderLemmas.{at_most}
 use Rattle.vtl_frames.proofs.RankLemmas.{count_by-Perm, row_rank-Perm}
 use Rattle.vtl_frames.proofs.StretchLemmas.{IsStretch}
 use Rattle.vtl_window.proofs.PartitionLemmas.{perm_at, run_order, within}
-use Rattle.vtl_window.proofs.PlaceLemmas.{apart_at, apart_in, place_in}
+use Rattle.vtl_window.proofs.PlaceLemmas.{apart_at, place_in}
 use Rattle.vtl_window.proofs.SortLemmas.{order_ids_are}
 
 -- ---- identifiers
@@ -148,7 +150,7 @@ module _ (d : DataSet) (own : IsDataSet d.structure d.points) (call : AnalyticCa
           let ordered = map (row_at rows) run in
           let agreed = places_named call.window.partition xs in
           let perm = perm_at d call.window last_keys places order s e h i l in
-          let apart = sym (all_apart-Perm same_row same_row-sym perm) ∙ all_apart-filter same_row (λ q. agree agreed q r) rows (apart_in (key_width d.structure) rows own.distinct) in
+          let apart = sym (all_apart-Perm same_row same_row-sym perm) ∙ all_apart-filter same_row (λ q. agree agreed q r) rows (rows_apart (key_width d.structure) rows own.distinct) in
           let there : get_or ordered i [] ≡ r = get_or-map (row_at rows) run i 0 [] l in
           let inside : i < length ordered = let many = length-map run (row_at rows) in omega (arith, many, l) in
           sym (place_in listed_keys ids ordered rows_rise apart i inside) ∙ ap (λ q. count_by (λ z. is_lt (window_cmp listed_keys ids z q)) ordered) there

@@ -1,6 +1,6 @@
 use Rattle.std.proofs.Common.{◌≡◌, [], sym, ◌∙◌, append-nil}
 use Rattle.std.specs.Vec.Iter.{into_iter_items}
-use Rattle.check_clauses.proofs.ListLemmas.{nothing_left}
+use Rattle.vtl_lists.proofs.Filters.{nothing_left}
 use Rattle.check_clauses.proofs.aggr_targets.targets_in.Goals as goal
 
 pub returns : goal.returns

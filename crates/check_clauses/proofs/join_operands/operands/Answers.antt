@@ -5,7 +5,7 @@ use Rattle.vtl_tree.specs.NodeView.{operand_tree}
 use Rattle.check_clauses.specs.JoinOperands.{operand_in, operands_in}
 use Rattle.check_clauses.specs.JoinView.{part_view}
 use Rattle.std.proofs.lemmas.List.{map-append}
-use Rattle.check_clauses.proofs.ListLemmas.{nothing_left}
+use Rattle.vtl_lists.proofs.Filters.{nothing_left}
 use Rattle.check_clauses.proofs.OperandLemmas.{behind, operands_step}
 use Rattle.check_clauses.proofs.join_operands.operands.Goals as goal
 

@@ -7,11 +7,11 @@ use Rattle.check_faults.specs.Answers.{Answers}
 use Rattle.check_operators.specs.Places.{env_of}
 use Rattle.check_operators.specs.Typed.{boxed_tree, typed_tree}
 use Rattle.check_operators.specs.declared.places.Place.TheVariants as at
+use Rattle.check_clauses.proofs.ClauseErrors.{refused, structure-there}
 use Rattle.check_rules.specs.Calls.{variables_known}
 use Rattle.check_expressions.specs.Defined.{point_definition_view}
 use Rattle.check_expressions.specs.Rulesets.{at_variables, checked_points, point_rules_typed}
 use Rattle.check_expressions.proofs.PointLemmas.{call_typed}
-use Rattle.check_expressions.proofs.StepErrors.{refused, structure-there}
 use Rattle.check_expressions.proofs.datapoints.datapoint_typed.Goals as goal
 
 pub returns-in_err-rules : goal.returns-in_err-rules

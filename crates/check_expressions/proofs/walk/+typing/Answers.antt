@@ -9,7 +9,7 @@ use Rattle.check_faults.specs.Answers.{Answers}
 use Rattle.check_operators.specs.Typed.{boxed_tree, typed_tree}
 use Rattle.check_clauses.specs.JoinOperands.{joined_of}
 use Rattle.check_clauses.specs.JoinView.{operands_view, parts_view}
-use Rattle.check_expressions.proofs.StepErrors.{refused}
+use Rattle.check_clauses.proofs.ClauseErrors.{refused}
 use Rattle.check_expressions.specs.Rulings.{sight_in}
 use Rattle.check_expressions.specs.Typing.{filtered_join, join_end}
 use Rattle.check_expressions.specs.WalkView.{maybe_tree}

@@ -1,7 +1,8 @@
 use Rattle.std.proofs.Common.{rules, length, ◌∙◌, ◌+◌, ◌-◌, sym, ap, arith}
 use Rattle.vtl_grammar.specs.Faults.{kinds}
 use Rattle.vtl_grammar.specs.Reading.{more_items}
-use Rattle.read_parts.proofs.Turns.{kinds-length, more_items-ends, more_items-full, more_items-stops, more_items-turn}
+use Rattle.vtl_grammar.proofs.UniqueLemmas.{kinds-length}
+use Rattle.read_parts.proofs.Turns.{more_items-ends, more_items-full, more_items-stops, more_items-turn}
 use Rattle.read_parts.proofs.lists.more.Goals.{else-loop-test, then-loop-test+in_default}
 use Rattle.read_parts.proofs.lists.more.Goals as goal
 

@@ -1,10 +1,11 @@
 use Rattle.std.proofs.Common.{◌≡◌, ◌++◌, [], ◌∷◌, true, take, ap, sym, subst, ◌∙◌}
 use Rattle.std.specs.List.{AllByRecursion, flat_map}
+use Rattle.vtl_lists.proofs.Alls.{all_at as each_at}
 use Rattle.vtl_tree.specs.NotNull.{are_not_null, not_null_of, with_list}
 use Rattle.vtl_tree.specs.Structures.{AreStructures, Named, has_name, is_declarable_entry}
 use Rattle.vtl_tree.proofs.StructuresLemmas.{all_at}
 use Rattle.vtl_check.proofs.KnownLemmas.{new_at, one_more}
-use Rattle.script_parts.proofs.Lists.{each_at, flat_one_more}
+use Rattle.script_parts.proofs.Lists.{flat_one_more}
 use Rattle.script_parts.proofs.known.declared.Goals as goal
 
 pub put_declared-requires-clause-new_name : goal.put_declared-requires-clause-new_name

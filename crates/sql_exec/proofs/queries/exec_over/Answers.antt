@@ -21,9 +21,10 @@ use Rattle.sql_check_laws.specs.Selects.{IsSelectTyped}
 use Rattle.sql_exec.specs.Outputs.{Adds, fault_seen}
 use Rattle.sql_exec.specs.Parts.{IsPart}
 use Rattle.sql_meaning.proofs.Planned.{plan_stands}
+use Rattle.sql_meaning.proofs.HeldTables.{kinds_are}
 use Rattle.sql_exec.proofs.PlannedSelects.{gives_same}
 use Rattle.sql_exec.proofs.QueryParts.{query_parts}
-use Rattle.sql_exec.proofs.WholeQueries.{answered_keeps, columns_are, columns_long, first_many, first_named, gives, kinds_held, query_kinds_are, some_selects}
+use Rattle.sql_exec.proofs.WholeQueries.{answered_keeps, columns_are, columns_long, first_many, first_named, gives, query_kinds_are, some_selects}
 use Rattle.sql_exec.proofs.queries.exec_over.Goals as goal
 
 pub query_kinds-requires-clause-typed : goal.query_kinds-requires-clause-typed
@@ -74,7 +75,7 @@ add_selects-requires-clause-columns g c =
     let is : map select_tree selects ≡ q = ap (map select_tree) c.as_slice-selects.ensures ∙ ap query_tree c.query.ensures.query in
     let made = c.in_ok-columns.ensures ∙ ap (λ (items : List Item). zip (map (λ (x : Item). x.name) items) c.deref.result.now) c.as_slice.ensures in
     let are = columns_are tables selects c.index-selects-0.result c.deref.result.now c.in_ok-columns.columns.items (some_selects selects q is c.requires.formed) (c.deref.ensures.value ∙ c.in_ok-kinds.ensures) made in
-    ap column_kinds c.new-out.ensures.columns ∙ kinds_held c.in_ok-columns.columns.items ∙ ap kinds_of are ∙ query_kinds_are tables (map select_tree selects) ∙ sym (c.deref-2.ensures.value ∙ c.in_ok-kinds.ensures)
+    ap column_kinds c.new-out.ensures.columns ∙ kinds_are c.in_ok-columns.columns.items ∙ ap kinds_of are ∙ query_kinds_are tables (map select_tree selects) ∙ sym (c.deref-2.ensures.value ∙ c.in_ok-kinds.ensures)
 
 pub returns-clause-columns : goal.returns-clause-columns
 returns-clause-columns g c =

@@ -1,4 +1,5 @@
 use Rattle.std.proofs.Common.{◌≡◌, ◌∙◌, [], List, ap, subst}
+use Rattle.std.proofs.lemmas.Result.{IfOk-weaker}
 use Rattle.vtl_cell.specs.Outcome.{Outcome, unless}
 use Rattle.vtl_cell.specs.Row.{Row}
 use Rattle.vtl_scalar.specs.Answers.{AnswersBy}
@@ -10,14 +11,14 @@ use Rattle.sql_from.specs.Held.{base_held}
 use Rattle.sql_from.specs.Sources.{Sourced, scope_held}
 use Rattle.sql_from.specs.Standing.{rows_for}
 use Rattle.sql_from.specs.declared.tuple_rows.TupleRows.{TupleRows}
-use Rattle.sql_from.proofs.Standing.{filtered_kept, if_ok, scope_filtered}
+use Rattle.sql_from.proofs.Standing.{filtered_kept, scope_filtered}
 use Rattle.sql_from.proofs.selects.source_tuples.Goals as goal
 
 pub returns-clause-scope : goal.returns-clause-scope
 returns-clause-scope g c =
     let b = base_held c.args.p.now c.args.tables.now in
     let s = select_tree c.args.select.now in
-    if_ok c.finish.result _ _
+    IfOk-weaker c.finish.result _ _
     (λ r same. ap (λ (z : Sourced). scope_held z.sources) same ∙ c.in_ok-joined.ensures.stands.scope ∙ scope_filtered b s c.args.early.now)
     c.finish.ensures.sources
 

@@ -1,10 +1,10 @@
 use Rattle.std.proofs.Common.{◌≡◌, ◌<◌, ◌≤◌, ◌++◌, ◌∷◌, ◌∙◌, [], true, length, map, cond, ap, sym, subst, refl, arith}
 use Rattle.std.specs.List.{AllByRecursion, filter}
 use Rattle.std.proofs.lemmas.List.{take_all}
+use Rattle.vtl_lists.proofs.Alls.{all_get}
 use Rattle.vtl_cell.specs.Outcome.{faults_by, join}
 use Rattle.vtl_rows.specs.Places.{row_at}
 use Rattle.vtl_rows.specs.Tables.{fits}
-use Rattle.sql_meaning.proofs.Lists.{all_at}
 use Rattle.sql_from.specs.Held.{rows_held}
 use Rattle.sql_from.specs.KeyPartners.{Asking}
 use Rattle.sql_meaning.specs.Profiles.{AreOfProfile, IsRowOfProfile}
@@ -31,7 +31,7 @@ of-at-requires g c =
         ranged =
             subst (λ (a : Asking). IsRowOfProfile a.settings c.deref.result.now) (sym c.in_ok-partners.ensures.keys)
             (subst (IsRowOfProfile c.args.p.now) (sym (c.deref.ensures.value ∙ c.in_ok-put_key.ensures))
-            (all_at (IsRowOfProfile c.args.p.now) g.keys c.loop-number.number [] within
+            (all_get (IsRowOfProfile c.args.p.now) g.keys c.loop-number.number [] within
             (subst (AreOfProfile c.args.p.now) (sym c.in_ok-groups.ensures.keys_are) (keys_of_profile c.args.p.now (places_of x c.args.group.now) (rows_of x) c.requires.ranged))));
       };
     }
@@ -48,7 +48,7 @@ push_group-requires g c =
     let group = group_is x c.args.group.now g i c.of-at.result c.in_ok-groups.ensures within c.of-at.ensures.held (c.of-at.ensures.key ∙ c.deref.ensures.value ∙ c.in_ok-put_key.ensures) (c.of-at.ensures.rows ∙ ap (rows_at (rows_of x)) c.rows.ensures) in
     ap (λ (z : Group). fits c.loop-number.table.columns (row_for p (rows_held z.held) z.key z.rows s)) group
     ∙ ap (λ l. fits l (row_of_key a s (row_at g.keys i))) c.loop-number.invariant.columns
-    ∙ all_at (λ k. fits c.args.table.now.columns (row_of_key a s k) ≡ true) g.keys i [] within
+    ∙ all_get (λ k. fits c.args.table.now.columns (row_of_key a s k) ≡ true) g.keys i [] within
     (subst (λ ks. AllByRecursion (λ k. fits c.args.table.now.columns (row_of_key a s k) ≡ true) ks) (sym c.in_ok-groups.ensures.keys_are) c.requires.made)
 
 pub loop-number-preserved : goal.loop-number-preserved

@@ -2,6 +2,7 @@ use Rattle.std.proofs.Common.{◌≡◌, ◌<◌, ap, ◌∙◌, length, map, no
 use Rattle.std.proofs.lemmas.Result.{IfOk-weaker}
 use Rattle.std.specs.List.{range_with_len}
 use Rattle.std.proofs.lemmas.List.Elements.{All-same}
+use Rattle.vtl_lists.proofs.Filters.{first_within}
 use Rattle.vtl_rows.specs.Tables.{Tabled}
 use Rattle.vtl_syntax.specs.declared.word_groups.Retain.TheVariants as retain
 use Rattle.vtl_tree.specs.Structure.{key_width}
@@ -9,13 +10,12 @@ use Rattle.vtl_meaning.specs.Operators.{left_of}
 use Rattle.vtl_meaning.specs.Sets.{difference_of, has_point}
 use Rattle.vtl_combine.specs.Operands.{left_at, retained}
 use Rattle.vtl_combine.proofs.OperandLemmas.{chosen_left}
-use Rattle.vtl_combine.proofs.RowLemmas.{all_below}
 use Rattle.vtl_combine.proofs.differences.reduced_rows.Goals as goal
 
 pub retained-requires : goal.retained-requires
 retained-requires c =
     let n = length c.args.a.now.points in
-    All-same (λ i. i < n) c.deref.result.now (range_with_len 0 n) (c.deref.ensures.value ∙ c.in_ok-rows.ensures ∙ ap (range_with_len 0) (c.len.ensures.rows ∙ ap length c.table.ensures.points)) (all_below n)
+    All-same (λ i. i < n) c.deref.result.now (range_with_len 0 n) (c.deref.ensures.value ∙ c.in_ok-rows.ensures ∙ ap (range_with_len 0) (c.len.ensures.rows ∙ ap length c.table.ensures.points)) (first_within n)
 
 pub returns-clause-rows : goal.returns-clause-rows
 returns-clause-rows c =

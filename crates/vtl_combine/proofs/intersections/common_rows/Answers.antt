@@ -2,16 +2,15 @@ use Rattle.std.proofs.Common.{◌<◌, ◌≤◌, ◌∙◌, ap, sym, length, ta
 use Rattle.std.specs.List.{filter, range_with_len}
 use Rattle.std.proofs.lemmas.List.{take_all}
 use Rattle.std.proofs.lemmas.List.Elements.{All-filter, All-same}
+use Rattle.vtl_lists.proofs.Filters.{filter_true, first_within}
 use Rattle.vtl_tree.specs.Environment.{DataSet}
 use Rattle.vtl_tree.specs.Shown.{shown}
 use Rattle.vtl_tree.specs.Structure.{key_width}
 use Rattle.vtl_syntax.specs.declared.word_groups.Retain.TheVariants as retain
 use Rattle.vtl_meaning.specs.Operators.{left_of}
 use Rattle.vtl_meaning.specs.Sets.{has_point}
-use Rattle.vtl_meaning.proofs.SetsKept.{filter_true}
 use Rattle.vtl_combine.specs.Operands.{all_have, left_at, retained}
 use Rattle.vtl_combine.proofs.ChosenLemmas.{all_more_tests}
-use Rattle.vtl_combine.proofs.RowLemmas.{all_below}
 use Rattle.vtl_combine.proofs.intersections.common_rows.Goals as goal
 
 pub loop-other-init : goal.loop-other-init
@@ -24,7 +23,7 @@ retained-requires c =
     let d = c.args.operand.now in
     let n = length d.points in
     let test : ℕ → Bool = all_have d (shown (take c.loop-other.other-index c.args.others.now)) c.args.made.now in
-    All-same (λ i. i < n) c.deref.result.now (filter test (range_with_len 0 n)) (c.deref.ensures.value ∙ c.loop-other.invariant) (All-filter test (λ i. i < n) (range_with_len 0 n) (all_below n))
+    All-same (λ i. i < n) c.deref.result.now (filter test (range_with_len 0 n)) (c.deref.ensures.value ∙ c.loop-other.invariant) (All-filter test (λ i. i < n) (range_with_len 0 n) (first_within n))
 
 pub loop-other-preserved : goal.loop-other-preserved
 loop-other-preserved c =

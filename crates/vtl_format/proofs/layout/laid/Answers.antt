@@ -4,9 +4,10 @@ use Rattle.vtl_lexer.specs.Pieces.{IsCutOf}
 use Rattle.vtl_lexer.specs.declared.token.Token.{Token}
 use Rattle.std.proofs.Common.{◌≡◌, ◌-◌, List, length, take}
 use Rattle.std.proofs.lemmas.Grind.{elements}
+use Rattle.vtl_lists.proofs.Alls.{all_drop}
 use Rattle.vtl_format.specs.Form.{lexemes_at}
 use Rattle.vtl_format.specs.Layout.{laid}
-use Rattle.vtl_format.proofs.Lists.{all-drop, all-written, next-written}
+use Rattle.vtl_format.proofs.Lists.{all-written, next-written}
 use Rattle.vtl_format.proofs.layout.laid.Goals as goal
 
 pub loop-i-init : goal.loop-i-init
@@ -20,7 +21,7 @@ write_first-requires-clause-cut c =
     let tokens = c.args.tokens.now in
     let i = c.loop-i.i in
     let whole : take (length tokens - i) (drop i tokens) ≡ drop i tokens = grind (arith, elements) in
-    subst (λ (l : List Token). AllByRecursion (IsCutOf c.args.text.now) l) (sym whole) (all-drop (IsCutOf c.args.text.now) i tokens c.requires)
+    subst (λ (l : List Token). AllByRecursion (IsCutOf c.args.text.now) l) (sym whole) (all_drop (IsCutOf c.args.text.now) i tokens c.requires)
 
 pub loop-i-preserved : goal.loop-i-preserved
 loop-i-preserved c =

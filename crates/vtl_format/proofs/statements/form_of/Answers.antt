@@ -2,6 +2,7 @@ use Rattle.std.proofs.Common.{rules, ◌≡◌, ◌<◌, ◌∷◌, ◌++◌, �
 use Rattle.std.specs.List.{AllByRecursion}
 use Rattle.std.specs.Vec.Iter.{into_iter_items}
 use Rattle.std.proofs.lemmas.Bool.Decides.{nat_tests}
+use Rattle.vtl_lists.proofs.Filters.{nothing_left}
 use Rattle.vtl_lexer.specs.Pieces.{IsCutAt, IsCutOf, pieces_of}
 use Rattle.vtl_lexer.specs.declared.parts.Part.{Part}
 use Rattle.vtl_lexer.specs.declared.token.Token.{Token}
@@ -9,7 +10,7 @@ use Rattle.vtl_format.specs.Form.{form_of_pieces, lexemes_at}
 use Rattle.vtl_format.specs.Layout.{statement_form}
 use Rattle.vtl_format.specs.Written.{written}
 use Rattle.vtl_format.proofs.FormLaws.{written-is_form}
-use Rattle.vtl_format.proofs.Lists.{all-front, last-written, lexemes_at-length, none-left, none-written}
+use Rattle.vtl_format.proofs.Lists.{all-front, last-written, lexemes_at-length, none-written}
 use Rattle.vtl_format.proofs.statements.form_of.Goals as goal
 
 pub loop-part-init : goal.loop-part-init
@@ -48,7 +49,7 @@ pub returns-then-is_empty : goal.returns-then-is_empty
 returns-then-is_empty c =
     let at = c.loop-part in
     let text = c.args.text.now in
-    let empty : into_iter_items at.part-iterator ≡ [] = none-left (into_iter_items at.part-iterator) (sym at.invariant.left ∙ c.in-None.ensures.steps.0) in
+    let empty : into_iter_items at.part-iterator ≡ [] = nothing_left (into_iter_items at.part-iterator) (sym at.invariant.left ∙ c.in-None.ensures.steps.0) in
     let none : length at.held.tokens.items ≡ 0 = grind (arith, nat_tests) in
     none-written (lexemes_at text at.held.tokens.items) (string_bytes at.out) (form_of_pieces (pieces_of text c.args.parts.items)) (lexemes_at-length text at.held.tokens.items ∙ none)
     (ap (λ (l : List Part). string_bytes at.out ++ written at.held.inside (lexemes_at text at.held.tokens.items) (pieces_of text l)) (sym empty) ∙ at.invariant.so_far)
@@ -60,7 +61,7 @@ pub returns : goal.returns
 returns c =
     let at = c.loop-part in
     let text = c.args.text.now in
-    let empty : into_iter_items at.part-iterator ≡ [] = none-left (into_iter_items at.part-iterator) (sym at.invariant.left ∙ c.in-None.ensures.steps.0) in
+    let empty : into_iter_items at.part-iterator ≡ [] = nothing_left (into_iter_items at.part-iterator) (sym at.invariant.left ∙ c.in-None.ensures.steps.0) in
     let some : 0 < length at.held.tokens.items = grind (arith, nat_tests) in
     let is = c.in_ok-write_statement.ensures ∙ ap (λ (l : List Token). string_bytes at.out ++ (statement_form (lexemes_at text l) ++ 10 ∷ [])) c.as_slice.ensures.value in
     last-written (lexemes_at text at.held.tokens.items) (string_bytes at.out) (string_bytes c.write_statement.new.out) (form_of_pieces (pieces_of text c.args.parts.items)) (omega (arith, some, lexemes_at-length text at.held.tokens.items)) is

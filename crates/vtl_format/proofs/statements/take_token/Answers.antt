@@ -1,9 +1,10 @@
 use Rattle.std.proofs.Common.{◌∙◌, List, string_bytes, subst, sym}
 use Rattle.std.specs.List.{AllByRecursion}
 use Rattle.std.proofs.lemmas.Result.{IfOk-weaker}
+use Rattle.vtl_lists.proofs.Alls.{all_push}
 use Rattle.vtl_lexer.specs.Pieces.{IsCutOf}
 use Rattle.vtl_lexer.specs.declared.token.Token.{Token}
-use Rattle.vtl_format.proofs.Lists.{all-more, token-ends, token-kept}
+use Rattle.vtl_format.proofs.Lists.{token-ends, token-kept}
 use Rattle.vtl_format.proofs.statements.take_token.Goals as goal
 
 pub returns-then-ends_statement-clause-held : goal.returns-then-ends_statement-clause-held
@@ -17,7 +18,7 @@ returns-then-ends_statement-clause-written c =
 
 pub returns-else-ends_statement-clause-held : goal.returns-else-ends_statement-clause-held
 returns-else-ends_statement-clause-held c =
-    IfOk-weaker c.hold.result _ _ (λ done more. subst (λ (l : List Token). AllByRecursion (IsCutOf c.args.text.now) l) (sym more) (all-more (IsCutOf c.args.text.now) c.args.held.now.tokens.items c.args.token c.requires.held c.requires.token))
+    IfOk-weaker c.hold.result _ _ (λ done more. subst (λ (l : List Token). AllByRecursion (IsCutOf c.args.text.now) l) (sym more) (all_push (IsCutOf c.args.text.now) c.args.held.now.tokens.items c.args.token c.requires.held c.requires.token))
     c.hold.ensures.tokens
 
 pub returns-else-ends_statement-clause-written : goal.returns-else-ends_statement-clause-written

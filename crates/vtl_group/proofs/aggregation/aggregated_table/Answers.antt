@@ -2,6 +2,7 @@ use Rattle.std.proofs.Common.{◌≡◌, ◌<◌, ◌≤◌, ◌++◌, ◌∷◌
 use Rattle.std.specs.Prelude.{IfOk}
 use Rattle.std.specs.List.{AllByRecursion}
 use Rattle.std.proofs.lemmas.List.{take_all}
+use Rattle.vtl_lists.proofs.Alls.{all_get}
 use Rattle.vtl_cell.specs.Outcome.{faults_by, join}
 use Rattle.vtl_cell.specs.Row.{Row}
 use Rattle.vtl_rows.specs.Places.{row_at}
@@ -16,7 +17,6 @@ use Rattle.vtl_expr.proofs.PointLemmas.{answered_keeps, finished}
 use Rattle.vtl_sets.proofs.TableLemmas.{answered_is_table, point_fits}
 use Rattle.vtl_index.specs.Groups.{firsts}
 use Rattle.vtl_meaning.specs.Aggregates.{aggregate_of, condition_fault, condition_of, group_fault, made_of}
-use Rattle.vtl_meaning.proofs.GroupKinds.{all_at}
 use Rattle.vtl_meaning.proofs.GroupPoints.{keys_are, point_is, result_is}
 use Rattle.vtl_group.proofs.Found.{Stands, fault_found, found_within, kept_found, many_groups, row_found, some_found, stands_by}
 use Rattle.vtl_group.proofs.GroupWalks.{faults_apart, faults_more, rows_more}
@@ -42,7 +42,7 @@ push-requires c =
     let many = many_groups p spec xs ys a.points recipe groups stands in
     let inside : i < length ks = omega (arith, within, many) in
     let key = row_at ks i in
-    let is_key = all_at (λ k. is_point (identifiers_of made) k ≡ true) ks i [] inside (keys_are p spec a made c.requires own) in
+    let is_key = all_get (λ k. is_point (identifiers_of made) k ≡ true) ks i [] inside (keys_are p spec a made c.requires own) in
     record {
       some = some_found p spec xs ys a.points recipe groups stands i within c.rows.result.now c.rows.ensures;
       within = found_within p spec xs ys a.points recipe groups stands i within c.rows.result.now c.rows.ensures;

@@ -11,6 +11,7 @@ use Rattle.vtl_tree.specs.View.{comp_exp_of}
 use Rattle.vtl_tree.specs.declared.structure.Structure.{Structure}
 use Rattle.vtl_tree.specs.declared.nodes.JoinOperand.{JoinOperand}
 use Rattle.vtl_tree.specs.declared.nodes.NodeForm.TheVariants as form
+use Rattle.check_clauses.proofs.ClauseErrors.{structure-there}
 use Rattle.vtl_meaning.specs.Joined.{join_of, structures_of}
 use Rattle.vtl_meaning.specs.Made.{AreCombined, IsFiltered, IsJoined}
 use Rattle.vtl_scripts.specs.Meaning.{node_value, nodes_value, operands_value}
@@ -18,7 +19,7 @@ use Rattle.vtl_meaning.specs.Shapes.{IsJoinedFrom}
 use Rattle.vtl_interp.specs.Evaluated.{Evaluates, Gives}
 use Rattle.vtl_interp.specs.Values.{maybe_view, under_aliases, value_view, values_view}
 use Rattle.vtl_interp.proofs.Evaluates.{operands_named}
-use Rattle.vtl_interp.proofs.NodesEvaluated.{check_fits, check_gives, choice_gives, choose_fits, filter_after, filter_gives, filter_joined, filter_operands_stop, filter_stops, form_tree-Intersect, form_tree-Union, imbalance_stops, join_fits, join_named, joined_structure, name_gives, name_is_held, second_stops, several_fit}
+use Rattle.vtl_interp.proofs.NodesEvaluated.{check_fits, check_gives, choice_gives, choose_fits, filter_after, filter_gives, filter_joined, filter_operands_stop, filter_stops, form_tree-Intersect, form_tree-Union, imbalance_stops, join_fits, join_named, name_gives, name_is_held, second_stops, several_fit}
 use Rattle.vtl_interp.proofs.evaluation.+evaluated.Goals as goal
 
 pub evaluate-unreachable-requires : goal.evaluate-unreachable-requires
@@ -180,7 +181,7 @@ evaluate_filter-filter_join-requires-clause-from t c =
 
 pub evaluate_filter-filter_join-requires-clause-filtered : goal.evaluate_filter-filter_join-requires-clause-filtered
 evaluate_filter-filter_join-requires-clause-filtered t c =
-    subst (λ (s : Structure). IsFiltered c.args.p.now (comp_exp_of c.args.condition.now) s c.args.made.now) (joined_structure c.args.a.now) c.requires.filtered
+    subst (λ (s : Structure). IsFiltered c.args.p.now (comp_exp_of c.args.condition.now) s c.args.made.now) (structure-there c.args.a.now) c.requires.filtered
 
 pub evaluate_filter-returns-in_ok-sets-in-Join : goal.evaluate_filter-returns-in_ok-sets-in-Join
 evaluate_filter-returns-in_ok-sets-in-Join t c =

@@ -1,8 +1,9 @@
 use Rattle.std.proofs.Common.{◌≡◌, length, sym, subst, arith}
 use Rattle.std.specs.List.{AllByRecursion}
+use Rattle.vtl_lists.proofs.Alls.{all_push}
 use Rattle.vtl_join_filter.specs.Equalities.{Equates}
 use Rattle.vtl_join_filter.specs.declared.equated.Equated.{Equated}
-use Rattle.vtl_join_filter.proofs.Equations.{all_push, columns_equated}
+use Rattle.vtl_join_filter.proofs.Equations.{columns_equated}
 use Rattle.vtl_join_filter.proofs.equated.push_columns.Goals as goal
 
 pub returns-in_ok-push : goal.returns-in_ok-push

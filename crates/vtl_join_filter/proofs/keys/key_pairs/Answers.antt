@@ -1,9 +1,10 @@
 use Rattle.std.proofs.Common.{ap, sym, subst, ◌∙◌}
 use Rattle.std.specs.List.{AllByRecursion}
+use Rattle.vtl_lists.proofs.Alls.{all_push}
 use Rattle.vtl_tree.specs.View.{comp_exp_of}
 use Rattle.vtl_join_filter.specs.Equalities.{Equates}
 use Rattle.vtl_join_filter.specs.Partners.{IsPair}
-use Rattle.vtl_join_filter.proofs.Equations.{all_push, each_of}
+use Rattle.vtl_join_filter.proofs.Equations.{each_of}
 use Rattle.vtl_join_filter.proofs.Keyed.{equates_prepared}
 use Rattle.vtl_join_filter.proofs.keys.key_pairs.Goals.{in-Some+in_ok-push, in_default}
 use Rattle.vtl_join_filter.proofs.keys.key_pairs.Goals as goal

@@ -1,7 +1,8 @@
 use Rattle.std.proofs.Common.{ap, sym, subst, ◌∙◌}
 use Rattle.std.specs.List.{AllByRecursion}
+use Rattle.vtl_lists.proofs.Alls.{all_push}
 use Rattle.vtl_join_filter.specs.Partners.{IsPair, IsPairBetween}
-use Rattle.vtl_join_filter.proofs.Equations.{all_push, each_of}
+use Rattle.vtl_join_filter.proofs.Equations.{each_of}
 use Rattle.vtl_join_filter.proofs.partners.pairs_between.Goals.{then-pair-front+then-pair-last+in_ok-push, else-pair-front}
 use Rattle.vtl_join_filter.proofs.partners.pairs_between.Goals as goal
 

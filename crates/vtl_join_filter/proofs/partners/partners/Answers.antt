@@ -1,10 +1,10 @@
 use Rattle.std.proofs.Common.{Option, ap, sym, subst, ◌∙◌}
 use Rattle.std.specs.Prelude.{IfSome}
 use Rattle.std.specs.List.{AllByRecursion}
+use Rattle.vtl_lists.proofs.Alls.{all_push}
 use Rattle.vtl_tree.specs.View.{comp_exp_of}
 use Rattle.vtl_join_filter.specs.Partners.{HasNoFault, IsPair, IsPartner}
 use Rattle.vtl_join_filter.specs.declared.partners.Partner.{Partner}
-use Rattle.vtl_join_filter.proofs.Equations.{all_push}
 use Rattle.vtl_join_filter.proofs.Keyed.{has_no_fault}
 use Rattle.vtl_join_filter.proofs.partners.partners.Goals.{then-not-is_found+in_ok-partner+in-Some+in_ok-push, then-not-is_found+in_ok-partner+in_default, else-not-is_found}
 use Rattle.vtl_join_filter.proofs.partners.partners.Goals as goal

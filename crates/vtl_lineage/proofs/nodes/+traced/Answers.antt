@@ -1,10 +1,11 @@
 use Rattle.std.proofs.Common.{◌≡◌, ◌≤◌, IfOk, arith, length, map, ap, subst, sym, ◌∙◌}
 use Rattle.vtl_tree.specs.NodeView.{node_tree}
+use Rattle.check_clauses.proofs.ClauseErrors.{structure-there}
 use Rattle.vtl_walks.specs.Lent.{lent}
 use Rattle.vtl_walks.specs.Operands.{operands_in}
 use Rattle.vtl_sources.specs.Sources.{traced}
 use Rattle.vtl_lineage.specs.Lines.{node_line, traced_node}
-use Rattle.vtl_lineage.proofs.Walks.{all_traced, by_operands, own_structure}
+use Rattle.vtl_lineage.proofs.Walks.{all_traced, by_operands}
 use Rattle.vtl_lineage.proofs.nodes.+traced.Goals as goal
 
 pub returns : goal.returns
@@ -16,4 +17,4 @@ returns t c =
     let all : c.deref.result.now ≡ map (traced_node known) (operands_in n) =
     c.deref.ensures.value ∙ all_traced known c.loop-i.given.items below c.loop-i.i done c.loop-i.invariant ∙ ap (map (traced_node known)) c.operands-below.ensures.operands in
     let found = c.in_ok-found.ensures ∙ ap (node_line known n) all ∙ sym (by_operands known n) in
-    subst (λ x. IfOk c.of.result (λ o. o ≡ x)) (λ i. traced (sym (own_structure c.args.node.now) i) (found i)) c.of.ensures
+    subst (λ x. IfOk c.of.result (λ o. o ≡ x)) (λ i. traced (sym (structure-there c.args.node.now) i) (found i)) c.of.ensures

@@ -1,7 +1,7 @@
 use Rattle.std.proofs.Common.{rules, length, ◌∙◌, ◌+◌, ◌-◌, sym, ap, arith}
 use Rattle.vtl_grammar.specs.Faults.{kinds}
 use Rattle.vtl_grammar.specs.ReadStatements.{more_signed}
-use Rattle.read_parts.proofs.Turns.{kinds-length}
+use Rattle.vtl_grammar.proofs.UniqueLemmas.{kinds-length}
 use Rattle.vtl_parser.proofs.SignedTurns.{more_signed-ends, more_signed-full, more_signed-stops, more_signed-turn}
 use Rattle.vtl_parser.proofs.hier_rules.more_signed.Goals.{else-loop-test, then-loop-test+in_default}
 use Rattle.vtl_parser.proofs.hier_rules.more_signed.Goals as goal

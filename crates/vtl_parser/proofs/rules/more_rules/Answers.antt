@@ -2,7 +2,7 @@ use Rattle.std.proofs.Common.{rules, length, map, ◌+◌, ◌-◌, [], ◌∷�
 use Rattle.std.proofs.lemmas.List.{map-append}
 use Rattle.vtl_grammar.specs.Faults.{kinds}
 use Rattle.vtl_grammar.specs.ReadStatements.{more_rules}
-use Rattle.read_parts.proofs.Turns.{kinds-length}
+use Rattle.vtl_grammar.proofs.UniqueLemmas.{kinds-length}
 use Rattle.vtl_parser.proofs.RuleTurns.{more_rules-ends, more_rules-full, more_rules-last, more_rules-stops, more_rules-turn}
 use Rattle.vtl_parser.proofs.rules.more_rules.Goals.{else-loop-test, then-loop-test+in_default}
 use Rattle.vtl_parser.proofs.rules.more_rules.Goals as goal

@@ -2,7 +2,7 @@ use Rattle.std.proofs.Common.{Some, length, map, ◌∙◌, ◌+◌, ◌-◌, []
 use Rattle.std.proofs.lemmas.List.{map-append}
 use Rattle.vtl_grammar.proofs.CompleteStatements.{statements_stop}
 use Rattle.vtl_grammar.specs.Faults.{kinds}
-use Rattle.read_parts.proofs.Turns.{kinds-length}
+use Rattle.vtl_grammar.proofs.UniqueLemmas.{kinds-length}
 use Rattle.vtl_syntax.specs.View.{statement_tree}
 use Rattle.vtl_parser.proofs.StatementTurns.{script_read-turns, statements_read-full, statements_read-turn}
 use Rattle.vtl_parser.proofs.statements.statements.Goals.{else-loop-test, then-loop-test+in-Err-Absent}

@@ -1,5 +1,5 @@
+use Rattle.vtl_lists.proofs.Tests.{on_err}
 use Rattle.vtl_status.proofs.NumberText.{digit_front, digit_whole, digits_front, digits_start, digits_whole}
-use Rattle.vtl_status.proofs.LineLemmas.{err_always}
 use Rattle.vtl_status.proofs.status.+write_number.Goals as goal
 
 pub returns-then-number-lt10-clause-whole : goal.returns-then-number-lt10-clause-whole
@@ -15,7 +15,7 @@ returns-then-number-lt10-clause-front g t c =
 pub returns-in_err-write_number-clause-front : goal.returns-in_err-write_number-clause-front
 returns-in_err-write_number-clause-front g t c =
     let taken = g.O.Sink.taken in
-    err_always c.from_residual.result (digits_start c.args.number c.if-number-lt10.false c.ranges.number.fits (taken c.args.out.now) (taken c.write_number.new.out) c.in_err-write_number.ensures.front)
+    on_err c.from_residual.result (digits_start c.args.number c.if-number-lt10.false c.ranges.number.fits (taken c.args.out.now) (taken c.write_number.new.out) c.in_err-write_number.ensures.front)
 
 pub returns-clause-whole : goal.returns-clause-whole
 returns-clause-whole g t c =

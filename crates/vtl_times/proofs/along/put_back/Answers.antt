@@ -1,7 +1,7 @@
 use Rattle.std.proofs.Common.{◌<◌, ◌≤◌, ◌+◌, Ok, length, map, drop, get_or, refl, ap, sym, subst, ◌∙◌, arith}
 use Rattle.std.proofs.lemmas.List.{drop_all, drop_more, length-set}
+use Rattle.vtl_lists.proofs.Alls.{all_get}
 use Rattle.vtl_cell.specs.declared.cell.Cell.TheVariants as cells
-use Rattle.vtl_frames.proofs.ListLemmas.{all_get}
 use Rattle.vtl_times.specs.Put.{put_each}
 use Rattle.vtl_times.proofs.PutLemmas.{goes_on, taken_next}
 use Rattle.vtl_times.proofs.along.put_back.Goals as goal

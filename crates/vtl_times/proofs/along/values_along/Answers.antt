@@ -1,8 +1,8 @@
 use Rattle.std.proofs.Common.{◌≡◌, ℕ, true, ◌<◌, [], ◌∷◌, length, map, ap, sym, subst, ◌∙◌}
 use Rattle.std.specs.List.{AllByRecursion, list_any}
+use Rattle.vtl_lists.proofs.Alls.{all_more}
 use Rattle.vtl_cell.specs.Outcome.{Outcome}
 use Rattle.vtl_cell.specs.declared.cell.Cell.{Cell}
-use Rattle.vtl_frames.proofs.ListLemmas.{all_more}
 use Rattle.vtl_rows.specs.Places.{row_at}
 use Rattle.vtl_times.specs.Along.{value_at}
 use Rattle.vtl_times.specs.InOrder.{IsSeries, has_number}

@@ -1,7 +1,6 @@
 use Rattle.std.proofs.Common.{◌≡◌, ◌<◌, ℕ, true, List, [], length, map, ap, subst, ◌∙◌}
 use Rattle.vtl_cell.specs.Outcome.{Outcome}
 use Rattle.vtl_cell.specs.declared.cell.Cell.{Cell}
-use Rattle.vtl_frames.proofs.ListLemmas.{all_get}
 use Rattle.vtl_meaning.specs.Aggregates.{Made}
 use Rattle.vtl_meaning.specs.Analytics.{each_point as each_made}
 use Rattle.vtl_meaning.specs.Points.{cell_or_null}
@@ -14,6 +13,7 @@ use Rattle.vtl_tree.specs.DataSet.{IsDataSet, is_point}
 use Rattle.vtl_tree.specs.Shown.{shown}
 use Rattle.vtl_tree.specs.Structure.{columns_of}
 use Rattle.std.specs.Prelude.{IfOk}
+use Rattle.vtl_lists.proofs.Alls.{all_get}
 use Rattle.vtl_times.specs.Columns.{column_value, row_values}
 use Rattle.vtl_times.specs.Flows.{flow_by}
 use Rattle.vtl_times.proofs.FlowLemmas.{flow_fits, flow_kept}

@@ -1,10 +1,10 @@
 use Rattle.std.proofs.Common.{◌≡◌, ◌<◌, ◌-◌, ℕ, List, length, drop, ap, sym, subst, ◌∙◌, arith}
 use Rattle.std.specs.List.{AllByRecursion}
 use Rattle.std.proofs.lemmas.List.Elements.{All-from_recursion, recursion_from_All}
+use Rattle.vtl_lists.proofs.Alls.{all_drop, all_take}
 use Rattle.vtl_cell.specs.Row.{Row}
 use Rattle.vtl_frames.specs.Stretches.{stretches_of}
 use Rattle.vtl_frames.proofs.RunLemmas.{one_found}
-use Rattle.vtl_times.proofs.OrderLemmas.{all_drop, all_take}
 use Rattle.vtl_times.proofs.order.parts_in.Goals as goal
 
 pub push_parts-requires-clause-within : goal.push_parts-requires-clause-within

@@ -1,9 +1,9 @@
 use Rattle.std.proofs.Common.{◌≡◌, ◌<◌, ℕ, ℤ, List, [], map, length, true, ap, subst, ◌∙◌, arith, to_z, of_z, w64}
 use Rattle.std.proofs.lemmas.Int.{to_z-of_z}
 use Rattle.std.specs.Prelude.{IfOk}
+use Rattle.vtl_lists.proofs.Alls.{all_get}
 use Rattle.vtl_cell.specs.Outcome.{Outcome}
 use Rattle.vtl_cell.specs.declared.cell.Cell.{Cell}
-use Rattle.vtl_frames.proofs.ListLemmas.{all_get}
 use Rattle.vtl_meaning.specs.Aggregates.{Made}
 use Rattle.vtl_meaning.specs.Points.{cell_or_null}
 use Rattle.vtl_rows.specs.Places.{row_at}

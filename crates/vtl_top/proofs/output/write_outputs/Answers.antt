@@ -1,10 +1,11 @@
 use Rattle.std.proofs.Common.{rules, ◌≡◌, ◌∷◌, [], List, length, map, refl, sym, ap, subst, ◌∙◌, append_assoc, append-nil, arith}
 use Rattle.std.specs.List.{AllByRecursion}
 use Rattle.std.specs.Vec.Iter.{into_iter_items}
+use Rattle.vtl_lists.proofs.Filters.{nothing_left}
 use Rattle.vtl_top.specs.Answered.{Adds}
 use Rattle.vtl_top.specs.OutputView.{NamesPath, output_view}
 use Rattle.vtl_top.specs.declared.output.Output.{Output}
-use Rattle.vtl_top.proofs.OutputLemmas.{adds_nothing, came_in_turn, faulted_at, nothing_left, only_writes_nothing, only_writes_twice, stopped_in, written_more}
+use Rattle.vtl_top.proofs.OutputLemmas.{adds_nothing, came_in_turn, faulted_at, only_writes_nothing, only_writes_twice, stopped_in, written_more}
 use Rattle.vtl_top.proofs.output.write_outputs.Goals as goal
 
 pub loop-output-init : goal.loop-output-init

@@ -3,6 +3,7 @@ use Rattle.std.specs.List.{range_with_len}
 use Rattle.std.specs.Vec.Iter.{into_iter_items}
 use Rattle.std.proofs.lemmas.List.{drop_all, drop_more, length-set}
 use Rattle.std.proofs.lemmas.List.Elements.{recursion_from_All}
+use Rattle.vtl_lists.proofs.Alls.{all_get}
 use Rattle.vtl_cell.specs.Conversion.{as_kind}
 use Rattle.vtl_cell.specs.Outcome.{Outcome, after, join}
 use Rattle.vtl_cell.specs.declared.cell.Cell.{Cell}
@@ -11,7 +12,6 @@ use Rattle.vtl_tree.proofs.Faults.{join_none}
 use Rattle.vtl_meaning.specs.Points.{cell_or_null}
 use Rattle.vtl_scalar.specs.Seen.{seen_of}
 use Rattle.vtl_window.specs.Analyses.{cells_by, faults_of}
-use Rattle.vtl_frames.proofs.ListLemmas.{all_get}
 use Rattle.vtl_window.proofs.PutLemmas.{IsPutBack, begins, goes_on, put_each, taken_next}
 use Rattle.vtl_window.proofs.putting_back.put_back.Goals as goal
 

@@ -4,7 +4,7 @@ use Rattle.vtl_grammar.specs.Faults.{kinds}
 use Rattle.vtl_grammar.specs.ReadExpressions.{read}
 use Rattle.vtl_grammar.specs.Reading.{more_got}
 use Rattle.vtl_grammar.specs.declared.levels.Level.TheVariants as level
-use Rattle.read_parts.proofs.Turns.{kinds-length}
+use Rattle.vtl_grammar.proofs.UniqueLemmas.{kinds-length}
 use Rattle.read_expressions.proofs.ListTurns.{more_got-ends, more_got-full, more_got-stops, more_got-turn, map-push}
 use Rattle.read_expressions.proofs.grammar.Grammar.more.Goals.{else-loop-test, then-loop-test+in_default}
 use Rattle.read_expressions.proofs.grammar.Grammar.more.Goals as goal

@@ -2,7 +2,7 @@ use Rattle.std.proofs.Common.{length, ◌∙◌, ◌+◌, ◌-◌, Some, sym, ap
 use Rattle.vtl_grammar.specs.Faults.{kinds}
 use Rattle.vtl_grammar.specs.ReadExpressions.{in_turns, postfix_step, read}
 use Rattle.vtl_grammar.specs.declared.levels.Level.TheVariants as level
-use Rattle.read_parts.proofs.Turns.{kinds-length}
+use Rattle.vtl_grammar.proofs.UniqueLemmas.{kinds-length}
 use Rattle.read_expressions.specs.Reads.{box_tree, got_of}
 use Rattle.read_expressions.proofs.StepTurns.{turns-full, turns-end, turns-stop, turns-more}
 use Rattle.read_expressions.proofs.grammar.Grammar.more_postfix.Goals as goal

@@ -2,6 +2,7 @@ use Rattle.std.proofs.Common.{◌≡◌, ◌∙◌, ◌+◌, ◌++◌, ◌∷◌
 use Rattle.std.specs.Borrow.{Bor}
 use Rattle.std.specs.List.{AllByRecursion}
 use Rattle.std.proofs.lemmas.List.{map-append}
+use Rattle.vtl_lists.proofs.Alls.{all_push}
 use Rattle.sql_tree.specs.Trees.{Exp}
 use Rattle.sql_tree.specs.View.{expr_tree}
 use Rattle.sql_tree.specs.declared.expressions.SqlExpr.{SqlExpr}
@@ -13,7 +14,6 @@ use Rattle.sql_from.specs.Standing.{condition_at}
 use Rattle.sql_from.specs.Tried.{value_of}
 use Rattle.sql_from.specs.declared.source_condition.SourceCondition.{SourceCondition}
 use Rattle.sql_from.proofs.Conditioned.{all_taken, trees_more}
-use Rattle.sql_from.proofs.Sited.{all_last}
 use Rattle.sql_from.proofs.conditions.Conditions.of.Goals as goal
 
 pub loop-condition-preserved : goal.loop-condition-preserved
@@ -32,7 +32,7 @@ loop-condition-preserved g c =
     let meant : map (condition_at p s) (trees_of (take (i + 1) conditions)) ≡ old ++ condition_at p s (expr_tree x.now) ∷ [] = ap (map (condition_at p s)) step ∙ map-append (condition_at p s) (trees_of (take i conditions)) (expr_tree x.now ∷ []) in
     record {
       values = made ∙ sym meant;
-      same = subst (AllByRecursion (λ (y : SourceCondition). y.partners ≡ s)) (sym c.in_ok-push.ensures.items) (all_last (λ (y : SourceCondition). y.partners ≡ s) parts part c.loop-condition.invariant.same c.in_ok-of.ensures.sources);
+      same = subst (AllByRecursion (λ (y : SourceCondition). y.partners ≡ s)) (sym c.in_ok-push.ensures.items) (all_push (λ (y : SourceCondition). y.partners ≡ s) parts part c.loop-condition.invariant.same c.in_ok-of.ensures.sources);
       steps = λ silent.
           let both = all_parted (λ (e : Exp). asks e ≡ false) (trees_of (take i conditions)) (expr_tree x.now ∷ []) (subst (AllByRecursion (λ (e : Exp). asks e ≡ false)) step silent) in
           c.of.ensures.steps both.1.0 ∙ c.loop-condition.invariant.steps both.0;

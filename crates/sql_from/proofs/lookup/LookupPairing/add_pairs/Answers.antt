@@ -1,10 +1,11 @@
 use Rattle.std.proofs.Common.{◌≡◌, ◌∙◌, ℕ, Bool, List, IfOk, length, not, ap, subst, sym}
 use Rattle.std.specs.Prelude.{◌==◌}
 use Rattle.std.specs.List.{filter}
+use Rattle.std.proofs.lemmas.Result.{IfOk-weaker}
+use Rattle.sql_meaning.proofs.IndexedJoins.{no_faults}
 use Rattle.sql_from.specs.Joins.{fault_of, numbers_to, passes}
-use Rattle.sql_from.proofs.Found.{any_kept, no_faults}
+use Rattle.sql_from.proofs.Found.{any_kept}
 use Rattle.sql_from.proofs.Gained.{tries_as, tries_found}
-use Rattle.sql_from.proofs.Standing.{if_ok}
 use Rattle.sql_from.proofs.lookup.LookupPairing.add_pairs.Goals as goal
 
 -- of a whole look-up: all that is found is a pair
@@ -46,4 +47,4 @@ returns-else-self-clause-tries g c =
     let whole = c.requires.front ∙ sym c.requires.width in
     let same : filter (passes f x) found ≡ filter (passes f x) all = ap (filter (passes f x)) c.found-found.ensures ∙ c.requires.sound.finds.found x whole in
     let none = λ (js : List ℕ). no_faults (fault_of f x) (λ j. c.requires.sound.finds.sound x j whole) js in
-    if_ok c.try_found.result _ _ (λ r tries. tries_as f h x found all c.args.so_far.now c.try_found.new.so_far c.args.met.now.items c.try_found.new.met.items same (none found ∙ sym (none all)) tries) c.try_found.ensures.tries
+    IfOk-weaker c.try_found.result _ _ (λ r tries. tries_as f h x found all c.args.so_far.now c.try_found.new.so_far c.args.met.now.items c.try_found.new.met.items same (none found ∙ sym (none all)) tries) c.try_found.ensures.tries

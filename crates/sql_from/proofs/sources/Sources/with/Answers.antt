@@ -8,6 +8,7 @@ use Rattle.vtl_rows.specs.Named.{table_of}
 use Rattle.vtl_rows.specs.declared.gather.Pick.{Pick}
 use Rattle.vtl_rows.specs.Tables.{Listed}
 use Rattle.std.specs.Prelude.{IfSome}
+use Rattle.vtl_lists.proofs.Alls.{all_push}
 use Rattle.sql_from.specs.Held.{IsHeld}
 use Rattle.sql_from.specs.Rows.{picks_from, picks_at, width_of}
 use Rattle.sql_from.specs.Sources.{AreSited, IsWide, parts_of, scope_held, source_of, table_given, table_named}
@@ -15,7 +16,7 @@ use Rattle.sql_from.specs.declared.sources.SourceTable.{SourceTable}
 use Rattle.sql_from.proofs.FromGiven.{copied_is, copied_there, maybe_there}
 use Rattle.sql_from.proofs.GivenTables.{source_held}
 use Rattle.sql_from.proofs.Parted.{length-picks_from, picks_last}
-use Rattle.sql_from.proofs.Sited.{all_last, keys_are, sited_last}
+use Rattle.sql_from.proofs.Sited.{keys_are, sited_last}
 use Rattle.sql_from.proofs.sources.Sources.with.Goals as goal
 
 pub unwrap-table-requires : goal.unwrap-table-requires
@@ -49,11 +50,11 @@ invariant_of-result c =
     let picked : c.push_picks.new.picks.items ≡ picks_from 0 (parts ++ table.now ∷ []) =
     c.in_ok-push_picks.ensures ∙ (λ i. c.self.invariant.picked i ++ picks_at (place i) (length ((c.columns.ensures.columns ∙ ap (λ t. t.columns) listed_is) i))) ∙ sym (picks_last 0 parts table.now) in
     let sited : AreSited 0 (ss ++ (alias, now) ∷ []) = sited_last 0 ss alias now c.self.invariant.sited first in
-    let rows : AllByRecursion IsWide (parts ++ table.now ∷ []) = all_last IsWide parts table.now c.self.invariant.wide (subst IsWide listed_is c.columns.ensures.wide) in
+    let rows : AllByRecursion IsWide (parts ++ table.now ∷ []) = all_push IsWide parts table.now c.self.invariant.wide (subst IsWide listed_is c.columns.ensures.wide) in
     record {
       sited = subst (AreSited 0) (sym made) sited;
       picked = picked ∙ ap (picks_from 0) (sym shown) ∙ ap (λ l. picks_from 0 (parts_of (map source_of l))) (sym made);
       wide = subst (λ l. AllByRecursion IsWide (parts_of (map source_of l))) (sym made) (subst (AllByRecursion IsWide) (sym shown) rows);
-      among = subst (λ l. AllByRecursion (IsHeld held) (parts_of (map source_of l))) (sym made) (subst (AllByRecursion (IsHeld held)) (sym shown) (all_last (IsHeld held) parts table.now c.self.invariant.among (subst (IsHeld held) (sym is) (source_held held source))));
+      among = subst (λ l. AllByRecursion (IsHeld held) (parts_of (map source_of l))) (sym made) (subst (AllByRecursion (IsHeld held)) (sym shown) (all_push (IsHeld held) parts table.now c.self.invariant.among (subst (IsHeld held) (sym is) (source_held held source))));
       null = c.self.invariant.null;
     }

@@ -2,13 +2,13 @@ use Rattle.std.proofs.Common.{◌≡◌, ◌<◌, ◌∙◌, List, ap, sym, leng
 use Rattle.std.specs.List.{AllByRecursion}
 use Rattle.std.proofs.lemmas.List.{length-map}
 use Rattle.std.proofs.lemmas.List.Elements.{recursion_from_All}
+use Rattle.std.proofs.lemmas.Result.{IfOk-weaker}
 use Rattle.vtl_rows.specs.Gathered.{picked, picked_kind, pieces}
 use Rattle.vtl_rows.specs.declared.gather.Pick.{Pick}
 use Rattle.vtl_rows.specs.Tables.{listed}
 use Rattle.sql_from.specs.Rows.{pick_for}
 use Rattle.sql_from.specs.Sources.{parts_of}
 use Rattle.sql_from.proofs.ChosenCells.{chosen_within, kinds_chosen, rows_chosen, within_picks}
-use Rattle.sql_from.proofs.Standing.{if_ok}
 use Rattle.sql_from.proofs.Tabled.{picks_within}
 use Rattle.sql_from.proofs.tuple_rows.TupleRows.gathered.Goals as goal
 
@@ -50,7 +50,7 @@ returns-clause-rows c =
     let width : length ts ≡ tuples.width = length-map s.sources (λ u. u.1) ∙ sym c.args.self.now.is_whole in
     let whole : AllByRecursion (λ x. length x ≡ length ts) tuples.tuples = subst (λ n. AllByRecursion (λ x. length x ≡ n) tuples.tuples) (sym width) c.numbers.ensures.wide in
     let cut : pieces (length c.deref.result.now) c.numbers.result.now ≡ tuples.tuples = ap (λ n. pieces n c.numbers.result.now) (many ∙ width) ∙ c.numbers.ensures.numbers in
-    if_ok c.gather_beside.result _ _
+    IfOk-weaker c.gather_beside.result _ _
     (λ t rows. rows ∙ (λ i. map (picked (parts i) (chosen i)) (cut i))
     ∙ rows_chosen ts picks places tuples.tuples c.picks.ensures (recursion_from_All (λ i. i < length picks) places (within_picks s.sources picks places c.picks.ensures c.requires.within)) whole)
     c.gather_beside.ensures.rows

@@ -1,10 +1,10 @@
 use Rattle.std.proofs.Common.{◌≡◌, ◌∙◌, ap, sym, length, map, subst, arith}
 use Rattle.std.specs.List.{AllByRecursion}
 use Rattle.std.proofs.lemmas.List.{length-map}
+use Rattle.std.proofs.lemmas.Result.{IfOk-weaker}
 use Rattle.vtl_rows.specs.Gathered.{picked, picked_kind, pieces}
 use Rattle.vtl_rows.specs.Tables.{column_kinds, listed}
 use Rattle.sql_from.specs.Sources.{parts_of}
-use Rattle.sql_from.proofs.Standing.{if_ok}
 use Rattle.sql_from.proofs.Tabled.{kinds_picked, picks_within, rows_picked}
 use Rattle.sql_from.proofs.tuple_rows.TupleRows.table.Goals as goal
 
@@ -35,6 +35,6 @@ returns-clause-rows c =
     let width : length ts ≡ tuples.width = length-map s.sources (λ u. u.1) ∙ sym c.args.self.now.is_whole in
     let whole : AllByRecursion (λ x. length x ≡ length ts) tuples.tuples = subst (λ n. AllByRecursion (λ x. length x ≡ n) tuples.tuples) (sym width) c.numbers.ensures.wide in
     let cut : pieces (length c.deref.result.now) c.numbers.result.now ≡ tuples.tuples = ap (λ n. pieces n c.numbers.result.now) (many ∙ width) ∙ c.numbers.ensures.numbers in
-    if_ok c.gather_beside.result _ _
+    IfOk-weaker c.gather_beside.result _ _
     (λ t rows. rows ∙ (λ i. map (picked (parts i) (c.picks.ensures i)) (cut i)) ∙ rows_picked ts tuples.tuples whole)
     c.gather_beside.ensures.rows

@@ -1,6 +1,6 @@
 use Rattle.std.proofs.Common.{◌++◌, ◌∷◌, [], ◌∙◌, ap, arith, length, refl, subst, sym}
+use Rattle.vtl_lists.proofs.Tests.{on_err}
 use Rattle.vtl_index.proofs.Adding.{added, same_rows, same_seen}
-use Rattle.vtl_index.proofs.Putting.{on_err}
 use Rattle.vtl_index.specs.Lookup.{with_row}
 use Rattle.vtl_index.specs.Places.{KeepsOthers, TakesPlace}
 use Rattle.vtl_index.proofs.entries.Entries.add_key.Goals as goal

@@ -1,6 +1,7 @@
 use Rattle.std.proofs.Common.{◌≡◌, false, sym, refl, subst}
 use Rattle.std.specs.List.{list_any}
-use Rattle.vtl_index.proofs.Putting.{backed_other, backed_same, finds_same, kept_filled, kept_other, on_err, same_slots, taken_filled, taken_other}
+use Rattle.vtl_lists.proofs.Tests.{on_err}
+use Rattle.vtl_index.proofs.Putting.{backed_other, backed_same, finds_same, kept_filled, kept_other, same_slots, taken_filled, taken_other}
 use Rattle.vtl_index.specs.Buckets.{is_free, slots_at}
 use Rattle.vtl_index.proofs.places.Places.put.Goals as goal
 

@@ -1,5 +1,6 @@
 use Rattle.std.proofs.Common.{length, inl, inr, ◌∙◌, arith}
-use Rattle.vtl_pages.proofs.Emptied.{below_or_from, all_empty}
+use Rattle.std.proofs.lemmas.Bool.{cases_lt}
+use Rattle.vtl_pages.proofs.Emptied.{all_empty}
 use Rattle.vtl_pages.proofs.block.Block.clear.Goals as goal
 
 pub take-requires : goal.take-requires
@@ -10,4 +11,4 @@ take-requires g c =
 pub returns : goal.returns
 returns g c =
     let inv = c.loop-place.invariant in let n = c.loop-place.place in let done = c.loop-place-test.false in
-    all_empty c.loop-place.self (length c.args.self.now) inv.long (λ i. elim (below_or_from i n) [ inl lt ↦ inv.emptied i lt | inr le ↦ inv.left i le ∙ c.requires.free i (omega arith) ])
+    all_empty c.loop-place.self (length c.args.self.now) inv.long (λ i. elim (cases_lt i n) [ inl lt ↦ inv.emptied i lt | inr le ↦ inv.left i le ∙ c.requires.free i (omega arith) ])

@@ -1,8 +1,9 @@
 use Rattle.std.proofs.Common.{◌≡◌, None, subst, sym, ap, ◌∙◌}
 use Rattle.std.specs.Map.{lookup}
+use Rattle.vtl_lists.proofs.Tests.{on_err}
 use Rattle.vtl_text.proofs.NamedItems.{set_nowhere}
 use Rattle.vtl_tree.proofs.DeclarationLemmas.{nothing_seen, pushed_added, pushed_are, pushed_kept, pushed_lists}
-use Rattle.vtl_tree.proofs.StructuresLemmas.{began, kept_same, not_there, on_err, one_is_declarable, stays_same}
+use Rattle.vtl_tree.proofs.StructuresLemmas.{began, kept_same, not_there, one_is_declarable, stays_same}
 use Rattle.vtl_tree.specs.Declarations.{AreDeclarations, declared}
 use Rattle.vtl_tree.specs.Structure.{same_name}
 use Rattle.vtl_tree.specs.Structures.{has_name, is_declarable}

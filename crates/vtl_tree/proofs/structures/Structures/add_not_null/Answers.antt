@@ -1,10 +1,11 @@
 use Rattle.std.proofs.Common.{◌≡◌, ◌++◌, ◌∷◌, [], None, subst, sym, ap, ◌∙◌}
 use Rattle.std.specs.Prelude.{OnOk}
 use Rattle.std.specs.Map.{lookup}
+use Rattle.vtl_lists.proofs.Tests.{on_err}
 use Rattle.vtl_text.proofs.NamedItems.{set_nowhere}
 use Rattle.vtl_tree.proofs.DeclarationLemmas.{nothing_seen, pushed_added}
 use Rattle.vtl_tree.proofs.NotNullLemmas.{began_lists, listed_are, listed_kept, listed_lists, one_fits}
-use Rattle.vtl_tree.proofs.StructuresLemmas.{began, kept_same, not_there, on_err, one_is_declarable}
+use Rattle.vtl_tree.proofs.StructuresLemmas.{began, kept_same, not_there, one_is_declarable}
 use Rattle.vtl_tree.specs.Declarations.{AreDeclarations, Held, declared}
 use Rattle.vtl_tree.specs.NotNull.{are_not_null}
 use Rattle.vtl_tree.specs.Structure.{same_name}
