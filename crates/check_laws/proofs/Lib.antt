@@ -27,6 +27,7 @@ pub mod Left
 pub mod LiteralOperands
 pub mod Literals
 pub mod Measured
+pub mod NamesRead
 pub mod Operators
 pub mod Ordered
 pub mod OtherForms

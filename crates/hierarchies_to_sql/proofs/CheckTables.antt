@@ -32,10 +32,9 @@ use Rattle.vtl_tree.proofs.Faults.{Same_unless, faults_by-Perm}
 use Rattle.vtl_tree.proofs.NotNullLemmas.{same_itself}
 use Rattle.vtl_tuples.specs.Keys.{TellsApart, each_once}
 use Rattle.vtl_tuples.proofs.Lists.{map-map}
-use Rattle.vtl_tuples.proofs.Onces.{alike, among_once}
+use Rattle.vtl_tuples.proofs.Onces.{alike, among_once, once_hold}
 use Rattle.vtl_meaning.specs.Made.{HasIdentifiers}
 use Rattle.vtl_meaning.specs.Points.{with_points}
-use Rattle.vtl_meaning.proofs.JoinKept.{once_hold}
 use Rattle.vtl_meaning.proofs.Places.{all_of_map, columns_split, same_name-is}
 use Rattle.vtl_rulings.specs.HierarchyChecks.{Ruled, SidedRule, check_fault, check_hierarchy_of, check_point, combinations, items_at, only_name, sided_rules}
 use Rattle.vtl_rulings.specs.HierarchyShapes.{IsHierarchyChecked}

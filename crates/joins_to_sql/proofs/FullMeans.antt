@@ -26,7 +26,8 @@ use Rattle.vtl_meaning.specs.Joined.{all_keys, join_of, keys_in, structures_of, 
 use Rattle.vtl_meaning.specs.Made.{GoTogether, HasIdentifiers, IsJoined, attributes_of, kinds_of_all}
 use Rattle.vtl_meaning.specs.Orders.{SameOperands}
 use Rattle.vtl_meaning.specs.Points.{with_points}
-use Rattle.vtl_meaning.proofs.JoinKept.{HaveThem, all_keys_are, have_them, key_is, once_hold}
+use Rattle.vtl_tuples.proofs.Onces.{once_hold}
+use Rattle.vtl_meaning.proofs.JoinKept.{HaveThem, all_keys_are, have_them, key_is}
 use Rattle.vtl_meaning.proofs.JoinOrders.{join_order, once_respects, rows_apart, keys_respect}
 use Rattle.vtl_meaning.proofs.JoinParts.{AreSets}
 use Rattle.vtl_meaning.proofs.Places.{all_of_map, are_identifiers}

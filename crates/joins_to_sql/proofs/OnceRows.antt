@@ -12,7 +12,7 @@ use Rattle.vtl_tree.specs.declared.structure.Component.{Component}
 use Rattle.vtl_tree.specs.declared.structure.Structure.{Structure}
 use Rattle.vtl_tuples.specs.Keys.{each_once}
 use Rattle.vtl_tree.specs.Columns.{columns_named, place_of, places_in}
-use Rattle.vtl_meaning.proofs.JoinKept.{once_hold}
+use Rattle.vtl_tuples.proofs.Onces.{once_hold}
 use Rattle.vtl_meaning.proofs.OwnColumns.{columns_apart, own_columns}
 use Rattle.sql_tree.specs.Formed.{IsName}
 use Rattle.sql_tree.specs.Trees.{Text}

@@ -17,7 +17,7 @@ use Rattle.vtl_scripts.specs.Meaning.{Statement, data_set_of}
 use Rattle.vtl_backend.specs.Statements.{statements_of, with_nodes}
 use Rattle.rerun_laws.specs.Depends.{dependents, dependents_of, is_one, reads_one}
 use Rattle.rerun_laws.specs.Values.{AreSameBut, values, with_value}
-use Rattle.rerun_laws.proofs.NamesRead.{data_set_same}
+use Rattle.check_laws.proofs.NamesRead.{data_set_same}
 
 -- the data sets are the same but for those of some names
 abbrev IsSameBut : List (List ℕ) → Environment → Environment → Type 0

@@ -34,7 +34,7 @@ use Rattle.vtl_backend.specs.Runs.{script_meaning}
 use Rattle.vtl_backend.specs.Statements.{statements_of, with_nodes}
 use Rattle.vtl_backend.specs.Tables.{Shows}
 use Rattle.rerun_laws.specs.Given.{AreGiven, IsShown}
-use Rattle.rerun_laws.proofs.NamesRead.{data_set_same}
+use Rattle.check_laws.proofs.NamesRead.{data_set_same}
 use Rattle.rerun_laws.proofs.InputsRead.{found_among, known_of_data, read_all, read_there}
 use Rattle.check_laws.proofs.Over.{made_over}
 use Rattle.check_laws.proofs.Scripts.{script-made}

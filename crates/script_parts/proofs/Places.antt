@@ -15,7 +15,7 @@ use Rattle.vtl_tree.specs.Structures.{Named, has_name, is_declarable}
 use Rattle.vtl_tree.specs.Trees.{NodeTree, structure_of}
 use Rattle.vtl_tree.specs.declared.nodes.Node.{Node}
 use Rattle.vtl_tree.specs.declared.structure.Structure.{Structure}
-use Rattle.check_clauses.proofs.ClauseErrors.{structure-there}
+use Rattle.vtl_tree.proofs.NodeLemmas.{structure-there}
 use Rattle.vtl_check.specs.Transformations.{Transformation, transformations_from}
 use Rattle.vtl_check.proofs.LeftLemmas.{assigned_at, left, one_left}
 use Rattle.rerun_laws.specs.Parts.{definitions_in, is_transformation, known_before}

@@ -27,7 +27,7 @@ use Rattle.vtl_meaning.proofs.SetsKept.{existence_kept}
 use Rattle.vtl_expr.proofs.PointLemmas.{holds_at}
 use Rattle.vtl_combine.specs.Existence.{answered, sought_common}
 use Rattle.vtl_combine.proofs.ChosenLemmas.{taken_where}
-use Rattle.vtl_combine.proofs.RowLemmas.{first_cells}
+use Rattle.vtl_index.proofs.FirstRows.{first_cells}
 
 -- the answer
 pub agreeing_is : (a : Structure) (e : DataSet) (r : Row) → is_any_meant (sought_common a e) r ≡ has_agreeing a e r

@@ -1,7 +1,6 @@
 pub mod AnswerLemmas
 pub mod ChosenLemmas
 pub mod ExistenceLemmas
-pub mod FirstLemmas
 pub mod OperandLemmas
 pub mod PivotLemmas
 pub mod RowLemmas

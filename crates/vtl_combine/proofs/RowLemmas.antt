@@ -1,12 +1,10 @@
 -- Rows of a table that are taken by their numbers.
-use Rattle.std.proofs.Common.{◌≡◌, ℕ, zero, suc, ◌<◌, ◌≤◌, List, [], ◌∷◌, Bool, map, take, length, Option, refl, sym, ap, ◌∙◌, arith}
+use Rattle.std.proofs.Common.{◌≡◌, ℕ, zero, suc, ◌<◌, List, [], ◌∷◌, Bool, map, length, Option, refl, sym, ap, ◌∙◌, arith}
 use Rattle.std.specs.Prelude.{All, slice_get}
 use Rattle.std.specs.List.{filter, find, position_or_len, range_with_len}
 use Rattle.std.specs.Option.{option_map_or}
 use Rattle.std.proofs.lemmas.List.Folds.{find_at}
-use Rattle.std.proofs.lemmas.List.FromFn.{take-map-range_with_len}
 use Rattle.vtl_cell.specs.Row.{Row, column_of}
-use Rattle.vtl_cell.specs.declared.cell.Cell.TheVariants as cell
 use Rattle.vtl_rows.specs.Gathered.{picked, picked_kind, pieces}
 use Rattle.vtl_rows.specs.Places.{row_at}
 use Rattle.vtl_rows.specs.Tables.{Listed, cells_at, column_at, column_kinds}
@@ -21,10 +19,6 @@ pub chosen_rows : {X : Type 0} (f : Row → X) (p : Row → Bool) (rows : List R
 chosen_rows f p rows =
     sym (map-map f (row_at rows) (filter (λ i. p (row_at rows i)) (range_with_len 0 (length rows))))
     ∙ ap (map f) (sym (filter-map p (row_at rows) (range_with_len 0 (length rows))) ∙ ap (filter p) (all_indexed rows []))
-
--- the cells at the first places of a row that has them
-pub first_cells : (n : ℕ) (r : Row) → n ≤ length r → cells_at (range_with_len 0 n) r ≡ take n r
-first_cells n r h = sym (take-map-range_with_len (λ i. column_of i r) 0 (length r) n h) ∙ ap (take n) (all_indexed r cell.Null)
 
 -- ---- rows that are put together from one part
 single_pieces : {X : Type 0} (xs : List X) → pieces 1 xs ≡ map (λ x. x ∷ []) xs

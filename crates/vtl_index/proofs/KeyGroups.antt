@@ -16,7 +16,7 @@ use Rattle.vtl_index.specs.Leads.{leads_of, rows_with}
 use Rattle.vtl_rows.specs.Places.{row_at}
 
 -- the lead of a row of a key
-abbrev lead_of : (Row → Row) → List Row → Row → ℕ
+abbrev pub lead_of : (Row → Row) → List Row → Row → ℕ
 lead_of key rows k = position_or_len (λ s. same_row (key s) k) rows
 
 module _ (key : Row → Row) (rows : List Row) where
@@ -81,11 +81,11 @@ module _ (key : Row → Row) (rows : List Row) where
 
 -- ---- the keys of the groups
 -- whether a row before has the key
-abbrev met : (Row → Row) → List Row → Row → Bool
+abbrev pub met : (Row → Row) → List Row → Row → Bool
 met key before k = list_any (λ s. same_row (key s) k) before
 
 -- the row behind others is the first of its group where none of them has its key
-first_where_new : (key : Row → Row) (before : List Row) (r : Row) (behind : List Row) → eqb (lead_of key (before ++ r ∷ behind) (key r)) (length before) ≡ not (met key before (key r))
+pub first_where_new : (key : Row → Row) (before : List Row) (r : Row) (behind : List Row) → eqb (lead_of key (before ++ r ∷ behind) (key r)) (length before) ≡ not (met key before (key r))
 first_where_new key [] r behind = ap (λ b. eqb (cond (not b) (1 + lead_of key behind (key r)) 0) 0) (same_row-refl (key r))
 first_where_new key (s ∷ before) r behind = go (same_row (key s) (key r)) (first_where_new key before r behind)
   where

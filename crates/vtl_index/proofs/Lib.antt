@@ -3,6 +3,7 @@ pub mod Asking
 pub mod Blocks
 pub mod Counts
 pub mod Finding
+pub mod FirstRows
 pub mod Grouping
 pub mod KeyForms
 pub mod KeyGroups

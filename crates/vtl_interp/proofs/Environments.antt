@@ -1,5 +1,5 @@
 -- Look-ups in environments.
-use Rattle.std.proofs.Common.{◌≡◌, ℕ, List, [], ◌∷◌, ◌++◌, Bool, true, false, cond, ◌||◌, Some, None, refl, ap, ◌∙◌}
+use Rattle.std.proofs.Common.{◌≡◌, ℕ, List, [], ◌∷◌, ◌++◌, Bool, true, false, cond, ◌||◌, Some, refl, ap, ◌∙◌}
 use Rattle.std.specs.List.{list_any}
 use Rattle.std.specs.Map.{keys_of, lookup}
 use Rattle.std.specs.Option.{option_map}
@@ -7,24 +7,6 @@ use Rattle.std.specs.Cmp.Lexicographic.{nat_list_eq_equiv}
 use Rattle.indexmap.specs.IndexMap.{insert_entry}
 use Rattle.vtl_tree.specs.Environment.{Environment, data_of, known_in}
 use Rattle.vtl_tree.specs.Structure.{same_name}
-
--- ---- in lists of named values
-module _ {X : Type 0} where
-  pub found_in_front : (name : List ℕ) (es more : List (List ℕ × X)) (x : X) → lookup (same_name name) es ≡ Some x → lookup (same_name name) (es ++ more) ≡ Some x
-  found_in_front name [] more x e = cc
-  found_in_front name (y ∷ ys) more x e = go (same_name name y.0) (found_in_front name ys more x) e
-    where
-      go : (b : Bool) → (lookup (same_name name) ys ≡ Some x → lookup (same_name name) (ys ++ more) ≡ Some x) → cond b (Some y.1) (lookup (same_name name) ys) ≡ Some x → cond b (Some y.1) (lookup (same_name name) (ys ++ more)) ≡ Some x
-      go true ih q = q
-      go false ih q = ih q
-
-  pub found_behind : (name : List ℕ) (es more : List (List ℕ × X)) → lookup (same_name name) es ≡ None → lookup (same_name name) (es ++ more) ≡ lookup (same_name name) more
-  found_behind name [] more e = refl
-  found_behind name (y ∷ ys) more e = go (same_name name y.0) (found_behind name ys more) e
-    where
-      go : (b : Bool) → (lookup (same_name name) ys ≡ None → lookup (same_name name) (ys ++ more) ≡ lookup (same_name name) more) → cond b (Some y.1) (lookup (same_name name) ys) ≡ None → cond b (Some y.1) (lookup (same_name name) (ys ++ more)) ≡ lookup (same_name name) more
-      go true ih q = cc
-      go false ih q = ih q
 
 -- ---- in environments
 pub data_looked : (name : List ℕ) (env : Environment) → data_of name env ≡ lookup (same_name name) env

@@ -1,22 +1,19 @@
 -- The declared data sets that a script reads.
 use Rattle.std.proofs.Common.{◌≡◌, ℕ, Bool, true, false, cond, ◌||◌, List, [], ◌∷◌, ◌++◌, map, Option, Some, None, refl, sym, ap, ◌∙◌}
-use Rattle.std.specs.Map.{keys_of, lookup}
+use Rattle.std.specs.Map.{lookup}
 use Rattle.std.specs.Cmp.Lexicographic.{bytes_decides}
-use Rattle.std.proofs.lemmas.List.{map-append}
-use Rattle.vtl_lists.specs.Apart.{all_apart}
 use Rattle.vtl_rows.specs.Named.{NamedTables}
 use Rattle.vtl_tree.specs.Structure.{same_name}
 use Rattle.vtl_tree.specs.Structures.{Named, has_name}
 use Rattle.vtl_tree.specs.declared.structure.Structure.{Structure}
-use Rattle.vtl_text.proofs.Apart.{apart_push}
 use Rattle.vtl_tree.proofs.StructuresLemmas.{not_found, not_there}
 use Rattle.vtl_tree.specs.Trees.{NodeTree}
 use Rattle.vtl_check.specs.Names.{names_of}
-use Rattle.vtl_check.specs.Uses.{read_behind, reads, with_declared, with_new}
+use Rattle.vtl_check.specs.Uses.{read_behind, reads, with_declared}
+use Rattle.vtl_check.proofs.Reads.{found_behind, found_in_front}
 use Rattle.vtl_tree.specs.Environment.{known_in}
 use Rattle.vtl_backend.specs.Inputs.{input_of}
 use Rattle.check_laws.specs.Scripts.{AreKnownAlike}
-use Rattle.vtl_interp.proofs.Environments.{found_behind, found_in_front}
 
 -- the data sets of inputs have the structures that are read
 pub known_inputs : (tables : NamedTables) (es : Named) → known_in (map (input_of tables) es) ≡ es
@@ -24,25 +21,6 @@ known_inputs tables [] = refl
 known_inputs tables (e ∷ es) = ap (λ l. e ∷ l) (known_inputs tables es)
 
 -- ---- each name once
-one_apart : (known : Named) (name : List ℕ) (s : Structure) → all_apart same_name (keys_of known) ≡ true → all_apart same_name (keys_of (with_new known name s)) ≡ true
-one_apart known name s h = go (has_name name known) refl
-  where
-    go : (b : Bool) → has_name name known ≡ b → all_apart same_name (keys_of (cond b known (known ++ (name, s) ∷ []))) ≡ true
-    go true e = h
-    go false e = ap (all_apart same_name) (map-append (λ (x : List ℕ × Structure). x.0) known ((name, s) ∷ [])) ∙ apart_push (keys_of known) name h e
-
-read_apart : (declared known : Named) (names : List (List ℕ)) → all_apart same_name (keys_of known) ≡ true → all_apart same_name (keys_of (read_behind declared known names)) ≡ true
-read_apart declared known [] h = h
-read_apart declared known (name ∷ names) h =
-    read_apart declared (with_declared known name (lookup (same_name name) declared)) names (go (lookup (same_name name) declared))
-  where
-    go : (o : Option Structure) → all_apart same_name (keys_of (with_declared known name o)) ≡ true
-    go None = h
-    go (Some s) = one_apart known name s h
-
-pub reads_apart : (declared : Named) (ns : List NodeTree) → all_apart same_name (keys_of (reads declared ns)) ≡ true
-reads_apart declared ns = read_apart declared [] (names_of ns) refl
-
 -- ---- each with its declared structure
 IsPart : Named → Named → Type 0
 IsPart known declared = (name : List ℕ) (s : Structure) → lookup (same_name name) known ≡ Some s → lookup (same_name name) declared ≡ Some s

@@ -1,9 +1,7 @@
 -- The inputs of a script, one after the other.
-use Rattle.std.proofs.Common.{◌≡◌, ℕ, zero, suc, ◌+◌, ◌<◌, Bool, true, false, cond, not, ◌||◌, List, [], ◌∷◌, ◌++◌, map, length, take, get_or, slice_get, Some, refl, sym, ap, subst, ◌∙◌, arith}
+use Rattle.std.proofs.Common.{◌≡◌, ℕ, ◌+◌, ◌<◌, Bool, true, false, List, [], ◌∷◌, ◌++◌, map, length, take, get_or, slice_get, Some, refl, sym, ap, subst, ◌∙◌}
 use Rattle.std.specs.List.{list_any}
 use Rattle.std.specs.Map.{keys_of, lookup}
-use Rattle.std.specs.Cmp.Lexicographic.{bytes_decides, nat_list_eq_equiv}
-use Rattle.std.proofs.lemmas.Bool.{and_parts}
 use Rattle.std.proofs.lemmas.List.{map-append, take-map, take_more}
 use Rattle.std.proofs.lemmas.Option.{get_or_from_slice_get, slice_get_within}
 use Rattle.vtl_lists.specs.Apart.{all_apart}
@@ -12,17 +10,15 @@ use Rattle.vtl_cell.specs.Row.{Row}
 use Rattle.vtl_rows.specs.Named.{NamedTables, table_of}
 use Rattle.vtl_tree.specs.Environment.{DataSet, Environment, known_in}
 use Rattle.vtl_tree.specs.Structure.{same_name}
-use Rattle.vtl_tree.specs.Structures.{Named, has_name}
+use Rattle.vtl_tree.specs.Structures.{Named}
 use Rattle.vtl_tree.specs.declared.structure.Structure.{Structure}
 use Rattle.vtl_text.proofs.Apart.{repeated}
-use Rattle.vtl_tree.specs.Trees.{NodeTree, structure_of}
 use Rattle.vtl_check.specs.Checked.{TypedScript, known_of, nodes_of, tree_of}
-use Rattle.vtl_check.specs.Transformations.{Transformation, transformations}
-use Rattle.vtl_check.specs.Uses.{results_behind, with_new}
+use Rattle.vtl_check.specs.Transformations.{transformations}
+use Rattle.vtl_check.proofs.Reads.{IsEntryAt, entry_at, reads_apart, still_found}
 use Rattle.vtl_backend.specs.Inputs.{AreInputs, Holds, input_of, inputs_of, rows_named}
 use Rattle.vtl_interp.specs.Loaded.{IsInput}
-use Rattle.vtl_interp.proofs.Environments.{found_in_front}
-use Rattle.vtl_interp.proofs.InputsRead.{known_inputs, reads_apart}
+use Rattle.vtl_interp.proofs.InputsRead.{known_inputs}
 
 -- a name is none of those before it
 pub fresh_at : (xs : List (List ℕ)) (i : ℕ) (x : List ℕ) → i < length xs → x ≡ get_or xs i x → all_apart same_name xs ≡ true → list_any (same_name x) (take i xs) ≡ false
@@ -31,53 +27,6 @@ fresh_at xs i x h e apart = go (list_any (same_name x) (take i xs)) refl
     go : (b : Bool) → list_any (same_name x) (take i xs) ≡ b → b ≡ false
     go false q = refl
     go true q = sym (repeated xs i x h e q ∙ apart)
-
--- a name among others that are all apart from one
-name_apart : (key : List ℕ) (ks : List (List ℕ)) (i : ℕ) (name : List ℕ) → list_any (same_name key) ks ≡ false → i < length ks → name ≡ get_or ks i name → same_name key name ≡ false
-name_apart key [] i name q h e = absurd (omega arith)
-name_apart key (k ∷ ks) zero name q h e = at (same_name key k) q (ap (same_name key) e)
-  where
-    at : (b : Bool) → (b || list_any (same_name key) ks) ≡ false → same_name key name ≡ b → same_name key name ≡ false
-    at true q s = cc
-    at false q s = s
-name_apart key (k ∷ ks) (suc i) name q h e = at (same_name key k) (λ r. name_apart key ks i name r (omega (arith, h)) e) q
-  where
-    at : (b : Bool) → (list_any (same_name key) ks ≡ false → same_name key name ≡ false) → (b || list_any (same_name key) ks) ≡ false → same_name key name ≡ false
-    at true ih q = cc
-    at false ih q = ih q
-
--- an entry among others
-pub record IsEntryAt (es : Named) (i : ℕ) (name : List ℕ) : Type 0 where
-  pub structure : Structure
-  pub entry : slice_get es i ≡ Some (name, structure)
-  pub found : lookup (same_name name) es ≡ Some structure
-
-pub entry_at : (es : Named) (i : ℕ) (name : List ℕ) → all_apart same_name (keys_of es) ≡ true → i < length (keys_of es) → name ≡ get_or (keys_of es) i name → IsEntryAt es i name
-entry_at [] i name apart h e = absurd (omega arith)
-entry_at (x ∷ es) zero name apart h e =
-    record { structure = x.1; entry = ap (λ n. Some (n, x.1)) (sym e); found = ap (λ b. cond b (Some x.1) (lookup (same_name name) es)) ((bytes_decides name x.0).1 e) }
-entry_at (x ∷ es) (suc i) name apart h e =
-    let parts = and_parts (not (list_any (same_name x.0) (keys_of es))) (all_apart same_name (keys_of es)) apart in
-    let it = entry_at es i name parts.1 (omega (arith, h)) e in
-    record {
-      structure = it.structure;
-      entry = it.entry;
-      found = ap (λ b. cond b (Some x.1) (lookup (same_name name) es)) (nat_list_eq_equiv.symm name x.0 ∙ name_apart x.0 (keys_of es) i name (none (list_any (same_name x.0) (keys_of es)) parts.0) (omega (arith, h)) e) ∙ it.found;
-    }
-  where
-    none : (b : Bool) → not b ≡ true → b ≡ false
-    none true q = cc
-    none false q = refl
-
--- results stand behind what is known
-pub still_found : (name : List ℕ) (s : Structure) (known : Named) (ts : List Transformation) (ns : List NodeTree) → lookup (same_name name) known ≡ Some s → lookup (same_name name) (results_behind known ts ns) ≡ Some s
-still_found name s known [] ns e = e
-still_found name s known (t ∷ ts) [] e = e
-still_found name s known (t ∷ ts) (m ∷ ns) e = still_found name s (with_new known t.name (structure_of m)) ts ns (go (has_name t.name known))
-  where
-    go : (b : Bool) → lookup (same_name name) (cond b known (known ++ (t.name, structure_of m) ∷ [])) ≡ Some s
-    go true = e
-    go false = found_in_front name known ((t.name, structure_of m) ∷ []) s e
 
 pub is_input : (t : TypedScript) (tables : NamedTables) (i : ℕ) (name : List ℕ) → AreInputs t tables → IsEntryAt (inputs_of t) i name → IsInput t tables name
 is_input t tables i name are it =

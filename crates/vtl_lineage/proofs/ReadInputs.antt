@@ -10,16 +10,16 @@ use Rattle.std.specs.Map.{keys_of, lookup, set_value}
 use Rattle.std.specs.Option.{option_map_or}
 use Rattle.std.specs.Cmp.Lexicographic.{bytes_decides, nat_list_eq_equiv}
 use Rattle.vtl_lists.specs.Apart.{all_apart}
-use Rattle.vtl_text.proofs.Apart.{apart_push}
 use Rattle.vtl_tree.specs.Structure.{IsStructure, most_components, names_of, same_name}
 use Rattle.vtl_tree.proofs.StructuresLemmas.{all_found}
 use Rattle.vtl_tree.specs.Structures.{AreStructures, Named, has_name, is_declarable, is_declarable_component, is_declarable_entry}
-use Rattle.vtl_tree.specs.Trees.{NodeTree, structure_of}
+use Rattle.vtl_tree.specs.Trees.{NodeTree}
 use Rattle.vtl_tree.specs.declared.structure.Structure.{Structure}
 use Rattle.vtl_check.specs.Checked.{TypedScript, known_of, nodes_of, tree_of}
 use Rattle.vtl_check.specs.Names.{names_of as names_in}
 use Rattle.vtl_check.specs.Transformations.{Transformation, transformations}
 use Rattle.vtl_check.specs.Uses.{read_behind, results_behind, with_declared, with_new}
+use Rattle.vtl_check.proofs.Reads.{read_apart, still_found}
 use Rattle.vtl_syntax.specs.View.{statement_tree}
 use Rattle.vtl_syntax.specs.declared.statements.Statement.{Statement}
 use Rattle.vtl_tree.specs.NodeView.{node_tree}
@@ -36,22 +36,6 @@ use Rattle.vtl_lineage.proofs.InputNumbers.{all_inputs_same}
 use Rattle.vtl_lineage.proofs.Linked.{links_same}
 
 -- ---- each name once
-one_apart : (known : Named) (name : List ℕ) (s : Structure) → all_apart same_name (keys_of known) ≡ true → all_apart same_name (keys_of (with_new known name s)) ≡ true
-one_apart known name s h = go (has_name name known) refl
-  where
-    go : (b : Bool) → has_name name known ≡ b → all_apart same_name (keys_of (cond b known (known ++ (name, s) ∷ []))) ≡ true
-    go true e = h
-    go false e = ap (all_apart same_name) (map-append (λ (x : List ℕ × Structure). x.0) known ((name, s) ∷ [])) ∙ apart_push (keys_of known) name h e
-
-read_apart : (declared known : Named) (names : List (List ℕ)) → all_apart same_name (keys_of known) ≡ true → all_apart same_name (keys_of (read_behind declared known names)) ≡ true
-read_apart declared known [] h = h
-read_apart declared known (name ∷ names) h =
-    read_apart declared (with_declared known name (lookup (same_name name) declared)) names (go (lookup (same_name name) declared))
-  where
-    go : (o : Option Structure) → all_apart same_name (keys_of (with_declared known name o)) ≡ true
-    go None = h
-    go (Some s) = one_apart known name s h
-
 pub inputs_apart : (t : TypedScript) → all_apart same_name (keys_of (inputs_of t)) ≡ true
 inputs_apart t = read_apart t.declared [] (names_in (nodes_of t)) refl
 
@@ -89,23 +73,6 @@ pub inputs_structures : (t : TypedScript) → AreStructures t.declared → HaveS
 inputs_structures t are = read_structures t.declared [] (names_in (nodes_of t)) are.declarable tt
 
 -- ---- each is found by its name
-found_first : (name : List ℕ) (es more : Named) (s : Structure) → lookup (same_name name) es ≡ Some s → lookup (same_name name) (es ++ more) ≡ Some s
-found_first name [] more s e = cc
-found_first name (x ∷ es) more s e = go (same_name name x.0) (found_first name es more s) e
-  where
-    go : (b : Bool) → (lookup (same_name name) es ≡ Some s → lookup (same_name name) (es ++ more) ≡ Some s) → cond b (Some x.1) (lookup (same_name name) es) ≡ Some s → cond b (Some x.1) (lookup (same_name name) (es ++ more)) ≡ Some s
-    go true ih e = e
-    go false ih e = ih e
-
-still_found : (name : List ℕ) (s : Structure) (known : Named) (ts : List Transformation) (ns : List NodeTree) → lookup (same_name name) known ≡ Some s → lookup (same_name name) (results_behind known ts ns) ≡ Some s
-still_found name s known [] ns e = e
-still_found name s known (t ∷ ts) [] e = e
-still_found name s known (t ∷ ts) (m ∷ ns) e = still_found name s (with_new known t.name (structure_of m)) ts ns (go (has_name t.name known))
-  where
-    go : (b : Bool) → lookup (same_name name) (cond b known (known ++ (t.name, structure_of m) ∷ [])) ≡ Some s
-    go true = e
-    go false = found_first name known ((t.name, structure_of m) ∷ []) s e
-
 -- entries that stand apart are found each under its own name, in any list whose look-ups they have
 abbrev AreFound : Named → Named → Type 0
 AreFound es known = AllByRecursion (λ e. lookup (same_name e.0) known ≡ Some e.1) es

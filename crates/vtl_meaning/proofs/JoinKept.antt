@@ -9,7 +9,7 @@ use Rattle.vtl_cell.specs.Order.{same_cell}
 use Rattle.vtl_cell.specs.Row.{Row, same_key, same_row}
 use Rattle.vtl_lists.proofs.Aparts.{apart_more, apart_parts}
 use Rattle.vtl_cell.proofs.Rows.{same_row-refl}
-use Rattle.vtl_lists.proofs.Sorts.{AllByRecursion-filter, AllByRecursion-map}
+use Rattle.vtl_lists.proofs.Sorts.{AllByRecursion-map}
 use Rattle.vtl_lists.proofs.Alls.{all_append, all_more}
 use Rattle.vtl_rows.specs.Tables.{cells_at}
 use Rattle.vtl_syntax.specs.declared.word_groups.JoinKind.{JoinKind}
@@ -19,10 +19,9 @@ use Rattle.vtl_tree.specs.Environment.{DataSet}
 use Rattle.vtl_tree.specs.Structure.{IsStructure, columns_of, key_width}
 use Rattle.vtl_tree.specs.declared.structure.Component.{Component}
 use Rattle.vtl_tree.specs.declared.structure.Structure.{Structure}
-use Rattle.vtl_tuples.specs.Keys.{each_once}
 use Rattle.vtl_tuples.specs.Tuples.{combinations}
 use Rattle.vtl_tuples.proofs.Lists.{map-flat_map, map-map}
-use Rattle.vtl_tuples.proofs.Onces.{once_apart}
+use Rattle.vtl_tuples.proofs.Onces.{once_apart, once_hold}
 use Rattle.vtl_meaning.specs.Agreement.{OperandPoint, agree_in, key_of, operand_point, operand_points, values_in}
 use Rattle.vtl_tree.specs.Columns.{identifiers_of, others_of, places_in}
 use Rattle.vtl_meaning.specs.JoinWords.{whole_point}
@@ -77,10 +76,6 @@ pub key_is : (ys : List Component) (a : Structure) (q : Row) → AllByRecursion 
 key_is ys a q i all h =
     ap (is_point ys) (sym (named_cells (columns_of a) ys q))
     ∙ subst (λ xs. is_point ys (cells_at (places_in xs ys) q) ≡ true) (sym (columns_split a)) (some_identifiers ys (identifiers_of a) (others_of a) q i (are_identifiers a) all (subst (λ xs. is_point xs q ≡ true) (columns_split a) h))
-
-pub once_hold : {X : Type 0} (P : X → Type 0) (same : X → X → Bool) (xs : List X) → AllByRecursion P xs → AllByRecursion P (each_once same xs)
-once_hold P same [] all = tt
-once_hold P same (x ∷ xs) all = (all.0, AllByRecursion-filter P (λ y. not (same x y)) (each_once same xs) (once_hold P same xs all.1))
 
 pub whole_key : (n : ℕ) (k : Row) → length k ≡ n → take n k ≡ k
 whole_key n k e = ap (λ m. take m k) (sym e) ∙ take_all (length k) k (omega arith)

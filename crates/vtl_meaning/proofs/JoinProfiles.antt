@@ -23,7 +23,8 @@ use Rattle.vtl_tree.specs.Columns.{identifiers_of, measures_of, place_of}
 use Rattle.vtl_meaning.specs.Joined.{Part, Tuple, all_keys, attributes_in, crossed, is_whole, join_of, joined_of, keys_in, left_tuples, measures_in, present, reference_of, reference_place, structures_of, tuple_at, tuple_beside, tuple_point, tuples_of, values_or_nulls}
 use Rattle.vtl_meaning.specs.LookUps.{values_named}
 use Rattle.vtl_meaning.specs.Made.{attributes_of}
-use Rattle.vtl_meaning.proofs.JoinKept.{fronts, key_at, once_hold}
+use Rattle.vtl_tuples.proofs.Onces.{once_hold}
+use Rattle.vtl_meaning.proofs.JoinKept.{fronts, key_at}
 use Rattle.vtl_meaning.proofs.JoinParts.{found_is, parts_by}
 
 -- ---- what holds of null and of all_each cell of the operands

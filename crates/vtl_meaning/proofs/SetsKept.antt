@@ -15,7 +15,7 @@ use Rattle.vtl_tree.specs.DataSet.{IsDataSet, is_point, look}
 use Rattle.vtl_tree.specs.Environment.{DataSet}
 use Rattle.vtl_tree.specs.Structure.{IsStructure, columns_of, key_width, same_name}
 use Rattle.vtl_tree.specs.declared.structure.Structure.{Structure}
-use Rattle.vtl_tuples.proofs.Onces.{once_apart}
+use Rattle.vtl_tuples.proofs.Onces.{once_apart, once_hold}
 use Rattle.vtl_meaning.specs.Agreement.{has_agreeing}
 use Rattle.vtl_tree.specs.Columns.{identifiers_of, measures_of, others_of, place_of}
 use Rattle.vtl_meaning.specs.Joined.{structures_of}
@@ -24,7 +24,7 @@ use Rattle.vtl_meaning.specs.Operators.{left_of}
 use Rattle.vtl_meaning.specs.Points.{with_points}
 use Rattle.vtl_meaning.specs.Sets.{all_left_of, difference_of, either_only, existence_of, has_point, intersection_of, is_retained, reduced, symmetric_difference_of, union_of, united, with_answer}
 use Rattle.vtl_meaning.proofs.Drawn.{Keeps, mapped_kept}
-use Rattle.vtl_meaning.proofs.JoinKept.{apart_append, once_hold}
+use Rattle.vtl_meaning.proofs.JoinKept.{apart_append}
 use Rattle.vtl_meaning.proofs.JoinParts.{AreSets}
 use Rattle.vtl_meaning.proofs.Kept.{Tells, told_kept}
 use Rattle.vtl_meaning.proofs.OwnColumns.{among_front, column_any}

@@ -23,7 +23,7 @@ use Rattle.vtl_meaning.specs.LookUps.{value_named}
 use Rattle.vtl_meaning.specs.Operators.{left_of}
 use Rattle.vtl_meaning.specs.Sets.{all_left_of, difference_of, existence_of, has_point, intersection_of, is_retained, reduced, symmetric_difference_of, union_of, with_answer}
 use Rattle.vtl_meaning.specs.Turned.{coded_value, codes_of, is_coded, named_point, other_identifiers, pivot_of, pivoted_point, unpivot_of, unpivoted_points}
-use Rattle.vtl_meaning.proofs.JoinKept.{once_hold}
+use Rattle.vtl_tuples.proofs.Onces.{once_hold}
 use Rattle.vtl_meaning.proofs.JoinProfiles.{front_holds, values_hold}
 use Rattle.vtl_meaning.proofs.Profiles.{IsRowOfProfile, cell_is, drawn_are, shown_are}
 use Rattle.vtl_meaning.proofs.SetsKept.{all_flat}

@@ -19,7 +19,7 @@ use Rattle.vtl_tree.specs.declared.structure.Component.{Component}
 use Rattle.vtl_tree.specs.declared.structure.Role.TheVariants as role
 use Rattle.vtl_tree.specs.declared.structure.Structure.{Structure}
 use Rattle.vtl_tuples.specs.Keys.{each_once}
-use Rattle.vtl_tuples.proofs.Onces.{once_apart}
+use Rattle.vtl_tuples.proofs.Onces.{once_apart, once_hold}
 use Rattle.vtl_tree.specs.Choices.{is_chosen, is_identifier}
 use Rattle.vtl_tree.specs.ClauseShapes.{first_kind, names_column}
 use Rattle.vtl_tree.specs.Names.{is_among}
@@ -31,7 +31,7 @@ use Rattle.vtl_meaning.specs.LookUps.{value_named}
 use Rattle.vtl_meaning.specs.Made.{AreAmong, IsColumnAt, IsPivoted, IsUnpivoted}
 use Rattle.vtl_meaning.specs.Turned.{coded_value, codes_of, is_coded, named_point, other_identifiers, pivot_of, pivoted_point, unpivot_of, unpivoted_points}
 use Rattle.vtl_meaning.proofs.Drawn.{drawn_all, drawn_apart, map_drawn}
-use Rattle.vtl_meaning.proofs.JoinKept.{apart_append, apart_map, key_is, once_hold}
+use Rattle.vtl_meaning.proofs.JoinKept.{apart_append, apart_map, key_is}
 use Rattle.vtl_meaning.proofs.JoinParts.{found_is}
 use Rattle.vtl_meaning.proofs.OwnColumns.{own_identifiers, own_measures}
 use Rattle.vtl_meaning.proofs.Places.{IsIdentifier, are_identifiers, are_others, columns_split, joined_point_is, key_of_joined, key_of_point, point_append, point_of_identifiers}

@@ -16,7 +16,7 @@ use Rattle.vtl_tree.specs.declared.structure.Component.{Component}
 use Rattle.vtl_tree.specs.declared.structure.Structure.{Structure}
 use Rattle.vtl_tuples.specs.Keys.{each_once}
 use Rattle.vtl_tuples.proofs.Lists.{filter-map, filter_same, map-map, map_each}
-use Rattle.vtl_tuples.proofs.Onces.{once_already, once_apart, once_more}
+use Rattle.vtl_tuples.proofs.Onces.{once_already, once_apart, once_more, once_hold}
 use Rattle.vtl_meaning.specs.Agreement.{values_in}
 use Rattle.vtl_meaning.specs.LookUps.{values_named}
 use Rattle.vtl_meaning.specs.Made.{AreAmong, IsAlternative, IsColumnAt, IsCombined}
@@ -24,7 +24,6 @@ use Rattle.vtl_meaning.specs.Operators.{left_of}
 use Rattle.vtl_meaning.specs.Points.{with_points}
 use Rattle.vtl_meaning.specs.Sets.{difference_of, has_point, reduced, symmetric_difference_of, union_of, united}
 use Rattle.vtl_meaning.proofs.JoinAgreements.{covers, values_agree}
-use Rattle.vtl_meaning.proofs.JoinKept.{once_hold}
 use Rattle.vtl_meaning.proofs.Kept.{shown_split}
 use Rattle.vtl_meaning.proofs.LookUps.{among_within, named_cells, parts_named}
 use Rattle.vtl_meaning.proofs.Places.{key_width_same, places_of_namesakes}

@@ -1,5 +1,4 @@
 pub mod CheckLemmas
-pub mod FirstLemmas
 pub mod HierarchyLemmas
 pub mod ItemLemmas
 pub mod NumberLemmas

@@ -27,7 +27,8 @@ use Rattle.vtl_meaning.specs.LookUps.{value_named, values_named}
 use Rattle.vtl_meaning.specs.Made.{AreAmong, IsColumnAt}
 use Rattle.vtl_meaning.specs.Points.{with_points}
 use Rattle.vtl_meaning.specs.Turned.{is_coded, other_identifiers}
-use Rattle.vtl_meaning.proofs.JoinKept.{apart_map, once_hold}
+use Rattle.vtl_tuples.proofs.Onces.{once_hold}
+use Rattle.vtl_meaning.proofs.JoinKept.{apart_map}
 use Rattle.vtl_meaning.proofs.JoinParts.{found_is}
 use Rattle.vtl_meaning.proofs.LookUps.{named_cells}
 use Rattle.vtl_meaning.proofs.OwnColumns.{own_among, own_identifiers}

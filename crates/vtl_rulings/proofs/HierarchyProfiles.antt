@@ -48,7 +48,7 @@ use Rattle.vtl_meaning.specs.LookUps.{value_named}
 use Rattle.vtl_meaning.specs.Operators.{left_of}
 use Rattle.vtl_meaning.specs.Points.{cell_or_null, with_points}
 use Rattle.vtl_meaning.specs.Turned.{is_coded, other_identifiers}
-use Rattle.vtl_meaning.proofs.JoinKept.{once_hold}
+use Rattle.vtl_tuples.proofs.Onces.{once_hold}
 use Rattle.vtl_meaning.proofs.JoinParts.{found_is}
 use Rattle.vtl_meaning.proofs.JoinProfiles.{values_hold}
 use Rattle.vtl_meaning.proofs.Profiles.{IsRowOfProfile, cell_is, drawn_are}

@@ -21,7 +21,7 @@ use Rattle.vtl_tree.specs.declared.structure.Component.{Component}
 use Rattle.vtl_tree.specs.declared.structure.Structure.{Structure}
 use Rattle.vtl_meaning.specs.Agreement.{values_in}
 use Rattle.vtl_meaning.specs.Joined.{Part, attributes_in, measures_in, tuple_at, tuple_point, values_or_nulls}
-use Rattle.vtl_meaning.proofs.JoinKept.{once_hold}
+use Rattle.vtl_tuples.proofs.Onces.{once_hold}
 use Rattle.vtl_meaning.proofs.JoinParts.{found_is}
 use Rattle.vtl_meaning.proofs.JoinProfiles.{values_hold}
 use Rattle.vtl_meaning.proofs.GroupPoints.{column_gives}

@@ -4,6 +4,7 @@ pub mod CountLemmas
 pub mod DeclarationLemmas
 pub mod Faults
 pub mod LookUps
+pub mod NodeLemmas
 pub mod NotNullLemmas
 pub mod StructuresLemmas
 pub mod Twins

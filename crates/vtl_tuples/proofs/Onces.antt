@@ -6,6 +6,7 @@ use Rattle.std.proofs.lemmas.List.Elements.{filter-append}
 use Rattle.vtl_lists.specs.Apart.{all_apart}
 use Rattle.vtl_lists.proofs.Aparts.{all_apart-filter, apart_more, apart_parts}
 use Rattle.vtl_lists.proofs.Filters.{filter-filter, filter_all}
+use Rattle.vtl_lists.proofs.Sorts.{AllByRecursion-filter}
 use Rattle.vtl_tuples.specs.Keys.{TellsApart, and_once, each_once}
 use Rattle.vtl_tuples.proofs.Folds.{after_each}
 use Rattle.vtl_tuples.proofs.Lists.{filter_each}
@@ -24,6 +25,11 @@ kept_apart same x (y ∷ ys) = go (same x y) refl (kept_apart same x ys)
     go : (b : Bool) → same x y ≡ b → AllByRecursion (λ z. same x z ≡ false) (filter (λ z. not (same x z)) ys) → AllByRecursion (λ z. same x z ≡ false) (cond (not b) (y ∷ filter (λ z. not (same x z)) ys) (filter (λ z. not (same x z)) ys))
     go true e ih = ih
     go false e ih = (e, ih)
+
+-- what holds of each item holds of each that is left
+pub once_hold : {X : Type 0} (P : X → Type 0) (same : X → X → Bool) (xs : List X) → AllByRecursion P xs → AllByRecursion P (each_once same xs)
+once_hold P same [] all = tt
+once_hold P same (x ∷ xs) all = (all.0, AllByRecursion-filter P (λ y. not (same x y)) (each_once same xs) (once_hold P same xs all.1))
 
 module _ {K : Type 0} (same : K → K → Bool) where
   pub once_apart : (ks : List K) → all_apart same (each_once same ks) ≡ true

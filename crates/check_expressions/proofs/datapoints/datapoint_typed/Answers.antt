@@ -7,7 +7,8 @@ use Rattle.check_faults.specs.Answers.{Answers}
 use Rattle.check_operators.specs.Places.{env_of}
 use Rattle.check_operators.specs.Typed.{boxed_tree, typed_tree}
 use Rattle.check_operators.specs.declared.places.Place.TheVariants as at
-use Rattle.check_clauses.proofs.ClauseErrors.{refused, structure-there}
+use Rattle.vtl_tree.proofs.NodeLemmas.{structure-there}
+use Rattle.check_clauses.proofs.ClauseErrors.{refused}
 use Rattle.check_rules.specs.Calls.{variables_known}
 use Rattle.check_expressions.specs.Defined.{point_definition_view}
 use Rattle.check_expressions.specs.Rulesets.{at_variables, checked_points, point_rules_typed}

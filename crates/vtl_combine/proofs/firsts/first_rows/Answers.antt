@@ -1,6 +1,6 @@
 use Rattle.std.proofs.Common.{◌<◌, sym, subst, length, arith, List, ℕ}
 use Rattle.vtl_index.specs.Groups.{firsts}
-use Rattle.vtl_combine.proofs.FirstLemmas.{first_more, some_led}
+use Rattle.vtl_index.proofs.FirstRows.{first_more, some_led}
 use Rattle.vtl_combine.proofs.firsts.first_rows.Goals as goal
 
 pub bounds-rows-0 : goal.bounds-rows-0

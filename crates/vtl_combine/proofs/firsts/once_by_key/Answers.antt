@@ -8,7 +8,7 @@ use Rattle.vtl_index.proofs.KeyGroups.{are_leads}
 use Rattle.vtl_rows.specs.Places.{row_at}
 use Rattle.vtl_rows.specs.Tables.{Tabled, cells_at}
 use Rattle.vtl_tuples.specs.Keys.{each_once}
-use Rattle.vtl_combine.proofs.FirstLemmas.{all_once, firsts_below, firsts_once}
+use Rattle.vtl_index.proofs.FirstRows.{all_once, firsts_below, firsts_once}
 use Rattle.vtl_combine.proofs.firsts.once_by_key.Goals as goal
 
 pub returns-then-len-clause-rows : goal.returns-then-len-clause-rows

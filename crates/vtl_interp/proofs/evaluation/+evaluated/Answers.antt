@@ -11,7 +11,7 @@ use Rattle.vtl_tree.specs.View.{comp_exp_of}
 use Rattle.vtl_tree.specs.declared.structure.Structure.{Structure}
 use Rattle.vtl_tree.specs.declared.nodes.JoinOperand.{JoinOperand}
 use Rattle.vtl_tree.specs.declared.nodes.NodeForm.TheVariants as form
-use Rattle.check_clauses.proofs.ClauseErrors.{structure-there}
+use Rattle.vtl_tree.proofs.NodeLemmas.{structure-there}
 use Rattle.vtl_meaning.specs.Joined.{join_of, structures_of}
 use Rattle.vtl_meaning.specs.Made.{AreCombined, IsFiltered, IsJoined}
 use Rattle.vtl_scripts.specs.Meaning.{node_value, nodes_value, operands_value}

@@ -1,6 +1,6 @@
 use Rattle.std.proofs.Common.{◌≡◌, ◌≤◌, IfOk, arith, length, map, ap, subst, sym, ◌∙◌}
 use Rattle.vtl_tree.specs.NodeView.{node_tree}
-use Rattle.check_clauses.proofs.ClauseErrors.{structure-there}
+use Rattle.vtl_tree.proofs.NodeLemmas.{structure-there}
 use Rattle.vtl_walks.specs.Lent.{lent}
 use Rattle.vtl_walks.specs.Operands.{operands_in}
 use Rattle.vtl_sources.specs.Sources.{traced}

@@ -1,25 +1,30 @@
--- The first rows of groups.
-use Rattle.std.proofs.Common.{◌≡◌, ℕ, suc, ◌+◌, ◌<◌, ◌≤◌, Bool, true, false, not, cond, ◌&&◌, ◌||◌, All, List, [], ◌∷◌, ◌++◌, length, get_or, map, take, refl, sym, ap, ◌∙◌, subst, arith, inl, inr, append_assoc, eqb, eqb-true, ne_eqb}
-use Rattle.std.specs.List.{AllByRecursion, filter, list_any, position_or_len, range_with_len}
+-- The first rows of groups, by the leads of their keys.
+use Rattle.std.proofs.Common.{◌≡◌, ℕ, suc, ◌+◌, ◌<◌, ◌≤◌, Bool, true, false, not, cond, ◌&&◌, ◌||◌, All, List, [], ◌∷◌, ◌++◌, length, get_or, map, take, refl, sym, ap, ◌∙◌, subst, arith, inl, inr, append_assoc, eqb, eqb-true}
+use Rattle.std.specs.List.{AllByRecursion, filter, range_with_len}
 use Rattle.std.proofs.lemmas.List.{get_or-map, get_or_at, length-append, length-map, length_push, take_more}
 use Rattle.std.proofs.lemmas.Bool.{cases_lt}
 use Rattle.std.proofs.lemmas.List.Elements.{All-filter}
-use Rattle.std.proofs.lemmas.List.FromFn.{length-range_with_len}
+use Rattle.std.proofs.lemmas.List.FromFn.{length-range_with_len, take-map-range_with_len}
 use Rattle.std.proofs.lemmas.List.Sums.{count_by-le-length, length-filter}
 use Rattle.std.proofs.lemmas.List.Folds.{list_any-append}
 use Rattle.vtl_lists.proofs.Filters.{filter-filter, first_within, map_cond}
 use Rattle.vtl_lists.proofs.Alls.{all_more}
-use Rattle.vtl_cell.specs.Row.{Row, same_key, same_row}
-use Rattle.vtl_cell.proofs.Rows.{same_row-refl}
-use Rattle.vtl_index.specs.Groups.{AreLeads, firsts, is_first, rows_led}
-use Rattle.vtl_index.specs.Leads.{leads_of}
-use Rattle.vtl_index.proofs.Ranges.{all_indexed, passing_at, passing_is, same_tests}
-use Rattle.vtl_rows.specs.Places.{row_at}
-use Rattle.vtl_rows.specs.Tables.{cells_at}
 use Rattle.vtl_tuples.specs.Keys.{each_once}
 use Rattle.vtl_tuples.proofs.Lists.{filter_each, filter_same}
-use Rattle.vtl_meaning.proofs.JoinKept.{once_hold}
-use Rattle.vtl_combine.proofs.RowLemmas.{first_cells}
+use Rattle.vtl_tuples.proofs.Onces.{once_hold}
+use Rattle.vtl_cell.specs.Row.{Row, column_of, same_key, same_row}
+use Rattle.vtl_cell.specs.declared.cell.Cell.TheVariants as cell
+use Rattle.vtl_index.specs.Groups.{AreLeads, firsts, is_first, rows_led}
+use Rattle.vtl_index.specs.Leads.{leads_of}
+use Rattle.vtl_index.proofs.KeyGroups.{first_where_new, lead_of, met}
+use Rattle.vtl_index.proofs.Ranges.{all_indexed, passing_at, passing_is}
+use Rattle.vtl_rows.specs.Places.{row_at}
+use Rattle.vtl_rows.specs.Tables.{cells_at}
+
+-- ---- numbers and rows
+-- the cells at the first places of a row that has them
+pub first_cells : (n : ℕ) (r : Row) → n ≤ length r → cells_at (range_with_len 0 n) r ≡ take n r
+first_cells n r h = sym (take-map-range_with_len (λ i. column_of i r) 0 (length r) n h) ∙ ap (take n) (all_indexed r cell.Null)
 
 -- ---- the first row of a group is the one by which it is known
 module _ (leads : List ℕ) (are : AreLeads leads) (g : ℕ) (within : g < length (firsts leads)) where
@@ -54,30 +59,8 @@ module _ (leads : List ℕ) (are : AreLeads leads) (g : ℕ) (within : g < lengt
       ∙ sym (take_more (firsts leads) g 0 within)
 
 -- ---- the first rows are those whose keys no row before has
--- the lead of the rows of a key
-abbrev lead_of : (Row → Row) → List Row → Row → ℕ
-lead_of key rows k = position_or_len (λ s. same_row (key s) k) rows
-
--- whether a row before has the key
-abbrev met : (Row → Row) → List Row → Row → Bool
-met key before k = list_any (λ s. same_row (key s) k) before
-
 abbrev pub same_by : (Row → Row) → Row → Row → Bool
 same_by key r s = same_row (key r) (key s)
-
-first_where_new : (key : Row → Row) (before : List Row) (r : Row) (behind : List Row) → eqb (lead_of key (before ++ r ∷ behind) (key r)) (length before) ≡ not (met key before (key r))
-first_where_new key [] r behind = ap (λ b. eqb (cond (not b) (1 + lead_of key behind (key r)) 0) 0) (same_row-refl (key r))
-first_where_new key (s ∷ before) r behind = go (same_row (key s) (key r)) (first_where_new key before r behind)
-  where
-    deep : ℕ
-    deep = lead_of key (before ++ r ∷ behind) (key r)
-
-    one_on : eqb (1 + deep) (suc (length before)) ≡ eqb deep (length before)
-    one_on = same_tests (1 + deep) (suc (length before)) deep (length before) (λ e. omega (arith, e)) (λ e. omega (arith, e))
-
-    go : (b : Bool) → eqb deep (length before) ≡ not (met key before (key r)) → eqb (cond (not b) (1 + deep) 0) (suc (length before)) ≡ not (b || met key before (key r))
-    go true ih = ne_eqb 0 (suc (length before)) (λ e. omega (arith, e))
-    go false ih = one_on ∙ ih
 
 not_met : (key : Row → Row) (before : List Row) (r q : Row) → not (met key (before ++ r ∷ []) (key q)) ≡ (not (same_by key r q) && not (met key before (key q)))
 not_met key before r q = ap not (list_any-append (λ s. same_row (key s) (key q)) before (r ∷ [])) ∙ not_either (met key before (key q)) (same_by key r q)
