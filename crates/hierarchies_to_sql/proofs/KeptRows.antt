@@ -3,7 +3,6 @@ use Rattle.std.proofs.Common.{◌≡◌, Bool, true, false, cond, List, [], ◌�
 use Rattle.std.specs.List.{AllByRecursion, filter, filter_map}
 use Rattle.vtl_decimal.specs.Settings.{Settings}
 use Rattle.vtl_decimal.specs.declared.number.Fault.{Fault}
-use Rattle.vtl_decimal.specs.declared.number.Fault.TheVariants.{DivZero, Range}
 use Rattle.vtl_cell.specs.Outcome.{Outcome, after, fault_in, faults_by, join, unless}
 use Rattle.vtl_cell.specs.Outcomes.{is_true}
 use Rattle.vtl_cell.specs.Row.{Row}
@@ -14,19 +13,13 @@ use Rattle.vtl_tree.specs.Value.{value}
 use Rattle.vtl_tuples.proofs.Lists.{filter-map, filter_same, map-map}
 use Rattle.vtl_meaning.specs.Points.{each_point, point_fault, point_of}
 use Rattle.joins_to_sql.specs.Joins.{where_of}
-use Rattle.rules_to_sql.proofs.Lists.{faults_same, no_faults, shown_points}
+use Rattle.rules_to_sql.proofs.Lists.{faults_same, no_faults, shown_points, both_none}
 
 -- ---- lists
 
 pub faults_mapped : {X Y : Type 0} (f : Y → Option Fault) (g : X → Y) (xs : List X) → faults_by f (map g xs) ≡ faults_by (λ x. f (g x)) xs
 faults_mapped f g [] = refl
 faults_mapped f g (x ∷ xs) = ap (join (f (g x))) (faults_mapped f g xs)
-
-pub both_none : (f g : Option Fault) → join f g ≡ None → (f ≡ None) × (g ≡ None)
-both_none None g e = (refl, e)
-both_none (Some DivZero) g e = cc
-both_none (Some Range) None e = cc
-both_none (Some Range) (Some g) e = cc
 
 all_none : {X : Type 0} (f : X → Option Fault) (xs : List X) → faults_by f xs ≡ None → AllByRecursion (λ x. f x ≡ None) xs
 all_none f [] e = tt

@@ -44,13 +44,14 @@ use Rattle.selects_to_sql.proofs.OneOperand.{same_functions}
 use Rattle.selects_to_sql.proofs.SelectItems.{GivesRows, gives_same}
 use Rattle.selects_to_sql.proofs.Selects.{IsTest}
 use Rattle.rules_to_sql.proofs.Columns.{points_append}
+use Rattle.rules_to_sql.proofs.Lists.{both_none}
 use Rattle.hierarchies_to_sql.specs.ItemTables.{Tables, key_exp, leaf_at, leaves_for, structures_for}
 use Rattle.hierarchies_to_sql.specs.RuleSelects.{checked_exps, checked_select}
 use Rattle.hierarchies_to_sql.specs.SideExps.{Leaf, appears_exp, check_parts, check_where}
 use Rattle.hierarchies_to_sql.proofs.CheckedSides as checks
 use Rattle.hierarchies_to_sql.proofs.ChainRows.{AllKnown, IsLead, ItemsAt, all_columns, beside_give, combination, facts, first, items_show, keys_show, row_of}
 use Rattle.hierarchies_to_sql.proofs.ItemColumns.{IsSided, keys, others, t}
-use Rattle.hierarchies_to_sql.proofs.KeptRows.{IsMade, Tells, both_none, kept_plain, kept_sure}
+use Rattle.hierarchies_to_sql.proofs.KeptRows.{IsMade, Tells, kept_plain, kept_sure}
 use Rattle.hierarchies_to_sql.proofs.SideColumns.{IsId, are_ids}
 use Rattle.hierarchies_to_sql.proofs.SideExps as sides
 

@@ -38,7 +38,7 @@ each_sure p P es h d all = ap (λ o. unless o (map (point_of p es) d)) (faults_s
 
 -- ---- several selects, each with rows or a fault
 
-both_none : (f g : Option Fault) → join f g ≡ None → (f ≡ None) × (g ≡ None)
+pub both_none : (f g : Option Fault) → join f g ≡ None → (f ≡ None) × (g ≡ None)
 both_none None g e = (refl, e)
 both_none (Some DivZero) g e = cc
 both_none (Some Range) None e = cc

@@ -21,7 +21,7 @@ use Rattle.vtl_tree.specs.Columns.{identifiers_of, others_of, places_in}
 use Rattle.vtl_tree.specs.Names.{component_of}
 use Rattle.vtl_tree.proofs.NotNullLemmas.{same_itself}
 use Rattle.vtl_meaning.proofs.GroupPoints.{HasCell}
-use Rattle.vtl_meaning.proofs.Places.{cells_behind, columns_split, place_here, same_name-sym}
+use Rattle.vtl_meaning.proofs.Places.{cells_behind, columns_split, place_here, same_name-sym, attribute_role, measure_role}
 
 -- ---- names
 -- of items with distinct names each is found by its own
@@ -98,16 +98,6 @@ cells_are f (y ∷ ys) all = λ i. all.0.0 i && all.0.1 i && cells_are f ys all.
 -- ---- columns that are no identifiers
 abbrev pub IsOther : Component → Type 0
 IsOther x = same_role x.role role.Identifier ≡ false
-
-pub measure_role : (r : Role) → same_role r role.Measure ≡ true → same_role r role.Identifier ≡ false
-measure_role role.Identifier h = cc
-measure_role role.Measure h = refl
-measure_role role.Attribute h = refl
-
-pub attribute_role : (r : Role) → same_role r role.Attribute ≡ true → same_role r role.Identifier ≡ false
-attribute_role role.Identifier h = cc
-attribute_role role.Measure h = refl
-attribute_role role.Attribute h = refl
 
 pub are_others : (s : Structure) → AllByRecursion IsOther (others_of s)
 are_others s =

@@ -14,7 +14,8 @@ use Rattle.vtl_tree.specs.Trees.{AnalyticTree}
 use Rattle.vtl_meaning.specs.Aggregates.{group_fault as point_fault}
 use Rattle.vtl_meaning.specs.Analytics.{analytic_of, made_of, point_of}
 use Rattle.vtl_meaning.specs.AnalyticShapes.{IsAnalyzed}
-use Rattle.vtl_meaning.proofs.AnalyticPoints.{key_of_point, unless_has}
+use Rattle.vtl_meaning.proofs.AnalyticPoints.{key_of_point}
+use Rattle.vtl_meaning.proofs.GroupPoints.{unless_has}
 
 look_made : (n m : ℕ) (f : Row → Row) (k : Row) (points : List Row) → AllByRecursion (λ r. take n (f r) ≡ take m r) points → look n (map f points) k ≡ option_map f (look m points k)
 look_made n m f k [] all = refl

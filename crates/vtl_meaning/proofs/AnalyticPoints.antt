@@ -9,8 +9,7 @@ use Rattle.vtl_lists.specs.Apart.{all_apart}
 use Rattle.vtl_lists.proofs.Alls.{all_append, all_both, all_front, all_more}
 use Rattle.vtl_lists.proofs.Sorts.{AllByRecursion-map}
 use Rattle.vtl_cell.specs.Kinds.{is_null}
-use Rattle.vtl_decimal.specs.declared.number.Fault.{Fault}
-use Rattle.vtl_cell.specs.Outcome.{Outcome, faults_by, unless}
+use Rattle.vtl_cell.specs.Outcome.{Outcome, faults_by}
 use Rattle.vtl_cell.specs.Profile.{IsOfProfile}
 use Rattle.vtl_cell.specs.Row.{Row, column_of, same_key, same_row}
 use Rattle.vtl_decimal.specs.Settings.{Settings}
@@ -28,7 +27,7 @@ use Rattle.vtl_tree.specs.Names.{component_of}
 use Rattle.vtl_meaning.specs.Aggregates.{Made, group_fault as point_fault}
 use Rattle.vtl_meaning.specs.Points.{cell_or_null}
 use Rattle.vtl_meaning.proofs.GroupKinds.{GivesOf, GivesOfProfile}
-use Rattle.vtl_meaning.proofs.GroupPoints.{HasCell, found_cell, column_gives, value_is}
+use Rattle.vtl_meaning.proofs.GroupPoints.{HasCell, found_cell, column_gives, value_is, unless_has}
 use Rattle.vtl_meaning.specs.Analytics.{analytic_of, made_of, point_of, tree_value, value_for}
 use Rattle.vtl_meaning.specs.AnalyticShapes.{IsAnalyzed, IsMadeColumn, IsMadeOrStays}
 use Rattle.vtl_meaning.specs.Windows.{call_value}
@@ -36,10 +35,6 @@ use Rattle.vtl_meaning.proofs.CallKinds.{call_is}
 use Rattle.vtl_meaning.proofs.CallProfiles.{call_gives, stays_proper}
 use Rattle.vtl_meaning.proofs.AnalyticColumns.{IsOther, are_others, cells_are, columns_found, identifier_cells}
 use Rattle.vtl_meaning.proofs.Places.{columns_split}
-
-pub unless_has : {X : Type 0} (P : X → Type 0) (f : Option Fault) (x : X) → P x → IfOk (unless f x) P
-unless_has P None x h = h
-unless_has P (Some f) x h = tt
 
 -- ---- keys that stay
 pub any_by_key : (n m : ℕ) (f : Row → Row) (key : Row) (points : List Row) → AllByRecursion (λ r. take n (f r) ≡ take m r) points → list_any (λ q. same_row key (take n q)) (map f points) ≡ list_any (λ q. same_row key (take m q)) points

@@ -32,8 +32,8 @@ use Rattle.vtl_tree.specs.Kinds.{given_kind}
 use Rattle.vtl_meaning.specs.Analytics.{item_named, measure_call, value_for}
 use Rattle.vtl_meaning.specs.AnalyticShapes.{AreMeasuresTaken, IsAnalyzed, IsMadeBy, IsMadeColumn, IsMadeOrStays, IsTakenItem, IsTypedAnalytic, analyzed_components, given_of, of_measure, taken, takes}
 use Rattle.vtl_meaning.specs.Shapes.{target_of, tree_kind}
-use Rattle.vtl_meaning.proofs.AnalyticColumns.{IsOther, attribute_role, by_roles, columns_found, measure_role, own_found}
-use Rattle.vtl_meaning.proofs.Places.{same_name-is}
+use Rattle.vtl_meaning.proofs.AnalyticColumns.{IsOther, by_roles, columns_found, own_found}
+use Rattle.vtl_meaning.proofs.Places.{same_name-is, attribute_role, measure_role}
 
 -- ---- lists
 -- the components that a function leaves, where identifiers stay and no other becomes one

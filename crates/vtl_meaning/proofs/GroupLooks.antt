@@ -19,9 +19,8 @@ use Rattle.vtl_tree.specs.Columns.{others_of}
 use Rattle.vtl_meaning.specs.Aggregates.{aggregate_of, condition_fault, condition_of, group_fault, group_point, is_kept, made_of}
 use Rattle.vtl_meaning.specs.Groups.{has_group, keys_by, places_named, points_with}
 use Rattle.vtl_meaning.specs.AggregateShapes.{IsAggregated}
-use Rattle.vtl_meaning.proofs.GroupPoints.{IsKey, all_once, kept_are, key_of_point}
+use Rattle.vtl_meaning.proofs.GroupPoints.{IsKey, all_once, kept_are, key_of_point, unless_has}
 use Rattle.vtl_meaning.proofs.JoinOrders.{rows_apart}
-use Rattle.vtl_meaning.proofs.AnalyticPoints.{unless_has}
 
 -- ---- at a key
 look_made : (n : ℕ) (f : Row → Row) (k : Row) (keys : List Row) → AllByRecursion (λ key. take n (f key) ≡ key) keys → look n (map f keys) k ≡ cond (list_any (λ key. same_row key k) keys) (Some (f k)) None

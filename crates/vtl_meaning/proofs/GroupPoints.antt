@@ -30,7 +30,6 @@ use Rattle.vtl_tree.specs.Environment.{DataSet}
 use Rattle.vtl_tree.specs.Structure.{columns_of, key_width, names_of, of_role, same_name, same_role}
 use Rattle.vtl_tree.specs.declared.expression.AggCall.{AggCall}
 use Rattle.vtl_tree.specs.declared.structure.Component.{Component}
-use Rattle.vtl_tree.specs.declared.structure.Role.{Role}
 use Rattle.vtl_tree.specs.declared.structure.Role.TheVariants as role
 use Rattle.vtl_tree.specs.declared.structure.Structure.{Structure}
 use Rattle.vtl_tree.specs.Trees.{AggTree}
@@ -44,14 +43,14 @@ use Rattle.vtl_meaning.specs.GroupExpressions.{aggregated}
 use Rattle.vtl_meaning.specs.Groups.{keys_by, places_named, points_with}
 use Rattle.vtl_meaning.specs.AggregateShapes.{IsAggregated, IsMadeColumn, given_kind, given_of}
 use Rattle.vtl_meaning.proofs.GroupKinds.{GivesOf, GivesOfProfile, IsOf, group_gives, group_is, integer_is, null_is_of, whole_gives}
-use Rattle.vtl_meaning.proofs.Places.{columns_split, point_append, point_length}
+use Rattle.vtl_meaning.proofs.Places.{columns_split, point_append, point_length, attribute_role, measure_role}
 
 -- ---- lists
 pub all_once : (P : Row → Type 0) (xs : List Row) → AllByRecursion P xs → AllByRecursion P (each_once same_row xs)
 all_once P [] all = tt
 all_once P (x ∷ xs) all = (all.0, AllByRecursion-filter P (λ y. not (same_row x y)) (each_once same_row xs) (all_once P xs all.1))
 
-unless_has : {X : Type 0} (P : X → Type 0) (f : Option Fault) (x : X) → P x → IfOk (unless f x) P
+pub unless_has : {X : Type 0} (P : X → Type 0) (f : Option Fault) (x : X) → P x → IfOk (unless f x) P
 unless_has P None x h = h
 unless_has P (Some f) x h = tt
 
@@ -99,16 +98,6 @@ found_key (y ∷ ys) xs r all h =
 -- ---- columns that are no identifiers
 abbrev IsOther : Component → Type 0
 IsOther x = same_role x.role role.Identifier ≡ false
-
-measure_role : (r : Role) → same_role r role.Measure ≡ true → same_role r role.Identifier ≡ false
-measure_role role.Identifier h = cc
-measure_role role.Measure h = refl
-measure_role role.Attribute h = refl
-
-attribute_role : (r : Role) → same_role r role.Attribute ≡ true → same_role r role.Identifier ≡ false
-attribute_role role.Identifier h = cc
-attribute_role role.Measure h = refl
-attribute_role role.Attribute h = refl
 
 are_others : (s : Structure) → AllByRecursion IsOther (others_of s)
 are_others s =

@@ -120,12 +120,12 @@ identifier_role role.Identifier h = refl
 identifier_role role.Measure h = cc
 identifier_role role.Attribute h = cc
 
-measure_role : (r : Role) → same_role r role.Measure ≡ true → same_role r role.Identifier ≡ false
+pub measure_role : (r : Role) → same_role r role.Measure ≡ true → same_role r role.Identifier ≡ false
 measure_role role.Identifier h = cc
 measure_role role.Measure h = refl
 measure_role role.Attribute h = refl
 
-attribute_role : (r : Role) → same_role r role.Attribute ≡ true → same_role r role.Identifier ≡ false
+pub attribute_role : (r : Role) → same_role r role.Attribute ≡ true → same_role r role.Identifier ≡ false
 attribute_role role.Identifier h = cc
 attribute_role role.Measure h = refl
 attribute_role role.Attribute h = refl

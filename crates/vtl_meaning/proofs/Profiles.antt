@@ -36,7 +36,7 @@ use Rattle.vtl_meaning.specs.Operators.{is_first_chosen, joined_point}
 use Rattle.vtl_meaning.specs.Points.{cell_or_null, each_point, point_fault, point_of}
 use Rattle.vtl_meaning.proofs.Kept.{look_is}
 use Rattle.vtl_meaning.proofs.ValueKinds.{after_if, branch_if}
-use Rattle.vtl_meaning.proofs.AnalyticPoints.{unless_has}
+use Rattle.vtl_meaning.proofs.GroupPoints.{unless_has}
 
 -- ---- rows
 abbrev pub IsRowOfProfile : Settings → Row → Type 0

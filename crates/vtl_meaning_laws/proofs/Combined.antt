@@ -22,8 +22,7 @@ use Rattle.vtl_meaning.specs.Operators.{left_of}
 use Rattle.vtl_meaning.specs.Points.{with_points}
 use Rattle.vtl_meaning.specs.LookUps.{values_named}
 use Rattle.vtl_meaning.specs.Made.{AreAmong, IsColumnAt, IsCombined, component_kinds}
-use Rattle.vtl_meaning.proofs.AnalyticColumns.{measure_role}
-use Rattle.vtl_meaning.proofs.Places.{identifier_role, places_of_namesakes}
+use Rattle.vtl_meaning.proofs.Places.{identifier_role, places_of_namesakes, measure_role}
 use Rattle.vtl_meaning.proofs.SetsFolds.{each_own, own_cells, agreed_role}
 
 -- ---- identifiers and measures

@@ -27,7 +27,7 @@ use Rattle.vtl_tuples.proofs.Lists.{filter_each}
 use Rattle.vtl_meaning.specs.Made.{IsChoice, IsExistence, IsMeasured, IsPaired, IsPivoted, IsUnpivoted}
 use Rattle.vtl_meaning.specs.Shapes.{given_between, given_of_two, outcome_of}
 use Rattle.vtl_meaning.specs.Turned.{codes_of, other_identifiers}
-use Rattle.vtl_meaning.proofs.AnalyticColumns.{measure_role}
+use Rattle.vtl_meaning.proofs.Places.{measure_role}
 use Rattle.vtl_meaning_laws.proofs.Combined.{agreed_roles}
 
 -- ---- identifiers before other components

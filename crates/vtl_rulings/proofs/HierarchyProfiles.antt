@@ -56,7 +56,7 @@ use Rattle.vtl_meaning.proofs.SetsKept.{all_flat}
 use Rattle.vtl_meaning.proofs.SetsProfiles.{left_profile}
 use Rattle.vtl_meaning.proofs.TurnedKept.{filter_map_drawn}
 use Rattle.vtl_meaning.proofs.ValueKinds.{after_if}
-use Rattle.vtl_meaning.proofs.AnalyticPoints.{unless_has}
+use Rattle.vtl_meaning.proofs.GroupPoints.{unless_has}
 use Rattle.vtl_rulings.specs.Hierarchies.{hierarchy_of, made_at, made_fault, made_point, made_points, shown_points}
 use Rattle.vtl_rulings.specs.HierarchyChecks.{Ruled, SidedRule, check_cells, check_fault, check_hierarchy_of, check_point, combinations, is_checked, items_at, key_at, key_cell, sided_rules}
 use Rattle.vtl_rulings.specs.Modes.{Items, zero_of}

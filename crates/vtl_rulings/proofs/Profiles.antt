@@ -32,7 +32,7 @@ use Rattle.vtl_meaning.proofs.JoinProfiles.{front_holds, values_hold}
 use Rattle.vtl_meaning.proofs.Profiles.{IsRowOfProfile, cell_is, drawn_are, value_gives}
 use Rattle.vtl_meaning.proofs.TurnedKept.{filter_map_drawn}
 use Rattle.vtl_meaning.proofs.ValueKinds.{after_if}
-use Rattle.vtl_meaning.proofs.AnalyticPoints.{unless_has}
+use Rattle.vtl_meaning.proofs.GroupPoints.{unless_has}
 use Rattle.vtl_rulings.specs.Outputs.{code_cell, errors_at, is_basic_shown, is_shown, level_cell}
 use Rattle.vtl_tree.specs.Checks.{output_parts}
 use Rattle.vtl_rulings.specs.PointChecks.{PointRule, check_of, checked_point, datapoint_of, errors_of, held, imbalance_at, point_rules, rule_fault, rule_points, ruled_point, truth_of, under}

@@ -45,12 +45,12 @@ use Rattle.vtl_meaning.specs.Aggregates.{Made, group_fault as point_fault}
 use Rattle.vtl_meaning.specs.Analytics.{each_point as each_made, point_of}
 use Rattle.vtl_meaning.specs.LookUps.{value_named}
 use Rattle.vtl_meaning.specs.Points.{cell_or_null}
-use Rattle.vtl_meaning.proofs.AnalyticColumns.{IsOther, attribute_role, by_roles, cells_are, columns_found, identifier_cells, measure_role}
+use Rattle.vtl_meaning.proofs.AnalyticColumns.{IsOther, by_roles, cells_are, columns_found, identifier_cells}
 use Rattle.vtl_meaning.proofs.GroupKinds.{GivesOf, IsOf, group_is, null_is_of}
-use Rattle.vtl_meaning.proofs.GroupPoints.{HasCell, found_cell}
+use Rattle.vtl_meaning.proofs.GroupPoints.{HasCell, found_cell, unless_has}
 use Rattle.vtl_meaning.proofs.ValueKinds.{after_if}
-use Rattle.vtl_meaning.proofs.Places.{columns_split}
-use Rattle.vtl_meaning.proofs.AnalyticPoints.{keys_apart, unless_has}
+use Rattle.vtl_meaning.proofs.Places.{columns_split, attribute_role, measure_role}
+use Rattle.vtl_meaning.proofs.AnalyticPoints.{keys_apart}
 use Rattle.vtl_meaning.proofs.AnalyticShaped.{no_measure}
 use Rattle.vtl_meaning.proofs.CallKinds.{number_is}
 use Rattle.vtl_tree.specs.Times.{flow_components, flow_gives}

@@ -31,8 +31,7 @@ use Rattle.vtl_meaning.specs.Analytics.{each_point as each_made, point_of}
 use Rattle.vtl_meaning.specs.LookUps.{value_named}
 use Rattle.vtl_meaning.proofs.CallProfiles.{stays_proper}
 use Rattle.vtl_meaning.proofs.GroupKinds.{GivesOfProfile, group_gives, zero_gives}
-use Rattle.vtl_meaning.proofs.GroupPoints.{column_gives, value_gives}
-use Rattle.vtl_meaning.proofs.AnalyticPoints.{unless_has}
+use Rattle.vtl_meaning.proofs.GroupPoints.{column_gives, value_gives, unless_has}
 use Rattle.vtl_timing.specs.Times.{before, by_measure, flow_of, flow_value, in_one_series, is_time, previous, series_of, shifted_value, stock_of, stock_value, timeshift_of, up_to}
 
 abbrev IsProper : Settings → Row → Type 0
