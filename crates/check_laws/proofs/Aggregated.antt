@@ -9,6 +9,7 @@ use Rattle.vtl_cell.specs.declared.kind.Kind.{Kind}
 use Rattle.vtl_cell.specs.declared.kind.Kind.TheVariants as k
 use Rattle.vtl_cell.specs.declared.operator.AggKind.{AggKind}
 use Rattle.vtl_lists.proofs.Aparts.{apart_parts}
+use Rattle.vtl_lists.proofs.Alls.{all_append}
 use Rattle.vtl_tuples.proofs.Lists.{filter_same}
 use Rattle.vtl_syntax.specs.Trees.{Exp}
 use Rattle.vtl_syntax.specs.declared.parts.Comp.{Comp}
@@ -185,7 +186,7 @@ pub target-more : (p : Settings) (names : List (List ℕ)) (a : Structure) (r : 
 unfolding with_made
 target-more p names a r c e done v before typed =
     then (IsTaken a) (AreMadeTargets a) (call_in (is_aggregate e) v) (λ made. Ok (done ++ made_as r c made ∷ [])) (one (is_aggregate e) v typed)
-    (λ made taken. lists.appended (IsTarget a) done (made_as r c made ∷ []) before (record { taken = taken; role = written-role r }, tt))
+    (λ made taken. all_append (IsTarget a) done (made_as r c made ∷ []) before (record { taken = taken; role = written-role r }, tt))
   where
     one : (b : Bool) (v : CompExp) → IsTypedInGroups p names (columns_of a) v → Gives (IsTaken a) (call_in b v)
     one true (aggregate x kind) h = h

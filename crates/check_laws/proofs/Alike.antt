@@ -7,6 +7,7 @@ use Rattle.std.specs.Prelude.{unwrap_or}
 use Rattle.vtl_decimal.specs.Settings.{Settings}
 use Rattle.vtl_cell.specs.declared.operator.ScalarOp.TheVariants as op
 use Rattle.vtl_lists.specs.Results.{◌>>=◌}
+use Rattle.vtl_lists.proofs.Alls.{all_append, all_back, all_front}
 use Rattle.check_faults.specs.InTurn.{in_turn}
 use Rattle.check_faults.specs.Rules.{ruled}
 use Rattle.check_faults.specs.declared.rules.Rule.{Rule}
@@ -114,10 +115,10 @@ module _ (p : Settings) (known other : Named) (called : Rulings) (calls : AreCal
   IsAlike name = lookup (same_name name) known ≡ lookup (same_name name) other
 
   front : (xs ys : List (List ℕ)) → Alike (xs ++ ys) → Alike xs
-  front xs ys h = lists.front IsAlike xs ys h
+  front xs ys h = all_front IsAlike xs ys h
 
   back : (xs ys : List (List ℕ)) → Alike (xs ++ ys) → Alike ys
-  back xs ys h = lists.back IsAlike xs ys h
+  back xs ys h = all_back IsAlike xs ys h
 
   name-alike : (at : Place) (c : Comp) → Alike (name_read (is_inside at) c) → name_typed (names_in one) at c ≡ name_typed (names_in two) at c
   name-alike place.Outside (comp.Name name) h = ap (known_by name) h.0
@@ -263,8 +264,8 @@ module _ (p : Settings) (known other : Named) (a : NodeTree) (names : List (List
 
   rule-alike : (name : Option (List ℕ)) (antecedent : Option Exp) (holds : Exp) (error : ErrorPart) → AreKnownAlike known other (antecedent_reads antecedent ++ names_read true holds) → point_rule_typed (env_of p known) here (tree.point_rule name antecedent holds error) ≡ point_rule_typed (env_of p other) here (tree.point_rule name antecedent holds error)
   rule-alike name antecedent holds error h =
-      same-then (antecedent_typed (env_of p known) here antecedent) (antecedent_typed (env_of p other) here antecedent) (rest (env_of p known)) (rest (env_of p other)) (antecedent-alike antecedent (lists.front (IsSame known other) (antecedent_reads antecedent) (names_read true holds) h))
-      (λ c. ap (λ t. t >>= λ e. level_typed p error.level >>= λ level. Ok (record { name = name; antecedent = c; condition = e; errorcode = error.code; errorlevel = level })) (condition-alike holds (lists.back (IsSame known other) (antecedent_reads antecedent) (names_read true holds) h)))
+      same-then (antecedent_typed (env_of p known) here antecedent) (antecedent_typed (env_of p other) here antecedent) (rest (env_of p known)) (rest (env_of p other)) (antecedent-alike antecedent (all_front (IsSame known other) (antecedent_reads antecedent) (names_read true holds) h))
+      (λ c. ap (λ t. t >>= λ e. level_typed p error.level >>= λ level. Ok (record { name = name; antecedent = c; condition = e; errorcode = error.code; errorlevel = level })) (condition-alike holds (all_back (IsSame known other) (antecedent_reads antecedent) (names_read true holds) h)))
     where
       rest : Env → Option CompExp → Result nodes.PointRuleTree Rule
       rest env c = condition_typed env here holds >>= λ e. level_typed p error.level >>= λ level. Ok (record { name = name; antecedent = c; condition = e; errorcode = error.code; errorlevel = level })
@@ -274,8 +275,8 @@ module _ (p : Settings) (known other : Named) (a : NodeTree) (names : List (List
   rules-alike done (tree.point_rule name antecedent holds error ∷ rules) h =
       same-then (point_rule_typed (env_of p known) here (tree.point_rule name antecedent holds error)) (point_rule_typed (env_of p other) here (tree.point_rule name antecedent holds error))
       (λ t. in_turn (λ done r. point_rule_typed (env_of p known) here r) (done ++ t ∷ []) rules) (λ t. in_turn (λ done r. point_rule_typed (env_of p other) here r) (done ++ t ∷ []) rules)
-      (rule-alike name antecedent holds error (lists.front (IsSame known other) (antecedent_reads antecedent ++ names_read true holds) (rules_read rules) h))
-      (λ t. rules-alike (done ++ t ∷ []) rules (lists.back (IsSame known other) (antecedent_reads antecedent ++ names_read true holds) (rules_read rules) h))
+      (rule-alike name antecedent holds error (all_front (IsSame known other) (antecedent_reads antecedent ++ names_read true holds) (rules_read rules) h))
+      (λ t. rules-alike (done ++ t ∷ []) rules (all_back (IsSame known other) (antecedent_reads antecedent ++ names_read true holds) (rules_read rules) h))
 
 -- the names that definitions read stand for the same
 abbrev AreReadAlike : Named → Named → StatementTree → Type 0
@@ -337,10 +338,10 @@ at-same : {A B : Type 0} (i : ℕ) (r s : Result A Rule) (f g : A → Result B (
 at-same i r s f g e h = ap (λ r. at i r f) e ∙ at-each i s f g h
 
 rest-alike : (known other : Named) (xs ys : List (List ℕ)) → AreKnownAlike known other (xs ++ ys) → AreKnownAlike known other ys
-rest-alike known other xs ys h = lists.back (IsSame known other) xs ys h
+rest-alike known other xs ys h = all_back (IsSame known other) xs ys h
 
 first-alike : (known other : Named) (xs ys : List (List ℕ)) → AreKnownAlike known other (xs ++ ys) → AreKnownAlike known other xs
-first-alike known other xs ys h = lists.front (IsSame known other) xs ys h
+first-alike known other xs ys h = all_front (IsSame known other) xs ys h
 
 statements-alike : (p : Settings) (known other : Named) (ds : Definitions) (i before : ℕ) (done : List NodeTree) (ss : ScriptTree) → AllByRecursion (λ d. AreReadAlike known other d.1) ds → AreKnownAlike known other (script_names ss) → statements_typed (standing p known ds) i before done ss ≡ statements_typed (standing p other ds) i before done ss
 statements-alike p known other ds i before done [] rulesets h = refl
@@ -356,12 +357,12 @@ statements-alike p known other ds i before done (tree.datapoint name variables r
     (λ u. statements_typed (with_ruleset (standing p known ds) name (tree.datapoint name variables rules last)) (suc i) (before + length rules) done ss) (λ u. statements_typed (with_ruleset (standing p other ds) name (tree.datapoint name variables rules last)) (suc i) (before + length rules) done ss)
     (defined-alike p known other ds before name (length rules) (datapoint_defined p variables rules) h.0)
     (λ u. statements-alike p known other (ds ++ (name, tree.datapoint name variables rules last) ∷ []) (suc i) (before + length rules) done ss
-    (lists.appended (λ d. AreReadAlike known other d.1) ds ((name, tree.datapoint name variables rules last) ∷ []) rulesets (first-alike known other (rules_read rules) (script_names ss) h.1, tt)) (rest-alike known other (rules_read rules) (script_names ss) h.1))
+    (all_append (λ d. AreReadAlike known other d.1) ds ((name, tree.datapoint name variables rules last) ∷ []) rulesets (first-alike known other (rules_read rules) (script_names ss) h.1, tt)) (rest-alike known other (rules_read rules) (script_names ss) h.1))
 statements-alike p known other ds i before done (tree.hierarchical name item rules last ∷ ss) rulesets h =
     at-same i (defined (standing p known ds) before name (length rules) (hierarchical_defined p rules)) (defined (standing p other ds) before name (length rules) (hierarchical_defined p rules))
     (λ u. statements_typed (with_ruleset (standing p known ds) name (tree.hierarchical name item rules last)) (suc i) (before + length rules) done ss) (λ u. statements_typed (with_ruleset (standing p other ds) name (tree.hierarchical name item rules last)) (suc i) (before + length rules) done ss)
     (defined-alike p known other ds before name (length rules) (hierarchical_defined p rules) h.0)
-    (λ u. statements-alike p known other (ds ++ (name, tree.hierarchical name item rules last) ∷ []) (suc i) (before + length rules) done ss (lists.appended (λ d. AreReadAlike known other d.1) ds ((name, tree.hierarchical name item rules last) ∷ []) rulesets (tt, tt)) h.1)
+    (λ u. statements-alike p known other (ds ++ (name, tree.hierarchical name item rules last) ∷ []) (suc i) (before + length rules) done ss (all_append (λ d. AreReadAlike known other d.1) ds ((name, tree.hierarchical name item rules last) ∷ []) rulesets (tt, tt)) h.1)
 
 pub script-alike : (p : Settings) (known other : Named) (ss : ScriptTree) → AreKnownAlike known other (script_names ss) → script_typed (env_over p known) ss ≡ script_typed (env_over p other) ss
 script-alike p known other ss h = statements-alike p known other [] 1 0 [] ss tt h

@@ -2,6 +2,8 @@
 use Rattle.std.proofs.Common.{◌≡◌, ℕ, zero, suc, ◌+◌, true, cond, not, Bool, List, [], ◌∷◌, map, Some, None, refl, sym, ap, ◌∙◌, subst}
 use Rattle.std.specs.List.{AllByRecursion, filter}
 use Rattle.std.proofs.lemmas.Bool.{and_parts}
+use Rattle.vtl_lists.proofs.Sorts.{AllByRecursion-filter}
+use Rattle.vtl_lists.proofs.Alls.{all_filtered}
 use Rattle.vtl_cell.specs.declared.kind.Kind.{Kind}
 use Rattle.vtl_tree.specs.Structure.{columns_of, same_name}
 use Rattle.vtl_tree.specs.declared.structure.Component.{Component}
@@ -48,7 +50,7 @@ pub own-columns : (a : Structure) → IsShaped a → AllByRecursion (IsAmong (co
 own-columns a ia = lists.weaker (IsFound (columns_of a)) (IsAmong (columns_of a)) a.components (λ x e. at-place x.name (columns_of a) x e) (in-columns a ia.well_formed)
 
 pub own-measures : (a : Structure) → IsShaped a → AreAmong (measures_of a) (columns_of a)
-own-measures a ia = lists.filtered (IsAmong (columns_of a)) is_measure a.components (own-columns a ia)
+own-measures a ia = AllByRecursion-filter (IsAmong (columns_of a)) is_measure a.components (own-columns a ia)
 
 -- a component that is found and passes stands among those that pass
 pub found-among : (p : Component → Bool) (xs : List Component) (x : Component) → IsFound xs x → p x ≡ true → IsAmong (filter p xs) x
@@ -57,7 +59,7 @@ found-among p xs x found passes = at-place x.name (filter p xs) x (found-filter 
 pub own-identifiers : (a : Structure) → IsShaped a → AreAmong (identifiers_of a) (identifiers_of a)
 own-identifiers a ia =
     lists.joined (IsFound a.components) (λ x. is_identifier x ≡ true) (IsAmong (identifiers_of a)) (identifiers_of a) (found-among is_identifier a.components)
-    (lists.filtered (IsFound a.components) is_identifier a.components (all-found a ia.well_formed)) (lists.passing is_identifier a.components)
+    (AllByRecursion-filter (IsFound a.components) is_identifier a.components (all-found a ia.well_formed)) (all_filtered is_identifier a.components)
 
 -- ---- the same columns in two operands
 -- a column with a twin among others
@@ -68,7 +70,7 @@ within-identifiers : (xs ys : List Component) → is_within compared.Kinds role.
 within-identifiers xs ys e =
     lists.joined (HasTwin compared.Kinds ys) (λ x. is_identifier x ≡ true) (IsAmong (filter is_identifier ys)) (filter is_identifier xs)
     (λ x t yes. twin-at ys x t (filter is_identifier ys) (found-filter is_identifier x.name ys t.twin t.found (ap (λ r. is_identifier (record { name = x.name; role = r; kind = x.kind; codes = None })) (sym t.role) ∙ yes)))
-    (within-twins compared.Kinds role.Identifier xs ys e) (lists.passing is_identifier xs)
+    (within-twins compared.Kinds role.Identifier xs ys e) (all_filtered is_identifier xs)
 
 pub contained-identifiers : (a b : Structure) → contains a b ≡ true → AreAmong (identifiers_of b) (identifiers_of a)
 contained-identifiers a b e = within-identifiers b.components a.components e

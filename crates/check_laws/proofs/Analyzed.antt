@@ -5,6 +5,8 @@ use Rattle.std.specs.Option.{IfSome, option_map_or}
 use Rattle.std.specs.Prelude.{option_and_then, unwrap_or}
 use Rattle.vtl_lists.specs.Apart.{all_apart}
 use Rattle.vtl_lists.specs.Results.{◌>>=◌}
+use Rattle.vtl_lists.proofs.Sorts.{AllByRecursion-filter}
+use Rattle.vtl_lists.proofs.Alls.{all_with}
 use Rattle.vtl_decimal.specs.Settings.{Settings}
 use Rattle.vtl_cell.specs.declared.kind.Kind.{Kind}
 use Rattle.vtl_cell.specs.declared.kind.Kind.TheVariants as k
@@ -96,8 +98,8 @@ module _ (p : Settings) (e : Exp) (a : Structure) (is : IsShaped a) (asked : Nee
   taken-measures : any_unmet (windowed.of_measure e) None xs ≡ false → AllByRecursion IsTakenMeasure (measures xs)
   taken-measures unmet =
       lists.joined HasKind Taken IsTakenMeasure (measures xs) (λ x some t. one x (t.0) (t.1 some))
-      (lists.filtered HasKind is_measure xs (has-kinds a is))
-      (lists.both (λ x. is_none (paired (windowed.of_measure e) x.kind (namesake None x)) ≡ false) Fits (measures xs) (met-measures (windowed.of_measure e) None xs unmet) (lists.unmapped (λ kind. literals.is_null_kind kind ≡ false → (given : Kind) → over_kind e kind ≡ Some given → (takes o kind ≡ true) × (given ≡ given_kind o kind)) (λ x. x.kind) (measures xs) for-o.taken))
+      (AllByRecursion-filter HasKind is_measure xs (has-kinds a is))
+      (all_with (λ x. is_none (paired (windowed.of_measure e) x.kind (namesake None x)) ≡ false) Fits (measures xs) (met-measures (windowed.of_measure e) None xs unmet) (lists.unmapped (λ kind. literals.is_null_kind kind ≡ false → (given : Kind) → over_kind e kind ≡ Some given → (takes o kind ≡ true) × (given ≡ given_kind o kind)) (λ x. x.kind) (measures xs) for-o.taken))
     where
       Fits : Component → Type 0
       Fits x = literals.is_null_kind x.kind ≡ false → (given : Kind) → over_kind e x.kind ≡ Some given → (takes o x.kind ≡ true) × (given ≡ given_kind o x.kind)

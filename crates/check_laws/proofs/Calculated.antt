@@ -10,6 +10,8 @@ use Rattle.vtl_decimal.specs.Settings.{Settings}
 use Rattle.vtl_lists.specs.Apart.{all_apart}
 use Rattle.vtl_lists.proofs.Aparts.{apart_parts}
 use Rattle.vtl_lists.proofs.Filters.{filter_none, find-map, find_passes}
+use Rattle.vtl_lists.proofs.Sorts.{AllByRecursion-filter}
+use Rattle.vtl_lists.proofs.Alls.{all_append, all_filtered}
 use Rattle.vtl_tuples.proofs.Lists.{map_same}
 use Rattle.vtl_tree.specs.Structure.{columns_of, names_of, same_name, same_role}
 use Rattle.vtl_tree.specs.Structures.{structure_of}
@@ -80,10 +82,10 @@ calculated-fits p items target a ia apart names h =
       record {
         well_formed = s.well_formed;
         identifiers = (ap names_of same, ap (map (λ x. x.kind)) same);
-        free = lists.joined (IsFound xs) (λ x. is_identifier x ≡ true) (λ x. target_named items x.name ≡ None) (filter is_identifier xs) free (lists.filtered (IsFound xs) is_identifier xs (all-found a ia.well_formed)) (lists.passing is_identifier xs);
-        columns = for-map p (columns_of a) (calculated_exp items (columns_of a)) (columns_of (structure_of (old ++ new))) (of-columns Good (structure_of (old ++ new)) (lists.appended Good old new
+        free = lists.joined (IsFound xs) (λ x. is_identifier x ≡ true) (λ x. target_named items x.name ≡ None) (filter is_identifier xs) free (AllByRecursion-filter (IsFound xs) is_identifier xs (all-found a ia.well_formed)) (all_filtered is_identifier xs);
+        columns = for-map p (columns_of a) (calculated_exp items (columns_of a)) (columns_of (structure_of (old ++ new))) (of-columns Good (structure_of (old ++ new)) (all_append Good old new
             (lists.mapped Good (calculated ts) xs (lists.weaker (λ x. IsFor p (columns_of a) (column_named (columns_of a) x.name) x) (λ x. Good (calculated ts x)) xs good-old (found-columns p a ia)))
-            (lists.mapped Good target_component (filter (is_new xs) ts) (lists.filtered (λ t. Good (target_component t)) (is_new xs) ts (lists.mapped (λ t. Good (target_component t)) target items (lists.joined (IsItemFor p a target) (λ i. target_named items i.target ≡ Some i) (λ i. Good (target_component (target i))) items good-new h (items-found items apart)))))));
+            (lists.mapped Good target_component (filter (is_new xs) ts) (AllByRecursion-filter (λ t. Good (target_component t)) (is_new xs) ts (lists.mapped (λ t. Good (target_component t)) target items (lists.joined (IsItemFor p a target) (λ i. target_named items i.target ≡ Some i) (λ i. Good (target_component (target i))) items good-new h (items-found items apart)))))));
         apart = apart;
         shape = ap (λ l. calculated_components l xs) (map_same target (target_of xs) items (lists.weaker (IsItemFor p a target) (λ i. target i ≡ target_of xs i) items (λ i it. it.same) h));
       },
@@ -153,7 +155,7 @@ calculated-fits p items target a ia apart names h =
             ∙ not-identifier (made x.name (unwrap_or (target i).role x.role) (target i).kind) (λ k. false≢true (sym isnt ∙ ap (λ r. same_role r role.Identifier) ((item-at x.name i e).0.role x.role k)))
 
     measures-new : AllByRecursion (λ y. is_identifier y ≡ false) new
-    measures-new = lists.mapped (λ y. is_identifier y ≡ false) target_component (filter (is_new xs) ts) (lists.filtered (λ t. is_identifier (target_component t) ≡ false) (is_new xs) ts (lists.mapped (λ t. is_identifier (target_component t) ≡ false) target items (lists.weaker (IsItemFor p a target) (λ i. is_identifier (target_component (target i)) ≡ false) items one h)))
+    measures-new = lists.mapped (λ y. is_identifier y ≡ false) target_component (filter (is_new xs) ts) (AllByRecursion-filter (λ t. is_identifier (target_component t) ≡ false) (is_new xs) ts (lists.mapped (λ t. is_identifier (target_component t) ≡ false) target items (lists.weaker (IsItemFor p a target) (λ i. is_identifier (target_component (target i)) ≡ false) items one h)))
       where
         one : (i : ItemTree) → IsItemFor p a target i → is_identifier (target_component (target i)) ≡ false
         one i it = not-identifier (target_component (target i)) (λ k. let no : role.Measure ≡ role.Identifier = it.role role.Measure k in cc)

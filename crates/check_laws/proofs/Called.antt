@@ -5,7 +5,7 @@ use Rattle.std.specs.List.{AllByRecursion}
 use Rattle.std.specs.Option.{IfSome}
 use Rattle.std.specs.Prelude.{option_to_list, unwrap_or}
 use Rattle.vtl_lists.specs.Results.{◌>>=◌}
-use Rattle.vtl_lists.proofs.Alls.{all_flat_map}
+use Rattle.vtl_lists.proofs.Alls.{all_append, all_flat_map}
 use Rattle.vtl_syntax.specs.Depth.{exp_depth, option_depth, point_rule_depth, statement_depth}
 use Rattle.vtl_syntax.specs.Trees as tree
 use Rattle.vtl_syntax.specs.Trees.{Exp, PointRuleTree, StatementTree}
@@ -44,7 +44,6 @@ use Rattle.check_laws.proofs.Conditions.{names-kept}
 use Rattle.check_laws.proofs.DepthBounds.{AreUpTo, IsTreeUpTo, IsUpTo, each-below, option-up}
 use Rattle.check_laws.proofs.DepthClauses.{condition-up}
 use Rattle.check_laws.proofs.DepthTyping.{deep}
-use Rattle.vtl_meaning.proofs.Lists as lists
 use Rattle.check_laws.proofs.SoundRulings.{looked}
 use Rattle.check_laws.proofs.Steps.{after, tested, then}
 use Rattle.check_laws.proofs.Turns.{all-in-turn}
@@ -124,7 +123,7 @@ rule-deep : (env : Env) (at : Place) (r : PointRuleTree) (d : ℕ) → point_rul
 rule-deep env at (tree.point_rule name antecedent holds error) d le =
     then (λ c. IfSome c (IsUpTo d)) Q (antecedent_typed env at antecedent) (λ c. condition_typed env at holds >>= λ h. level_typed env.settings error.level >>= λ level. Ok (record { name = name; antecedent = c; condition = h; errorcode = error.code; errorlevel = level })) (antecedent-deep env at antecedent d (omega arith))
     (λ c hc. then (IsUpTo d) Q (condition_typed env at holds) (λ h. level_typed env.settings error.level >>= λ level. Ok (record { name = name; antecedent = c; condition = h; errorcode = error.code; errorlevel = level })) (condition-deep env at holds d (omega arith))
-    (λ h hh. after Q (level_typed env.settings error.level) (λ level. Ok (record { name = name; antecedent = c; condition = h; errorcode = error.code; errorlevel = level })) (λ level. lists.appended (IsUpTo d) (option_to_list c) (h ∷ []) (option-up d c hc) (hh, tt))))
+    (λ h hh. after Q (level_typed env.settings error.level) (λ level. Ok (record { name = name; antecedent = c; condition = h; errorcode = error.code; errorlevel = level })) (λ level. all_append (IsUpTo d) (option_to_list c) (h ∷ []) (option-up d c hc) (hh, tt))))
   where
     Q : nodes.PointRuleTree → Type 0
     Q t = AreUpTo d (rule_exps t)

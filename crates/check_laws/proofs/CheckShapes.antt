@@ -7,6 +7,8 @@ use Rattle.std.specs.Option.{IfSome, option_to_list}
 use Rattle.std.specs.Prelude.{nat_eq}
 use Rattle.vtl_decimal.specs.Settings.{Settings}
 use Rattle.vtl_lists.specs.Apart.{all_apart}
+use Rattle.vtl_lists.proofs.Sorts.{AllByRecursion-filter}
+use Rattle.vtl_lists.proofs.Alls.{all_append, all_from_test}
 use Rattle.vtl_cell.specs.Kinds.{same_kind}
 use Rattle.vtl_cell.specs.Profile.{IsOfProfile}
 use Rattle.vtl_cell.specs.ScalarKinds.{meets}
@@ -66,11 +68,11 @@ single kind (x ∷ y ∷ ms) e h n = let two : length (x ∷ y ∷ ms) ≡ 1 = e
 
 meet-all : (kind : Kind) (xs : List Component) → all_meet kind xs ≡ true → AllByRecursion (λ x. meets kind x.kind ≡ true) (measures xs)
 unfolding all_meet
-meet-all kind xs e = lists.all_pass (λ x. meets kind x.kind) (measures xs) e
+meet-all kind xs e = all_from_test (λ x. meets kind x.kind) (measures xs) e
 
 -- so many measures, each of which meets the kind
 pub only-measure : (kind : Kind) (a : Structure) → IsShaped a → nat_eq (length (measures a.components)) 1 ≡ true → all_meet kind a.components ≡ true → IsOnly kind (measures_of a)
-only-measure kind a ia one met = single kind (measures a.components) one (meet-all kind a.components met) (lists.filtered (λ x. is_null_kind x.kind ≡ false) is_measure a.components ia.kinds)
+only-measure kind a ia one met = single kind (measures a.components) one (meet-all kind a.components met) (AllByRecursion-filter (λ x. is_null_kind x.kind ≡ false) is_measure a.components ia.kinds)
 
 one-measure : (kind : Kind) (a : Structure) → IsShaped a → has_one_measure kind a.components ≡ true → IsOnly kind (measures_of a)
 one-measure kind a ia e = let both = and_parts (nat_eq (length (measures a.components)) 1) (all_meet kind a.components) e in only-measure kind a ia both.0 both.1
@@ -97,9 +99,9 @@ abbrev AreMeasures : List Component → Type 0
 AreMeasures ms = AllByRecursion (λ x. x.role ≡ role.Measure) ms
 
 output-measures : (o : CheckOut) (a : Structure) (rest : List Component) → AreMeasures rest → AreMeasures (output_parts o (measures_of a) bool_var rest)
-output-measures out.Invalid a rest h = lists.appended (λ x. x.role ≡ role.Measure) (measures_of a) rest (measure-roles a.components) h
+output-measures out.Invalid a rest h = all_append (λ x. x.role ≡ role.Measure) (measures_of a) rest (measure-roles a.components) h
 output-measures out.All a rest h = (refl, h)
-output-measures out.AllMeasures a rest h = lists.appended (λ x. x.role ≡ role.Measure) (measures_of a) (bool_var ∷ rest) (measure-roles a.components) (refl, h)
+output-measures out.AllMeasures a rest h = all_append (λ x. x.role ≡ role.Measure) (measures_of a) (bool_var ∷ rest) (measure-roles a.components) (refl, h)
 
 record IsRuledShape (a : Structure) (ms : List Component) (s : Structure) : Type 0 where
   pub identifiers : HasIdentifiers s (identifiers_of a ++ ruleid ∷ [])
@@ -128,7 +130,7 @@ module _ (a : Structure) (f : Component → Component) (name-stays : (x : Compon
       ids = kept-ids ++ ruleid ∷ []
 
       are : AreParts ids ms
-      are = record { identifiers = lists.appended (λ x. x.role ≡ role.Identifier) kept-ids (ruleid ∷ []) kept-roles (refl, tt); measures = h }
+      are = record { identifiers = all_append (λ x. x.role ≡ role.Identifier) kept-ids (ruleid ∷ []) kept-roles (refl, tt); measures = h }
 
       names : names_of ids ≡ names_of (identifiers_of a ++ ruleid ∷ [])
       names = map-append (λ x. x.name) kept-ids (ruleid ∷ []) ∙ ap (λ l. l ++ ruleid.name ∷ []) kept-names ∙ sym (map-append (λ x. x.name) (identifiers_of a) (ruleid ∷ []))
@@ -269,8 +271,8 @@ check-fits p spec i a ia ii level = tested-then Q (check_tests a (option_to_list
     imbalance-fits : (i : Option Structure) → IfSome i IsShaped → all_agree compared.Kinds role.Identifier a.components (option_to_list i) ≡ true → list_all has_one_number (option_to_list i) ≡ true → IfSome i (IsImbalance a)
     imbalance-fits None ii e n = tt
     imbalance-fits (Some d) ii e n =
-        let both = same-identifiers a d (lists.all_pass (λ s. agree compared.Kinds role.Identifier a.components s.components) (d ∷ []) e).0 in
-        let only = one-measure k.Num d ii (lists.all_pass has_one_number (d ∷ []) n).0 in
+        let both = same-identifiers a d (all_from_test (λ s. agree compared.Kinds role.Identifier a.components s.components) (d ∷ []) e).0 in
+        let only = one-measure k.Num d ii (all_from_test has_one_number (d ∷ []) n).0 in
         record { there = both.0; back = both.1; kind = only.measure.kind; measured = only-kind k.Num (measures_of d) only; numeric = only.met }
 
     fits : ArePassed (check_tests a (option_to_list i)) → IsShaped (structure_of (ids ++ check_measures)) → IsChecked p spec i a (structure_of (ids ++ check_measures))

@@ -2,6 +2,7 @@
 use Rattle.std.proofs.Common.{◌≡◌, true, ◌&&◌, not, List, [], ◌∷◌, ◌++◌, length, refl, sym, ap, ◌∙◌, subst}
 use Rattle.std.specs.Prelude.{nat_eq}
 use Rattle.std.proofs.lemmas.Bool.{and_parts, not-false}
+use Rattle.vtl_lists.proofs.Alls.{all_from_test}
 use Rattle.vtl_cell.specs.declared.kind.Kind.TheVariants as k
 use Rattle.vtl_tree.specs.Structure.{columns_of}
 use Rattle.vtl_tree.specs.Structures.{structure_of}
@@ -18,7 +19,6 @@ use Rattle.vtl_meaning.specs.Made.{AreAmong, IsAlternative, IsChoice}
 use Rattle.vtl_meaning.specs.Shapes.{IsShaped}
 use Rattle.check_laws.specs.Gives.{ArePassed, Gives}
 use Rattle.check_laws.proofs.Among.{own-measures, same-identifiers, same-measures}
-use Rattle.vtl_meaning.proofs.Lists as lists
 use Rattle.check_laws.proofs.CheckShapes.{boolean-kind, only-measure}
 use Rattle.check_laws.proofs.Measured.{has-identifiers}
 use Rattle.check_laws.proofs.Shapes.{AreParts, measure-roles, parts-columns, parts-identifiers, parts-measures, shaped-gives}
@@ -48,7 +48,7 @@ chosen-fits t a b it ia ib =
     fits passed s =
         let one = and_parts (nat_eq (length (measures t.components)) 1 && not (nat_eq (length (measures a.components)) 0)) (agree compared.Kinds role.Measure a.components b.components) (not-false (are_choices t a b) passed.1.1.0) in
         let single = and_parts (nat_eq (length (measures t.components)) 1) (not (nat_eq (length (measures a.components)) 0)) one.0 in
-        let agreed = lists.all_pass (λ x. agree compared.Kinds role.Identifier t.components x.components) (a ∷ b ∷ []) (not-false (all_agree compared.Kinds role.Identifier t.components (a ∷ b ∷ [])) passed.1.0) in
+        let agreed = all_from_test (λ x. agree compared.Kinds role.Identifier t.components x.components) (a ∷ b ∷ []) (not-false (all_agree compared.Kinds role.Identifier t.components (a ∷ b ∷ [])) passed.1.0) in
         record {
           well_formed = s.well_formed;
           tested = boolean-kind (measures_of t) (only-measure k.Bool t it single.0 (not-false (all_meet k.Bool t.components) passed.0));

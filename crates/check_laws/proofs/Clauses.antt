@@ -11,6 +11,8 @@ use Rattle.vtl_cell.specs.ScalarKinds.{meets}
 use Rattle.vtl_cell.specs.declared.kind.Kind.{Kind}
 use Rattle.vtl_cell.specs.declared.kind.Kind.TheVariants as k
 use Rattle.vtl_lists.specs.Results.{◌>>=◌}
+use Rattle.vtl_lists.proofs.Aparts.{none_same}
+use Rattle.vtl_lists.proofs.Alls.{all_append}
 use Rattle.check_faults.specs.declared.rules.Rule.{Rule}
 use Rattle.check_faults.specs.declared.rules.Rule.TheVariants as rule
 use Rattle.vtl_syntax.specs.declared.parts.Comp.{Comp}
@@ -173,7 +175,7 @@ names-more (x ∷ items) i = ap (λ l. x.target ∷ l) (names-more items i)
 
 pub item-more : (p : Settings) (n : NodeTree) (r : Option WrittenRole) (c : Comp) (done : List ItemTree) (v : ValueTree) → AreTargets p n done → ArePassed (target_tests (components_in n) (item_names done) (name_of c)) → IsTargetValue p n v → AreTargets p n (done ++ item_of r c v ∷ [])
 item-more p n r c done v are passed is = record {
-  each = lists.appended (IsTarget p n) done (item_of r c v ∷ []) are.each (record { value = is; free = passed.1.0; role = written-role r }, tt);
+  each = all_append (IsTarget p n) done (item_of r c v ∷ []) are.each (record { value = is; free = passed.1.0; role = written-role r }, tt);
   apart = ap (all_apart same_name) (names-more done (item_of r c v)) ∙ apart_push (item_names done) (name_of c) are.apart (sym (among-any (name_of c) (item_names done)) ∙ passed.0);
 }
 
@@ -206,7 +208,7 @@ calc-gives env n items is are = go (list_any is_analytic items) refl
     go false e =
         node-gives env (nodes.calc n items) r (weaker (λ s. IsShaped s × IsCalculated env.settings items (structure_of n) s) (IsMadeWith env (nodes.calc n items)) r (λ s f. (f.0, (is, f.1)))
         (calculated-fits env.settings items (target_of (components_in n)) (structure_of n) (made-shaped env.settings env.known n is) are.apart (λ i. refl)
-        (lists.joined (IsTarget env.settings n) (λ i. is_analytic i ≡ false) (IsItemFor env.settings (structure_of n) (target_of (components_in n))) items (item-for env.settings n) are.each (lists.any_fails is_analytic items e))))
+        (lists.joined (IsTarget env.settings n) (λ i. is_analytic i ≡ false) (IsItemFor env.settings (structure_of n) (target_of (components_in n))) items (item-for env.settings n) are.each (none_same is_analytic items e))))
 
 -- ---- `aggr`
 pub aggr-gives : (env : Env) (g : Option GroupPart) (n : NodeTree) (made : List Made) (having : Option CompExp) → IsMade env.settings env.known n → AreMadeTargets (structure_of n) made → IfSome having (IsGroupCondition env.settings (aggr_tree g n made having) (structure_of n)) → Gives (IsMade env.settings env.known) (aggr_clause g n made having)

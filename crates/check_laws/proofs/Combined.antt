@@ -3,6 +3,8 @@ use Rattle.std.proofs.Common.{◌≡◌, ℕ, Bool, true, false, cond, ◌||◌,
 use Rattle.std.proofs.lemmas.Bool.{false≢true, not-false, or_parts}
 use Rattle.std.specs.List.{AllByRecursion, list_any}
 use Rattle.std.specs.Option.{option_map_or}
+use Rattle.vtl_lists.proofs.Alls.{all_filtered, all_from_test, all_kept, all_with}
+use Rattle.vtl_lists.proofs.Aparts.{none_same}
 use Rattle.vtl_tree.specs.Structure.{columns_of, names_of, same_name, same_role}
 use Rattle.vtl_tree.specs.Structures.{structure_of}
 use Rattle.vtl_tree.specs.declared.structure.Component.{Component}
@@ -63,9 +65,9 @@ combined-fits a bs ia ibs = tested-then Q (set_tests a bs) (λ u. shaped (ids ++
 
     alike : ArePassed (set_tests a bs) → AllByRecursion Alike bs
     alike passed =
-        lists.both (λ b. agree compared.Kinds role.Identifier a.components b.components ≡ true) (λ b. agree compared.Kinds role.Measure a.components b.components ≡ true) bs
-        (lists.all_pass (λ b. agree compared.Kinds role.Identifier a.components b.components) bs (not-false (all_agree compared.Kinds role.Identifier a.components bs) passed.0))
-        (lists.all_pass (λ b. agree compared.Kinds role.Measure a.components b.components) bs (not-false (all_agree compared.Kinds role.Measure a.components bs) passed.1.0))
+        all_with (λ b. agree compared.Kinds role.Identifier a.components b.components ≡ true) (λ b. agree compared.Kinds role.Measure a.components b.components ≡ true) bs
+        (all_from_test (λ b. agree compared.Kinds role.Identifier a.components b.components) bs (not-false (all_agree compared.Kinds role.Identifier a.components bs) passed.0))
+        (all_from_test (λ b. agree compared.Kinds role.Measure a.components b.components) bs (not-false (all_agree compared.Kinds role.Measure a.components bs) passed.1.0))
 
     fits : ArePassed (set_tests a bs) → IsShaped result → IsCombined a bs result
     fits passed s = record {
@@ -119,21 +121,21 @@ exists-fits a b ib = tested-then Q (exists_tests a b) (λ u. shaped (ids ++ bool
     Common i = IsFound b.components i × (is_identifier i ≡ true)
 
     all : AllByRecursion Common (identifiers_of b)
-    all = lists.kept (IsFound b.components) is_identifier b.components (all-found b ib.well_formed)
+    all = all_kept (IsFound b.components) is_identifier b.components (all-found b ib.well_formed)
 
     fits : ArePassed (exists_tests a b) → IsShaped (structure_of (ids ++ bool_var ∷ [])) → IsExistence a b (structure_of (ids ++ bool_var ∷ []))
     fits passed s = record {
       well_formed = s.well_formed;
       identifiers = has-identifiers ids (bool_var ∷ []) (identifiers_of a) are (agreed-names (b ∷ []) a.components) (agreed-kinds (b ∷ []) a.components);
       truth = ap component_kinds (parts-others ids (bool_var ∷ []) are);
-      common = lists.weaker (λ i. Common i × (has_identifier a i.name ≡ true)) (IsAmong (identifiers_of a)) (common_identifiers a b) one (lists.kept Common (λ i. has_identifier a i.name) (identifiers_of b) all);
+      common = lists.weaker (λ i. Common i × (has_identifier a i.name ≡ true)) (IsAmong (identifiers_of a)) (common_identifiers a b) one (all_kept Common (λ i. has_identifier a i.name) (identifiers_of b) all);
       shape = refl;
     }
       where
         peace : AllByRecursion (IsAtPeace b) (identifiers_of a)
         peace =
-            lists.both (λ x. is_at_odds b x ≡ false) (λ x. is_identifier x ≡ true) (identifiers_of a) (lists.any_fails (is_at_odds b) (identifiers_of a) (or_parts (not (list_any (is_common b) (identifiers_of a))) (list_any (is_at_odds b) (identifiers_of a)) passed.0).1)
-            (lists.passing is_identifier a.components)
+            all_with (λ x. is_at_odds b x ≡ false) (λ x. is_identifier x ≡ true) (identifiers_of a) (none_same (is_at_odds b) (identifiers_of a) (or_parts (not (list_any (is_common b) (identifiers_of a))) (list_any (is_at_odds b) (identifiers_of a)) passed.0).1)
+            (all_filtered is_identifier a.components)
 
         one : (i : Component) → Common i × (has_identifier a i.name ≡ true) → IsAmong (identifiers_of a) i
         one i h =

@@ -6,7 +6,7 @@ use Rattle.std.specs.Prelude.{option_to_list}
 use Rattle.vtl_cell.specs.declared.kind.Kind.{Kind}
 use Rattle.vtl_cell.specs.declared.operator.ScalarOp.{ScalarOp}
 use Rattle.vtl_lists.specs.Results.{◌>>=◌}
-use Rattle.vtl_lists.proofs.Alls.{all_flat_map}
+use Rattle.vtl_lists.proofs.Alls.{all_append, all_back, all_flat_map, all_front}
 use Rattle.vtl_lists.proofs.Filters.{found_has}
 use Rattle.check_faults.specs.declared.rules.Rule.{Rule}
 use Rattle.vtl_syntax.specs.Depth.{deepest}
@@ -79,15 +79,15 @@ deepest-below depth d (x ∷ xs) h = let here : depth x ≤ d = h.0 in let rest 
 
 flat-every : {X Y : Type 0} (P : Y → Type 0) (f : X → List Y) (xs : List X) → AllByRecursion P (flat_map f xs) → AllByRecursion (λ x. AllByRecursion P (f x)) xs
 flat-every P f [] h = tt
-flat-every P f (x ∷ xs) h = (lists.front P (f x) (flat_map f xs) h, flat-every P f xs (lists.back P (f x) (flat_map f xs) h))
+flat-every P f (x ∷ xs) h = (all_front P (f x) (flat_map f xs) h, flat-every P f xs (all_back P (f x) (flat_map f xs) h))
 
 exps-raised : (c d : ℕ) (es : List CompExp) → c ≤ d → AreUpTo c es → AreUpTo d es
 exps-raised c d es le h = lists.weaker (IsUpTo c) (IsUpTo d) es (λ e k. omega arith) h
 
 -- the expressions of a node, where those of rules are up to a depth too
 all-exps : (d b : ℕ) (n : NodeTree) → IsOwnUpTo (IsHeldUpTo b) d n → AreUpTo (max d b) (exps_in n)
-all-exps d b (nodes.node s (nodes.check_datapoint a rules out)) h = lists.appended (IsUpTo (max d b)) (held_exps (nodes.check_datapoint a rules out)) [] (exps-raised b (max d b) (held_exps (nodes.check_datapoint a rules out)) (omega arith) h.2) tt
-all-exps d b (nodes.node s form) h = exps-raised d (max d b) (held_exps form ++ made_exps s form) (omega arith) (lists.appended (IsUpTo d) (held_exps form) (made_exps s form) h.0 h.1)
+all-exps d b (nodes.node s (nodes.check_datapoint a rules out)) h = all_append (IsUpTo (max d b)) (held_exps (nodes.check_datapoint a rules out)) [] (exps-raised b (max d b) (held_exps (nodes.check_datapoint a rules out)) (omega arith) h.2) tt
+all-exps d b (nodes.node s form) h = exps-raised d (max d b) (held_exps form ++ made_exps s form) (omega arith) (all_append (IsUpTo d) (held_exps form) (made_exps s form) h.0 h.1)
 
 pub node-depth : (d b : ℕ) (n : NodeTree) → IsNodeUpTo (IsHeldUpTo b) d n → node_depth n ≤ max d b
 node-depth d b n h =
@@ -144,9 +144,9 @@ for-up d f (x ∷ xs) (y ∷ ys) h = (h x y, for-up d f xs ys h)
 
 pub measured-up : (d : ℕ) (m : MeasureTree) (a s : Structure) → 1 ≤ d → AreUpTo d m.before → AreUpTo d m.after → AreUpTo (suc d) (measured_exps m a s)
 measured-up d m a s some hb ha =
-    lists.appended (IsUpTo (suc d)) (columns_named (columns_of a) (identifiers_of s)) (for_measures (with_measure m (columns_of a)) (measures_of a) (measures_of s)) (columns-up (suc d) (columns_of a) (identifiers_of s) (omega arith))
+    all_append (IsUpTo (suc d)) (columns_named (columns_of a) (identifiers_of s)) (for_measures (with_measure m (columns_of a)) (measures_of a) (measures_of s)) (columns-up (suc d) (columns_of a) (identifiers_of s) (omega arith))
     (for-up (suc d) (with_measure m (columns_of a)) (measures_of a) (measures_of s)
-    (λ x y. call-up d m.op y.kind (m.before ++ column_named (columns_of a) x.name ∷ m.after) (lists.appended (IsUpTo d) m.before (column_named (columns_of a) x.name ∷ m.after) hb (some, ha))))
+    (λ x y. call-up d m.op y.kind (m.before ++ column_named (columns_of a) x.name ∷ m.after) (all_append (IsUpTo d) m.before (column_named (columns_of a) x.name ∷ m.after) hb (some, ha))))
 
 -- either operand may be the one with all identifiers
 pub pair-up : (d : ℕ) (o : ScalarOp) (a b s : Structure) → 2 ≤ d → AreUpTo d (pair_exps o a b s)
@@ -157,7 +157,7 @@ pair-up d o a b s two = go (contains a b)
 
     each : (whole : Structure) (f g : List ℕ → CompExp) → ((name : List ℕ) → comp_depth (f name) ≤ 1) → ((name : List ℕ) → comp_depth (g name) ≤ 1) → AreUpTo d (columns_named (columns_of whole) (identifiers_of s) ++ for_measures (with_namesake o f g) (measures_of a) (measures_of s))
     each whole f g hf hg =
-        lists.appended (IsUpTo d) (columns_named (columns_of whole) (identifiers_of s)) (for_measures (with_namesake o f g) (measures_of a) (measures_of s)) (columns-up d (columns_of whole) (identifiers_of s) one)
+        all_append (IsUpTo d) (columns_named (columns_of whole) (identifiers_of s)) (for_measures (with_namesake o f g) (measures_of a) (measures_of s)) (columns-up d (columns_of whole) (identifiers_of s) one)
         (for-up d (with_namesake o f g) (measures_of a) (measures_of s) (λ x y. omega (arith, hf x.name, hg x.name)))
 
     go : (t : Bool) → AreUpTo d (cond t (columns_named (columns_of a) (identifiers_of s) ++ for_measures (with_namesake o (column_named (columns_of a)) (column_behind (length (columns_of a)) (columns_of b))) (measures_of a) (measures_of s)) (columns_named (columns_of b) (identifiers_of s) ++ for_measures (with_namesake o (column_behind (length (columns_of b)) (columns_of a)) (column_named (columns_of b))) (measures_of a) (measures_of s)))
@@ -203,7 +203,7 @@ module _ (P : FormTree → Type 0) where
 
   -- operands beside each other
   pub beside : (d : ℕ) (xs ys : List NodeTree) → AreOwnUpTo P d xs → AreOwnUpTo P d ys → AreOwnUpTo P d (xs ++ ys)
-  beside d xs ys h k = lists.appended (IsOwnUpTo P d) xs ys h k
+  beside d xs ys h k = all_append (IsOwnUpTo P d) xs ys h k
 
   pub all-beside : (d : ℕ) (ns : List NodeTree) → AllByRecursion (IsNodeUpTo P d) ns → AreOwnUpTo P d (all_nodes (nodes.nodes_of ns))
   all-beside d [] h = tt

@@ -6,6 +6,7 @@ use Rattle.vtl_decimal.specs.Settings.{Settings}
 use Rattle.vtl_cell.specs.ScalarKinds.{meets}
 use Rattle.vtl_cell.specs.declared.kind.Kind.TheVariants as k
 use Rattle.vtl_lists.specs.Results.{◌>>=◌}
+use Rattle.vtl_lists.proofs.Alls.{all_append}
 use Rattle.check_faults.specs.declared.rules.Rule.{Rule}
 use Rattle.check_faults.specs.declared.rules.Rule.TheVariants as rule
 use Rattle.vtl_syntax.specs.Trees as tree
@@ -39,7 +40,6 @@ use Rattle.check_clauses.specs.declared.targets.Made.{Made}
 use Rattle.check_laws.specs.Gives.{Gives}
 use Rattle.check_laws.proofs.DepthBounds.{AreOwnUpTo, IsItemUpTo, IsNodeUpTo, IsTreeUpTo, IsUpTo, IsValueUpTo, beside, calculated-up, clause-up, items-up, node-up, option-up}
 use Rattle.check_laws.proofs.Groups.{IsAnalytic, target-analytic}
-use Rattle.vtl_meaning.proofs.Lists as lists
 use Rattle.check_laws.proofs.Steps.{after, tested, then, weaker}
 
 -- where this holds of calls
@@ -136,7 +136,7 @@ module _ (P : FormTree → Type 0) where
 
   pub part-up : (d : ℕ) (done : List PartTyped) (e : Exp) (alias : Option (List ℕ)) (x : TypedTree) → AllByRecursion (IsPartUpTo d) done → IsTreeUpTo P d x → Gives (AllByRecursion (IsPartUpTo d)) (with_part done e alias x)
   unfolding with_part
-  part-up d done e alias x hd h = after (AllByRecursion (IsPartUpTo d)) (new_alias done e alias) (λ name. Ok (done ++ record { operand = x; alias = name } ∷ [])) (λ name. lists.appended (IsPartUpTo d) done (record { operand = x; alias = name } ∷ []) hd (h, tt))
+  part-up d done e alias x hd h = after (AllByRecursion (IsPartUpTo d)) (new_alias done e alias) (λ name. Ok (done ++ record { operand = x; alias = name } ∷ [])) (λ name. all_append (IsPartUpTo d) done (record { operand = x; alias = name } ∷ []) hd (h, tt))
 
   operand-up : (d : ℕ) (x : PartTyped) → IsPartUpTo d x → Gives (IsOperandUpTo d) (operand_in x)
   operand-up d x h = then (IsNodeUpTo P d) (IsOperandUpTo d) (dataset_in x.operand) (λ n. Ok (record { node = n; alias = x.alias })) (one x.operand h) (λ n k. k)

@@ -5,6 +5,7 @@ use Rattle.std.specs.Map.{lookup}
 use Rattle.vtl_decimal.specs.Settings.{Settings}
 use Rattle.vtl_cell.specs.declared.operator.ScalarOp.{ScalarOp}
 use Rattle.vtl_lists.specs.Results.{◌>>=◌}
+use Rattle.vtl_lists.proofs.Alls.{all_append}
 use Rattle.vtl_cell.specs.OperatorKinds.{kind_by_operands}
 use Rattle.check_faults.specs.Rules.{ruled}
 use Rattle.check_faults.specs.declared.rules.Rule.{Rule}
@@ -100,7 +101,7 @@ module _ (P : FormTree → Type 0) where
   unfolding on_measures
   measures-up d o literals before after' a ha hb hc =
       dataset-up P (suc d) (measures (record { op = o; before = before; after = after' }) a) _
-      (λ s. node-up P (suc d) s _ (omega arith) tt (lists.weaker (IsUpTo d) (IsUpTo (suc d)) (before ++ after') (λ e k. omega arith) (lists.appended (IsUpTo d) before after' hb hc)) (measured-up d (record { op = o; before = before; after = after' }) (structure_of a) s ha.some hb hc) (below d a ha))
+      (λ s. node-up P (suc d) s _ (omega arith) tt (lists.weaker (IsUpTo d) (IsUpTo (suc d)) (before ++ after') (λ e k. omega arith) (all_append (IsUpTo d) before after' hb hc)) (measured-up d (record { op = o; before = before; after = after' }) (structure_of a) s ha.some hb hc) (below d a ha))
 
   pairs-up : (d : ℕ) (o : ScalarOp) (a b : NodeTree) → IsNodeUpTo P d a → IsNodeUpTo P d b → Gives (IsTreeUpTo P (suc d)) (on_pair o a b)
   unfolding on_pair
@@ -138,12 +139,12 @@ module _ (P : FormTree → Type 0) where
     after : AreUpTo d o.after
 
   with-value : (d : ℕ) (e : CompExp) (before : List CompExp) (ns : List NodeTree) (after' : List CompExp) → IsUpTo d e → AreUpTo d before → AllByRecursion (IsNodeUpTo P d) ns → AreUpTo d after' → ArePartedUpTo d (with_value e before ns after')
-  with-value d e before [] after' h hb hn ha = record { before = lists.appended (IsUpTo d) before (e ∷ []) hb (h, tt); nodes = tt; after = ha }
-  with-value d e before (n ∷ ns) after' h hb hn ha = record { before = hb; nodes = hn; after = lists.appended (IsUpTo d) after' (e ∷ []) ha (h, tt) }
+  with-value d e before [] after' h hb hn ha = record { before = all_append (IsUpTo d) before (e ∷ []) hb (h, tt); nodes = tt; after = ha }
+  with-value d e before (n ∷ ns) after' h hb hn ha = record { before = hb; nodes = hn; after = all_append (IsUpTo d) after' (e ∷ []) ha (h, tt) }
 
   with-operand : (d : ℕ) (o : Operands) (x : TypedTree) → ArePartedUpTo d o → IsTreeUpTo P d x → ArePartedUpTo d (with_operand o x)
   with-operand d o (value e) are h = with-value d e o.before o.datasets o.after h are.before are.nodes are.after
-  with-operand d o (dataset n) are h = record { before = are.before; nodes = lists.appended (IsNodeUpTo P d) o.datasets (n ∷ []) are.nodes (h, tt); after = are.after }
+  with-operand d o (dataset n) are h = record { before = are.before; nodes = all_append (IsNodeUpTo P d) o.datasets (n ∷ []) are.nodes (h, tt); after = are.after }
 
   all-parted : (d : ℕ) (o : Operands) (xs : List TypedTree) → ArePartedUpTo d o → AllByRecursion (IsTreeUpTo P d) xs → ArePartedUpTo d (parted o xs)
   all-parted d o [] are h = are
@@ -169,7 +170,7 @@ module _ (P : FormTree → Type 0) where
 
   -- one more operand
   pub behind-up : (d : ℕ) (done : List TypedTree) (r : Result TypedTree Rule) → AllByRecursion (IsTreeUpTo P d) done → Gives (IsTreeUpTo P d) r → Gives (AllByRecursion (IsTreeUpTo P d)) (r >>= behind done)
-  behind-up d done r hd h = then (IsTreeUpTo P d) (AllByRecursion (IsTreeUpTo P d)) r (behind done) h (λ x k. lists.appended (IsTreeUpTo P d) done (x ∷ []) hd (k, tt))
+  behind-up d done r hd h = then (IsTreeUpTo P d) (AllByRecursion (IsTreeUpTo P d)) r (behind done) h (λ x k. all_append (IsTreeUpTo P d) done (x ∷ []) hd (k, tt))
 
   -- two operands, behind those that are done
   pub two-step : (c d : ℕ) (at : Place) (o : ScalarOp) (done : List TypedTree) (r s : Result TypedTree Rule) → suc c ≤ d → AllByRecursion (IsTreeUpTo P c) done → Gives (IsTreeUpTo P c) r → Gives (IsTreeUpTo P c) s → Gives (IsTreeUpTo P d) (r >>= behind done >>= λ xs. s >>= behind xs >>= operator_form at o true true)

@@ -3,6 +3,7 @@ use Rattle.std.proofs.Common.{◌≡◌, ◌≤◌, ◌+◌, ℕ, suc, false, Li
 use Rattle.std.specs.List.{AllByRecursion}
 use Rattle.std.specs.Prelude.{nat_lt}
 use Rattle.vtl_lists.specs.Results.{◌>>=◌}
+use Rattle.vtl_lists.proofs.Alls.{all_append}
 use Rattle.check_faults.specs.Rules.{ruled}
 use Rattle.check_faults.specs.declared.rules.Rule.{Rule}
 use Rattle.check_faults.specs.declared.rules.Rule.TheVariants as rule
@@ -61,13 +62,13 @@ module _ (P : FormTree → Type 0) (Q : StatementTree → Type 0) (kept : (ds : 
   statements-up s i before done [] good enter h = h
   statements-up s i before done (tree.assignment name kind e ∷ ss) good enter h =
       at-then (IsNodeUpTo P d) (AllByRecursion (IsNodeUpTo P d)) i (assigned s before name e) (λ n. statements_typed (with_result s name n) (suc i) (before + count n) (done ++ n ∷ []) ss) (assigned-up s before name e enter.0 good)
-      (λ n k. statements-up (with_result s name n) (suc i) (before + count n) (done ++ n ∷ []) ss good enter.1 (lists.appended (IsNodeUpTo P d) done (n ∷ []) h (k, tt)))
+      (λ n k. statements-up (with_result s name n) (suc i) (before + count n) (done ++ n ∷ []) ss good enter.1 (all_append (IsNodeUpTo P d) done (n ∷ []) h (k, tt)))
   statements-up s i before done (tree.datapoint name variables rules last ∷ ss) good enter h =
       at-then (λ u. length rules ≤ most_nodes) (AllByRecursion (IsNodeUpTo P d)) i (defined s before name (length rules) (datapoint_defined s.settings variables rules)) (λ u. statements_typed (with_ruleset s name (tree.datapoint name variables rules last)) (suc i) (before + length rules) done ss) (defined-few s before name (length rules) (datapoint_defined s.settings variables rules))
-      (λ u few. statements-up (with_ruleset s name (tree.datapoint name variables rules last)) (suc i) (before + length rules) done ss (lists.appended (λ x. Q x.1) s.definitions ((name, tree.datapoint name variables rules last) ∷ []) good (enter.0 few, tt)) enter.1 h)
+      (λ u few. statements-up (with_ruleset s name (tree.datapoint name variables rules last)) (suc i) (before + length rules) done ss (all_append (λ x. Q x.1) s.definitions ((name, tree.datapoint name variables rules last) ∷ []) good (enter.0 few, tt)) enter.1 h)
   statements-up s i before done (tree.hierarchical name item rules last ∷ ss) good enter h =
       at-then (λ u. length rules ≤ most_nodes) (AllByRecursion (IsNodeUpTo P d)) i (defined s before name (length rules) (hierarchical_defined s.settings rules)) (λ u. statements_typed (with_ruleset s name (tree.hierarchical name item rules last)) (suc i) (before + length rules) done ss) (defined-few s before name (length rules) (hierarchical_defined s.settings rules))
-      (λ u few. statements-up (with_ruleset s name (tree.hierarchical name item rules last)) (suc i) (before + length rules) done ss (lists.appended (λ x. Q x.1) s.definitions ((name, tree.hierarchical name item rules last) ∷ []) good (enter.0 few, tt)) enter.1 h)
+      (λ u few. statements-up (with_ruleset s name (tree.hierarchical name item rules last)) (suc i) (before + length rules) done ss (all_append (λ x. Q x.1) s.definitions ((name, tree.hierarchical name item rules last) ∷ []) good (enter.0 few, tt)) enter.1 h)
 
   script-up : (t : TypedScript) → AllByRecursion Enters (tree_of t) → IsTyped t → AllByRecursion (IsNodeUpTo P d) (nodes_of t)
   script-up t enter is = subst (Gives (AllByRecursion (IsNodeUpTo P d))) is (statements-up (env_over t.settings t.declared) 1 0 [] (tree_of t) tt enter tt)

@@ -4,6 +4,7 @@ use Rattle.std.specs.List.{AllByRecursion}
 use Rattle.std.specs.Option.{IfSome, is_some}
 use Rattle.vtl_cell.specs.declared.operator.ScalarOp.TheVariants as op
 use Rattle.vtl_lists.specs.Results.{◌>>=◌}
+use Rattle.vtl_lists.proofs.Alls.{all_append}
 use Rattle.check_faults.specs.declared.rules.Rule.{Rule}
 use Rattle.vtl_syntax.specs.Depth.{calcs_depth, clause_depth, exp_depth, exps_depth, maybe_depth, maybe_targets_depth, parts_depth, targets_depth}
 use Rattle.vtl_syntax.specs.Trees as tree
@@ -31,7 +32,6 @@ use Rattle.check_laws.proofs.DepthBounds.{IsItemUpTo, IsNodeUpTo, IsTreeUpTo, Is
 use Rattle.check_laws.proofs.DepthClauses.{IsOperandUpTo, IsPartUpTo, aggr-up, calc-up, condition-up, end-up, filter-up, joined-up, keeping-up, operands-up, part-up, pivot-up, renaming-up, sub-up, target-up, tree-step, unpivot-up}
 use Rattle.check_laws.proofs.DepthOperators.{behind-up, constants-up, names-up, operator-step, or-component-up, set-step, two-step}
 use Rattle.check_laws.proofs.DepthSets.{check-up, dataset-step, difference-up, exists-up, grouped-up, member-up, over-up, sets-up, time-up}
-use Rattle.vtl_meaning.proofs.Lists as lists
 use Rattle.check_laws.proofs.Steps.{after, then, weaker}
 use Rattle.check_times.specs.Timed.{time_form}
 
@@ -120,7 +120,7 @@ module _ (P : FormTree → Type 0) (sight : Sight) (calls : AreCalls P sight.cal
         after (AllByRecursion (IsItemUpTo d)) (calc_name n done c) (λ u. calc_value sight.settings at e (typed sight at e) (over_operand sight at e) >>= with_item r c done >>= λ items. calcs_typed sight at n items cs)
         (λ u. then (AllByRecursion (IsItemUpTo d)) (AllByRecursion (IsItemUpTo d)) (calc_value sight.settings at e (typed sight at e) (over_operand sight at e) >>= with_item r c done) (λ items. calcs_typed sight at n items cs)
         (then (IsValueUpTo d) (AllByRecursion (IsItemUpTo d)) (calc_value sight.settings at e (typed sight at e) (over_operand sight at e)) (with_item r c done) (target-up P d sight.settings at e (typed sight at e) (over_operand sight at e) (deep at e d (omega arith)))
-        (λ v h. lists.appended (IsItemUpTo d) done (item_of r c v ∷ []) hd (h, tt)))
+        (λ v h. all_append (IsItemUpTo d) done (item_of r c v ∷ []) hd (h, tt)))
         (λ items h. deep-calcs at n items cs d (omega arith) h))
 
     deep-parts : (done : List PartTyped) (ps : Parts) (d : ℕ) → parts_depth ps ≤ d → AllByRecursion (IsPartUpTo P d) done → Gives (AllByRecursion (IsPartUpTo P d)) (parts_typed sight done ps)

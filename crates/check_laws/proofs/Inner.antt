@@ -1,6 +1,7 @@
 -- All nodes of an expression that is made are made.
 use Rattle.std.proofs.Common.{List, ◌++◌}
 use Rattle.std.specs.List.{AllByRecursion}
+use Rattle.vtl_lists.proofs.Alls.{all_append}
 use Rattle.vtl_decimal.specs.Settings.{Settings}
 use Rattle.vtl_tree.specs.Structures.{Named}
 use Rattle.vtl_tree.specs.declared.structure.Structure.{Structure}
@@ -16,7 +17,7 @@ module _ (p : Settings) (known : Named) where
   P n = IsMade p known n
 
   two : (a b : List NodeTree) → AllByRecursion P a → AllByRecursion P b → AllByRecursion P (a ++ b)
-  two a b h k = lists.appended P a b h k
+  two a b h k = all_append P a b h k
 
   mutual
     pub inner-made : (n : NodeTree) → IsMade p known n → AllByRecursion P (nodes_in n)

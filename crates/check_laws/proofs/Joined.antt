@@ -10,6 +10,7 @@ use Rattle.vtl_lists.proofs.Aparts.{apart_parts}
 use Rattle.vtl_lists.specs.Apart.{all_apart}
 use Rattle.vtl_lists.specs.Results.{◌>>=◌}
 use Rattle.vtl_lists.proofs.Filters.{filter_all, found_passes}
+use Rattle.vtl_lists.proofs.Alls.{all_append, all_filtered, all_from_test}
 use Rattle.vtl_syntax.specs.declared.word_groups.JoinKind.{JoinKind}
 use Rattle.vtl_syntax.specs.declared.word_groups.JoinKind.TheVariants as join
 use Rattle.vtl_tree.specs.Structure.{names_of, of_role, same_name, same_role}
@@ -76,7 +77,7 @@ each-goes : (P : Structure → Type 0) (test : Operand → Bool) (os : List Oper
 each-goes P test [] r are apart e go itself others = tt
 each-goes P test (o ∷ rest) r are apart e go itself others =
     let aliases = lists.unmapped (λ alias. same_name o.alias alias ≡ false) (λ x. x.alias) rest (apart_parts same_name o.alias (aliases_of rest) apart).0 in
-    let tests = lists.all_pass (λ x. same_name x.alias r.alias || test x) (o ∷ rest) go in
+    let tests = all_from_test (λ x. same_name x.alias r.alias || test x) (o ∷ rest) go in
     (first, lists.mapped P (λ x. x.structure) rest (lists.joined (λ x. same_name o.alias x.alias ≡ false) (λ x. (same_name x.alias r.alias || test x) ≡ true) (λ x. P x.structure) rest other aliases tests.1))
   where
     same : o ≡ r
@@ -99,7 +100,7 @@ module _ (listed : Option (List (List ℕ))) (os : List Operand) (r : Operand) (
   inner-together : reference join.Inner os ≡ Some r → AllByRecursion Within (structures_of os)
   inner-together e =
       lists.mapped Within (λ o. o.structure) os (lists.weaker (λ o. contains r.structure o.structure ≡ true) (λ o. Within o.structure) os (λ o c. contained-identifiers r.structure o.structure c)
-      (lists.all_pass (λ o. contains r.structure o.structure) os (found_passes (joins.contains_all os) os r e)))
+      (all_from_test (λ o. contains r.structure o.structure) os (found_passes (joins.contains_all os) os r e)))
 
   left-together : reference join.Left os ≡ Some r → all_go_with join.Left listed r os ≡ true → AllByRecursion Within (structures_of os)
   left-together e go = each-goes Within (goes_with join.Left listed r.structure) os r are apart e go (own-identifiers r.structure) one
@@ -119,11 +120,11 @@ module _ (listed : Option (List (List ℕ))) (os : List Operand) (r : Operand) (
 -- ---- the components that the joined set has of each operand
 own-parts : (held : List (List ℕ)) (part : Bool) (os : List Operand) → AllByRecursion (λ x. is_part part x ≡ true) (all_own held part os)
 own-parts held part [] = tt
-own-parts held part (o ∷ os) = lists.appended (λ x. is_part part x ≡ true) (own held part o.alias o.structure.components) (all_own held part os) (one part) (own-parts held part os)
+own-parts held part (o ∷ os) = all_append (λ x. is_part part x ≡ true) (own held part o.alias o.structure.components) (all_own held part os) (one part) (own-parts held part os)
   where
     one : (part : Bool) → AllByRecursion (λ x. is_part part x ≡ true) (own held part o.alias o.structure.components)
-    one true = lists.mapped (λ x. is_part true x ≡ true) (joined held o.alias) (filter (is_part true) o.structure.components) (lists.passing (is_part true) o.structure.components)
-    one false = lists.mapped (λ x. is_part false x ≡ true) (joined held o.alias) (filter (is_part false) o.structure.components) (lists.passing (is_part false) o.structure.components)
+    one true = lists.mapped (λ x. is_part true x ≡ true) (joined held o.alias) (filter (is_part true) o.structure.components) (all_filtered (is_part true) o.structure.components)
+    one false = lists.mapped (λ x. is_part false x ≡ true) (joined held o.alias) (filter (is_part false) o.structure.components) (all_filtered (is_part false) o.structure.components)
 
 -- those of a role keep their kinds
 own-kinds : (held : List (List ℕ)) (part : Bool) (r : Role) (os : List Operand) → ((x : Component) → same_role x.role r ≡ true → is_part part x ≡ true) → component_kinds (filter (λ x. same_role x.role r) (all_own held part os)) ≡ kinds_of_all (of_role r) (structures_of os)

@@ -4,6 +4,7 @@ use Rattle.std.proofs.lemmas.List.{map-append}
 use Rattle.std.specs.List.{AllByRecursion}
 use Rattle.vtl_lists.specs.Apart.{all_apart}
 use Rattle.vtl_lists.specs.Results.{◌>>=◌}
+use Rattle.vtl_lists.proofs.Alls.{all_append}
 use Rattle.vtl_syntax.specs.Trees.{Exp}
 use Rattle.vtl_syntax.specs.declared.parts.Comp.{Comp}
 use Rattle.vtl_syntax.specs.declared.word_groups.JoinKind.{JoinKind}
@@ -64,7 +65,7 @@ unfolding with_part
 part-gives env done e alias x are h =
     then (λ name. is_among name (aliases_in done) ≡ false) (AreJoinParts env) (new_alias done e alias) (λ name. Ok (done ++ record { operand = x; alias = name } ∷ [])) (alias-gives done e alias)
     (λ name new. record {
-      each = lists.appended (IsPart env) done (record { operand = x; alias = name } ∷ []) are.each (h, tt);
+      each = all_append (IsPart env) done (record { operand = x; alias = name } ∷ []) are.each (h, tt);
       apart = ap (all_apart same_name) (map-append (λ y. y.alias) done (record { operand = x; alias = name } ∷ [])) ∙ apart_push (aliases_in done) name are.apart (sym (among-any name (aliases_in done)) ∙ new);
     })
 

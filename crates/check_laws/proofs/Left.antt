@@ -3,6 +3,8 @@ use Rattle.std.proofs.Common.{◌≡◌, ℕ, Bool, true, false, ◌||◌, not, 
 use Rattle.std.proofs.lemmas.Bool.{false≢true, not-false}
 use Rattle.std.specs.List.{AllByRecursion, filter, list_any}
 use Rattle.std.specs.Option.{option_map_or}
+use Rattle.vtl_lists.proofs.Sorts.{AllByRecursion-filter}
+use Rattle.vtl_lists.proofs.Alls.{all_filtered, all_from_filtered}
 use Rattle.vtl_cell.specs.Kinds.{is_of}
 use Rattle.vtl_tree.specs.Structure.{columns_of, names_of, same_name}
 use Rattle.vtl_tree.specs.Structures.{structure_of}
@@ -47,7 +49,7 @@ known-gives w xs before name = go (component_of name xs) refl
 
 -- ---- the components that are left
 left-columns : (p : Component → Bool) (a : Structure) → IsShaped a → AreAmong (columns_of (structure_of (filter p a.components))) (columns_of a)
-left-columns p a ia = of-columns (IsAmong (columns_of a)) (structure_of (filter p a.components)) (lists.filtered (IsAmong (columns_of a)) p a.components (own-columns a ia))
+left-columns p a ia = of-columns (IsAmong (columns_of a)) (structure_of (filter p a.components)) (AllByRecursion-filter (IsAmong (columns_of a)) p a.components (own-columns a ia))
 
 -- a name that stands for a component whose role serves
 name-known : (w : Wanted) (xs : List Component) (name : List ℕ) → IsName w xs name → is_known w xs name ≡ true
@@ -123,7 +125,7 @@ sub-fits items a ia h =
         shape = refl;
         left = some;
         identifiers = lists.joined (λ x. left x ≡ true → is_identifier x ≡ true → HasName ids x) (λ x. is_identifier x ≡ true) (λ x. (list_any (λ y. same_name y.name x.name) ids || list_any (λ i. same_name i.id x.name) items) ≡ true) (filter is_identifier a.components)
-            each (lists.filtered (λ x. left x ≡ true → is_identifier x ≡ true → HasName ids x) is_identifier a.components kept) (lists.passing is_identifier a.components);
+            each (AllByRecursion-filter (λ x. left x ≡ true → is_identifier x ≡ true → HasName ids x) is_identifier a.components kept) (all_filtered is_identifier a.components);
         values = lists.weaker (IsItem a.components) (λ i. (is_of (kind_named i.id (identifiers_of a)) i.value ≡ true) × IsColumnAt (place_of i.id (identifiers_of a)) i.id (kind_named i.id (identifiers_of a)) (identifiers_of a)) items value h;
       },
     ))
@@ -137,11 +139,11 @@ sub-fits items a ia h =
     some : AreAmong ids (identifiers_of a)
     some =
         lists.joined (IsFound a.components) (λ x. is_identifier x ≡ true) (IsAmong (identifiers_of a)) ids (found-among is_identifier a.components)
-        (lists.filtered (IsFound a.components) is_identifier (filter left a.components) (lists.filtered (IsFound a.components) left a.components (all-found a ia.well_formed)))
-        (lists.passing is_identifier (filter left a.components))
+        (AllByRecursion-filter (IsFound a.components) is_identifier (filter left a.components) (AllByRecursion-filter (IsFound a.components) left a.components (all-found a ia.well_formed)))
+        (all_filtered is_identifier (filter left a.components))
 
     kept : AllByRecursion (λ x. left x ≡ true → is_identifier x ≡ true → HasName ids x) a.components
-    kept = lists.from_kept (λ x. is_identifier x ≡ true → HasName ids x) left a.components (lists.from_kept (HasName ids) is_identifier (filter left a.components) (has-itself ids))
+    kept = all_from_filtered (λ x. is_identifier x ≡ true → HasName ids x) left a.components (all_from_filtered (HasName ids) is_identifier (filter left a.components) (has-itself ids))
 
     each : (x : Component) → (left x ≡ true → is_identifier x ≡ true → HasName ids x) → is_identifier x ≡ true → (list_any (λ y. same_name y.name x.name) ids || list_any (λ i. same_name i.id x.name) items) ≡ true
     each x k is = go (is_among x.name (map (λ i. i.id) items)) refl

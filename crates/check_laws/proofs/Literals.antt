@@ -12,6 +12,7 @@ use Rattle.vtl_decimal.specs.Settings.{Settings}
 use Rattle.vtl_decimal.specs.declared.number.Fault.{Fault}
 use Rattle.vtl_decimal.specs.declared.number.Fault.TheVariants.{Range}
 use Rattle.vtl_lists.specs.Results.{◌>>=◌}
+use Rattle.vtl_lists.proofs.Alls.{all_append}
 use Rattle.check_faults.specs.Rules.{ruled}
 use Rattle.check_faults.specs.declared.rules.Rule.TheVariants as rule
 use Rattle.vtl_cell.specs.Conversion.{as_kind}
@@ -39,7 +40,6 @@ use Rattle.vtl_time.specs.Days.{read_day_of}
 use Rattle.vtl_time.specs.Periods.{read_period_of}
 use Rattle.vtl_meaning.specs.Made.{IsTyped}
 use Rattle.check_laws.specs.Gives.{Gives}
-use Rattle.vtl_meaning.proofs.Lists as lists
 use Rattle.vtl_rulings.proofs.HierarchyProfiles.{written_fits}
 use Rattle.check_laws.proofs.Steps.{after, then}
 
@@ -140,7 +140,7 @@ members-give p kinds shared done [] h = h
 members-give p kinds shared done (l ∷ ls) h =
     after (AllByRecursion (IsMember p)) (shared_or (shared_beside kinds shared (literal_kind l))) (λ kind. valued (literal_cell p l) >>= λ cell. members_typed p kinds kind (done ++ cell ∷ []) ls)
     (λ kind. then (IsCell p (literal_kind l)) (AllByRecursion (IsMember p)) (valued (literal_cell p l)) (λ cell. members_typed p kinds kind (done ++ cell ∷ []) ls) (valued-gives (IsCell p (literal_kind l)) (literal_cell p l) (literal-cell p l))
-    (λ cell is. members-give p kinds kind (done ++ cell ∷ []) ls (lists.appended (IsMember p) done (cell ∷ []) h ((is.0, is.2), tt))))
+    (λ cell is. members-give p kinds kind (done ++ cell ∷ []) ls (all_append (IsMember p) done (cell ∷ []) h ((is.0, is.2), tt))))
 
 pub set-gives : (p : Settings) (kinds : List Kind) (ls : List Literal) → Gives (AllByRecursion (IsMember p)) (set_typed p kinds ls)
 set-gives p kinds ls = members-give p kinds k.Null [] ls tt

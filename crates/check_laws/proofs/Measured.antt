@@ -4,6 +4,9 @@ use Rattle.std.proofs.lemmas.Bool.{eqb-true, not-false}
 use Rattle.std.proofs.lemmas.List.{map-append}
 use Rattle.std.specs.List.{AllByRecursion, filter}
 use Rattle.std.specs.Prelude.{nat_eq, unwrap_or}
+use Rattle.vtl_lists.proofs.Sorts.{AllByRecursion-filter}
+use Rattle.vtl_lists.proofs.Aparts.{none_same}
+use Rattle.vtl_lists.proofs.Alls.{all_append, all_kept}
 use Rattle.vtl_decimal.specs.Settings.{Settings}
 use Rattle.vtl_cell.specs.ScalarKinds.{kinds_of}
 use Rattle.vtl_cell.specs.declared.kind.Kind.{Kind}
@@ -93,7 +96,7 @@ given-roles outcome.Count g others us = (refl, tt)
 pub met-measures : (g : GivesKind) (others : Option (List Component)) (us : List Component) → any_unmet g others us ≡ false → AllByRecursion (λ x. is_none (paired g x.kind (namesake others x)) ≡ false) (measures us)
 met-measures g others us e =
     lists.weaker (λ x. (is_unmet g others x ≡ false) × (is_measure x ≡ true)) (λ x. is_none (paired g x.kind (namesake others x)) ≡ false) (measures us) one
-    (lists.kept (λ x. is_unmet g others x ≡ false) is_measure us (lists.any_fails (is_unmet g others) us e))
+    (all_kept (λ x. is_unmet g others x ≡ false) is_measure us (none_same (is_unmet g others) us e))
   where
     one : (x : Component) → (is_unmet g others x ≡ false) × (is_measure x ≡ true) → is_none (paired g x.kind (namesake others x)) ≡ false
     one x h = sym (ap (λ b. b && is_none (paired g x.kind (namesake others x))) h.1) ∙ h.0
@@ -133,8 +136,8 @@ measured-fits p m a o literals is by same fit before after =
       record {
         well_formed = s.well_formed;
         identifiers = has-identifiers ids ms ids are refl refl;
-        columns = for-parts p (columns_of a) ids ms (columns_of a) f (measures a.components) are (lists.filtered (λ y. IsFor p (columns_of a) (column_named (columns_of a) y.name) y) is_identifier a.components (found-columns p a is))
-            (for-given p (columns_of a) o m.op g None f a.components by passed.1.1.0 (lists.joined (λ x. is_none (paired g x.kind (namesake None x)) ≡ false) (IsFound (columns_of a)) Good (measures a.components) (good (fit (not-false literals passed.1.0))) (met-measures g None a.components passed.0) (lists.filtered (IsFound (columns_of a)) is_measure a.components (in-columns a is.well_formed))));
+        columns = for-parts p (columns_of a) ids ms (columns_of a) f (measures a.components) are (AllByRecursion-filter (λ y. IsFor p (columns_of a) (column_named (columns_of a) y.name) y) is_identifier a.components (found-columns p a is))
+            (for-given p (columns_of a) o m.op g None f a.components by passed.1.1.0 (lists.joined (λ x. is_none (paired g x.kind (namesake None x)) ≡ false) (IsFound (columns_of a)) Good (measures a.components) (good (fit (not-false literals passed.1.0))) (met-measures g None a.components passed.0) (AllByRecursion-filter (IsFound (columns_of a)) is_measure a.components (in-columns a is.well_formed))));
         counted = subst (λ oc. is_miscounted oc (length (measures a.components)) ≡ false) same passed.1.1.0;
         shape = ap (λ oc. ids ++ given_measures oc g None a.components) same;
       },
@@ -173,4 +176,4 @@ measured-fits p m a o literals is by same fit before after =
             ∙ given-kind o m.op g None x (between m x.kind) by refl met
 
         typed : AllByRecursion (IsTyped p (columns_of a)) (m.before ++ column_named (columns_of a) x.name ∷ m.after)
-        typed = lists.appended (IsTyped p (columns_of a)) m.before (column_named (columns_of a) x.name ∷ m.after) before (named.0, after)
+        typed = all_append (IsTyped p (columns_of a)) m.before (column_named (columns_of a) x.name ∷ m.after) before (named.0, after)

@@ -14,6 +14,7 @@ use Rattle.vtl_cell.specs.declared.kind.Kind.TheVariants as k
 use Rattle.vtl_cell.specs.declared.operator.ScalarOp.{ScalarOp}
 use Rattle.vtl_cell.specs.declared.operator.ScalarOp.TheVariants as op
 use Rattle.vtl_lists.specs.Results.{◌>>=◌}
+use Rattle.vtl_lists.proofs.Alls.{all_append}
 use Rattle.check_faults.specs.declared.rules.Rule.{Rule}
 use Rattle.check_faults.specs.declared.rules.Rule.TheVariants as rule
 use Rattle.vtl_syntax.specs.declared.parts.Literal.{Literal}
@@ -268,12 +269,12 @@ record ArePartedAt (env : Env) (at : Place) (o : Operands) : Type 0 where
   after : AllByRecursion (IsValueAt env.settings at) o.after
 
 with-value : (env : Env) (at : Place) (e : CompExp) (before : List CompExp) (ns : List NodeTree) (after' : List CompExp) → IsValueAt env.settings at e → AllByRecursion (IsValueAt env.settings at) before → AllByRecursion (IsMade env.settings env.known) ns → AllByRecursion (IsValueAt env.settings at) after' → ArePartedAt env at (with_value e before ns after')
-with-value env at e before [] after' h hb hn ha = record { before = lists.appended (IsValueAt env.settings at) before (e ∷ []) hb (h, tt); nodes = tt; after = ha }
-with-value env at e before (n ∷ ns) after' h hb hn ha = record { before = hb; nodes = hn; after = lists.appended (IsValueAt env.settings at) after' (e ∷ []) ha (h, tt) }
+with-value env at e before [] after' h hb hn ha = record { before = all_append (IsValueAt env.settings at) before (e ∷ []) hb (h, tt); nodes = tt; after = ha }
+with-value env at e before (n ∷ ns) after' h hb hn ha = record { before = hb; nodes = hn; after = all_append (IsValueAt env.settings at) after' (e ∷ []) ha (h, tt) }
 
 with-operand : (env : Env) (at : Place) (o : Operands) (x : TypedTree) → ArePartedAt env at o → IsWellTyped env at x → ArePartedAt env at (with_operand o x)
 with-operand env at o (value e) are h = with-value env at e o.before o.datasets o.after h are.before are.nodes are.after
-with-operand env at o (dataset n) are h = record { before = are.before; nodes = lists.appended (IsMade env.settings env.known) o.datasets (n ∷ []) are.nodes (h, tt); after = are.after }
+with-operand env at o (dataset n) are h = record { before = are.before; nodes = all_append (IsMade env.settings env.known) o.datasets (n ∷ []) are.nodes (h, tt); after = are.after }
 
 all-parted : (env : Env) (at : Place) (o : Operands) (xs : List TypedTree) → ArePartedAt env at o → AllByRecursion (IsWellTyped env at) xs → ArePartedAt env at (parted o xs)
 all-parted env at o [] are h = are

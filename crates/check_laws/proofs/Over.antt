@@ -2,6 +2,7 @@
 use Rattle.std.proofs.Common.{◌≡◌, ℕ, List, [], ◌∷◌, ◌++◌, is_some, true, sym, ap, subst, ◌∙◌}
 use Rattle.std.specs.List.{AllByRecursion}
 use Rattle.std.specs.Map.{lookup}
+use Rattle.vtl_lists.proofs.Alls.{all_append, all_back, all_front}
 use Rattle.vtl_decimal.specs.Settings.{Settings}
 use Rattle.vtl_tree.specs.Structure.{same_name}
 use Rattle.vtl_tree.specs.Structures.{Named, has_name}
@@ -15,17 +16,16 @@ use Rattle.vtl_check.proofs.NameLemmas.{names_append}
 use Rattle.vtl_scripts.specs.Made.{AreMade, AreMadeOperands, IsMade, IsMadeForm, IsMadeMaybe}
 use Rattle.check_laws.specs.Scripts.{AreKnownAlike}
 use Rattle.check_laws.proofs.Inner.{inner-made}
-use Rattle.vtl_meaning.proofs.Lists as lists
 
 abbrev IsAlike : Named → Named → List ℕ → Type 0
 IsAlike known other name = lookup (same_name name) known ≡ lookup (same_name name) other
 
 -- the names of nodes that stand before others, and of those behind
 front : (known other : Named) (xs ys : List NodeTree) → AreKnownAlike known other (names_at (xs ++ ys)) → AreKnownAlike known other (names_at xs)
-front known other xs ys h = lists.front (IsAlike known other) (names_at xs) (names_at ys) (subst (AreKnownAlike known other) (names_append xs ys) h)
+front known other xs ys h = all_front (IsAlike known other) (names_at xs) (names_at ys) (subst (AreKnownAlike known other) (names_append xs ys) h)
 
 back : (known other : Named) (xs ys : List NodeTree) → AreKnownAlike known other (names_at (xs ++ ys)) → AreKnownAlike known other (names_at ys)
-back known other xs ys h = lists.back (IsAlike known other) (names_at xs) (names_at ys) (subst (AreKnownAlike known other) (names_append xs ys) h)
+back known other xs ys h = all_back (IsAlike known other) (names_at xs) (names_at ys) (subst (AreKnownAlike known other) (names_append xs ys) h)
 
 mutual
   pub made_over : (p : Settings) (known other : Named) (n : NodeTree) → AreKnownAlike known other (names_in n) → IsMade p known n → IsMade p other n
@@ -84,7 +84,7 @@ own_known p known (nodes.node s other) m = tt
 
 all_known : (p : Settings) (known : Named) (ns : List NodeTree) → AllByRecursion (IsMade p known) ns → AllByRecursion (IsKnown known) (names_at ns)
 all_known p known [] m = tt
-all_known p known (n ∷ ns) m = lists.appended (IsKnown known) (name_at n) (names_at ns) (own_known p known n m.0) (all_known p known ns m.1)
+all_known p known (n ∷ ns) m = all_append (IsKnown known) (name_at n) (names_at ns) (own_known p known n m.0) (all_known p known ns m.1)
 
 pub names_known : (p : Settings) (known : Named) (n : NodeTree) → IsMade p known n → AllByRecursion (IsKnown known) (names_in n)
 names_known p known n m = all_known p known (nodes_in n) (inner-made p known n m)

@@ -2,6 +2,8 @@
 use Rattle.std.proofs.Common.{◌≡◌, ℕ, Bool, true, false, cond, ◌||◌, not, List, [], ◌∷◌, ◌++◌, length, Some, None, is_none, refl, sym, ap, ◌∙◌, subst}
 use Rattle.std.specs.List.{AllByRecursion, filter}
 use Rattle.std.proofs.lemmas.Bool.{and_parts, not-false, or_parts}
+use Rattle.vtl_lists.proofs.Sorts.{AllByRecursion-filter}
+use Rattle.vtl_lists.proofs.Alls.{all_filtered, all_with}
 use Rattle.vtl_decimal.specs.Settings.{Settings}
 use Rattle.vtl_cell.specs.ScalarKinds.{kinds_of}
 use Rattle.vtl_cell.specs.declared.kind.Kind.{Kind}
@@ -55,9 +57,9 @@ matched : (oc : Outcome) (o : ScalarOp) (g : GivesKind) (a b : Structure) → Is
 matched oc o g a b ia ib by row met within =
     lists.joined (λ x. is_none (paired g x.kind (namesake (Some b.components) x)) ≡ false) (λ x. (IsFound (columns_of a) x × HasTwin compared.Names b.components x) × (is_measure x ≡ true)) (λ x. IsMatched o a b x (given_of oc g (Some b.components) x)) (measures a.components) one
     (met-measures g (Some b.components) a.components met)
-    (lists.both (λ x. IsFound (columns_of a) x × HasTwin compared.Names b.components x) (λ x. is_measure x ≡ true) (measures a.components)
-    (lists.both (IsFound (columns_of a)) (HasTwin compared.Names b.components) (measures a.components) (lists.filtered (IsFound (columns_of a)) is_measure a.components (in-columns a ia.well_formed)) (within-twins compared.Names role.Measure a.components b.components within))
-    (lists.passing is_measure a.components))
+    (all_with (λ x. IsFound (columns_of a) x × HasTwin compared.Names b.components x) (λ x. is_measure x ≡ true) (measures a.components)
+    (all_with (IsFound (columns_of a)) (HasTwin compared.Names b.components) (measures a.components) (AllByRecursion-filter (IsFound (columns_of a)) is_measure a.components (in-columns a ia.well_formed)) (within-twins compared.Names role.Measure a.components b.components within))
+    (all_filtered is_measure a.components))
   where
     one : (x : Component) → is_none (paired g x.kind (namesake (Some b.components) x)) ≡ false → (IsFound (columns_of a) x × HasTwin compared.Names b.components x) × (is_measure x ≡ true) → IsMatched o a b x (given_of oc g (Some b.components) x)
     one x met h = record {
@@ -86,7 +88,7 @@ ids-has false a b ms are = has-identifiers (ids-of false a b) ms (filter is_iden
 ids-for : (p : Settings) (others : List Structure) (a : Structure) (more : List Component) → IsShaped a → AllByRecursion (λ y. IsFor p (columns_of a ++ more) (column_named (columns_of a) y.name) y) (agreed_identifiers others a.components)
 ids-for p others a more is =
     lists.mapped (λ y. IsFor p (columns_of a ++ more) (column_named (columns_of a) y.name) y) (agreed others) (filter is_identifier a.components)
-    (lists.filtered (λ y. IsFor p (columns_of a ++ more) (column_named (columns_of a) (agreed others y).name) (agreed others y)) is_identifier a.components
+    (AllByRecursion-filter (λ y. IsFor p (columns_of a ++ more) (column_named (columns_of a) (agreed others y).name) (agreed others y)) is_identifier a.components
     (lists.weaker (IsFound (columns_of a)) (λ y. IsFor p (columns_of a ++ more) (column_named (columns_of a) (agreed others y).name) (agreed others y)) a.components one (in-columns a is.well_formed)))
   where
     one : (y : Component) → IsFound (columns_of a) y → IsFor p (columns_of a ++ more) (column_named (columns_of a) (agreed others y).name) (agreed others y)

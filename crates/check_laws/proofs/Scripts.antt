@@ -9,6 +9,7 @@ use Rattle.vtl_decimal.specs.Settings.{Settings}
 use Rattle.vtl_lists.specs.Apart.{all_apart}
 use Rattle.vtl_text.specs.Words.{is_component_name}
 use Rattle.vtl_lists.specs.Results.{◌>>=◌}
+use Rattle.vtl_lists.proofs.Alls.{all_append, all_from_test}
 use Rattle.check_faults.specs.Rules.{ruled}
 use Rattle.check_faults.specs.declared.rules.Rule.{Rule}
 use Rattle.check_faults.specs.declared.rules.Rule.TheVariants as rule
@@ -58,11 +59,11 @@ declared-shaped s e =
     let one = and_parts (nat_le 1 (length s.components)) (nat_le (length s.components) most_components) two.0 in
     record {
       well_formed = record { some = leb-true 1 (length s.components) one.0; few = leb-true (length s.components) most_components one.1; distinct = two.1 };
-      kinds = lists.weaker (λ x. is_declarable_component x ≡ true) (λ x. is_null_kind x.kind ≡ false) s.components component-kind (lists.all_pass is_declarable_component s.components three.1);
+      kinds = lists.weaker (λ x. is_declarable_component x ≡ true) (λ x. is_null_kind x.kind ≡ false) s.components component-kind (all_from_test is_declarable_component s.components three.1);
     }
 
 pub structures-shaped : (known : Named) → AreStructures known → AreShaped known
-structures-shaped known are = lists.weaker (λ e. is_declarable_entry e ≡ true) (λ e. IsShaped e.1) known (λ e h. declared-shaped e.1 h) (lists.all_pass is_declarable_entry known are.declarable)
+structures-shaped known are = lists.weaker (λ e. is_declarable_entry e ≡ true) (λ e. IsShaped e.1) known (λ e h. declared-shaped e.1 h) (all_from_test is_declarable_entry known are.declarable)
 
 -- ---- what is known, with one more result in front or at the end
 abbrev pub AreSame : Named → Named → Type 0
@@ -125,7 +126,7 @@ statements-give s other i before done [] are accepted same = ([], sym (append-ni
 statements-give s other i before done (tree.assignment name kind e ∷ ss) are accepted same =
     at-then Here (AreBehind s.settings other (transformations_from i (tree.assignment name kind e ∷ ss)) done) i (assigned s before name e) (λ n. statements_typed (with_result s name n) (suc i) (before + count n) (done ++ n ∷ []) ss) (assigned-gives s before name e are accepted)
     (λ n h. weaken n h (statements_typed (with_result s name n) (suc i) (before + count n) (done ++ n ∷ []) ss)
-    (statements-give (with_result s name n) ((name, structure_of n) ∷ other) (suc i) (before + count n) (done ++ n ∷ []) ss (lists.appended (λ e. IsShaped e.1) s.known ((name, structure_of n) ∷ []) are (made-shaped s.settings s.known n h.1, tt)) accepted (same-more s.known other name (structure_of n) h.0 same)))
+    (statements-give (with_result s name n) ((name, structure_of n) ∷ other) (suc i) (before + count n) (done ++ n ∷ []) ss (all_append (λ e. IsShaped e.1) s.known ((name, structure_of n) ∷ []) are (made-shaped s.settings s.known n h.1, tt)) accepted (same-more s.known other name (structure_of n) h.0 same)))
   where
     Here : NodeTree → Type 0
     Here n = (has_name name s.known ≡ false) × IsMade s.settings s.known n
@@ -139,11 +140,11 @@ statements-give s other i before done (tree.assignment name kind e ∷ ss) are a
 statements-give s other i before done (tree.datapoint name variables rules last ∷ ss) are accepted same =
     at-then (λ u. datapoint_defined s.settings variables rules ≡ Ok tt) (AreBehind s.settings other (transformations_from (suc i) ss) done) i (defined s before name (length rules) (datapoint_defined s.settings variables rules))
     (λ u. statements_typed (with_ruleset s name (tree.datapoint name variables rules last)) (suc i) (before + length rules) done ss) (defined-gives s before name (length rules) (datapoint_defined s.settings variables rules))
-    (λ u e. statements-give (with_ruleset s name (tree.datapoint name variables rules last)) other (suc i) (before + length rules) done ss are (lists.appended (λ d. IsAccepted s.settings d.1) s.definitions ((name, tree.datapoint name variables rules last) ∷ []) accepted (e, tt)) same)
+    (λ u e. statements-give (with_ruleset s name (tree.datapoint name variables rules last)) other (suc i) (before + length rules) done ss are (all_append (λ d. IsAccepted s.settings d.1) s.definitions ((name, tree.datapoint name variables rules last) ∷ []) accepted (e, tt)) same)
 statements-give s other i before done (tree.hierarchical name item rules last ∷ ss) are accepted same =
     at-then (λ u. hierarchical_defined s.settings rules ≡ Ok tt) (AreBehind s.settings other (transformations_from (suc i) ss) done) i (defined s before name (length rules) (hierarchical_defined s.settings rules))
     (λ u. statements_typed (with_ruleset s name (tree.hierarchical name item rules last)) (suc i) (before + length rules) done ss) (defined-gives s before name (length rules) (hierarchical_defined s.settings rules))
-    (λ u e. statements-give (with_ruleset s name (tree.hierarchical name item rules last)) other (suc i) (before + length rules) done ss are (lists.appended (λ d. IsAccepted s.settings d.1) s.definitions ((name, tree.hierarchical name item rules last) ∷ []) accepted (e, tt)) same)
+    (λ u e. statements-give (with_ruleset s name (tree.hierarchical name item rules last)) other (suc i) (before + length rules) done ss are (all_append (λ d. IsAccepted s.settings d.1) s.definitions ((name, tree.hierarchical name item rules last) ∷ []) accepted (e, tt)) same)
 
 -- the nodes of a whole script
 pub nodes-made : (p : Settings) (declared : Named) (ss : ScriptTree) (ns : List NodeTree) → AreStructures declared → script_typed (env_over p declared) ss ≡ Ok ns → AreMadeFrom p declared (transformations ss) ns

@@ -8,6 +8,8 @@ use Rattle.std.specs.Prelude.{nat_eq, nat_lt}
 use Rattle.vtl_lists.specs.Apart.{all_apart}
 use Rattle.vtl_lists.specs.Results.{◌>>=◌}
 use Rattle.vtl_lists.proofs.Filters.{filter_all, filter_none}
+use Rattle.vtl_lists.proofs.Alls.{all_filtered, all_kept}
+use Rattle.vtl_lists.proofs.Aparts.{none_same}
 use Rattle.check_faults.specs.declared.rules.Rule.{Rule}
 use Rattle.vtl_tree.specs.Structure.{columns_of, most_components, names_of, of_role, same_name, same_role}
 use Rattle.vtl_tree.specs.Structures.{is_null_kind, structure_of}
@@ -38,7 +40,7 @@ shaped-gives P xs f = tested P (result_tests xs) (structure_of xs) (λ passed. f
             few = below most_components (length xs) counts.1;
             distinct = not-false (all_apart same_name (names_of xs)) passed.0;
           };
-          kinds = lists.any_fails (λ x. is_null_kind x.kind) xs passed.1.1.0;
+          kinds = none_same (λ x. is_null_kind x.kind) xs passed.1.1.0;
         }
 
 -- whatever the components are
@@ -129,10 +131,10 @@ role-measure x e = go x.role e
 
 -- identifiers that a choice leaves
 pub chosen-roles : (names : List (List ℕ)) (xs : List Component) → AllByRecursion (λ x. x.role ≡ role.Identifier) (chosen choice.Except names xs)
-chosen-roles names xs = lists.weaker (λ x. is_chosen choice.Except names x ≡ true) (λ x. x.role ≡ role.Identifier) (chosen choice.Except names xs) (λ x e. role-identifier x (and_parts (is_identifier x) (not (is_among x.name names)) e).0) (lists.passing (is_chosen choice.Except names) xs)
+chosen-roles names xs = lists.weaker (λ x. is_chosen choice.Except names x ≡ true) (λ x. x.role ≡ role.Identifier) (chosen choice.Except names xs) (λ x e. role-identifier x (and_parts (is_identifier x) (not (is_among x.name names)) e).0) (all_filtered (is_chosen choice.Except names) xs)
 
 pub identifier-roles : (xs : List Component) → AllByRecursion (λ x. x.role ≡ role.Identifier) (filter is_identifier xs)
-identifier-roles xs = lists.weaker (λ x. Unit {0} × (is_identifier x ≡ true)) (λ x. x.role ≡ role.Identifier) (filter is_identifier xs) (λ x k. role-identifier x k.1) (lists.kept (λ x. Unit {0}) is_identifier xs (lists.every (λ x. Unit {0}) xs (λ x. tt)))
+identifier-roles xs = lists.weaker (λ x. Unit {0} × (is_identifier x ≡ true)) (λ x. x.role ≡ role.Identifier) (filter is_identifier xs) (λ x k. role-identifier x k.1) (all_kept (λ x. Unit {0}) is_identifier xs (lists.every (λ x. Unit {0}) xs (λ x. tt)))
 
 pub measure-roles : (xs : List Component) → AllByRecursion (λ x. x.role ≡ role.Measure) (filter is_measure xs)
-measure-roles xs = lists.weaker (λ x. Unit {0} × (is_measure x ≡ true)) (λ x. x.role ≡ role.Measure) (filter is_measure xs) (λ x k. role-measure x k.1) (lists.kept (λ x. Unit {0}) is_measure xs (lists.every (λ x. Unit {0}) xs (λ x. tt)))
+measure-roles xs = lists.weaker (λ x. Unit {0} × (is_measure x ≡ true)) (λ x. x.role ≡ role.Measure) (filter is_measure xs) (λ x k. role-measure x k.1) (all_kept (λ x. Unit {0}) is_measure xs (lists.every (λ x. Unit {0}) xs (λ x. tt)))

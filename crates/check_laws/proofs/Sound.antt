@@ -8,6 +8,7 @@ use Rattle.vtl_cell.specs.declared.kind.Kind.TheVariants as k
 use Rattle.vtl_cell.specs.declared.operator.ScalarOp.{ScalarOp}
 use Rattle.vtl_cell.specs.declared.operator.ScalarOp.TheVariants as op
 use Rattle.vtl_lists.specs.Results.{◌>>=◌}
+use Rattle.vtl_lists.proofs.Alls.{all_append}
 use Rattle.check_faults.specs.declared.rules.Rule.{Rule}
 use Rattle.vtl_syntax.specs.Trees as tree
 use Rattle.vtl_syntax.specs.Trees.{Calcs, ClauseTree, Exp, Exps, MaybeExp, MaybeTargets, Parts, TargetsTree}
@@ -61,7 +62,6 @@ use Rattle.check_laws.proofs.Groups.{IsAnalytic, aggregate-gives, over-gives, ta
 use Rattle.check_laws.proofs.Having.{IsCondition, having-at}
 use Rattle.check_laws.proofs.Inner.{made-shaped}
 use Rattle.check_laws.proofs.Joins.{AreJoinOperands, AreJoinParts, joined-gives, last-gives, operands-give, part-gives}
-use Rattle.vtl_meaning.proofs.Lists as lists
 use Rattle.check_laws.proofs.LiteralOperands.{free-gives, functions-give}
 use Rattle.check_laws.proofs.Operators.{AreFit, operator-gives, set-form-gives}
 use Rattle.check_laws.proofs.Sets.{IsLevel, check-gives, dataset-gives, difference-gives, exists-gives, member-gives, sets-give, spec-gives}
@@ -76,7 +76,7 @@ tree-gives env at r h = then (IsMade env.settings env.known) (IsWellTyped env at
 
 -- one more operand, behind others
 behind-gives : (env : Env) (at : Place) (done : List TypedTree) (r : Result TypedTree Rule) → AllByRecursion (IsWellTyped env at) done → Gives (IsWellTyped env at) r → Gives (AllByRecursion (IsWellTyped env at)) (r >>= behind done)
-behind-gives env at done r hd h = then (IsWellTyped env at) (AllByRecursion (IsWellTyped env at)) r (behind done) h (λ x is. lists.appended (IsWellTyped env at) done (x ∷ []) hd (is, tt))
+behind-gives env at done r hd h = then (IsWellTyped env at) (AllByRecursion (IsWellTyped env at)) r (behind done) h (λ x is. all_append (IsWellTyped env at) done (x ∷ []) hd (is, tt))
 
 operator-step : (env : Env) (at : Place) (o : ScalarOp) (number literals : Bool) (r : Result (List TypedTree) Rule) → Gives (λ xs. literals ≡ true → AreFit o xs) r → Gives (AllByRecursion (IsWellTyped env at)) r → Gives (IsWellTyped env at) (r >>= operator_form at o number literals)
 operator-step env at o number literals r fit h =

@@ -6,6 +6,7 @@ use Rattle.std.specs.Prelude.{nat_eq}
 use Rattle.std.proofs.lemmas.Bool.{not-false, or_parts}
 use Rattle.vtl_cell.specs.Kinds.{same_kind}
 use Rattle.vtl_lists.specs.Results.{◌>>=◌}
+use Rattle.vtl_lists.proofs.Alls.{all_append, all_from_test}
 use Rattle.vtl_cell.specs.declared.kind.Kind.{Kind}
 use Rattle.vtl_tree.specs.Structure.{columns_of}
 use Rattle.vtl_tree.specs.Structures.{structure_of}
@@ -114,7 +115,7 @@ unpivot-fits id m a =
     split = ap (λ l. l ++ names_column id ms ∷ value ∷ []) (all_identify a.components) ∙ sym (append_assoc (identifiers_of a) (names_column id ms ∷ []) (value ∷ []))
 
     are : AreParts ids (value ∷ [])
-    are = record { identifiers = lists.appended (λ x. x.role ≡ role.Identifier) (identifiers_of a) (names_column id ms ∷ []) (identifier-roles a.components) (refl, tt); measures = (refl, tt) }
+    are = record { identifiers = all_append (λ x. x.role ≡ role.Identifier) (identifiers_of a) (names_column id ms ∷ []) (identifier-roles a.components) (refl, tt); measures = (refl, tt) }
 
     fits : ArePassed ((rule.MeasuresDisagree, are_unlike ms) ∷ []) → IsShaped (structure_of (ids ++ value ∷ [])) → IsUnpivoted id m a (structure_of (ids ++ value ∷ []))
     fits passed s = record {
@@ -122,6 +123,6 @@ unpivot-fits id m a =
       identifiers = has-identifiers ids (value ∷ []) ids are refl refl;
       measured = ap component_kinds (parts-others ids (value ∷ []) are);
       alike = lists.weaker (λ x. same_kind (first_kind ms) x.kind ≡ true) (λ x. x.kind ≡ first_kind ms) ms (λ x e. sym (kinds-same (first_kind ms) x.kind e))
-          (lists.all_pass (λ x. same_kind (first_kind ms) x.kind) ms (not-false (list_all (λ x. same_kind (first_kind ms) x.kind) ms) (or_parts (nat_eq (length ms) 0) (not (list_all (λ x. same_kind (first_kind ms) x.kind) ms)) passed.0).1));
+          (all_from_test (λ x. same_kind (first_kind ms) x.kind) ms (not-false (list_all (λ x. same_kind (first_kind ms) x.kind) ms) (or_parts (nat_eq (length ms) 0) (not (list_all (λ x. same_kind (first_kind ms) x.kind) ms)) passed.0).1));
       shape = sym split;
     }

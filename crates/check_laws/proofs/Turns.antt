@@ -2,6 +2,7 @@
 use Rattle.std.proofs.Common.{◌≡◌, List, [], ◌∷◌, ◌++◌, map, Result, sym, ap, ◌∙◌, append_assoc}
 use Rattle.std.proofs.lemmas.List.{append-nil, map-append}
 use Rattle.std.specs.List.{AllByRecursion}
+use Rattle.vtl_lists.proofs.Alls.{all_append}
 use Rattle.check_faults.specs.InTurn.{in_turn}
 use Rattle.check_faults.specs.declared.rules.Rule.{Rule}
 use Rattle.check_laws.specs.Gives.{Gives}
@@ -14,7 +15,7 @@ pub all-in-turn : {A B : Type 0} (Q : A → Type 0) (P : B → Type 0) (step : L
 all-in-turn Q P step each done [] hd h = hd
 all-in-turn Q P step each done (x ∷ xs) hd h =
     then P (AllByRecursion P) (step done x) (λ y. in_turn step (done ++ y ∷ []) xs) (each done x h.0)
-    (λ y is. all-in-turn Q P step each (done ++ y ∷ []) xs (lists.appended P done (y ∷ []) hd (is, tt)) h.1)
+    (λ y is. all-in-turn Q P step each (done ++ y ∷ []) xs (all_append P done (y ∷ []) hd (is, tt)) h.1)
 
 -- the same of any items
 pub in-turn : {A B : Type 0} (P : B → Type 0) (step : List B → A → Result B Rule) → ((done : List B) (x : A) → Gives P (step done x)) → (xs : List A) → Gives (AllByRecursion P) (in_turn step [] xs)

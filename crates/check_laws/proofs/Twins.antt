@@ -1,6 +1,7 @@
 -- Components that two operands share.
 use Rattle.std.proofs.Common.{◌≡◌, Bool, true, false, cond, List, [], ◌∷◌, map, None, refl, ap, ◌∙◌}
 use Rattle.std.specs.List.{AllByRecursion, filter, list_all}
+use Rattle.vtl_lists.proofs.Alls.{all_from_test}
 use Rattle.vtl_tree.specs.Structure.{names_of, same_role}
 use Rattle.vtl_tree.specs.declared.structure.Component.{Component}
 use Rattle.vtl_tree.specs.declared.structure.Role.{Role}
@@ -15,7 +16,7 @@ use Rattle.vtl_meaning.proofs.SetsFolds.{agreed_role}
 use Rattle.check_laws.proofs.Shapes.{identifier-roles}
 
 pub within-twins : (c : Compared) (r : Role) (xs ys : List Component) → is_within c r xs ys ≡ true → AllByRecursion (HasTwin c ys) (filter (λ x. same_role x.role r) xs)
-within-twins c r xs ys e = lists.weaker (λ x. is_there c ys x ≡ true) (HasTwin c ys) (filter (λ x. same_role x.role r) xs) (there-twin c ys) (lists.all_pass (is_there c ys) (filter (λ x. same_role x.role r) xs) e)
+within-twins c r xs ys e = lists.weaker (λ x. is_there c ys x ≡ true) (HasTwin c ys) (filter (λ x. same_role x.role r) xs) (there-twin c ys) (all_from_test (is_there c ys) (filter (λ x. same_role x.role r) xs) e)
 
 -- ---- identifiers that agree keep their names, roles and kinds
 pub agreed-name : (others : List Structure) (x : Component) → (agreed others x).name ≡ x.name

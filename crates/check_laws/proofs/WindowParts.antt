@@ -6,6 +6,7 @@ use Rattle.std.specs.Option.{IfSome}
 use Rattle.vtl_cell.specs.Kinds.{is_null, is_of, kind_of}
 use Rattle.vtl_cell.specs.Profile.{IsOfProfile}
 use Rattle.vtl_lists.specs.Results.{◌>>=◌}
+use Rattle.vtl_lists.proofs.Alls.{all_from_test}
 use Rattle.vtl_cell.specs.ScalarKinds.{meets}
 use Rattle.vtl_decimal.specs.Settings.{Settings}
 use Rattle.vtl_cell.specs.declared.cell.Cell.{Cell}
@@ -187,7 +188,7 @@ default-gives p ks (Some l) =
     one v is h = record {
       proper = is.0;
       met = lists.weaker (λ kind. stands_beside (literal_kind l) kind ≡ true) (λ kind. is_null_kind kind ≡ false → meets kind (kind_of v) ≡ true) ks
-          (λ kind stands some. ap (meets kind) (cell-kind (literal_kind l) v is.1 is.2) ∙ beside kind (literal_kind l) stands some) (lists.all_pass (stands_beside (literal_kind l)) ks h);
+          (λ kind stands some. ap (meets kind) (cell-kind (literal_kind l) v is.1 is.2) ∙ beside kind (literal_kind l) stands some) (all_from_test (stands_beside (literal_kind l)) ks h);
     }
 
 shifted : (p : Settings) (f : ShiftName) (e : Exp) (n : List ℕ) (l : Option Literal) (o : OverPart) (ks : List Kind) (points : ℕ) (v : Cell) → StandsBeside p ks v → IsOperatorFor p (tree.shift f e n l o) ks needed.Ranked (of_shift f points v)

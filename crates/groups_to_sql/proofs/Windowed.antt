@@ -12,7 +12,7 @@ use Rattle.vtl_decimal.specs.Settings.{Settings}
 use Rattle.vtl_cell.specs.declared.cell.Cell.{Cell}
 use Rattle.vtl_cell.specs.declared.kind.Kind.{Kind}
 use Rattle.vtl_cell.specs.declared.kind.Kind.TheVariants as k
-use Rattle.vtl_lists.proofs.Alls.{all_append, all_each, all_front, all_more}
+use Rattle.vtl_lists.proofs.Alls.{all_append, all_each, all_front, all_more, all_with}
 use Rattle.vtl_lists.proofs.Tests.{then_some}
 use Rattle.vtl_tree.specs.CompExp.{CompExp}
 use Rattle.vtl_tree.specs.DataSet.{IsDataSet, is_point}
@@ -244,7 +244,7 @@ module _ (p : Settings) (law : Translates p) (before : Data) (a s : Structure) (
       go (y ∷ ys) n m h = (item_for y n.0 m.0 h.0, go ys n.1 m.1 h.1)
 
   told : AllByRecursion IsRow (told_apart d)
-  told = lists.both (λ x. is_point xs x.0 ≡ true) (IsAlone d) (told_apart d) (told_all (λ r. is_point xs r ≡ true) d set.typed) (told_alone d (rows_apart (key_width a) d set.distinct))
+  told = all_with (λ x. is_point xs x.0 ≡ true) (IsAlone d) (told_apart d) (told_all (λ r. is_point xs r ≡ true) d set.typed) (told_alone d (rows_apart (key_width a) d set.distinct))
 
   -- over a table of which a condition keeps these points
   pub analytic_gives : (source : Source) (condition : Option Exp) → IsFrom p before scope (select_as (analytic_items p spec a (columns_of s)) source [] condition)

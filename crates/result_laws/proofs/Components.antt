@@ -12,6 +12,8 @@ use Rattle.vtl_cell.specs.declared.kind.Kind.TheVariants as k
 use Rattle.vtl_text.specs.Words.{fits_name, is_component_character, is_component_name}
 use Rattle.vtl_lists.specs.Apart.{all_apart}
 use Rattle.vtl_lists.proofs.Aparts.{all_apart-filter}
+use Rattle.vtl_lists.proofs.Sorts.{AllByRecursion-filter}
+use Rattle.vtl_lists.proofs.Alls.{all_append, all_back, all_from_test}
 use Rattle.vtl_tree.specs.Structure.{IsStructure, most_components, names_of, of_role, same_name, same_role}
 use Rattle.vtl_tree.specs.Structures.{AreStructures, Named, are_codes, codes_fit, is_declarable, is_declarable_component, is_declarable_entry, is_filled, is_null_kind, is_string_identifier, is_text_kind}
 use Rattle.vtl_tree.specs.declared.structure.Component.{Component}
@@ -101,14 +103,14 @@ declared_component x h =
 declared_structure : (s : Structure) → is_declarable s ≡ true → ArePlain [] s.components
 declared_structure s h =
     let parts = and_parts (nat_le 1 (length s.components) && nat_le (length s.components) most_components && all_apart same_name (names_of s.components)) (list_all is_declarable_component s.components) h in
-    lists.weaker (λ x. is_declarable_component x ≡ true) (IsPlain []) s.components declared_component (lists.all_pass is_declarable_component s.components parts.1)
+    lists.weaker (λ x. is_declarable_component x ≡ true) (IsPlain []) s.components declared_component (all_from_test is_declarable_component s.components parts.1)
 
 -- the structures that are known
 abbrev pub AreKnownNamed : Named → Type 0
 AreKnownNamed known = AllByRecursion (λ e. ArePlain [] e.1.components) known
 
 pub declared_named : (known : Named) → AreStructures known → AreKnownNamed known
-declared_named known are = lists.weaker (λ e. is_declarable_entry e ≡ true) (λ e. ArePlain [] e.1.components) known (λ e h. declared_structure e.1 h) (lists.all_pass is_declarable_entry known are.declarable)
+declared_named known are = lists.weaker (λ e. is_declarable_entry e ≡ true) (λ e. ArePlain [] e.1.components) known (λ e h. declared_structure e.1 h) (all_from_test is_declarable_entry known are.declarable)
 
 pub found_named : (test : List ℕ → Bool) (known : Named) (s : Structure) → AreKnownNamed known → lookup test known ≡ Some s → ArePlain [] s.components
 found_named test [] s h e = cc
@@ -130,10 +132,10 @@ int_var_named = plain [] int_var refl refl
 -- ---- what operators and clauses give
 module _ (rs : List Renaming) where
   pub role_named : (r : Role) (s : Structure) → ArePlain rs s.components → ArePlain rs (of_role r s)
-  role_named r s h = lists.filtered (IsPlain rs) (λ x. same_role x.role r) s.components h
+  role_named r s h = AllByRecursion-filter (IsPlain rs) (λ x. same_role x.role r) s.components h
 
   pub agreed_named : (others : List Structure) (xs : List Component) → ArePlain rs xs → ArePlain rs (agreed_identifiers others xs)
-  agreed_named others xs h = lists.mapped (IsPlain rs) (agreed others) (filter is_identifier xs) (lists.weaker (IsPlain rs) (λ x. IsPlain rs (agreed others x)) (filter is_identifier xs) one (lists.filtered (IsPlain rs) is_identifier xs h))
+  agreed_named others xs h = lists.mapped (IsPlain rs) (agreed others) (filter is_identifier xs) (lists.weaker (IsPlain rs) (λ x. IsPlain rs (agreed others x)) (filter is_identifier xs) one (AllByRecursion-filter (IsPlain rs) is_identifier xs h))
     where
       one : (x : Component) → IsPlain rs x → IsPlain rs (agreed others x)
       one x k = go (list_all (λ s. is_coded_alike x s.components) others)
@@ -143,12 +145,12 @@ module _ (rs : List Renaming) where
           go false = (k.0, refl)
 
   pub chosen_named : (w : Choice) (names : List (List ℕ)) (xs : List Component) → ArePlain rs xs → ArePlain rs (chosen w names xs)
-  chosen_named w names xs h = lists.filtered (IsPlain rs) (is_chosen w names) xs h
+  chosen_named w names xs h = AllByRecursion-filter (IsPlain rs) (is_chosen w names) xs h
 
   pub calculated_named : (ts : List Target) (xs : List Component) → AllByRecursion (λ t. IsColumnName t.name) ts → ArePlain rs xs → ArePlain rs (calculated_components ts xs)
   calculated_named ts xs named h =
-      lists.appended (IsPlain rs) (map (calculated ts) xs) (map target_component (filter (is_new xs) ts)) (lists.mapped (IsPlain rs) (calculated ts) xs (lists.weaker (IsPlain rs) (λ x. IsPlain rs (calculated ts x)) xs one h))
-      (lists.mapped (IsPlain rs) target_component (filter (is_new xs) ts) (lists.weaker (λ t. IsColumnName t.name) (λ t. IsPlain rs (target_component t)) (filter (is_new xs) ts) (λ t name. plain rs (target_component t) name refl) (lists.filtered (λ t. IsColumnName t.name) (is_new xs) ts named)))
+      all_append (IsPlain rs) (map (calculated ts) xs) (map target_component (filter (is_new xs) ts)) (lists.mapped (IsPlain rs) (calculated ts) xs (lists.weaker (IsPlain rs) (λ x. IsPlain rs (calculated ts x)) xs one h))
+      (lists.mapped (IsPlain rs) target_component (filter (is_new xs) ts) (lists.weaker (λ t. IsColumnName t.name) (λ t. IsPlain rs (target_component t)) (filter (is_new xs) ts) (λ t name. plain rs (target_component t) name refl) (AllByRecursion-filter (λ t. IsColumnName t.name) (is_new xs) ts named)))
     where
       one : (x : Component) → IsPlain rs x → IsPlain rs (calculated ts x)
       one x k = go (clauses.target_of x.name ts)
@@ -171,7 +173,7 @@ module _ (rs : List Renaming) where
 -- ---- what operators give of measures
 module _ (rs : List Renaming) where
   each_given : (f : Gives) (others : Option (List Component)) (xs : List Component) → ArePlain rs xs → ArePlain rs (map (given_measure f others) (measures xs))
-  each_given f others xs h = lists.mapped (IsPlain rs) (given_measure f others) (measures xs) (lists.weaker (IsPlain rs) (λ x. IsPlain rs (given_measure f others x)) (measures xs) (λ x k. (k.0, refl)) (lists.filtered (IsPlain rs) is_measure xs h))
+  each_given f others xs h = lists.mapped (IsPlain rs) (given_measure f others) (measures xs) (lists.weaker (IsPlain rs) (λ x. IsPlain rs (given_measure f others x)) (measures xs) (λ x k. (k.0, refl)) (AllByRecursion-filter (IsPlain rs) is_measure xs h))
 
   pub given_named : (o : Outcome) (f : Gives) (others : Option (List Component)) (xs : List Component) → ArePlain rs xs → ArePlain rs (given_measures o f others xs)
   given_named outcome.Each f others xs h = each_given f others xs h
@@ -188,7 +190,7 @@ module _ (rs : List Renaming) where
 
   -- what an analytic operator makes
   pub analyzed_named : (spec : AnalyticTree) (xs : List Component) → CallsHaveNames spec → ArePlain rs xs → ArePlain rs (analyzed_components spec xs)
-  analyzed_named (nodes.of_measures o w) xs named h = lists.appended (IsPlain rs) (chosen choice.Except [] xs) (given_measures outcome.All (of_measure o) None xs) (chosen_named rs choice.Except [] xs h) (given_named outcome.All (of_measure o) None xs h)
+  analyzed_named (nodes.of_measures o w) xs named h = all_append (IsPlain rs) (chosen choice.Except [] xs) (given_measures outcome.All (of_measure o) None xs) (chosen_named rs choice.Except [] xs h) (given_named outcome.All (of_measure o) None xs h)
   analyzed_named (nodes.of_items items) xs named h = calculated_named rs (map (target_of xs) items) xs (lists.mapped (λ t. IsColumnName t.name) (target_of xs) items named) h
 
 pub pair_named : (a b : Structure) → ArePlain [] a.components → ArePlain [] b.components → ArePlain [] (pair_identifiers a b)
@@ -219,19 +221,19 @@ errors_named : ArePlain [] error_measures
 errors_named = (errorcode_named, (errorlevel_named, tt))
 
 pub check_named : (others : List Structure) (xs : List Component) → ArePlain [] xs → ArePlain [] (agreed_identifiers others xs ++ check_measures)
-check_named others xs h = lists.appended (IsPlain []) (agreed_identifiers others xs) check_measures (agreed_named [] others xs h) (bool_var_named, (imbalance_named, errors_named))
+check_named others xs h = all_append (IsPlain []) (agreed_identifiers others xs) check_measures (agreed_named [] others xs h) (bool_var_named, (imbalance_named, errors_named))
 
 -- identifiers, that of rules, and what an output shows behind them
 shown_named : (o : CheckOut) (ids : List Component) (a : Structure) (rest : List Component) → ArePlain [] ids → ArePlain [] a.components → ArePlain [] rest → ArePlain [] (ids ++ ruleid ∷ output_parts o (measures_of a) bool_var rest)
-shown_named o ids a rest i h r = lists.appended (IsPlain []) ids (ruleid ∷ output_parts o (measures_of a) bool_var rest) i (ruleid_named, go o)
+shown_named o ids a rest i h r = all_append (IsPlain []) ids (ruleid ∷ output_parts o (measures_of a) bool_var rest) i (ruleid_named, go o)
   where
     measured : ArePlain [] (measures_of a)
     measured = role_named [] role.Measure a h
 
     go : (o : CheckOut) → ArePlain [] (output_parts o (measures_of a) bool_var rest)
-    go out.Invalid = lists.appended (IsPlain []) (measures_of a) rest measured r
+    go out.Invalid = all_append (IsPlain []) (measures_of a) rest measured r
     go out.All = (bool_var_named, r)
-    go out.AllMeasures = lists.appended (IsPlain []) (measures_of a) (bool_var ∷ rest) measured (bool_var_named, r)
+    go out.AllMeasures = all_append (IsPlain []) (measures_of a) (bool_var ∷ rest) measured (bool_var_named, r)
 
 pub ruled_named : (o : CheckOut) (a : Structure) → ArePlain [] a.components → ArePlain [] (identifiers_of a ++ ruleid ∷ ruled_measures o a)
 ruled_named o a h = shown_named o (identifiers_of a) a error_measures (role_named [] role.Identifier a h) h errors_named
@@ -271,7 +273,7 @@ codes_found id a coded = ap (λ o. option_map_or (λ codes. codes) (option_and_t
 
 pub pivot_named : (id : List ℕ) (kind : Kind) (a : Structure) → ArePlain [] a.components → HasCodes id a → ArePlain [] (pivot_components id kind (codes_of id a) a.components)
 pivot_named id kind a h coded =
-    lists.appended (IsPlain []) (chosen choice.Except (id ∷ []) a.components) (map (code_measure kind) (codes_of id a)) (chosen_named [] choice.Except (id ∷ []) a.components h)
+    all_append (IsPlain []) (chosen choice.Except (id ∷ []) a.components) (map (code_measure kind) (codes_of id a)) (chosen_named [] choice.Except (id ∷ []) a.components h)
     (lists.mapped (IsPlain []) (code_measure kind) (codes_of id a) (lists.weaker IsColumnName (λ text. IsPlain [] (code_measure kind text)) (codes_of id a) (λ text name. plain [] (code_measure kind text) name refl) (subst (AllByRecursion IsColumnName) (sym (codes_found id a coded)) coded.names)))
 
 -- ---- `unpivot`: the names of measures are the codes of the identifier that holds them
@@ -295,7 +297,7 @@ measures_apart a h = apart_map (λ x. x.name) same_name (measures_of a) ∙ all_
 
 -- the kind of the measure that is given is that of a first measure
 measure_kind : (id x : List ℕ) (a s : Structure) → IsUnpivoted id x a s → IsShaped s → is_null_kind (first_kind (measures_of a)) ≡ false
-measure_kind id x a s is shaped = (lists.back HasKind (chosen choice.Except [] a.components) (names_column id (measures_of a) ∷ made x role.Measure (first_kind (measures_of a)) ∷ []) (subst (AllByRecursion HasKind) is.shape shaped.kinds)).1.0
+measure_kind id x a s is shaped = (all_back HasKind (chosen choice.Except [] a.components) (names_column id (measures_of a) ∷ made x role.Measure (first_kind (measures_of a)) ∷ []) (subst (AllByRecursion HasKind) is.shape shaped.kinds)).1.0
   where
     HasKind : Component → Type 0
     HasKind y = is_null_kind y.kind ≡ false
@@ -303,5 +305,5 @@ measure_kind id x a s is shaped = (lists.back HasKind (chosen choice.Except [] a
 pub unpivot_named : (id x : List ℕ) (a s : Structure) → IsStructure a → ArePlain [] a.components → IsColumnName id → IsColumnName x → IsUnpivoted id x a s → IsShaped s → ArePlain [] (chosen choice.Except [] a.components ++ names_column id (measures_of a) ∷ made x role.Measure (first_kind (measures_of a)) ∷ [])
 unpivot_named id x a s formed h id_named x_named is shaped =
     let codes = names_coded id (measures_of a) (measure_kind id x a s is shaped) (role_named [] role.Measure a h) (measures_apart a formed) in
-    lists.appended (IsPlain []) (chosen choice.Except [] a.components) (names_column id (measures_of a) ∷ made x role.Measure (first_kind (measures_of a)) ∷ []) (chosen_named [] choice.Except [] a.components h)
+    all_append (IsPlain []) (chosen choice.Except [] a.components) (names_column id (measures_of a) ∷ made x role.Measure (first_kind (measures_of a)) ∷ []) (chosen_named [] choice.Except [] a.components h)
     (plain [] (names_column id (measures_of a)) id_named codes, (plain [] (made x role.Measure (first_kind (measures_of a))) x_named refl, tt))

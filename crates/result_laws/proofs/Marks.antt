@@ -5,6 +5,8 @@ use Rattle.std.proofs.lemmas.List.Folds.{list_any-append}
 use Rattle.std.specs.List.{AllByRecursion, filter, list_any}
 use Rattle.std.specs.Prelude.{find, slice_get}
 use Rattle.vtl_lists.proofs.Tests.{or_true}
+use Rattle.vtl_lists.proofs.Sorts.{AllByRecursion-filter}
+use Rattle.vtl_lists.proofs.Alls.{all_append, all_kept}
 use Rattle.vtl_text.specs.Words.{is_name}
 use Rattle.vtl_syntax.specs.declared.word_groups.JoinKind.{JoinKind}
 use Rattle.vtl_syntax.specs.declared.word_groups.JoinKind.TheVariants as join
@@ -66,11 +68,11 @@ module _ (kind : JoinKind) (held : List (List ℕ)) where
 
   -- what is given back are names of components
   own_back : (alias : List ℕ) (xs : List Component) → ArePlain [] xs → AreRenamings (own_renamings kind held alias xs)
-  own_back alias xs h = lists.mapped (λ r. IsColumnName r.to) (joins.plain held alias) (filter (is_marked kind held) xs) (lists.weaker (IsPlain []) (λ x. IsColumnName x.name) (filter (is_marked kind held) xs) column_name (lists.filtered (IsPlain []) (is_marked kind held) xs h))
+  own_back alias xs h = lists.mapped (λ r. IsColumnName r.to) (joins.plain held alias) (filter (is_marked kind held) xs) (lists.weaker (IsPlain []) (λ x. IsColumnName x.name) (filter (is_marked kind held) xs) column_name (AllByRecursion-filter (IsPlain []) (is_marked kind held) xs h))
 
   pub given_back_named : (os : List Operand) → AllByRecursion IsOperandPlain os → AreRenamings (last_renamings kind held os)
   given_back_named [] h = tt
-  given_back_named (o ∷ os) h = lists.appended (λ r. IsColumnName r.to) (own_renamings kind held o.alias o.structure.components) (last_renamings kind held os) (own_back o.alias o.structure.components h.0.0) (given_back_named os h.1)
+  given_back_named (o ∷ os) h = all_append (λ r. IsColumnName r.to) (own_renamings kind held o.alias o.structure.components) (last_renamings kind held os) (own_back o.alias o.structure.components h.0.0) (given_back_named os h.1)
 
   -- ---- the components of the joined set
   joined_plain : (rs : List Renaming) (alias : List ℕ) (x : Component) → is_name alias ≡ true → is_held kind x ≡ true → IsPlain [] x → IsGivenBack alias rs x → IsPlain rs (joined held alias x)
@@ -91,11 +93,11 @@ module _ (kind : JoinKind) (held : List (List ℕ)) where
   own_plain rs part alias xs named there h back =
       lists.mapped (IsPlain rs) (joined held alias) (filter (is_part part) xs)
       (lists.weaker (λ x. (IsPlain [] x × IsGivenBack alias rs x) × (is_part part x ≡ true)) (λ x. IsPlain rs (joined held alias x)) (filter (is_part part) xs) (λ x k. joined_plain rs alias x named (there x k.1) k.0.0 k.0.1)
-      (lists.kept (λ x. IsPlain [] x × IsGivenBack alias rs x) (is_part part) xs (lists.joined (IsPlain []) (IsGivenBack alias rs) (λ x. IsPlain [] x × IsGivenBack alias rs x) xs (λ x a b. (a, b)) h back)))
+      (all_kept (λ x. IsPlain [] x × IsGivenBack alias rs x) (is_part part) xs (lists.joined (IsPlain []) (IsGivenBack alias rs) (λ x. IsPlain [] x × IsGivenBack alias rs x) xs (λ x a b. (a, b)) h back)))
 
   all_plain : (rs : List Renaming) (part : Bool) (os : List Operand) → ((x : Component) → is_part part x ≡ true → is_held kind x ≡ true) → AllByRecursion IsOperandPlain os → AllByRecursion (OperandGivenBack rs) os → ArePlain rs (all_own held part os)
   all_plain rs part [] there h back = tt
-  all_plain rs part (o ∷ os) there h back = lists.appended (IsPlain rs) (own held part o.alias o.structure.components) (all_own held part os) (own_plain rs part o.alias o.structure.components h.0.1 there h.0.0 back.0) (all_plain rs part os there h.1 back.1)
+  all_plain rs part (o ∷ os) there h back = all_append (IsPlain rs) (own held part o.alias o.structure.components) (all_own held part os) (own_plain rs part o.alias o.structure.components h.0.1 there h.0.0 back.0) (all_plain rs part os there h.1 back.1)
 
 -- the reference is one of the operands
 found_plain : (q : Operand → Bool) (os : List Operand) (o : Operand) → AllByRecursion IsOperandPlain os → find q os ≡ Some o → IsOperandPlain o
@@ -118,7 +120,7 @@ reference_plain join.Cross os o h e = first_plain os o h e
 
 pub joined_named : (kind : JoinKind) (os : List Operand) → AllByRecursion IsOperandPlain os → ArePlain (last_renamings kind (held_names kind os) os) (joined_components kind (held_names kind os) os)
 joined_named kind os h =
-    lists.appended (IsPlain rs) (joined_identifiers (is_cross kind) held os (reference kind os)) (all_own held false os) (go (is_cross kind) refl (reference kind os) refl) (all_plain kind held rs false os (λ x e. ap (λ b. is_cross kind || b) e ∙ or_true (is_cross kind)) h (all_from kind held os))
+    all_append (IsPlain rs) (joined_identifiers (is_cross kind) held os (reference kind os)) (all_own held false os) (go (is_cross kind) refl (reference kind os) refl) (all_plain kind held rs false os (λ x e. ap (λ b. is_cross kind || b) e ∙ or_true (is_cross kind)) h (all_from kind held os))
   where
     held : List (List ℕ)
     held = held_names kind os
@@ -170,7 +172,7 @@ last_named rs xs h back = lists.mapped (IsPlain []) (renamed pairs) xs (lists.jo
     pairs = filter (is_left xs) rs
 
     named : AreRenamings pairs
-    named = lists.filtered (λ r. IsColumnName r.to) (is_left xs) rs back
+    named = AllByRecursion-filter (λ r. IsColumnName r.to) (is_left xs) rs back
 
     either : (x : Component) → is_some (component_of x.name xs) ≡ true → IsGivenName rs x.name → IsColumnName x.name ⊎ IsFrom pairs x.name
     either x there (inl k) = inl k

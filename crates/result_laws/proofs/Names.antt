@@ -2,6 +2,7 @@
 use Rattle.std.proofs.Common.{◌≡◌, inl, inr, Bool, true, false, cond, List, [], ◌∷◌, map, Some, None, sym, ap, ◌∙◌, subst}
 use Rattle.std.specs.List.{AllByRecursion, filter}
 use Rattle.std.specs.Option.{option_to_list}
+use Rattle.vtl_lists.proofs.Alls.{all_append}
 use Rattle.vtl_decimal.specs.Settings.{Settings}
 use Rattle.vtl_tree.specs.Structure.{columns_of, of_role, same_name, same_role}
 use Rattle.vtl_tree.specs.Structures.{Named}
@@ -58,13 +59,13 @@ module _ (p : Settings) (known : Named) (all : AreKnownNamed known) where
   outside b s xs e h = (all_weaker (cond b [] []) s.components (by_shape [] s xs e h), nothing b)
 
   first_named : (b : Bool) (a : Structure) (bs : List Structure) (s : Structure) → ArePlain [] a.components → IsCombined a bs s → Fits (cond b [] []) s.components
-  first_named b a bs s h is = outside b s _ is.shape (lists.appended (IsPlain []) (agreed_identifiers bs a.components) (measures_of a) (agreed_named [] bs a.components h) (role_named [] role.Measure a h))
+  first_named b a bs s h is = outside b s _ is.shape (all_append (IsPlain []) (agreed_identifiers bs a.components) (measures_of a) (agreed_named [] bs a.components h) (role_named [] role.Measure a h))
 
   -- of a flow or a stock
   flow_named : (b : Bool) (a s : Structure) → ArePlain [] a.components → IsFlowed a s → Fits (cond b [] []) s.components
   flow_named b a s h is =
       outside b s _ is.shape
-      (lists.appended (IsPlain []) (chosen choice.Except [] a.components) (given_measures outcome.Each flow_gives None a.components) (chosen_named [] choice.Except [] a.components h) (given_named [] outcome.Each flow_gives None a.components h))
+      (all_append (IsPlain []) (chosen choice.Except [] a.components) (given_measures outcome.Each flow_gives None a.components) (chosen_named [] choice.Except [] a.components h) (given_named [] outcome.Each flow_gives None a.components h))
 
   -- of a time operator
   timed_named : (b : Bool) (o : TimeOp) (a s : Structure) → ArePlain [] a.components → HasGiven o a s → Fits (cond b [] []) s.components
@@ -83,16 +84,16 @@ module _ (p : Settings) (known : Named) (all : AreKnownNamed known) where
         let xs = (structure_of a).components in
         let h = (components_named false a m.0 w).0 in
         outside b s _ m.1.shape
-        (lists.appended (IsPlain []) (filter (λ x. same_role x.role role.Identifier) xs) (given_measures (outcome_of o.op) (given_between o) None xs) (role_named [] role.Identifier (structure_of a) h) (given_named [] (outcome_of o.op) (given_between o) None xs h))
+        (all_append (IsPlain []) (filter (λ x. same_role x.role role.Identifier) xs) (given_measures (outcome_of o.op) (given_between o) None xs) (role_named [] role.Identifier (structure_of a) h) (given_named [] (outcome_of o.op) (given_between o) None xs h))
     form_named b s (nodes.pair o a c) shaped m w =
         let ha = (components_named false a m.0 w.0).0 in
         let hc = (components_named false c m.1 w.1).0 in
         outside b s _ m.2.shape
-        (lists.appended (IsPlain []) (pair_identifiers (structure_of a) (structure_of c)) (given_measures (outcome_of o) (given_of_two o) (Some (structure_of c).components) (structure_of a).components) (pair_named (structure_of a) (structure_of c) ha hc)
+        (all_append (IsPlain []) (pair_identifiers (structure_of a) (structure_of c)) (given_measures (outcome_of o) (given_of_two o) (Some (structure_of c).components) (structure_of a).components) (pair_named (structure_of a) (structure_of c) ha hc)
         (given_named [] (outcome_of o) (given_of_two o) (Some (structure_of c).components) (structure_of a).components ha))
     form_named b s (nodes.choose q a c) shaped m w =
         outside b s _ m.3.shape
-        (lists.appended (IsPlain []) (agreed_identifiers (structure_of a ∷ structure_of c ∷ []) (structure_of q).components) (of_role role.Measure (structure_of a)) (agreed_named [] (structure_of a ∷ structure_of c ∷ []) (structure_of q).components (components_named false q m.0 w.0).0)
+        (all_append (IsPlain []) (agreed_identifiers (structure_of a ∷ structure_of c ∷ []) (structure_of q).components) (of_role role.Measure (structure_of a)) (agreed_named [] (structure_of a ∷ structure_of c ∷ []) (structure_of q).components (components_named false q m.0 w.0).0)
         (role_named [] role.Measure (structure_of a) (components_named false a m.1 w.1).0))
     form_named b s (nodes.member a x) shaped m w = outside b s _ m.2.shape (chosen_named [] choice.Keep (x ∷ []) (structure_of a).components (components_named false a m.0 w).0)
     form_named b s (nodes.filter a e) shaped m w = subst (λ (z : Structure). Fits (marks b (nodes.filter a e)) z.components) (sym m.1.same) (components_named b a m.0 w)
@@ -118,7 +119,7 @@ module _ (p : Settings) (known : Named) (all : AreKnownNamed known) where
     form_named b s (nodes.aggregate a spec) shaped m w =
         let rs = marks b (nodes.aggregate a spec) in
         let h = components_named b a m.0 w.0 in
-        (by_shape rs s _ m.1.aggregated.shape (lists.appended (IsPlain rs) (chosen choice.By spec.grouping (structure_of a).components) (made_components spec.items (structure_of a).components) (chosen_named rs choice.By spec.grouping (structure_of a).components h.0) (made_named rs spec.items (structure_of a).components w.1 h.0)), h.1)
+        (by_shape rs s _ m.1.aggregated.shape (all_append (IsPlain rs) (chosen choice.By spec.grouping (structure_of a).components) (made_components spec.items (structure_of a).components) (chosen_named rs choice.By spec.grouping (structure_of a).components h.0) (made_named rs spec.items (structure_of a).components w.1 h.0)), h.1)
     form_named b s (nodes.analytic_of a spec) shaped m w =
         let rs = marks b (nodes.analytic_of a spec) in
         let h = components_named b a m.0 w.0 in
@@ -134,14 +135,14 @@ module _ (p : Settings) (known : Named) (all : AreKnownNamed known) where
     form_named b s (nodes.sym_diff a c) shaped m w = first_named b (structure_of a) (structure_of c ∷ []) s (components_named false a m.0 w.0).0 m.2
     form_named b s (nodes.exists_in a c r) shaped m w =
         outside b s _ m.2.shape
-        (lists.appended (IsPlain []) (agreed_identifiers (structure_of c ∷ []) (structure_of a).components) (bool_var ∷ []) (agreed_named [] (structure_of c ∷ []) (structure_of a).components (components_named false a m.0 w.0).0) (bool_var_named, tt))
+        (all_append (IsPlain []) (agreed_identifiers (structure_of c ∷ []) (structure_of a).components) (bool_var ∷ []) (agreed_named [] (structure_of c ∷ []) (structure_of a).components (components_named false a m.0 w.0).0) (bool_var_named, tt))
     form_named b s (nodes.check a i spec) shaped m w = outside b s _ m.2.shape (check_named (option_to_list (maybe_structure i)) (structure_of a).components (components_named false a m.0 w.0).0)
     form_named b s (nodes.check_datapoint a rules out) shaped m w = outside b s _ m.1.shape (ruled_named out (structure_of a) (components_named false a m.0 w.0).0)
     form_named b s (nodes.check_hierarchy a rules q out) shaped m w = outside b s _ m.1.shape (sided_named out rules.variable (structure_of a) (components_named false a m.0 w.0).0)
     form_named b s (nodes.hierarchy a rules q i out) shaped m w =
         let h = (components_named false a m.0 w.0).0 in
         outside b s _ m.1.shape
-        (lists.appended (IsPlain []) (without_codes rules.variable (identifiers_of (structure_of a))) (measures_of (structure_of a)) (uncoded_named rules.variable (structure_of a) h) (role_named [] role.Measure (structure_of a) h))
+        (all_append (IsPlain []) (without_codes rules.variable (identifiers_of (structure_of a))) (measures_of (structure_of a)) (uncoded_named rules.variable (structure_of a) h) (role_named [] role.Measure (structure_of a) h))
 
     -- the components of the first operand
     combined_named : (b : Bool) (ns : NodeTrees) (s : Structure) → AreMade p known ns → HaveWords p ns → AreCombined (node_structures ns) s → Fits (cond b [] []) s.components

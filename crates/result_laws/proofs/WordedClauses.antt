@@ -10,6 +10,7 @@ use Rattle.vtl_lists.specs.Apart.{all_apart}
 use Rattle.vtl_cell.specs.Conversion.{as_kind}
 use Rattle.vtl_decimal.specs.Range.{fit_number}
 use Rattle.vtl_lists.specs.Results.{◌>>=◌}
+use Rattle.vtl_lists.proofs.Alls.{all_append}
 use Rattle.vtl_cell.specs.ScalarArithmetic.{number, units}
 use Rattle.vtl_decimal.specs.Settings.{Settings}
 use Rattle.vtl_cell.specs.declared.cell.Cell.{Cell}
@@ -121,7 +122,7 @@ module _ (p : Settings) (b : Bool) (rs : List Renaming) where
   targets_named env at n done (tree.calc_part r c e cs) hd w =
       after (AllByRecursion IsTarget) (calc_name n done c) (λ u. calc_value env.settings at e (typed env at e) (over_operand env at e) >>= with_item r c done >>= λ items. calcs_typed env at n items cs)
       (λ u. then (AllByRecursion IsTarget) (AllByRecursion IsTarget) (calc_value env.settings at e (typed env at e) (over_operand env at e) >>= with_item r c done) (λ items. calcs_typed env at n items cs)
-      (after (AllByRecursion IsTarget) (calc_value env.settings at e (typed env at e) (over_operand env at e)) (with_item r c done) (λ v. lists.appended IsTarget done (item_of r c v ∷ []) hd (component_named c w.0, tt)))
+      (after (AllByRecursion IsTarget) (calc_value env.settings at e (typed env at e) (over_operand env at e)) (with_item r c done) (λ v. all_append IsTarget done (item_of r c v ∷ []) hd (component_named c w.0, tt)))
       (λ items h. targets_named env at n items cs h w.2))
 
   more_calcs : (cs : Calcs) → AreWrittenCalcs cs → AreMoreCalcs cs
@@ -136,7 +137,7 @@ module _ (p : Settings) (b : Bool) (rs : List Renaming) where
   unfolding with_made
   call_named r c e done x w hd =
       after (AllByRecursion IsNamed) (value_in x) (λ v. call_in (is_aggregate e) v >>= λ call. Ok (done ++ made_as r c call ∷ []))
-      (λ v. after (AllByRecursion IsNamed) (call_in (is_aggregate e) v) (λ call. Ok (done ++ made_as r c call ∷ [])) (λ call. lists.appended IsNamed done (made_as r c call ∷ []) hd (component_named c w, tt)))
+      (λ v. after (AllByRecursion IsNamed) (call_in (is_aggregate e) v) (λ call. Ok (done ++ made_as r c call ∷ [])) (λ call. all_append IsNamed done (made_as r c call ∷ []) hd (component_named c w, tt)))
 
   calls_named : (env : Sight) (at : Place) (done : List Made) (cs : Calcs) → AllByRecursion IsNamed done → AreMoreCalcs cs → Gives (AllByRecursion IsNamed) (aggrs_typed env at done cs)
   calls_named env at done tree.no_calcs hd w = hd
@@ -197,7 +198,7 @@ module _ (p : Settings) where
 
   one_more : (done : List SubItem) (i : SubItem) → AreValues p done → IsNewItem (sub_names done) i → AreValues p (done ++ i ∷ [])
   one_more done i are is = record {
-    filled = lists.appended (λ i. IsFilled p i.value) done (i ∷ []) are.filled (is.0, tt);
+    filled = all_append (λ i. IsFilled p i.value) done (i ∷ []) are.filled (is.0, tt);
     apart = ap (all_apart same_name) (map-append (λ (i : SubItem). i.id) done (i ∷ [])) ∙ apart_push (sub_names done) i.id are.apart (sym (among-any i.id (sub_names done)) ∙ is.1);
   }
 

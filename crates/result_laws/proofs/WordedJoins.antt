@@ -5,6 +5,7 @@ use Rattle.std.proofs.lemmas.Bool.{false≢true}
 use Rattle.std.specs.List.{AllByRecursion, filter}
 use Rattle.std.specs.Option.{IfSome}
 use Rattle.vtl_lists.specs.Results.{◌>>=◌}
+use Rattle.vtl_lists.proofs.Alls.{all_append}
 use Rattle.vtl_decimal.specs.Settings.{Settings}
 use Rattle.vtl_text.specs.Words.{is_name}
 use Rattle.vtl_syntax.specs.Trees as tree
@@ -33,7 +34,6 @@ use Rattle.check_expressions.specs.Typing.{as_dataset, body_end, filter_step, fi
 use Rattle.check_operators.specs.declared.places.Joined.{Joined}
 use Rattle.check_operators.specs.declared.places.Place.TheVariants as place
 use Rattle.check_laws.specs.Gives.{Gives}
-use Rattle.vtl_meaning.proofs.Lists as lists
 use Rattle.check_laws.proofs.Steps.{after, tested, then}
 use Rattle.check_laws.proofs.Joins.{same-operands}
 use Rattle.result_laws.proofs.WordedClauses.{clause_at, filter_at, keeping_at, renaming_at, targets_at}
@@ -62,7 +62,7 @@ pub part_worded : (p : Settings) (done : List PartTyped) (e : Exp) (a : Option (
 unfolding with_part
 part_worded p done e a x hd we wa h =
     then written.IsName (AllByRecursion (IsPart p)) (new_alias done e a) (λ alias. Ok (done ++ record { operand = x; alias = alias } ∷ [])) (alias_named done e a we wa)
-    (λ alias named. lists.appended (IsPart p) done (record { operand = x; alias = alias } ∷ []) hd ((h, named), tt))
+    (λ alias named. all_append (IsPart p) done (record { operand = x; alias = alias } ∷ []) hd ((h, named), tt))
 
 operand_worded : (p : Settings) (x : PartTyped) → IsPart p x → Gives (IsOperand p) (operand_in x)
 operand_worded p x h = then (IsWorded p) (IsOperand p) (dataset_in x.operand) (λ n. Ok (record { node = n; alias = x.alias })) (dataset_in_worded p x.operand h.0) (λ n k. (k, h.1))

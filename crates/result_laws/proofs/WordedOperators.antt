@@ -4,6 +4,7 @@ use Rattle.std.specs.List.{AllByRecursion}
 use Rattle.std.specs.Map.{lookup}
 use Rattle.std.specs.Option.{IfSome, is_some}
 use Rattle.vtl_lists.specs.Results.{◌>>=◌}
+use Rattle.vtl_lists.proofs.Alls.{all_append}
 use Rattle.vtl_cell.specs.ScalarArithmetic.{number}
 use Rattle.vtl_decimal.specs.Settings.{Settings}
 use Rattle.vtl_cell.specs.declared.kind.Kind.{Kind}
@@ -147,7 +148,7 @@ module _ (p : Settings) where
   parted_worded : (o : Operands) (xs : List TypedTree) → AllByRecursion (IsWorded p) o.datasets → AllByRecursion (IsTreeWorded p) xs → AllByRecursion (IsWorded p) (parted o xs).datasets
   parted_worded o [] h all = h
   parted_worded o (value e ∷ xs) h all = parted_worded (with_operand o (value e)) xs (with_value_worded e o.before o.datasets o.after h) all.1
-  parted_worded o (dataset n ∷ xs) h all = parted_worded (with_operand o (dataset n)) xs (lists.appended (IsWorded p) o.datasets (n ∷ []) h (all.0, tt)) all.1
+  parted_worded o (dataset n ∷ xs) h all = parted_worded (with_operand o (dataset n)) xs (all_append (IsWorded p) o.datasets (n ∷ []) h (all.0, tt)) all.1
 
   operator_worded : (at : Place) (o : ScalarOp) (number literals : Bool) (xs : List TypedTree) → AllByRecursion (IsTreeWorded p) xs → Gives (IsTreeWorded p) (operator_form at o number literals xs)
   unfolding operator_form
@@ -159,7 +160,7 @@ module _ (p : Settings) where
 
   -- one more operand
   pub behind_worded : (done : List TypedTree) (r : Result TypedTree Rule) → AllByRecursion (IsTreeWorded p) done → Gives (IsTreeWorded p) r → Gives (AllByRecursion (IsTreeWorded p)) (r >>= behind done)
-  behind_worded done r hd h = then (IsTreeWorded p) (AllByRecursion (IsTreeWorded p)) r (behind done) h (λ x k. lists.appended (IsTreeWorded p) done (x ∷ []) hd (k, tt))
+  behind_worded done r hd h = then (IsTreeWorded p) (AllByRecursion (IsTreeWorded p)) r (behind done) h (λ x k. all_append (IsTreeWorded p) done (x ∷ []) hd (k, tt))
 
   -- two operands, behind those that are done
   pub two_step : (at : Place) (o : ScalarOp) (done : List TypedTree) (r s : Result TypedTree Rule) → AllByRecursion (IsTreeWorded p) done → Gives (IsTreeWorded p) r → Gives (IsTreeWorded p) s → Gives (IsTreeWorded p) (r >>= behind done >>= λ xs. s >>= behind xs >>= operator_form at o true true)

@@ -2,6 +2,7 @@
 use Rattle.std.proofs.Common.{◌≡◌, ℕ, suc, ◌+◌, true, List, [], ◌∷◌, ◌++◌, length, subst}
 use Rattle.std.specs.List.{AllByRecursion}
 use Rattle.vtl_lists.specs.Results.{◌>>=◌}
+use Rattle.vtl_lists.proofs.Alls.{all_append}
 use Rattle.vtl_text.specs.Words.{is_name}
 use Rattle.vtl_syntax.specs.Trees as tree
 use Rattle.vtl_syntax.specs.Trees.{Exp, ScriptTree, StatementTree}
@@ -18,7 +19,6 @@ use Rattle.check_rules.specs.Definitions.{datapoint_defined, hierarchical_define
 use Rattle.check_expressions.specs.Rulesets.{Definitions}
 use Rattle.check_expressions.specs.Typing.{typed}
 use Rattle.check_laws.specs.Gives.{Gives}
-use Rattle.vtl_meaning.proofs.Lists as lists
 use Rattle.check_laws.proofs.Scripts.{at-then}
 use Rattle.check_laws.proofs.Steps.{after, anything, tested, then}
 use Rattle.result_laws.proofs.WordedTyping.{worded}
@@ -35,13 +35,13 @@ assigned_worded s before name e d w =
 
 -- behind one more definition
 one_more : (name : List ℕ) (definition : StatementTree) (definitions : Definitions) → AreDefinitionsWritten definitions → IsWritten definition → AreDefinitionsWritten (definitions ++ (name, definition) ∷ [])
-one_more name definition definitions d w = lists.appended (λ e. IsWritten e.1) definitions ((name, definition) ∷ []) d (w, tt)
+one_more name definition definitions d w = all_append (λ e. IsWritten e.1) definitions ((name, definition) ∷ []) d (w, tt)
 
 statements_worded : (s : Standing) (i before : ℕ) (done : List NodeTree) (ss : ScriptTree) → AreDefinitionsWritten s.definitions → AreWritten ss → AllByRecursion (IsWorded s.settings) done → Gives (AllByRecursion (IsWorded s.settings)) (statements_typed s i before done ss)
 statements_worded s i before done [] d w h = h
 statements_worded s i before done (tree.assignment name kind e ∷ ss) d w h =
     at-then (IsWorded s.settings) (AllByRecursion (IsWorded s.settings)) i (assigned s before name e) (λ n. statements_typed (with_result s name n) (suc i) (before + count n) (done ++ n ∷ []) ss) (assigned_worded s before name e d w.0.parts.1)
-    (λ n k. statements_worded (with_result s name n) (suc i) (before + count n) (done ++ n ∷ []) ss d w.1 (lists.appended (IsWorded s.settings) done (n ∷ []) h (k, tt)))
+    (λ n k. statements_worded (with_result s name n) (suc i) (before + count n) (done ++ n ∷ []) ss d w.1 (all_append (IsWorded s.settings) done (n ∷ []) h (k, tt)))
 statements_worded s i before done (tree.datapoint n vs rs b ∷ ss) d w h =
     let fits = defined s before n (length rs) (datapoint_defined s.settings vs rs) in
     let behind = with_ruleset s n (tree.datapoint n vs rs b) in

@@ -5,6 +5,7 @@ use Rattle.std.specs.List.{AllByRecursion, list_all}
 use Rattle.std.specs.Prelude.{ℕ, option_to_list, unwrap_or}
 use Rattle.std.proofs.lemmas.Bool.{not-false}
 use Rattle.vtl_lists.specs.Results.{◌>>=◌}
+use Rattle.vtl_lists.proofs.Alls.{all_from_test}
 use Rattle.vtl_decimal.specs.Settings.{Settings}
 use Rattle.vtl_text.specs.Words.{is_component_name}
 use Rattle.vtl_syntax.specs.Written as written
@@ -39,7 +40,6 @@ use Rattle.check_operators.specs.Typed as typed
 use Rattle.check_operators.specs.Typed.{TypedTree, components_in, dataset_in}
 use Rattle.check_laws.specs.Gives.{Gives}
 use Rattle.check_laws.proofs.Left.{IsNamed, known-gives}
-use Rattle.vtl_meaning.proofs.Lists as lists
 use Rattle.check_laws.proofs.Steps.{after, tested-then, then}
 use Rattle.check_laws.proofs.Turns.{all-in-turn}
 use Rattle.result_laws.proofs.Words.{FormIsWorded, HasCodes, HaveWords, IsTreeWorded, IsWorded, component_named}
@@ -87,7 +87,7 @@ module _ (p : Settings) where
       (then (IsNamed wanted.Identifier a.components id) (λ texts. (x : Component) × IsNamed wanted.Identifier a.components id x × (x.codes ≡ Some texts)) (known wanted.Identifier a.components [] id) (λ x. pivot_codes x.codes) (known-gives wanted.Identifier a.components [] id) (λ x named. go x named x.codes refl))
       (λ texts coded. after Q (known wanted.Measure a.components [] m) (λ y. ruled ((rule.RepeatedComponent, has_no_name texts) ∷ []) (tt {0}) >>= λ u. shaped (pivot_components id y.kind texts a.components))
       (λ y. tested-then Q ((rule.RepeatedComponent, has_no_name texts) ∷ []) (λ u. shaped (pivot_components id y.kind texts a.components))
-      (λ passed. all_give (shaped (pivot_components id y.kind texts a.components)) (record { component = coded.0; named = coded.1; codes = texts; there = coded.2; names = lists.all_pass is_component_name texts (not-false (list_all is_component_name texts) passed.0) }))))
+      (λ passed. all_give (shaped (pivot_components id y.kind texts a.components)) (record { component = coded.0; named = coded.1; codes = texts; there = coded.2; names = all_from_test is_component_name texts (not-false (list_all is_component_name texts) passed.0) }))))
     where
       Q : Structure → Type 0
       Q s = HasCodes id a

@@ -6,6 +6,8 @@ use Rattle.std.specs.List.{AllByRecursion, filter, list_any}
 use Rattle.std.specs.Option.{option_map_or}
 use Rattle.vtl_lists.specs.Apart.{all_apart}
 use Rattle.vtl_lists.proofs.Aparts.{apart_parts}
+use Rattle.vtl_lists.proofs.Sorts.{AllByRecursion-filter}
+use Rattle.vtl_lists.proofs.Alls.{all_append, all_back, all_from_filtered, all_front, all_with}
 use Rattle.vtl_cell.specs.declared.kind.Kind.TheVariants as k
 use Rattle.vtl_tree.specs.Structure.{IsStructure, columns_of, names_of, of_role, same_name, same_role}
 use Rattle.vtl_tree.specs.declared.structure.Component.{Component}
@@ -118,10 +120,10 @@ all-alone (x ∷ xs) h = (first, lists.joined (λ y. same_name x.name y.name ≡
 -- what holds of each component holds of each column, and back
 pub of-columns : (P : Component → Type 0) (s : Structure) → AllByRecursion P s.components → AllByRecursion P (columns_of s)
 of-columns P s h =
-    lists.appended P (of_role role.Identifier s ++ of_role role.Measure s) (of_role role.Attribute s) (lists.appended P (of_role role.Identifier s) (of_role role.Measure s) (some role.Identifier) (some role.Measure)) (some role.Attribute)
+    all_append P (of_role role.Identifier s ++ of_role role.Measure s) (of_role role.Attribute s) (all_append P (of_role role.Identifier s) (of_role role.Measure s) (some role.Identifier) (some role.Measure)) (some role.Attribute)
   where
     some : (r : Role) → AllByRecursion P (of_role r s)
-    some r = lists.filtered P (λ x. same_role x.role r) s.components h
+    some r = AllByRecursion-filter P (λ x. same_role x.role r) s.components h
 
 role-cases : (r : Role) (P : Type 0) → (same_role r role.Identifier ≡ true → P) → (same_role r role.Measure ≡ true → P) → (same_role r role.Attribute ≡ true → P) → P
 role-cases role.Identifier P f g h = f refl
@@ -131,10 +133,10 @@ role-cases role.Attribute P f g h = h refl
 pub from-columns : (P : Component → Type 0) (s : Structure) → AllByRecursion P (columns_of s) → AllByRecursion P s.components
 from-columns P s h =
     lists.joined If Two P s.components (λ x f g. role-cases x.role (P x) f g.0 g.1)
-    (lists.from_kept P (λ x. same_role x.role role.Identifier) s.components (lists.front P (of_role role.Identifier s) (of_role role.Measure s) before))
-    (lists.both (λ x. same_role x.role role.Measure ≡ true → P x) (λ x. same_role x.role role.Attribute ≡ true → P x) s.components
-    (lists.from_kept P (λ x. same_role x.role role.Measure) s.components (lists.back P (of_role role.Identifier s) (of_role role.Measure s) before))
-    (lists.from_kept P (λ x. same_role x.role role.Attribute) s.components (lists.back P (of_role role.Identifier s ++ of_role role.Measure s) (of_role role.Attribute s) h)))
+    (all_from_filtered P (λ x. same_role x.role role.Identifier) s.components (all_front P (of_role role.Identifier s) (of_role role.Measure s) before))
+    (all_with (λ x. same_role x.role role.Measure ≡ true → P x) (λ x. same_role x.role role.Attribute ≡ true → P x) s.components
+    (all_from_filtered P (λ x. same_role x.role role.Measure) s.components (all_back P (of_role role.Identifier s) (of_role role.Measure s) before))
+    (all_from_filtered P (λ x. same_role x.role role.Attribute) s.components (all_back P (of_role role.Identifier s ++ of_role role.Measure s) (of_role role.Attribute s) h)))
   where
     If : Component → Type 0
     If x = same_role x.role role.Identifier ≡ true → P x
@@ -143,7 +145,7 @@ from-columns P s h =
     Two x = (same_role x.role role.Measure ≡ true → P x) × (same_role x.role role.Attribute ≡ true → P x)
 
     before : AllByRecursion P (of_role role.Identifier s ++ of_role role.Measure s)
-    before = lists.front P (of_role role.Identifier s ++ of_role role.Measure s) (of_role role.Attribute s) h
+    before = all_front P (of_role role.Identifier s ++ of_role role.Measure s) (of_role role.Attribute s) h
 
 -- each component is found among the columns
 pub in-columns : (s : Structure) → IsStructure s → AllByRecursion (IsFound (columns_of s)) s.components

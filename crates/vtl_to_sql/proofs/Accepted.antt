@@ -2,6 +2,7 @@
 use Rattle.std.proofs.Common.{inl, inr, ◌≡◌, ◌≤◌, ℕ, Bool, true, false, cond, ◌||◌, List, [], ◌∷◌, ◌++◌, Some, sym, ap, subst, true≢false}
 use Rattle.std.specs.List.{AllByRecursion}
 use Rattle.std.specs.Map.{lookup}
+use Rattle.vtl_lists.proofs.Alls.{all_append, all_back, all_front}
 use Rattle.vtl_decimal.specs.Settings.{Settings}
 use Rattle.vtl_text.specs.Words.{is_name}
 use Rattle.vtl_syntax.specs.Depth.{depth_limit}
@@ -37,7 +38,7 @@ use Rattle.result_laws.proofs.Words.{FormHasWords, HasWords, HaveWords, IsWorded
 -- ---- the names that an expression reads are words
 module _ (p : Settings) where
   two_words : (xs ys : List NodeTree) → AllByRecursion IsWord (names_at xs) → AllByRecursion IsWord (names_at ys) → AllByRecursion IsWord (names_at (xs ++ ys))
-  two_words xs ys h k = subst (AllByRecursion IsWord) (sym (names_append xs ys)) (lists.appended IsWord (names_at xs) (names_at ys) h k)
+  two_words xs ys h k = subst (AllByRecursion IsWord) (sym (names_append xs ys)) (all_append IsWord (names_at xs) (names_at ys) h k)
 
   mutual
     names_words : (b : Bool) (n : NodeTree) → HasWords p b n → AllByRecursion IsWord (names_in n)
@@ -98,7 +99,7 @@ AreReady p ns = AllByRecursion (IsReady p) ns
 
 words_of : (p : Settings) (ns : List NodeTree) → AreReady p ns → AllByRecursion IsWord (names_of ns)
 words_of p [] h = tt
-words_of p (n ∷ ns) h = lists.appended IsWord (names_in n) (names_of ns) (names_words p false n h.0.words) (words_of p ns h.1)
+words_of p (n ∷ ns) h = all_append IsWord (names_in n) (names_of ns) (names_words p false n h.0.words) (words_of p ns h.1)
 
 abbrev AreFewer : Named → Named → Type 0
 AreFewer known other = (name : List ℕ) → has_name name known ≡ false → has_name name other ≡ false
@@ -115,11 +116,11 @@ statements_translated p known other [] ns alike fewer named words ready made few
 statements_translated p known other (t ∷ ts) [] alike fewer named words ready made few = tt
 statements_translated p known other (t ∷ ts) (n ∷ ns) alike fewer named words ready made few =
     let here = ready.0 in
-    let rest = lists.back (λ name. lookup (same_name name) known ≡ lookup (same_name name) other) (names_in n) (names_of ns) alike in (
+    let rest = all_back (λ name. lookup (same_name name) known ≡ lookup (same_name name) other) (names_in n) (names_of ns) alike in (
       record {
         word = name_word t.name words.0;
         new = fewer t.name made.0;
-        made = made_over p known other n (lists.front (λ name. lookup (same_name name) known ≡ lookup (same_name name) other) (names_in n) (names_of ns) alike) made.1;
+        made = made_over p known other n (all_front (λ name. lookup (same_name name) known ≡ lookup (same_name name) other) (names_in n) (names_of ns) alike) made.1;
         translated = node_translated p known named false n made.1 here.words here.held (node-below depth_limit n here.shallow);
         few = few.0;
       },

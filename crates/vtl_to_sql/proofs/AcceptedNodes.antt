@@ -12,6 +12,7 @@ use Rattle.vtl_cell.specs.Held.{IsHeld}
 use Rattle.vtl_decimal.specs.Settings.{Settings}
 use Rattle.vtl_cell.specs.declared.kind.Kind.{Kind}
 use Rattle.vtl_lists.proofs.Aparts.{apart_parts}
+use Rattle.vtl_lists.proofs.Alls.{all_back, all_front}
 use Rattle.vtl_syntax.specs.Depth.{depth_limit}
 use Rattle.vtl_syntax.specs.declared.statements.HierRule.{HierRule}
 use Rattle.vtl_tree.specs.CompExp.{CompExp}
@@ -62,7 +63,7 @@ maybe_written (Some e) others h d = written e h d.0
 
 calls_written : (spec : AnalyticTree) (others : List CompExp) → AnalyticHoldsValues spec → AreUpTo depth_limit (analytic_exps spec ++ others) → CallsCanBeWritten spec
 calls_written (nodes.of_measures o w) others h d = h
-calls_written (nodes.of_items items) others h d = each items h (lists.front (IsUpTo depth_limit) (flat_map item_exps items) others d)
+calls_written (nodes.of_items items) others h d = each items h (all_front (IsUpTo depth_limit) (flat_map item_exps items) others d)
   where
     one : (v : ValueTree) → MadeHoldsValues v → AreUpTo depth_limit (value_exps v) → ValueCanBeWritten v
     one (nodes.scalar e) h d = written e h d.0
@@ -70,7 +71,7 @@ calls_written (nodes.of_items items) others h d = each items h (lists.front (IsU
 
     each : (us : List ItemTree) → AllByRecursion (λ i. MadeHoldsValues i.value) us → AreUpTo depth_limit (flat_map item_exps us) → AllByRecursion (λ i. ValueCanBeWritten i.value) us
     each [] h d = tt
-    each (u ∷ us) h d = (one u.value h.0 (lists.front (IsUpTo depth_limit) (value_exps u.value) (flat_map item_exps us) d), each us h.1 (lists.back (IsUpTo depth_limit) (value_exps u.value) (flat_map item_exps us) d))
+    each (u ∷ us) h d = (one u.value h.0 (all_front (IsUpTo depth_limit) (value_exps u.value) (flat_map item_exps us) d), each us h.1 (all_back (IsUpTo depth_limit) (value_exps u.value) (flat_map item_exps us) d))
 
 -- ---- rules
 condition_written : (e : CompExp) → HoldsValues e → IsUpTo depth_limit e → CanBeCondition e
@@ -84,16 +85,16 @@ rule_written : (r : PointRuleTree) → RuleHoldsValues r → AreUpTo depth_limit
 rule_written r h d = record {
   name = h.name;
   antecedent = antecedent_written r.antecedent (r.condition ∷ []) h.antecedent d;
-  condition = condition_written r.condition h.condition (lists.back (IsUpTo depth_limit) (option_to_list r.antecedent) (r.condition ∷ []) d).0;
+  condition = condition_written r.condition h.condition (all_back (IsUpTo depth_limit) (option_to_list r.antecedent) (r.condition ∷ []) d).0;
   errors = h.errors;
 }
 
 rules_written : (rules : List PointRuleTree) (others : List CompExp) → AllByRecursion RuleHoldsValues rules → AreUpTo depth_limit (flat_map rule_exps rules ++ others) → AllByRecursion CanRuleBeWritten rules
-rules_written rules others h d = go rules h (lists.front (IsUpTo depth_limit) (flat_map rule_exps rules) others d)
+rules_written rules others h d = go rules h (all_front (IsUpTo depth_limit) (flat_map rule_exps rules) others d)
   where
     go : (rs : List PointRuleTree) → AllByRecursion RuleHoldsValues rs → AreUpTo depth_limit (flat_map rule_exps rs) → AllByRecursion CanRuleBeWritten rs
     go [] h d = tt
-    go (r ∷ rs) h d = (rule_written r h.0 (lists.front (IsUpTo depth_limit) (rule_exps r) (flat_map rule_exps rs) d), go rs h.1 (lists.back (IsUpTo depth_limit) (rule_exps r) (flat_map rule_exps rs) d))
+    go (r ∷ rs) h d = (rule_written r h.0 (all_front (IsUpTo depth_limit) (rule_exps r) (flat_map rule_exps rs) d), go rs h.1 (all_back (IsUpTo depth_limit) (rule_exps r) (flat_map rule_exps rs) d))
 
 sides_written : (p : Settings) (rules : List HierRule) → RulesHoldTexts rules → AreSided rules → CanSidesBeWritten p rules
 sides_written p rules h w = record {
@@ -163,13 +164,13 @@ all_values p items h are = lists.joined (λ i. IsHeld i.value) (λ i. IsFilled p
 module _ (p : Settings) (known : Named) (all : AreKnownNamed known) where
   -- the depths of operands beside each other
   left : (xs ys : List NodeTree) → AreNodesUpTo depth_limit (xs ++ ys) → AreNodesUpTo depth_limit xs
-  left xs ys d = lists.front (λ n. AreUpTo depth_limit (exps_in n)) xs ys d
+  left xs ys d = all_front (λ n. AreUpTo depth_limit (exps_in n)) xs ys d
 
   right : (xs ys : List NodeTree) → AreNodesUpTo depth_limit (xs ++ ys) → AreNodesUpTo depth_limit ys
-  right xs ys d = lists.back (λ n. AreUpTo depth_limit (exps_in n)) xs ys d
+  right xs ys d = all_back (λ n. AreUpTo depth_limit (exps_in n)) xs ys d
 
   made_shallow : (s : Structure) (form : FormTree) → AreUpTo depth_limit (exps_in (nodes.node s form)) → AreUpTo depth_limit (made_exps s form)
-  made_shallow s form d = lists.back (IsUpTo depth_limit) (held_exps form) (made_exps s form) d
+  made_shallow s form d = all_back (IsUpTo depth_limit) (held_exps form) (made_exps s form) d
 
   mutual
     pub node_translated : (b : Bool) (n : NodeTree) → IsMade p known n → HasWords p b n → HoldsParts n → AreNodesUpTo depth_limit (nodes_in n) → IsTranslated p n

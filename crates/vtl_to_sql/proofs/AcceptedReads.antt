@@ -6,6 +6,7 @@ use Rattle.std.proofs.lemmas.List.Folds.{list_any-append}
 use Rattle.std.specs.List.{AllByRecursion, list_all, list_any}
 use Rattle.std.specs.Map.{keys_of, lookup}
 use Rattle.vtl_lists.specs.Apart.{all_apart}
+use Rattle.vtl_lists.proofs.Alls.{all_append, all_from_test}
 use Rattle.vtl_text.specs.Words.{is_word}
 use Rattle.vtl_text.proofs.Apart.{apart_push}
 use Rattle.vtl_tree.specs.Structure.{same_name}
@@ -40,9 +41,9 @@ module _ (declared : Named) where
       go : (b : Bool) → has_name name known ≡ b → AreReadSoFar (cond b known (known ++ (name, s) ∷ []))
       go true e = are
       go false e = record {
-        declared_so = lists.appended IsDeclared known ((name, s) ∷ []) are.declared_so (there, tt);
+        declared_so = all_append IsDeclared known ((name, s) ∷ []) are.declared_so (there, tt);
         apart = ap (all_apart same_name) (map-append (λ (x : List ℕ × Structure). x.0) known ((name, s) ∷ [])) ∙ apart_push (keys_of known) name are.apart e;
-        words = lists.appended (λ e. IsWord e.0) known ((name, s) ∷ []) are.words (word, tt);
+        words = all_append (λ e. IsWord e.0) known ((name, s) ∷ []) are.words (word, tt);
       }
 
   one_read : (known : Named) (name : List ℕ) → IsWord name → AreReadSoFar known → AreReadSoFar (with_declared known name (lookup (same_name name) declared))
@@ -150,7 +151,7 @@ module _ (declared : Named) where
   every_declarable : AreStructures declared → (known : Named) → AllByRecursion IsDeclared known → list_all is_declarable_entry known ≡ true
   every_declarable are [] h = refl
   every_declarable are (x ∷ xs) h =
-      and_from (is_declarable x.1) (list_all is_declarable_entry xs) (found_declarable (same_name x.0) declared x.1 (lists.all_pass is_declarable_entry declared are.declarable) h.0) (every_declarable are xs h.1)
+      and_from (is_declarable x.1) (list_all is_declarable_entry xs) (found_declarable (same_name x.0) declared x.1 (all_from_test is_declarable_entry declared are.declarable) h.0) (every_declarable are xs h.1)
 
   pub reads_readable : (ns : List NodeTree) → AllByRecursion IsWord (names_of ns) → AreStructures declared → AreReadable (reads declared ns)
   reads_readable ns words are =
