@@ -1,2 +1,2 @@
-mod ClauseErrors
+pub mod ClauseErrors
 pub mod OperandLemmas
