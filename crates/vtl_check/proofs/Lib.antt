@@ -1,7 +1,7 @@
 pub mod CountLemmas
+pub mod DataSetsRead
 pub mod KnownLemmas
 pub mod LeftLemmas
 pub mod NameLemmas
-pub mod Reads
 pub mod ScriptLemmas
 pub mod StepLemmas

@@ -10,7 +10,7 @@ use Rattle.vtl_tree.proofs.StructuresLemmas.{not_found, not_there}
 use Rattle.vtl_tree.specs.Trees.{NodeTree}
 use Rattle.vtl_check.specs.Names.{names_of}
 use Rattle.vtl_check.specs.Uses.{read_behind, reads, with_declared}
-use Rattle.vtl_check.proofs.Reads.{found_behind, found_in_front}
+use Rattle.vtl_check.proofs.DataSetsRead.{found_behind, found_in_front}
 use Rattle.vtl_tree.specs.Environment.{known_in}
 use Rattle.vtl_backend.specs.Inputs.{input_of}
 use Rattle.check_laws.specs.Scripts.{AreKnownAlike}

@@ -23,7 +23,7 @@ use Rattle.vtl_backend.specs.Inputs.{environment_of, inputs_of}
 use Rattle.vtl_backend.specs.Runs.{script_meaning}
 use Rattle.vtl_backend.specs.Statements.{is_written, statements_of, with_nodes}
 use Rattle.vtl_interp.specs.Results.{AreNew}
-use Rattle.vtl_check.proofs.Reads.{found_behind, still_found}
+use Rattle.vtl_check.proofs.DataSetsRead.{found_behind, still_found}
 use Rattle.vtl_interp.proofs.InputsRead.{reads_fewer}
 use Rattle.vtl_interp.proofs.Scripts.{new_among_fewer, results_new}
 

@@ -15,7 +15,7 @@ use Rattle.vtl_tree.specs.declared.structure.Structure.{Structure}
 use Rattle.vtl_text.proofs.Apart.{repeated}
 use Rattle.vtl_check.specs.Checked.{TypedScript, known_of, nodes_of, tree_of}
 use Rattle.vtl_check.specs.Transformations.{transformations}
-use Rattle.vtl_check.proofs.Reads.{IsEntryAt, entry_at, reads_apart, still_found}
+use Rattle.vtl_check.proofs.DataSetsRead.{IsEntryAt, entry_at, reads_apart, still_found}
 use Rattle.vtl_backend.specs.Inputs.{AreInputs, Holds, input_of, inputs_of, rows_named}
 use Rattle.vtl_interp.specs.Loaded.{IsInput}
 use Rattle.vtl_interp.proofs.InputsRead.{known_inputs}

@@ -19,7 +19,7 @@ use Rattle.vtl_check.specs.Checked.{TypedScript, known_of, nodes_of, tree_of}
 use Rattle.vtl_check.specs.Names.{names_of as names_in}
 use Rattle.vtl_check.specs.Transformations.{Transformation, transformations}
 use Rattle.vtl_check.specs.Uses.{read_behind, results_behind, with_declared, with_new}
-use Rattle.vtl_check.proofs.Reads.{read_apart, still_found}
+use Rattle.vtl_check.proofs.DataSetsRead.{read_apart, still_found}
 use Rattle.vtl_syntax.specs.View.{statement_tree}
 use Rattle.vtl_syntax.specs.declared.statements.Statement.{Statement}
 use Rattle.vtl_tree.specs.NodeView.{node_tree}

@@ -10,7 +10,7 @@ use Rattle.vtl_check.specs.Checked.{TypedScript, known_of, nodes_of, tree_of}
 use Rattle.vtl_backend.specs.Inputs.{inputs_of}
 use Rattle.vtl_check.specs.Transformations.{transformations}
 use Rattle.vtl_check.specs.Uses.{reads}
-use Rattle.vtl_check.proofs.Reads.{IsEntryAt, entry_at, reads_apart, still_found}
+use Rattle.vtl_check.proofs.DataSetsRead.{IsEntryAt, entry_at, reads_apart, still_found}
 use Rattle.sql_tree.specs.Trees.{StatementTree}
 use Rattle.vtl_to_sql.specs.Reads.{IsRead}
 use Rattle.vtl_to_sql.specs.Scripts.{input_for}
