@@ -348,6 +348,9 @@ def main(words):
     os.makedirs(folder, exist_ok=True)
     sum_of = sums()
     crates = crates or [it for it in sum_of if os.path.isdir(f"edits/{it}")]
+    for crate in crates:
+        if not os.path.isdir(f"edits/{crate}"):
+            sys.exit(f"edits/{crate}: no such folder")
     log, copies = Log(f"{folder}/log"), queue.Queue()
     for number in range(1, jobs + 1):
         copied(f"{folder}/copy{number}")
