@@ -7,7 +7,8 @@ checks the whole crate.
 
 FOLDER/log has a line for each edit that was tried: crate, sum, edit, answer, and what the prover said first. The sum is of all
 that the answers for a crate rest on, so a later call goes on behind what is done, and tries again a crate that has changed, or one below
-it. FOLDER/copy1 .. have the files that are checked. Printed are counts, and each edit that was not refused for its meaning."""
+it. edits/answers has such lines too: those that still held when a call last ended, which is where each call begins. FOLDER/copy1 .. have
+the files that are checked. Printed are counts, and each edit that was not refused for its meaning."""
 import concurrent.futures
 import hashlib
 import os
@@ -29,6 +30,9 @@ WORDS = {
     BAD: "BAD",
     UNTRIED: "NOT TRIED",
 }
+# What is kept beside the edits, and how much of what the prover said.
+KEPT = "edits/answers"
+MOST_SAID = 200
 # As many edits are asked at once, and as many functions that name one that is turned.
 AT_ONCE = 6
 MOST_CALLERS = 12
@@ -307,16 +311,26 @@ class Log:
 
     def __init__(self, path):
         self.path, self.lock, self.answers = path, threading.Lock(), {}
-        for line in read(path).split("\n") if os.path.exists(path) else []:
-            crate, sum, edit, answer, *why = line.split(" ", 4) if line else [""] * 4
-            self.answers[crate, sum, edit] = answer, "".join(why)
+        for file in filter(os.path.exists, (KEPT, path)):
+            for line in filter(None, read(file).split("\n")):
+                crate, sum, edit, answer, *why = line.split(" ", 4)
+                self.answers[crate, sum, edit] = answer, "".join(why)
 
     def add(self, crate, sum, edit, answer, why):
         with self.lock:
             self.answers[crate, sum, edit] = answer, why
             if answer != UNTRIED:
                 with open(self.path, "a", encoding="utf-8") as file:
-                    file.write(f"{crate} {sum} {edit} {answer} {why[:200]}\n")
+                    file.write(self.line(crate, sum, edit, answer, why))
+
+    def keep(self, sum_of):
+        """Writes the answers that hold for the files as they stand to where they are kept beside the edits."""
+        held = [it for it in sorted(self.answers.items()) if it[0][1] == sum_of.get(it[0][0]) and it[1][0] != UNTRIED]
+        Applied.write(KEPT, "".join(self.line(*key, *answer) for key, answer in held))
+
+    @staticmethod
+    def line(crate, sum, edit, answer, why):
+        return f"{crate} {sum} {edit} {answer} {why[:MOST_SAID]}".rstrip() + "\n"
 
 
 def tried(crate, sum, copy, log):
@@ -366,6 +380,7 @@ def main(words):
     with concurrent.futures.ThreadPoolExecutor(jobs) as pool:
         for _ in pool.map(one, crates):
             pass
+    log.keep(sum_of)
     return told(crates, sum_of, log)
 
 

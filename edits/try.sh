@@ -3,7 +3,8 @@
 #   try.sh [CRATE ..]            tries those of these crates, or of all: some seconds to some minutes an edit
 #   try.sh --all FOLDER [CRATE ..]  tries those of all crates, or of these, by the functions that they turn, as edits/tries.py says:
 #                                some seconds an edit, and two at a time (--jobs N behind FOLDER: N). FOLDER/log has what is done: a
-#                                later call goes on behind it, and tries again a crate that has changed, or one below it
+#                                later call goes on behind it, and behind edits/answers, which a call writes anew at its
+#                                end; it tries again a crate that has changed, or one below it
 #   try.sh --reaches [CRATE ..]  asks only whether each reaches the prover, or is refused for its form: some seconds an edit
 #   try.sh --stands              asks only whether each can be applied, those in the gate too: seconds for all, and no prover
 top=$(CDPATH='' cd -- "$(dirname -- "$0")/.." && pwd) || exit 1
@@ -69,7 +70,7 @@ reaches() {
 
 # Whether each edit can be applied, and nothing else stands beside them.
 stands() {
-    find edits crates/*/must-fail -type f ! -name '*.edit' ! -name '*.md' ! -path edits/try.sh ! -path edits/tries.py ! -path edits/stands.awk >"$made/odd"
+    find edits crates/*/must-fail -type f ! -name '*.edit' ! -name '*.md' ! -path edits/try.sh ! -path edits/tries.py ! -path edits/stands.awk ! -path edits/answers >"$made/odd"
     for folder in edits/*/; do
         folder=${folder%/}
         grep -q "^${folder#edits/}:" crates.txt || echo "$folder" >>"$made/odd"
