@@ -6,9 +6,9 @@ proved, those that name them are asked; and where that does not do, or an edit t
 checks the whole crate.
 
 FOLDER/log has a line for each edit that was tried: crate, sum, edit, answer, and what the prover said first. The sum is of all
-that the answers for a crate rest on, so a later call goes on behind what is done, and tries again a crate that has changed, or one below
-it. edits/answers has such lines too: those that still held when a call last ended, which is where each call begins. FOLDER/copy1 .. have
-the files that are checked. Printed are counts, and each edit that was not refused for its meaning."""
+that the answer rests on, so a later call goes on behind what is done, and tries again an edit that has changed, and those of a crate
+that has, or one below it. edits/answers has such lines too: those that still held when a call last ended, which is where each call
+begins. FOLDER/copy1 .. have the files that are checked. Printed are counts, and each edit that was not refused for its meaning."""
 import concurrent.futures
 import hashlib
 import os
@@ -39,6 +39,7 @@ MOST_CALLERS = 12
 
 FUNCTION = re.compile(r"( *)(?:pub(?:\([a-z ]+\))? )?(?:const )?(?:unsafe )?fn (\w+)")
 BLOCK = re.compile(r"( *)(?:pub(?:\([a-z ]+\))? )?(?:unsafe )?(?:impl|trait)\b(.*)")
+TYPE = re.compile(r"(?:pub(?:\([a-z ]+\))? )?(?:struct|enum|union) (\w+)")
 CONSTANT = re.compile(r"(?:pub(?:\([a-z ]+\))? )?(?:const|static) (\w+)")
 # A proof that names what is gone says nothing of a contract.
 GONE = re.compile(r"(note: )?(\./)?proofs/.*(has no field|is not in scope|has no `|was not admitted)")
@@ -70,10 +71,12 @@ def name_of_block(head):
 
 
 class Function:
-    """A function of a crate: its file, its lines, its name, and its path below the crate."""
+    """A function of a crate: its file, its lines, its name, and its path below the crate, where a method stands with its type."""
 
-    def __init__(self, file, lines, at, end, name, block):
-        module = [it for it in file[len("src/") : -len(".rt")].split("/") if it not in ("lib", "main", "mod")]
+    def __init__(self, file, lines, at, end, name, block, types):
+        homes = types.get(block, [file])
+        home = file if file in homes else homes[0]
+        module = [it for it in home[len("src/") : -len(".rt")].split("/") if it not in ("lib", "main", "mod")]
         self.file, self.first, self.last, self.name = file, at, end, name
         self.path = "::".join([*module, *([block] if block else []), name])
         self.text = "\n".join(lines[at : end + 1])
@@ -81,21 +84,22 @@ class Function:
 
 def functions_of(folder):
     """The functions of a crate, but for those of its tests."""
-    found = []
-    for at, _, names in os.walk(f"{folder}/src"):
-        for name in sorted(names):
-            path = f"{at}/{name}"
-            if not name.endswith(".rt") or name == "tests.rt":
-                continue
-            lines, block = read(path).split("\n"), ""
-            for number, line in enumerate(lines):
-                head, it = BLOCK.match(line), FUNCTION.match(line)
-                if head and not head[1]:
-                    block = name_of_block(head[2])
-                elif it:
-                    ends = (n for n in range(number, len(lines)) if lines[n] == f"{it[1]}}}" or n == number and line.endswith(("}", ";")))
-                    last = next(ends, number)
-                    found.append(Function(os.path.relpath(path, folder), lines, number, last, it[2], block if it[1] else ""))
+    paths = (f"{at}/{name}" for at, _, names in os.walk(f"{folder}/src") for name in sorted(names) if name.endswith(".rt"))
+    files = {os.path.relpath(path, folder): read(path).split("\n") for path in paths if os.path.basename(path) != "tests.rt"}
+    types, found = {}, []
+    for file, lines in files.items():
+        for it in filter(None, map(TYPE.match, lines)):
+            types.setdefault(it[1], []).append(file)
+    for file, lines in files.items():
+        block = ""
+        for number, line in enumerate(lines):
+            head, it = BLOCK.match(line), FUNCTION.match(line)
+            if head and not head[1]:
+                block = name_of_block(head[2])
+            elif it:
+                ends = (n for n in range(number, len(lines)) if lines[n] == f"{it[1]}}}" or n == number and line.endswith(("}", ";")))
+                last = next(ends, number)
+                found.append(Function(file, lines, number, last, it[2], block if it[1] else "", types))
     return found
 
 
@@ -193,7 +197,7 @@ def answer_of(crate, functions, lines, is_alone):
     refused = [it for it in functions if first(lines, rf"^fn {crate}::{re.escape(it.path)}(\+\w+::\w+)?: (not proved|no proof)")]
     told = [it for it in lines if re.match(r"(note: )?\S+:\d+:\d+:", it) and (": error" in it or it.startswith("note: "))]
     own = [it for it in told if any(is_of(it, function) for function in refused)]
-    meant = next((it for it in own or told * is_alone if not GONE.match(it)), "")
+    meant = next((it for it in own + told * is_alone if not GONE.match(it)), "")
     if refused and meant:
         return REFUSED, f"{refused[0].path}: {meant}"
     if first(lines, AT_LIMIT) or refused and not is_alone:
@@ -262,8 +266,15 @@ def by_crate(crate, edits, copy):
     return answers
 
 
+def edits_of(crate):
+    """The names of a crate's edits outside the gate."""
+    names = sorted(os.listdir(f"edits/{crate}")) if os.path.isdir(f"edits/{crate}") else []
+    return [it[: -len(".edit")] for it in names if it.endswith(".edit")]
+
+
 def sums():
-    """For each crate a sum of all that the answers for it rest on: the kit, its edits, its files and those of all crates below."""
+    """For each edit, by its crate and name, a sum of all that its answer rests on: the kit, its text, and the files of its crate and of all
+    below."""
     kit = subprocess.run(["rt", "version"], stdout=subprocess.PIPE).stdout
     lines = [re.match(r"(\w+)(?: staticlib)?:(.*)", it) for it in read("crates.txt").split("\n")]
     below = {it[1]: it[2].split() for it in lines if it}
@@ -284,10 +295,11 @@ def sums():
             if it in below and it not in known:
                 known.add(it)
                 left += below[it]
-        sum = hashlib.sha256(kit + b"".join(own[it] for it in sorted(known)))
-        for name in sorted(os.listdir(f"edits/{crate}") if os.path.isdir(f"edits/{crate}") else []):
-            sum.update(f"{name}\0{read(f'edits/{crate}/{name}')}".encode())
-        made[crate] = sum.hexdigest()[:16]
+        files = hashlib.sha256(kit + b"".join(own[it] for it in sorted(known)))
+        for edit in edits_of(crate):
+            sum = files.copy()
+            sum.update(read(f"edits/{crate}/{edit}.edit").encode())
+            made[crate, edit] = sum.hexdigest()[:16]
     return made
 
 
@@ -325,31 +337,34 @@ class Log:
 
     def keep(self, sum_of):
         """Writes the answers that hold for the files as they stand to where they are kept beside the edits."""
-        held = [it for it in sorted(self.answers.items()) if it[0][1] == sum_of.get(it[0][0]) and it[1][0] != UNTRIED]
-        Applied.write(KEPT, "".join(self.line(*key, *answer) for key, answer in held))
+        held = [it for it in sorted(self.held(sum_of).items()) if it[1][0] != UNTRIED]
+        Applied.write(KEPT, "".join(self.line(crate, sum_of[crate, edit], edit, *answer) for (crate, edit), answer in held))
+
+    def held(self, sum_of):
+        """The answers that hold for the files as they stand, by crate and edit."""
+        return {(crate, edit): it for (crate, sum, edit), it in self.answers.items() if sum == sum_of.get((crate, edit))}
 
     @staticmethod
     def line(crate, sum, edit, answer, why):
         return f"{crate} {sum} {edit} {answer} {why[:MOST_SAID]}".rstrip() + "\n"
 
 
-def tried(crate, sum, copy, log):
+def tried(crate, sum_of, copy, log):
     """Tries the edits of a crate of which the log does not tell."""
     folder = f"{copy}/crates/{crate}"
     functions = functions_of(folder)
-    edits = [f"edits/{crate}/{it}" for it in sorted(os.listdir(f"edits/{crate}")) if it.endswith(".edit")]
-    edits = [Edit(it, folder, functions) for it in edits if (crate, sum, os.path.basename(it)[: -len(".edit")]) not in log.answers]
-    left = []
+    names = [it for it in edits_of(crate) if (crate, sum_of[crate, it], it) not in log.answers]
+    edits, left = [Edit(f"edits/{crate}/{it}.edit", folder, functions) for it in names], []
     for edit, (answer, why) in by_functions(crate, edits, folder):
         if answer == LEFT:
             answer, why = by_callers(crate, edit, folder, functions)
         if answer == LEFT:
             left.append(edit)
         else:
-            log.add(crate, sum, edit.name, answer, why)
+            log.add(crate, sum_of[crate, edit.name], edit.name, answer, why)
     answers = by_crate(crate, left, copy) if left else {}
     for edit in left:
-        log.add(crate, sum, edit.name, *answers.get(edit.name, (UNTRIED, "rt must-fail said nothing of it")))
+        log.add(crate, sum_of[crate, edit.name], edit.name, *answers.get(edit.name, (UNTRIED, "rt must-fail said nothing of it")))
 
 
 def main(words):
@@ -361,10 +376,10 @@ def main(words):
     folder, *crates = words
     os.makedirs(folder, exist_ok=True)
     sum_of = sums()
-    crates = crates or [it for it in sum_of if os.path.isdir(f"edits/{it}")]
+    crates = crates or list(dict.fromkeys(crate for crate, _ in sum_of))
     for crate in crates:
-        if not os.path.isdir(f"edits/{crate}"):
-            sys.exit(f"edits/{crate}: no such folder")
+        if not edits_of(crate):
+            sys.exit(f"edits/{crate}: no such folder, or no edits in it")
     log, copies = Log(f"{folder}/log"), queue.Queue()
     for number in range(1, jobs + 1):
         copied(f"{folder}/copy{number}")
@@ -373,7 +388,7 @@ def main(words):
     def one(crate):
         copy = copies.get()
         try:
-            tried(crate, sum_of[crate], copy, log)
+            tried(crate, sum_of, copy, log)
         finally:
             copies.put(copy)
 
@@ -386,9 +401,9 @@ def main(words):
 
 def told(crates, sum_of, log):
     """Prints what came of all edits of some crates, and returns whether each was refused."""
-    all = Counter()
+    all, held = Counter(), log.held(sum_of)
     for crate in [*crates, None]:
-        answers = {edit: it for (of, sum, edit), it in log.answers.items() if of == crate and sum == sum_of[crate]} if crate else {}
+        answers = {edit: it for (of, edit), it in held.items() if of == crate}
         count = Counter(answer for answer, _ in answers.values()) if crate else all
         if crate:
             all += count

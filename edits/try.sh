@@ -4,7 +4,7 @@
 #   try.sh --all FOLDER [CRATE ..]  tries those of all crates, or of these, by the functions that they turn, as edits/tries.py says:
 #                                some seconds an edit, and two at a time (--jobs N behind FOLDER: N). FOLDER/log has what is done: a
 #                                later call goes on behind it, and behind edits/answers, which a call writes anew at its
-#                                end; it tries again a crate that has changed, or one below it
+#                                end; it tries again an edit that has changed, and those of a crate that has, or one below it
 #   try.sh --reaches [CRATE ..]  asks only whether each reaches the prover, or is refused for its form: some seconds an edit
 #   try.sh --stands              asks only whether each can be applied, those in the gate too: seconds for all, and no prover
 top=$(CDPATH='' cd -- "$(dirname -- "$0")/.." && pwd) || exit 1
